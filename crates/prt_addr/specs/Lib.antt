@@ -1,0 +1,6 @@
+pub mod Refusal
+pub mod Word
+pub mod Decimal
+pub mod Addr
+pub mod Block
+pub mod Prefix

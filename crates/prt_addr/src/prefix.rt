@@ -1,0 +1,148 @@
+ghost use Rattle.std.specs.Prelude.{◌≡◌, ◌≤◌, option_map, IfSome, Some};
+ghost use Rattle.std.specs.Option.{SomeIff};
+ghost use Rattle.prt_addr.specs.Word.{is_one_of};
+ghost use Rattle.prt_addr.specs.Block.{Block, host_bits, IsPrefix};
+ghost use Rattle.prt_addr.specs.Prefix.{contains, masked, prefix, prefix_text, block, block_from, everything_words};
+
+use crate::addr::parse_addr;
+use crate::decimal::read_decimal;
+use crate::word::split_first_part;
+use crate::{Addr, Refusal, addr_text};
+use arrayvec::ArrayString;
+use itoa::Buffer;
+use std::fmt;
+use std::marker::Model;
+
+/// An IPv4 prefix: the addresses that begin with its first `len` bits.
+///
+/// The bits behind the length, its host bits, are 0.
+#[derive(Clone, Copy, Debug, PartialEq, Eq)]
+pub struct Prefix {
+    bits: u32,
+    len: u8,
+}
+
+impl Model for Prefix {
+    ghost Value = { Block };
+
+    ghost view = { λ p. record { bits = p.bits; len = p.len } };
+
+    ghost invariant = { λ p. IsPrefix (record { bits = p.bits; len = p.len }) };
+
+    ghost inverse = { λ block. record { bits = block.bits; len = block.len } };
+}
+
+/// The bits behind a length of at most 32.
+fn host_bits(bits: u32, len: u8) -> u32
+    requires { len ≤ 32 }
+    ensures { result ≡ host_bits (record { bits = bits; len = len }) }
+{
+    let block_size = 1u64 << (32 - len);
+    (u64::from(bits) % block_size) as u32
+}
+
+impl Prefix {
+    /// The prefix of these bits and this length, where the length is at most 32 and no host bit is set.
+    pub fn new(bits: u32, len: u8) -> Option<Prefix>
+        ensures { SomeIff result (IsPrefix (record { bits = bits; len = len })) (record { bits = bits; len = len }) }
+    {
+        if len > 32 || host_bits(bits, len) != 0 {
+            return None;
+        }
+        Some(Prefix { bits, len })
+    }
+
+    /// The prefix of this length, at most 32, with the host bits of `bits` cleared.
+    pub fn masked(bits: u32, len: u8) -> Prefix
+        requires { len ≤ 32 }
+        ensures { result ≡ masked (record { bits = bits; len = len }) }
+    {
+        Prefix {
+            bits: bits - host_bits(bits, len),
+            len,
+        }
+    }
+
+    /// The bits of the prefix, as those of an address.
+    pub fn bits(&self) -> u32
+        ensures { result ≡ self.now.bits }
+    {
+        self.bits
+    }
+
+    /// The length in bits, 0 to 32.
+    pub fn len(&self) -> u8
+        ensures value { result ≡ self.now.len }
+        ensures short { result ≤ 32 }
+    {
+        self.len
+    }
+
+    /// Whether the address begins with the prefix's bits (Basic Match of RFC 1812, section 5.2.4.3).
+    pub fn contains(&self, addr: Addr) -> bool
+        ensures { result ≡ contains self.now addr }
+    {
+        let host = 32 - u32::from(self.len);
+        u64::from(addr.0) >> host == u64::from(self.bits) >> host
+    }
+}
+
+/// Reads a prefix: `default`, `all` or `any` for 0.0.0.0/0, an address, or an address, `/` and a length of 0 to 32.
+///
+/// A missing length is 32.
+///
+/// # Errors
+///
+/// `BadPrefix` where the word spells no prefix, and otherwise `HostBits` where a bit behind the length is set.
+pub fn read_prefix(word: &[u8]) -> Result<Prefix, Refusal>
+    ensures { result ≡ prefix word.now }
+{
+    let (addr, len) = read_block(word).ok_or(Refusal::BadPrefix)?;
+    Prefix::new(addr.0, len).ok_or(Refusal::HostBits)
+}
+
+/// Whether the word stands for every address.
+fn is_everything(word: &[u8]) -> bool
+    ensures { result ≡ is_one_of word.now everything_words }
+{
+    matches!(word, b"default" | b"all" | b"any")
+}
+
+/// Reads an address and a length of 0 to 32, whatever the bits behind the length.
+fn read_block(word: &[u8]) -> Option<(Addr, u8)>
+    ensures value { option_map block_from result ≡ block word.now }
+    ensures short { IfSome result (λ x. x.1 ≤ 32) }
+{
+    if is_everything(word) {
+        return Some((Addr(0), 0));
+    }
+    let (bits, len) = split_first_part(word, b'/');
+    let addr = parse_addr(bits)?;
+    let len = match len {
+        Some(len) => read_decimal(len, 2, 32)?,
+        None => 32,
+    };
+    Some((addr, len))
+}
+
+/// The prefix as four decimal parts, with `/` and the length unless that is 32.
+#[tactic(auto, using(crate::proofs::Digits::two_digits))]
+pub fn prefix_text(prefix: &Prefix) -> ArrayString<18>
+    ensures { result.bytes ≡ prefix_text prefix.now }
+{
+    let mut text = ArrayString::new();
+    text.push_str(addr_text(Addr(prefix.bits)).as_str());
+    if prefix.len != 32 {
+        text.push_str("/");
+        text.push_str(Buffer::new().format(prefix.len));
+    }
+    text
+}
+
+impl fmt::Display for Prefix {
+    ghost output = { λ prefix. Some (prefix_text prefix) };
+
+    fn fmt<W: fmt::Write>(&self, f: &mut fmt::Formatter<W>) -> fmt::Result {
+        f.write_str(prefix_text(self).as_str())
+    }
+}

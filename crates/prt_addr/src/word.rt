@@ -1,0 +1,20 @@
+ghost use Rattle.std.specs.Prelude.{◌≡◌, ◌∷◌, ◌==◌, option_map, position};
+ghost use Rattle.prt_addr.specs.Word.{parts_at, parts_of_rest};
+
+/// The place of the first byte that is the separator.
+fn separator_place(word: &[u8], separator: u8) -> Option<usize>
+    ensures { result ≡ position (λ b. b == separator) word.now }
+{
+    word.iter().position(|byte| *byte == separator)
+}
+
+/// The part of the word before the first separator and, if there is a separator, what stands behind it.
+#[tactic(auto, using(crate::proofs::Words::parts_around, crate::proofs::Words::one_part))]
+pub(crate) fn split_first_part(word: &[u8], separator: u8) -> (&[u8], Option<&[u8]>)
+    ensures { parts_at separator word.now ≡ result.0.now ∷ parts_of_rest separator (option_map (λ rest. rest.now) result.1) }
+{
+    match separator_place(word, separator) {
+        Some(place) => (&word[..place], Some(&word[place + 1..])),
+        None => (word, None),
+    }
+}

@@ -1,0 +1,7 @@
+pub mod Splitting
+pub mod Rows
+pub mod Values
+pub mod ItemLaws
+pub mod GrammarLaws
+pub mod ReadingLaws
+pub mod OrderLaws

@@ -1,0 +1,34 @@
+-- Two items that are not the same one may be given in either order.
+use Rattle.std.proofs.Common.{◌≡◌, List, [], ◌∷◌, ◌++◌, false, refl, ◌∙◌, ap, sym, subst}
+use Rattle.prt_command.specs.Grammar.{EachOnce}
+use Rattle.prt_command.specs.Items.{Item, Value, has, with_value, with_item, with_all}
+use Rattle.prt_command.specs.declared.item.Items.{Items}
+use Rattle.prt_command.specs.declared.item.Slot.{Slot}
+use Rattle.prt_command.specs.declared.item.Slot.TheVariants.{Destination, Via, Dev, Address}
+
+-- What two items of different slots do to each other: nothing.
+pub record Apart (s t : Slot) (x : Value s) (y : Value t) (given : Items) : Type 0 where
+  pub same : with_value t y (with_value s x given) ≡ with_value s x (with_value t y given)
+  pub first : has s (with_value t y given) ≡ has s given
+  pub second : has t (with_value s x given) ≡ has t given
+
+-- an item that was not given behind another is of another slot
+apart : (s t : Slot) (x : Value s) (y : Value t) (given : Items) → has t (with_value s x given) ≡ false → Apart s t x y given
+apart Destination Destination x y given h = absurd cc
+apart Destination t x y given h = record { same = refl; first = refl; second = refl }
+apart Via Via x y given h = absurd cc
+apart Via t x y given h = record { same = refl; first = refl; second = refl }
+apart Dev Dev x y given h = absurd cc
+apart Dev t x y given h = record { same = refl; first = refl; second = refl }
+apart Address Address x y given h = absurd cc
+apart Address t x y given h = record { same = refl; first = refl; second = refl }
+
+pub swapped_once : (given : Items) (front rest : List Item) (a b : Item) → EachOnce given (front ++ (a ∷ b ∷ rest)) → EachOnce given (front ++ (b ∷ a ∷ rest))
+swapped_once given [] rest a b once =
+    let d = apart a.slot b.slot a.value b.value given once.1.0 in
+    (sym d.second ∙ once.1.0, (d.first ∙ once.0, subst (λ (g : Items). EachOnce g rest) d.same once.1.1))
+swapped_once given (item ∷ front) rest a b once = (once.0, swapped_once (with_item item given) front rest a b once.1)
+
+pub swapped_same : (given : Items) (front rest : List Item) (a b : Item) → EachOnce given (front ++ (a ∷ b ∷ rest)) → with_all (front ++ (a ∷ b ∷ rest)) given ≡ with_all (front ++ (b ∷ a ∷ rest)) given
+swapped_same given [] rest a b once = ap (with_all rest) (apart a.slot b.slot a.value b.value given once.1.0).same
+swapped_same given (item ∷ front) rest a b once = swapped_same (with_item item given) front rest a b once.1

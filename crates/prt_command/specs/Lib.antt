@@ -1,0 +1,17 @@
+pub mod Items
+pub mod Grammar
+pub mod Line
+pub mod Reading
+pub mod Verbs
+pub use Rattle.prt_addr.specs.Addr
+pub use Rattle.prt_addr.specs.Block
+pub use Rattle.prt_addr.specs.Decimal
+pub use Rattle.prt_addr.specs.Prefix
+pub use Rattle.prt_addr.specs.Refusal
+pub use Rattle.prt_addr.specs.Word
+pub use Rattle.prt_route.specs.Best
+pub use Rattle.prt_route.specs.Dev
+pub use Rattle.prt_route.specs.Kind
+pub use Rattle.prt_route.specs.Name
+pub use Rattle.prt_route.specs.Names
+pub use Rattle.prt_route.specs.Route

@@ -1,0 +1,20 @@
+//! The command language: what a line of it asks for, or its first fault.
+#![tactic(auto)]
+
+mod examples;
+mod item;
+mod laws;
+mod line;
+mod reader;
+mod request;
+#[cfg(test)]
+mod tests;
+mod verb;
+mod words;
+
+pub use examples::{accepted_lines, refused_lines};
+pub use item::{Items, Slot};
+pub use laws::{any_order, first_faults, readings};
+pub use line::{LONGEST_LINE, read_line};
+pub use prt_route::{Addr, Dev, Kind, Prefix, Refusal, Route, RouteKey};
+pub use request::{Command, Query, Request};

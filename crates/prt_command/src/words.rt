@@ -1,0 +1,87 @@
+ghost use Rattle.std.specs.Prelude.{◌≡◌, ◌<◌, [], ◌∷◌, length, not, ◌==◌, MatchOption, bytes_eq, position, unwrap_or};
+ghost use Rattle.std.specs.List.{list_all};
+ghost use Rattle.prt_addr.specs.Word.{is_white};
+ghost use Rattle.prt_command.specs.Reading.{before_comment, is_text_byte, words};
+
+/// Space, tab or carriage return.
+fn is_white(byte: u8) -> bool
+    ensures { result ≡ is_white byte }
+{
+    byte == b' ' || byte == b'\t' || byte == b'\r'
+}
+
+/// A byte that may stand in front of a comment: white space or a printable ASCII character.
+fn is_text(byte: u8) -> bool
+    ensures { result ≡ is_text_byte byte }
+{
+    byte == b'\t' || byte == b'\r' || (b' '..=b'~').contains(&byte)
+}
+
+/// Whether a text has no byte but white space and printable ASCII characters.
+pub(crate) fn is_ascii_text(text: &[u8]) -> bool
+    ensures { result ≡ list_all is_text_byte text.now }
+{
+    text.iter().all(|byte| is_text(*byte))
+}
+
+fn first_hash(line: &[u8]) -> Option<usize>
+    ensures { result ≡ position (λ b. b == 35) line.now }
+{
+    line.iter().position(|byte| *byte == b'#')
+}
+
+/// What stands before the first `#` of a line, or the whole line.
+pub(crate) fn before_comment(line: &[u8]) -> &[u8]
+    ensures { result.now ≡ before_comment line.now }
+{
+    match first_hash(line) {
+        Some(at) => &line[..at],
+        None => line,
+    }
+}
+
+/// Whether the word is this text.
+pub(crate) fn is(word: &[u8], text: &[u8]) -> bool
+    ensures { result ≡ bytes_eq text.now word.now }
+{
+    text == word
+}
+
+fn first_byte(text: &[u8]) -> Option<usize>
+    ensures { result ≡ position (λ b. not (is_white b)) text.now }
+{
+    text.iter().position(|byte| !is_white(*byte))
+}
+
+fn first_white(text: &[u8]) -> Option<usize>
+    ensures { result ≡ position is_white text.now }
+{
+    text.iter().position(|byte| is_white(*byte))
+}
+
+/// How many bytes of white space stand in front.
+fn white_len(text: &[u8]) -> usize
+    ensures { result ≡ unwrap_or (position (λ b. not (is_white b)) text.now) (length text.now) }
+{
+    first_byte(text).unwrap_or(text.len())
+}
+
+/// How many bytes stand before the first white space.
+fn word_len(text: &[u8]) -> usize
+    ensures { result ≡ unwrap_or (position is_white text.now) (length text.now) }
+{
+    first_white(text).unwrap_or(text.len())
+}
+
+/// The first word of a text, and the text behind it.
+pub(crate) fn next_word(text: &[u8]) -> Option<(&[u8], &[u8])>
+    ensures { MatchOption result (words text.now ≡ [])
+        (λ next. (words text.now ≡ next.0.now ∷ words next.1.now) × (length next.1.now < length text.now)) }
+{
+    let rest = &text[white_len(text)..];
+    if rest.is_empty() {
+        return None;
+    }
+    let len = word_len(rest);
+    Some((&rest[..len], &rest[len..]))
+}

@@ -1,0 +1,12 @@
+pub mod Kind
+pub mod Names
+pub mod Name
+pub mod Dev
+pub mod Route
+pub mod Best
+pub use Rattle.prt_addr.specs.Addr
+pub use Rattle.prt_addr.specs.Block
+pub use Rattle.prt_addr.specs.Decimal
+pub use Rattle.prt_addr.specs.Prefix
+pub use Rattle.prt_addr.specs.Refusal
+pub use Rattle.prt_addr.specs.Word

@@ -1,0 +1,15 @@
+//! Routes: what a route says, its key, and which of two routes is better.
+#![tactic(auto)]
+
+mod dev;
+mod kind;
+mod names;
+mod route;
+#[cfg(test)]
+mod tests;
+
+pub use dev::{Dev, read_dev};
+pub use kind::Kind;
+pub use names::{protocol_name, scope_name, table_name};
+pub use prt_addr::{Addr, Prefix, Refusal};
+pub use route::{Route, RouteKey};

@@ -1,0 +1,59 @@
+ghost use Rattle.std.specs.Prelude.{◌≡◌};
+ghost use Rattle.prt_route.specs.Route.{key_of, is_better};
+
+use crate::{Addr, Dev, Kind, Prefix};
+
+/// What tells a route from the others: no two routes have the same key.
+#[derive(Clone, Copy, Debug, PartialEq, Eq)]
+pub struct RouteKey {
+    /// The number of the table, from 1 on.
+    pub table: u32,
+    pub prefix: Prefix,
+    /// The lower, the better.
+    pub metric: u32,
+}
+
+/// A route of one table.
+#[derive(Clone, Copy, Debug, PartialEq, Eq)]
+pub struct Route {
+    /// The number of the table, from 1 on.
+    pub table: u32,
+    /// The destinations.
+    pub prefix: Prefix,
+    /// The lower, the better.
+    pub metric: u32,
+    pub kind: Kind,
+    /// The gateway.
+    pub via: Option<Addr>,
+    /// The interface to send through.
+    pub dev: Option<Dev>,
+    /// The source address to prefer.
+    pub src: Option<Addr>,
+    /// The number of the protocol that the route comes from.
+    pub proto: u8,
+    /// The number of the scope.
+    pub scope: u8,
+}
+
+impl Route {
+    /// The key of the route.
+    pub fn key(&self) -> RouteKey
+        ensures { result ≡ key_of self.now }
+    {
+        RouteKey {
+            table: self.table,
+            prefix: self.prefix,
+            metric: self.metric,
+        }
+    }
+
+    /// Whether this route is better than the other one of its table for an address in both.
+    ///
+    /// The longer prefix is better, and of equal lengths the lower metric (RFC 1812, section 5.2.4.3).
+    pub fn better(&self, other: &Route) -> bool
+        ensures { result ≡ is_better self.now other.now }
+    {
+        let (len, other_len) = (self.prefix.len(), other.prefix.len());
+        len > other_len || len == other_len && self.metric < other.metric
+    }
+}
