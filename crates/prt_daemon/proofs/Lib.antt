@@ -1,0 +1,12 @@
+pub mod Ends
+pub mod Known
+pub mod Lines
+pub mod LongLine
+pub mod RefusalText
+pub mod Replies
+pub mod Served
+pub mod SessionSteps
+pub mod FirstBest
+pub mod Rules
+pub mod Parts
+pub mod Turns

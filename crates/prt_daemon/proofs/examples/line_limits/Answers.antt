@@ -1,0 +1,20 @@
+use Rattle.std.proofs.Common.{refl}
+use Rattle.std.specs.Fmt.{digits}
+use Rattle.prt_daemon.specs.Session.{line_turn, lines_of, replies_text, session, session_lines, stops_after}
+use Rattle.prt_daemon.proofs.examples.line_limits.Goals as goal
+
+pub returns-clause-longest : goal.returns-clause-longest
+unfolding session session_lines lines_of line_turn stops_after replies_text digits
+returns-clause-longest c = refl
+
+pub returns-clause-too_long : goal.returns-clause-too_long
+unfolding session session_lines lines_of line_turn stops_after replies_text digits
+returns-clause-too_long c = refl
+
+pub returns-clause-endless : goal.returns-clause-endless
+unfolding session session_lines lines_of line_turn stops_after replies_text digits
+returns-clause-endless c = refl
+
+pub returns-clause-unread : goal.returns-clause-unread
+unfolding session session_lines lines_of line_turn stops_after replies_text digits
+returns-clause-unread c = refl

@@ -1,0 +1,50 @@
+//! Scripts with their replies, computed with the definitions alone.
+ghost use Rattle.std.specs.Prelude.{◌≡◌, ◌∷◌, [], ◌++◌, None, Some, codes, length, replicate, true};
+ghost use Rattle.prt_daemon.specs.Example.{replies_to, session_on};
+ghost use Rattle.prt_daemon.specs.Session.{commit_kept, end_of_input, no_memory, publication_fails, read_fault};
+ghost use Rattle.prt_daemon.specs.declared.script.OnRefusal.TheVariants.{GoOn, Stop};
+
+/// A default route, and the route for an address.
+pub fn first_run()
+    ensures { replies_to Stop (codes "route add default via 192.0.2.1 dev eth0\nroute get 198.51.100.7\n") end_of_input []
+        ≡ codes "ok 1\nanswer 1 rule 32766 table main default via 192.0.2.1 dev eth0\n" }
+{}
+
+/// Four prefixes, each within the one before it.
+pub fn longest_prefix()
+    ensures { replies_to GoOn (codes "route add 0/0 dev a0\nroute add 10/8 dev a1\nroute add 10.1/16 dev a2\nroute add 10.1.2.3/32 dev a3\nroute get 10.1.2.3\nroute get 11\n") end_of_input []
+        ≡ codes "ok 1\nok 2\nok 3\nok 4\nanswer 4 rule 32766 table main 10.1.2.3 dev a3 scope link\nanswer 4 rule 32766 table main default dev a0 scope link\n" }
+{}
+
+/// The same key twice, with force and without.
+pub fn force()
+    ensures forced { replies_to GoOn (codes "route add 10/8 via 192.0.2.1\nroute add 10/8 via 192.0.2.2\nroute get 10") end_of_input []
+        ≡ codes "ok 1\nerror 21 Exists\nanswer 1 rule 32766 table main 10.0.0.0/8 via 192.0.2.1\n" }
+    ensures unforced { replies_to Stop (codes "route add 10/8 via 192.0.2.1\nroute add 10/8 via 192.0.2.2\nroute get 10") end_of_input []
+        ≡ codes "ok 1\nerror 21 Exists\n" }
+    ensures unread { (session_on Stop (codes "route add 10/8 via 192.0.2.1\nroute add 10/8 via 192.0.2.2\nroute get 10") end_of_input []).unread ≡ codes "route get 10" }
+{}
+
+/// Six refused lines.
+pub fn refused_script()
+    ensures { replies_to GoOn (codes "link show\nroute append 10/8\nroute add 10/8 dev\nroute get default\nroute add 10.0.0.1/8 dev a\nroute add 10/8\n") end_of_input []
+        ≡ codes "error 3 UnknownObject\nerror 4 UnknownVerb\nerror 6 MissingValue\nerror 8 BadAddress\nerror 10 HostBits\nerror 15 NoNextHop\n" }
+{}
+
+/// A reader that fails, memory that is refused, and a store that fails.
+pub fn mishaps()
+    ensures read_fault { replies_to GoOn (codes "route get 1\nroute get 2") read_fault [] ≡ codes "answer 0 none\nerror 32 ReadFault\n" }
+    ensures no_memory { replies_to GoOn (codes "route get 1\nroute add 0/0 dev a\nroute get 1\n") end_of_input (Some no_memory ∷ (Some no_memory ∷ []))
+        ≡ codes "error 26 NoMemory\nerror 26 NoMemory\nanswer 0 none\n" }
+    ensures closed { replies_to GoOn (codes "route add 0/0 dev a\nroute add 10/8 dev a\nroute get 1\n") end_of_input (Some commit_kept ∷ [])
+        ≡ codes "error 27 StoreFailed\nerror 20 Closed\nanswer 0 none\n" }
+    ensures kept { (session_on GoOn (codes "route add 0/0 dev a\n") end_of_input (Some publication_fails ∷ [])).desk.stored.count ≡ 1 }
+{}
+
+/// Long lines, and a line without an end.
+pub fn line_limits()
+    ensures longest { replies_to GoOn (replicate 1024 32 ++ codes "\nroute get 1") end_of_input [] ≡ codes "answer 0 none\n" }
+    ensures too_long { replies_to GoOn (replicate 1025 32 ++ codes "\nroute get 1") end_of_input [] ≡ codes "error 1 LineTooLong\nanswer 0 none\n" }
+    ensures endless { replies_to GoOn (replicate 65537 32 ++ codes "\nroute get 1\n") end_of_input [] ≡ codes "error 1 LineTooLong\n" }
+    ensures unread { (session_on GoOn (replicate 65537 32 ++ codes "\nroute get 1\n") end_of_input []).unread ≡ codes "\nroute get 1\n" }
+{}

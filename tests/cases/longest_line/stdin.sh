@@ -1,0 +1,1 @@
+printf "route get 1%1013s\n" ""
