@@ -1,5 +1,5 @@
 -- A line that was read and answered: how the session ends with it, or goes on.
-use Rattle.std.proofs.Common.{◌≡◌, ℕ, ◌-◌, ◌<◌, ◌≤◌, Bool, true, false, List, [], ◌∷◌, ◌++◌, length, Option, None, refl, sym, ◌∙◌, ap, arith, append_assoc}
+use Rattle.std.proofs.Common.{◌≡◌, ℕ, ◌-◌, ◌<◌, ◌≤◌, Bool, true, false, List, [], ◌∷◌, ◌++◌, length, Option, None, inl, inr, refl, sym, ◌∙◌, ap, arith, append_assoc}
 use Rattle.std.proofs.lemmas.Bool.Decides.{nat_tests}
 use Rattle.std.specs.Io.KnownBytes.{Consumes, Appends, IsAtEnd}
 use Rattle.prt_addr.specs.declared.refusal.Refusal.TheVariants.{ReadFault, TooManyLines}
@@ -15,6 +15,9 @@ use Rattle.prt_daemon.specs.declared.input.Stop.{Stop}
 use Rattle.prt_daemon.specs.declared.input.Stop.TheVariants as stops
 use Rattle.prt_daemon.specs.declared.script.OnRefusal.{OnRefusal}
 use Rattle.prt_daemon.specs.declared.script.ScriptEnd.{ScriptEnd}
+
+abbrev pub replies_of : Outcome → List Reply
+replies_of outcome = outcome.replies
 
 -- From now to later a line was read to there, and answered.
 pub record LineAnswered (now later : Moment) (stop : Stop) (content : List ℕ) (reply : Reply) : Type 0 where
@@ -50,19 +53,19 @@ fault_is_no_end behind e = absurd (cc)
 module _ (mode : OnRefusal) (left : ℕ) (some_left : 0 < left) (now later : Moment) (reply : Reply) where
   whole_alone : (content : List ℕ) (mishap : Option Mishap) (stops_it : Bool) → LineAnswered now later stops.Newline content reply → reply ≡ (line_turn now.desk content mishap).reply → later.desk ≡ (line_turn now.desk content mishap).desk → stops_after mode (line_turn now.desk content mishap).reply ≡ stops_it → ClosesAlone mode left now later reply
   unfolding session_lines lines_of
-  whole_alone content mishap true line e k st = record { more = content ++ (10 ∷ []); ending = end_of_input; mishaps = mishap ∷ []; law = rw (e, k) (stops_behind limits mode end_of_input left now.desk some_left content [] mishap [] line.bare line.stopped st); read = line.read }
-  whole_alone content mishap false line e k st = record { more = content ++ (10 ∷ []); ending = end_of_input; mishaps = mishap ∷ []; law = rw (e, k) (goes_on_after limits mode end_of_input left now.desk some_left content [] mishap [] line.bare line.stopped st); read = line.read }
+  whole_alone content mishap true line e k st = record { more = content ++ (10 ∷ []); ending = end_of_input; mishaps = mishap ∷ []; law = rw (e, k) (stops_behind limits mode end_of_input left now.desk some_left content [] mishap [] line.bare line.stopped st); is_due = inr ([], rw e (ap replies_of (stops_behind limits mode read_fault left now.desk some_left content [] mishap [] line.bare line.stopped st))); read = line.read }
+  whole_alone content mishap false line e k st = record { more = content ++ (10 ∷ []); ending = end_of_input; mishaps = mishap ∷ []; law = rw (e, k) (goes_on_after limits mode end_of_input left now.desk some_left content [] mishap [] line.bare line.stopped st); is_due = inr ((session_lines limits mode read_fault (left - 1) (lines_of []) [] (line_turn now.desk content mishap).desk).replies, rw e (ap replies_of (goes_on_after limits mode read_fault left now.desk some_left content [] mishap [] line.bare line.stopped st))); read = line.read }
 
   -- the last line, with nothing behind it
   pub closes_alone : (stop : Stop) (content : List ℕ) → LineAnswered now later stop content reply → ClosesAlone mode left now later reply
   unfolding session_lines lines_of
   closes_alone stops.Newline content line = whole_alone content line.answer.0 (stops_after mode (line_turn now.desk content line.answer.0).reply) line line.answer.1 line.answer.2 refl
   closes_alone stops.End [] line = let h = line.something in absurd (cc)
-  closes_alone stops.End (b ∷ bs) line = record { more = (b ∷ bs) ++ []; ending = end_of_input; mishaps = line.answer.0 ∷ []; law = rw (append_none bs, line.answer.1, line.answer.2) (ends_unended limits mode end_of_input left now.desk some_left b bs line.answer.0 [] line.bare line.stopped.0); read = line.read }
-  closes_alone stops.Fault [] line = record { more = []; ending = read_fault; mishaps = []; law = rw (line.answer.0, line.answer.1); read = line.read }
-  closes_alone stops.Fault (b ∷ bs) line = record { more = (b ∷ bs) ++ []; ending = read_fault; mishaps = []; law = rw (append_none bs, line.answer.0, line.answer.1) (ends_in_fault limits mode read_fault left now.desk some_left b bs [] line.bare line.stopped); read = line.read }
+  closes_alone stops.End (b ∷ bs) line = record { more = (b ∷ bs) ++ []; ending = end_of_input; mishaps = line.answer.0 ∷ []; law = rw (append_none bs, line.answer.1, line.answer.2) (ends_unended limits mode end_of_input left now.desk some_left b bs line.answer.0 [] line.bare line.stopped.0); is_due = inl line.stopped.1; read = line.read }
+  closes_alone stops.Fault [] line = record { more = []; ending = read_fault; mishaps = []; law = rw (line.answer.0, line.answer.1); is_due = inr ([], rw line.answer.0); read = line.read }
+  closes_alone stops.Fault (b ∷ bs) line = record { more = (b ∷ bs) ++ []; ending = read_fault; mishaps = []; law = rw (append_none bs, line.answer.0, line.answer.1) (ends_in_fault limits mode read_fault left now.desk some_left b bs [] line.bare line.stopped); is_due = inr ([], rw (append_none bs, line.answer.0) (ap replies_of (ends_in_fault limits mode read_fault left now.desk some_left b bs [] line.bare line.stopped))); read = line.read }
   closes_alone stops.Endless [] line = let h = line.stopped in absurd (omega arith)
-  closes_alone stops.Endless (b ∷ bs) line = record { more = (b ∷ bs) ++ []; ending = end_of_input; mishaps = []; law = rw (line.answer.0, line.answer.1) (ends_endless limits mode end_of_input left now.desk some_left b bs [] [] line.bare line.stopped); read = line.read }
+  closes_alone stops.Endless (b ∷ bs) line = record { more = (b ∷ bs) ++ []; ending = end_of_input; mishaps = []; law = rw (line.answer.0, line.answer.1) (ends_endless limits mode end_of_input left now.desk some_left b bs [] [] line.bare line.stopped); is_due = inr ([], rw line.answer.0 (ap replies_of (ends_endless limits mode read_fault left now.desk some_left b bs [] [] line.bare line.stopped))); read = line.read }
 
   -- the last line, and what stands behind it
   pub closes : (stop : Stop) (content : List ℕ) → LineAnswered now later stop content reply → ends_after mode stop reply ≡ true → Closes mode left now later (reply ∷ [])
@@ -115,7 +118,7 @@ module _ (mode : OnRefusal) (left : ℕ) (some_left : 0 < left) (now later : Mom
 
 -- one more byte is read where no line is left
 pub too_many_alone : (mode : OnRefusal) (now later : Moment) (b : ℕ) → now.desk ≡ later.desk → Consumes now.reader later.reader (b ∷ []) → ClosesAlone mode 0 now later (refused TooManyLines)
-too_many_alone mode now later b same read = record { more = b ∷ []; ending = end_of_input; mishaps = []; law = rw (← same) (too_many limits mode end_of_input now.desk [] b [] (lines_of (b ∷ [])) refl); read = read }
+too_many_alone mode now later b same read = record { more = b ∷ []; ending = end_of_input; mishaps = []; law = rw (← same) (too_many limits mode end_of_input now.desk [] b [] (lines_of (b ∷ [])) refl); is_due = inr ([], ap replies_of (too_many limits mode read_fault now.desk [] b [] (lines_of (b ∷ [])) refl)); read = read }
 
 pub too_many_closes : (mode : OnRefusal) (now later : Moment) (b : ℕ) → now.desk ≡ later.desk → Consumes now.reader later.reader (b ∷ []) → Closes mode 0 now later (refused TooManyLines ∷ [])
 too_many_closes mode now later b same read = record { more = (b ∷ []) ++ left_of later.reader; ending = end_of_input; mishaps = []; unread = left_of later.reader; behind = []; law = rw (← same) (too_many limits mode end_of_input now.desk [] b (left_of later.reader) (lines_of (b ∷ left_of later.reader)) refl); gives = gives_rest now.reader later.reader (b ∷ []) read; whole = λ _. refl }
@@ -123,7 +126,7 @@ too_many_closes mode now later b same read = record { more = (b ∷ []) ++ left_
 -- the reader fails where a line would begin
 pub fault_alone : (mode : OnRefusal) (left : ℕ) (now later : Moment) → now.desk ≡ later.desk → Consumes now.reader later.reader [] → ClosesAlone mode left now later (refused ReadFault)
 unfolding session_lines lines_of
-fault_alone mode left now later same read = record { more = []; ending = read_fault; mishaps = []; law = rw same; read = read }
+fault_alone mode left now later same read = record { more = []; ending = read_fault; mishaps = []; law = rw same; is_due = inr ([], refl); read = read }
 
 pub fault_closes : (mode : OnRefusal) (left : ℕ) (now later : Moment) → now.desk ≡ later.desk → Consumes now.reader later.reader [] → Closes mode left now later (refused ReadFault ∷ [])
 unfolding session_lines lines_of

@@ -10,3 +10,5 @@ pub mod FirstBest
 pub mod Rules
 pub mod Parts
 pub mod Turns
+pub mod Length
+pub mod Reports

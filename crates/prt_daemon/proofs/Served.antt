@@ -1,12 +1,12 @@
 -- What a run keeps from line to line, and what follows of the whole run where it ends.
-use Rattle.std.proofs.Common.{◌≡◌, ℕ, Bool, false, List, [], ◌∷◌, ◌++◌, Option, Some, None, refl, sym, ◌∙◌, ap}
+use Rattle.std.proofs.Common.{◌≡◌, ◌≢◌, ◌⊎◌, inl, inr, ℕ, Bool, false, List, [], ◌∷◌, ◌++◌, Option, Some, None, refl, sym, ◌∙◌, ap}
 use Rattle.std.specs.Io.KnownBytes.{Consumes, Appends, IsAtEnd}
 use Rattle.prt_addr.specs.declared.refusal.Refusal.{Refusal}
 use Rattle.prt_addr.specs.declared.refusal.Refusal.TheVariants.{WriteFault}
 use Rattle.prt_daemon.proofs.Known.{Gives, gives_had, gives_has, gives_all, consumes_more, consumes_nothing, appends_more}
 use Rattle.prt_daemon.proofs.Replies.{text_append, refused_append, fault_append, one_text, one_refused, one_fault, no_text, no_refused, no_fault}
 use Rattle.prt_daemon.specs.Run.{Ran, Cut, refused_in, fault_in, refused_after, fault_after}
-use Rattle.prt_daemon.specs.Session.{DeskState, Mishap, Ending, end_of_input, Outcome, Reply, limits, session, session_lines, lines_of, reply_text, replies_text}
+use Rattle.prt_daemon.specs.Session.{DeskState, Mishap, Ending, end_of_input, read_fault, Outcome, Reply, silent, limits, session, session_lines, lines_of, reply_text, replies_text}
 use Rattle.prt_daemon.specs.Steps.{Written}
 use Rattle.prt_daemon.specs.declared.script.OnRefusal.{OnRefusal}
 use Rattle.prt_daemon.specs.declared.script.ScriptEnd.{ScriptEnd}
@@ -50,12 +50,18 @@ pub record Closes (mode : OnRefusal) (left : ℕ) (now later : Moment) (replies 
   pub gives : Gives now.reader later.reader more unread behind
   pub whole : ending ≡ end_of_input → behind ≡ []
 
+-- The reader is at its end, or had it failed there the reply would be the same.
+abbrev pub IsDue : OnRefusal → ℕ → Moment → Moment → List ℕ → List (Option Mishap) → Reply → Type 0
+IsDue mode left now later more mishaps reply =
+    IsAtEnd later.reader ⊎ ((rest : List Reply) × ((session_lines limits mode read_fault left (lines_of more) mishaps now.desk).replies ≡ reply ∷ rest))
+
 -- The session on no more than what is read last gives this reply and ends.
 pub record ClosesAlone (mode : OnRefusal) (left : ℕ) (now later : Moment) (reply : Reply) : Type 0 where
   pub more : List ℕ
   pub ending : Ending
   pub mishaps : List (Option Mishap)
   pub law : session_lines limits mode ending left (lines_of more) mishaps now.desk ≡ record { replies = reply ∷ []; desk = later.desk; unread = [] }
+  pub is_due : IsDue mode left now later more mishaps reply
   pub read : Consumes now.reader later.reader more
 
 -- nothing is read yet
@@ -92,9 +98,9 @@ module _ (mode : OnRefusal) (start now later : Moment) (left : ℕ) (end : Scrip
         input = record { bytes = served.bytes ++ last.more; ending = last.ending };
         behind = last.behind;
         mishaps = served.mishaps ++ last.mishaps;
-        had = gives_had start.reader now.reader later.reader served.bytes last.more last.unread last.behind served.read last.gives;
+        bytes_before = gives_had start.reader now.reader later.reader served.bytes last.more last.unread last.behind served.read last.gives;
         whole = last.whole;
-        has = rw e (gives_has start.reader now.reader later.reader served.bytes last.more last.unread last.behind served.read last.gives);
+        bytes_left = rw e (gives_has start.reader now.reader later.reader served.bytes last.more last.unread last.behind served.read last.gives);
         wrote = rw e (rw (text_append served.replies replies) (appends_more start.writer now.writer later.writer (replies_text served.replies) (replies_text replies) served.wrote wrote));
         leaves = rw e;
         refused_is = rw e (refused_by end'.refused replies refused_is);
@@ -106,10 +112,17 @@ module _ (mode : OnRefusal) (start now later : Moment) (left : ℕ) (end : Scrip
       Ran mode start.desk later.desk start.reader later.reader start.writer later.writer end'
   ran_from end' reply last wrote refused_is fault_is = ran_by end' (reply ∷ []) last (rw (one_text reply) wrote) (refused_is ∙ sym (one_refused end.refused reply)) (fault_is ∙ sym (one_fault end.fault reply))
 
+  due_by : (more : List ℕ) (mishaps : List (Option Mishap)) (reply : Reply) → IsDue mode left now later more mishaps reply →
+      IsAtEnd later.reader ⊎ ((rest : List Reply) × ((session start.desk (record { bytes = served.bytes ++ more; ending = read_fault }) mode (served.mishaps ++ mishaps)).replies ≡ served.replies ++ (reply ∷ rest)))
+  due_by more mishaps reply (inl at_end) = inl at_end
+  due_by more mishaps reply (inr due) =
+      let faulty : Outcome = session_lines limits mode read_fault left (lines_of more) mishaps now.desk in
+      inr (due.0, ap (λ (o : Outcome). o.replies) (session_by more read_fault mishaps faulty refl) ∙ ap (λ (xs : List Reply). served.replies ++ xs) due.1)
+
   -- a run of whose last reply only a part was written
-  pub cut_from : (end' : ScriptEnd) (reply : Reply) → ClosesAlone mode left now later reply → Written false now.writer later.writer (reply_text reply) → end'.refused ≡ refused_after end.refused reply → end'.fault ≡ Some WriteFault →
+  pub cut_from : (end' : ScriptEnd) (reply : Reply) → ClosesAlone mode left now later reply → reply ≢ silent → Written false now.writer later.writer (reply_text reply) → end'.refused ≡ refused_after end.refused reply → end'.fault ≡ Some WriteFault →
       Cut mode start.desk later.desk start.reader later.reader start.writer later.writer end'
-  cut_from end' reply last written refused_is fault_is =
+  cut_from end' reply last told written refused_is fault_is =
       let e = session_by last.more last.ending last.mishaps (record { replies = reply ∷ []; desk = later.desk; unread = [] }) last.law in
       record {
         input = record { bytes = served.bytes ++ last.more; ending = last.ending };
@@ -122,6 +135,8 @@ module _ (mode : OnRefusal) (start now later : Moment) (left : ℕ) (end : Scrip
         all_read = rw e;
         replies = rw e;
         leaves = rw e;
+        is_written = told;
+        is_due = due_by last.more last.mishaps reply last.is_due;
         last_text = written.2;
         wrote = appends_more start.writer now.writer later.writer (replies_text served.replies) written.0 served.wrote written.3;
         refused_is = rw e (refused_by end'.refused (reply ∷ []) (refused_is ∙ sym (one_refused end.refused reply)));

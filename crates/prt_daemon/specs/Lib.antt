@@ -6,4 +6,5 @@ pub mod Run
 pub mod Steps
 pub mod Choice
 pub mod Program
+pub mod Faults
 pub mod Example

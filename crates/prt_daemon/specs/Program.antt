@@ -1,5 +1,5 @@
 -- What the program does: it runs one session, or it says why it does not.
-use Rattle.std.specs.Prelude.{◌≡◌, ℕ, Bool, true, false, List, Option, Some, None}
+use Rattle.std.specs.Prelude.{◌≡◌, ◌⊎◌, ℕ, Bool, true, false, List, Option, Some, None}
 use Rattle.prt_addr.specs.declared.refusal.Refusal.{Refusal}
 use Rattle.prt_daemon.specs.Run.{RunIs}
 use Rattle.prt_daemon.specs.Session.{DeskState, settled}
@@ -29,3 +29,7 @@ pub record RunsSome (writer0 writer : Option (List ℕ)) (status : ℕ) : Type 0
   pub mode : OnRefusal
   pub reader0 : Option (List ℕ)
   pub batch : RunsBatch mode reader0 writer0 writer status
+
+-- No session was run: what the writer had is there alone, unless help was asked for.
+abbrev pub RunsNothing : Option (List ℕ) → Option (List ℕ) → ℕ → Type 0
+RunsNothing writer0 writer status = (status ≡ 0) ⊎ (((status ≡ 2) ⊎ (status ≡ 3)) × (writer ≡ writer0))

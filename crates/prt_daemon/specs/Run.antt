@@ -1,10 +1,10 @@
 -- What a run over a reader and a writer does: the session on what is read.
-use Rattle.std.specs.Prelude.{◌≡◌, ℕ, ◌||◌, ◌⊎◌, Bool, true, false, not, List, [], ◌∷◌, ◌++◌, Option, Some, None, IfSome, Result, Ok, Err, if◌then◌else◌}
-use Rattle.std.specs.Io.KnownBytes.{Consumes, Appends}
+use Rattle.std.specs.Prelude.{◌≡◌, ◌≢◌, ℕ, ◌||◌, ◌⊎◌, Bool, true, false, not, List, [], ◌∷◌, ◌++◌, Option, Some, None, IfSome, Result, Ok, Err, if◌then◌else◌}
+use Rattle.std.specs.Io.KnownBytes.{Consumes, Appends, IsAtEnd}
 use Rattle.prt_addr.specs.declared.refusal.Refusal.{Refusal}
 use Rattle.prt_addr.specs.declared.refusal.Refusal.TheVariants.{StoreFailed, NotPublished, ReadFault, WriteFault}
 use Rattle.prt_command.specs.declared.request.Command.{Command}
-use Rattle.prt_daemon.specs.Session.{DeskState, Mishap, Reply, silent, accepted, answered, refused, Input, end_of_input, session, command_turn, reply_text, replies_text}
+use Rattle.prt_daemon.specs.Session.{DeskState, Mishap, Reply, silent, accepted, refused, Input, end_of_input, read_fault, session, command_turn, reply_text, replies_text}
 use Rattle.prt_daemon.specs.declared.script.OnRefusal.{OnRefusal}
 use Rattle.prt_daemon.specs.declared.script.ScriptEnd.{ScriptEnd}
 
@@ -18,15 +18,11 @@ is_fault_refusal _ = false
 
 abbrev pub refused_after : Bool → Reply → Bool
 refused_after had (refused reason) = had || not (is_fault_refusal reason)
-refused_after had silent = had
-refused_after had (accepted number) = had
-refused_after had (answered text) = had
+refused_after had reply = had
 
 abbrev pub fault_after : Option Refusal → Reply → Option Refusal
 fault_after last (refused reason) = if is_fault_refusal reason then Some reason else last
-fault_after last silent = last
-fault_after last (accepted number) = last
-fault_after last (answered text) = last
+fault_after last reply = last
 
 -- whether a refusal that is no fault is among the replies, or had come before them
 unfoldable pub refused_in : Bool → List Reply → Bool
@@ -43,15 +39,15 @@ pub record Ran (mode : OnRefusal) (desk0 desk : DeskState) (reader0 reader write
   pub input : Input
   pub behind : List ℕ
   pub mishaps : List (Option Mishap)
-  pub had : IfSome reader0 (λ bytes. bytes ≡ input.bytes ++ behind)
+  pub bytes_before : IfSome reader0 (λ bytes. bytes ≡ input.bytes ++ behind)
   pub whole : input.ending ≡ end_of_input → behind ≡ []
-  pub has : IfSome reader0 (λ _. reader ≡ Some ((session desk0 input mode mishaps).unread ++ behind))
+  pub bytes_left : IfSome reader0 (λ _. reader ≡ Some ((session desk0 input mode mishaps).unread ++ behind))
   pub wrote : Appends writer0 writer (replies_text (session desk0 input mode mishaps).replies)
   pub leaves : desk ≡ (session desk0 input mode mishaps).desk
   pub refused_is : end.refused ≡ refused_in false (session desk0 input mode mishaps).replies
   pub fault_is : end.fault ≡ fault_in None (session desk0 input mode mishaps).replies
 
--- After a fault of the writer: the session on what was read, of whose last reply only a part was written.
+-- After a fault of the writer: the session on what was read, of whose last reply a part was written, perhaps none or all of it.
 pub record Cut (mode : OnRefusal) (desk0 desk : DeskState) (reader0 reader writer0 writer : Option (List ℕ)) (end : ScriptEnd) : Type 0 where
   pub input : Input
   pub mishaps : List (Option Mishap)
@@ -63,6 +59,10 @@ pub record Cut (mode : OnRefusal) (desk0 desk : DeskState) (reader0 reader write
   pub all_read : (session desk0 input mode mishaps).unread ≡ []
   pub replies : (session desk0 input mode mishaps).replies ≡ told ++ last ∷ []
   pub leaves : desk ≡ (session desk0 input mode mishaps).desk
+  -- the last reply is one that has to be written
+  pub is_written : last ≢ silent
+  -- it was due by then: the input was at its end, or a fault of the reader there would not have changed it
+  pub is_due : IsAtEnd reader ⊎ ((more : List Reply) × ((session desk0 (record { bytes = input.bytes; ending = read_fault }) mode mishaps).replies ≡ told ++ last ∷ more))
   pub last_text : reply_text last ≡ part ++ cut_off
   pub wrote : Appends writer0 writer (replies_text told ++ part)
   pub refused_is : end.refused ≡ refused_in false (session desk0 input mode mishaps).replies

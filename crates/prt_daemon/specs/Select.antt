@@ -3,7 +3,7 @@ use Rattle.std.specs.Prelude.{ℕ, Bool, true, false, not, List, [], ◌∷◌, 
 use Rattle.prt_addr.specs.Word.{keep}
 use Rattle.prt_addr.specs.declared.addr.Addr.{Addr}
 use Rattle.prt_route.specs.declared.kind.Kind.{Kind}
-use Rattle.prt_route.specs.declared.kind.Kind.TheVariants.{Unicast, Blackhole, Unreachable, Prohibit, Throw}
+use Rattle.prt_route.specs.declared.kind.Kind.TheVariants.{Throw}
 use Rattle.prt_route.specs.declared.route.Route.{Route}
 use Rattle.prt_route.specs.Best.{best}
 
@@ -17,11 +17,8 @@ abbrev pub opening_rules : List TableRule
 opening_rules = record { priority = 0; table = 255 } ∷ record { priority = 32766; table = 254 } ∷ record { priority = 32767; table = 253 } ∷ []
 
 abbrev pub is_throw : Kind → Bool
-is_throw Unicast = false
-is_throw Blackhole = false
-is_throw Unreachable = false
-is_throw Prohibit = false
 is_throw Throw = true
+is_throw kind = false
 
 -- the best route of a table, if it is no throw route
 abbrev pub decision : List Route → ℕ → Addr → Option Route

@@ -15,7 +15,7 @@ use Rattle.prt_daemon.specs.Text.{answer_text}
 use Rattle.prt_daemon.specs.declared.script.OnRefusal.{OnRefusal}
 use Rattle.prt_daemon.specs.declared.script.OnRefusal.TheVariants.{Stop, GoOn}
 
--- What a desk stands for: the state that its queries are answered from, the state that is stored, and whether it is closed.
+-- What a desk stands for: the state that its queries are answered from, the state that is stored, which is the same while the desk is open, and whether it is closed.
 pub record DeskState : Type 0 where
   pub published : State
   pub stored : State
@@ -27,7 +27,7 @@ pub data Mishap : Type 0 where
   no_room : Mishap
   -- memory was refused
   no_memory : Mishap
-  -- this store call failed, and nothing is stored
+  -- this store call failed, and the change is not stored
   store_fails : StoreCall → Mishap
   -- the commit call failed, and yet the change is stored
   commit_kept : Mishap
@@ -77,12 +77,8 @@ command_turn desk command mishap = command_or_refusal desk command desk.closed (
 
 -- a query is answered from the published state, also where the desk is closed
 abbrev pub query_turn : DeskState → Query → Option Mishap → Turn
-query_turn desk query None = record { reply = answered (answer_text desk.published query); desk = desk }
 query_turn desk query (Some no_memory) = record { reply = refused NoMemory; desk = desk }
-query_turn desk query (Some no_room) = record { reply = answered (answer_text desk.published query); desk = desk }
-query_turn desk query (Some (store_fails call)) = record { reply = answered (answer_text desk.published query); desk = desk }
-query_turn desk query (Some commit_kept) = record { reply = answered (answer_text desk.published query); desk = desk }
-query_turn desk query (Some publication_fails) = record { reply = answered (answer_text desk.published query); desk = desk }
+query_turn desk query mishap = record { reply = answered (answer_text desk.published query); desk = desk }
 
 abbrev pub turn_on : DeskState → Result (Option Request) Refusal → Option Mishap → Turn
 turn_on desk (Err reason) mishap = record { reply = refused reason; desk = desk }
@@ -134,7 +130,7 @@ pub record Outcome : Type 0 where
   pub desk : DeskState
   pub unread : List ℕ
 
--- The bytes after which an unended line ends the session, and how many lines it may have.
+-- The bytes after which an unended line ends the session, and how many lines a session may have.
 pub record Limits : Type 0 where
   pub unended : ℕ
   pub lines : ℕ
@@ -143,10 +139,8 @@ abbrev pub limits : Limits
 limits = record { unended = 65536; lines = 1000000 }
 
 abbrev pub is_refused : Reply → Bool
-is_refused silent = false
-is_refused (accepted number) = false
-is_refused (answered text) = false
 is_refused (refused reason) = true
+is_refused reply = false
 
 -- whether the session ends with this reply
 unfoldable pub stops_after : OnRefusal → Reply → Bool

@@ -4,9 +4,10 @@ use Rattle.prt_addr.specs.Addr.{addr_text}
 use Rattle.prt_addr.specs.Block.{Block}
 use Rattle.prt_addr.specs.Prefix.{prefix_text}
 use Rattle.prt_addr.specs.Word.{Word}
+use Rattle.prt_route.specs.Kind.{kind_name}
 use Rattle.prt_route.specs.Names.{name_in, tables, protocols, scopes}
 use Rattle.prt_route.specs.declared.kind.Kind.{Kind}
-use Rattle.prt_route.specs.declared.kind.Kind.TheVariants.{Unicast, Blackhole, Unreachable, Prohibit, Throw}
+use Rattle.prt_route.specs.declared.kind.Kind.TheVariants.{Unicast}
 use Rattle.prt_route.specs.declared.route.Route.{Route}
 use Rattle.prt_command.specs.declared.request.Query.{Query}
 use Rattle.prt_command.specs.declared.request.Query.TheVariants.{Get}
@@ -24,10 +25,7 @@ destination_text prefix = if prefix.bits == 0 && prefix.len == 0 then codes "def
 -- the kind and a space, but for unicast
 abbrev pub kind_text : Kind → List ℕ
 kind_text Unicast = []
-kind_text Blackhole = codes "blackhole "
-kind_text Unreachable = codes "unreachable "
-kind_text Prohibit = codes "prohibit "
-kind_text Throw = codes "throw "
+kind_text kind = kind_name kind ++ codes " "
 
 -- a word and a value, if there is a value
 abbrev pub part : List ℕ → Option (List ℕ) → List ℕ

@@ -1,5 +1,7 @@
-ghost use Rattle.std.specs.Prelude.{◌≡◌, IsOkAnd};
+ghost use Rattle.std.specs.Prelude.{◌≡◌, ◌⊎◌, None, Some, IfErr, IsOkAnd};
+ghost use Rattle.prt_addr.specs.declared.refusal.Refusal.TheVariants.{NoMemory};
 ghost use Rattle.prt_route.specs.Route.{key_of};
+ghost use Rattle.prt_daemon.specs.Run.{CommandGives};
 ghost use Rattle.prt_daemon.specs.Session.{settled};
 ghost use Rattle.prt_daemon.specs.State.{has_key, opening, refusal};
 
@@ -78,7 +80,11 @@ impl ListDesk {
 impl Desk for ListDesk {
     ghost meaning = { settled };
 
-    fn command(&mut self, command: &Command) -> Result<u64, Refusal> {
+    /// An `Err` is what the command is refused for or, where it is refused for nothing, want of memory.
+    fn command(&mut self, command: &Command) -> Result<u64, Refusal>
+        ensures turn { CommandGives (settled self.old) command.now result (settled self.new) }
+        ensures reason { IfErr result (λ e. (refusal self.old command.now ≡ Some e) ⊎ ((refusal self.old command.now ≡ None) × (e ≡ NoMemory))) }
+    {
         if let Some(reason) = self.refusal(command) {
             return Err(reason);
         }

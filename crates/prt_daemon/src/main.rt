@@ -4,6 +4,7 @@
 mod desk;
 mod examples;
 mod input;
+mod laws;
 mod list_desk;
 mod program;
 mod reply;
@@ -16,6 +17,7 @@ mod text;
 pub use desk::Desk;
 pub use examples::{first_run, force, line_limits, longest_prefix, mishaps, refused_script};
 pub use input::LONGEST_UNENDED;
+pub use laws::session_ends;
 pub use list_desk::ListDesk;
 pub use program::{Fault, program, report};
 use prt_command::Refusal;

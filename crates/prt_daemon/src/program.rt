@@ -1,5 +1,6 @@
-ghost use Rattle.std.specs.Prelude.{◌≡◌, ◌⊎◌, IfOk};
-ghost use Rattle.prt_daemon.specs.Program.{RunsBatch, RunsSome, exit_status};
+ghost use Rattle.std.specs.Prelude.{◌≡◌, ◌≢◌, ◌⊎◌, IfOk, OnErr};
+ghost use Rattle.prt_daemon.specs.Faults.{StatusOf};
+ghost use Rattle.prt_daemon.specs.Program.{RunsBatch, RunsNothing, RunsSome, exit_status};
 
 use crate::list_desk::ListDesk;
 use crate::script::{OnRefusal, ScriptEnd, run_script};
@@ -80,6 +81,7 @@ fn command_line<'a>(alloc: Global) -> Result<Command<'a>, AllocError> {
         .arg(force)?
         .arg(file)?;
     Command::new(alloc, "prt")
+        .bin_name("prt")?
         .about("The table service of an IPv4 policy router")
         .subcommand_required(true)
         .arg_required_else_help(true)
@@ -122,7 +124,8 @@ fn run_batch<R: Read + Drop, W: Write>(
     output: &mut W,
     mode: OnRefusal,
 ) -> Result<u8, Fault>
-    ensures { IfOk result (RunsBatch mode (R.remaining input) (W.contents output.old) (W.contents output.new)) }
+    ensures run { IfOk result (RunsBatch mode (R.remaining input) (W.contents output.old) (W.contents output.new)) }
+    ensures unwritten { OnErr result (W.contents output.new ≡ W.contents output.old) }
 {
     // A session takes its bytes one by one; the buffer takes them from the input in blocks.
     let mut reader = match BufReader::new(alloc, input) {
@@ -142,7 +145,8 @@ fn run<F: Files, R: Read, W: Write>(
     input: &mut R,
     output: &mut W,
 ) -> Result<u8, Fault>
-    ensures { IfOk result (RunsSome (W.contents output.old) (W.contents output.new)) }
+    ensures run { IfOk result (RunsSome (W.contents output.old) (W.contents output.new)) }
+    ensures unwritten { OnErr result (W.contents output.new ≡ W.contents output.old) }
 {
     let batch = read_words(alloc, words)?;
     match batch.file {
@@ -161,7 +165,8 @@ fn run<F: Files, R: Read, W: Write>(
 ///
 /// Help goes to `output`, all else to `errors`. A fault of writing there changes nothing.
 pub fn report<W: Write, E: Write>(fault: &Fault, output: &mut W, errors: &mut E) -> u8
-    ensures { (result ≡ DONE) ⊎ (result ≡ BAD_WORDS) ⊎ (result ≡ FAULT) }
+    ensures status { StatusOf fault.now result }
+    ensures unwritten { result ≢ DONE → W.contents output.new ≡ W.contents output.old }
 {
     match fault {
         Fault::Words(error) if !error.use_stderr() => {
@@ -192,10 +197,14 @@ pub fn program<F: Files, R: Read, W: Write, E: Write>(
     output: &mut W,
     errors: &mut E,
 ) -> u8
-    ensures { RunsSome (W.contents output.old) (W.contents output.new) result ⊎ (result ≡ DONE) ⊎ (result ≡ BAD_WORDS) ⊎ (result ≡ FAULT) }
+    ensures { RunsSome (W.contents output.old) (W.contents output.new) result
+        ⊎ RunsNothing (W.contents output.old) (W.contents output.new) result }
 {
     match run(files, alloc, words, input, output) {
         Ok(status) => status,
         Err(fault) => report(&fault, output, errors),
     }
 }
+
+#[cfg(test)]
+mod tests;

@@ -1,6 +1,6 @@
-ghost use Rattle.std.specs.Prelude.{◌≡◌, ◌++◌, codes, decimal};
+ghost use Rattle.std.specs.Prelude.{◌≡◌, ◌≢◌, ◌++◌, codes, decimal, false};
 ghost use Rattle.prt_addr.specs.Refusal.{refusal_text};
-ghost use Rattle.prt_daemon.specs.Session.{reply_text};
+ghost use Rattle.prt_daemon.specs.Session.{reply_text, silent};
 ghost use Rattle.prt_daemon.specs.Steps.{Written, reply_of_response};
 
 use arrayvec::ArrayString;
@@ -61,7 +61,8 @@ fn write_bytes<W: Write>(writer: &mut W, bytes: &[u8]) -> bool
 
 /// Writes a response; whether all of it went well.
 pub(crate) fn write_response<W: Write>(writer: &mut W, response: &Response) -> bool
-    ensures { Written result (W.contents writer.old) (W.contents writer.new) (reply_text (reply_of_response response.now)) }
+    ensures written { Written result (W.contents writer.old) (W.contents writer.new) (reply_text (reply_of_response response.now)) }
+    ensures told { result ≡ false → reply_of_response response.now ≢ silent }
 {
     match response {
         Response::Silent => true,

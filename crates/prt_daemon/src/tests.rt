@@ -171,3 +171,38 @@ fn leaves_the_rest_unread(rt: HostRuntime) -> Result<(), Fail> {
     assert!(rt; end.fault.is_none() && end.refused && reader.len() == 1025);
     Ok(())
 }
+
+#[test]
+fn executes_a_script_and_stops_at_a_writer_that_fails(rt: HostRuntime) -> Result<(), Fail> {
+    let script = b"route add 10/8 via 192.0.2.1\nroute add 10/8 dev a\nroute get 10\nlink";
+    let replies =
+        b"ok 1\nerror 21 Exists\nanswer 1 rule 32766 table main 10.0.0.0/8 via 192.0.2.1\nerror 3 UnknownObject\n";
+    let mut desk = ListDesk::opening(rt.alloc())?;
+    let mut reader = script.as_slice();
+    let mut out = Vec::new(rt.alloc());
+    let end = run_script(
+        rt.alloc(),
+        &mut desk,
+        &mut reader,
+        &mut out,
+        OnRefusal::GoOn,
+    );
+    assert!(rt; out.as_slice() == replies.as_slice());
+    assert!(rt; end.fault.is_none() && end.refused && reader.is_empty());
+
+    let mut desk = ListDesk::opening(rt.alloc())?;
+    let mut reader = script.as_slice();
+    let mut writer = Slow::with_room(rt.alloc(), 0, true, 0);
+    let end = run_script(
+        rt.alloc(),
+        &mut desk,
+        &mut reader,
+        &mut writer,
+        OnRefusal::GoOn,
+    );
+    assert!(rt; end.fault == Some(Refusal::WriteFault) && !end.refused);
+    let mut text = Vec::new(rt.alloc());
+    desk.answer(&Query::Get(prt_command::Addr(0x0a00_0000)), &mut text)?;
+    assert!(rt; text.as_slice().starts_with(b"answer 1 "));
+    Ok(())
+}

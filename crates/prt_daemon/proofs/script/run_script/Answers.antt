@@ -33,7 +33,7 @@ returns-then-not-write_response g c =
     let line = answered_line now later c.next_line-read.new.line.items read reply is something (c.respond-response.ensures is.content is.count (rw c.as_slice.ensures.value is.keeps)) in
     let noted : c.cut_off.result.refused ≡ refused_after c.loop-count.end.refused reply = cc in
     let alone = closes_alone c.args.mode left some_left now later reply read.stop is.content line in
-    inr (cut_from c.args.mode start now later left c.loop-count.end c.loop-count.invariant.served c.cut_off.result reply alone c.if-not-write_response.ensures noted c.cut_off.ensures.fault)
+    inr (cut_from c.args.mode start now later left c.loop-count.end c.loop-count.invariant.served c.cut_off.result reply alone (c.if-not-write_response.ensures.told refl) c.if-not-write_response.ensures.written noted c.cut_off.ensures.fault)
 
 pub returns-then-is_last : goal.returns-then-is_last
 returns-then-is_last g c =
@@ -49,7 +49,7 @@ returns-then-is_last g c =
     let over : ends_after c.args.mode read.stop reply ≡ true = cc in
     let line = answered_line now later c.next_line-read.new.line.items read reply is something (c.respond-response.ensures is.content is.count (rw c.as_slice.ensures.value is.keeps)) in
     let last = closes c.args.mode left some_left now later reply read.stop is.content line over in
-    inl (ran_from c.args.mode start now later left c.loop-count.end c.loop-count.invariant.served c.noting-end.result reply last c.if-not-write_response.ensures c.noting-end.ensures.refused c.noting-end.ensures.fault)
+    inl (ran_from c.args.mode start now later left c.loop-count.end c.loop-count.invariant.served c.noting-end.result reply last c.if-not-write_response.ensures.written c.noting-end.ensures.refused c.noting-end.ensures.fault)
 
 pub loop-count-preserved : goal.loop-count-preserved
 loop-count-preserved g c =
@@ -65,7 +65,7 @@ loop-count-preserved g c =
     let over : ends_after c.args.mode read.stop reply ≡ false = cc in
     let line = answered_line now later c.next_line-read.new.line.items read reply is something (c.respond-response.ensures is.content is.count (rw c.as_slice.ensures.value is.keeps)) in
     let less : limits.lines - (c.loop-count.count + 1) ≡ left - 1 = omega arith in
-    record { served = rw less (line_served c.args.mode left start now later c.loop-count.end c.noting-end.result reply read.stop is.content some_left c.loop-count.invariant.served line over c.if-not-write_response.ensures c.noting-end.ensures.refused c.noting-end.ensures.fault) }
+    record { served = rw less (line_served c.args.mode left start now later c.loop-count.end c.noting-end.result reply read.stop is.content some_left c.loop-count.invariant.served line over c.if-not-write_response.ensures.written c.noting-end.ensures.refused c.noting-end.ensures.fault) }
 
 pub returns-in-End : goal.returns-in-End
 returns-in-End g c =
@@ -83,8 +83,8 @@ returns-then-not-write_response-2 g c =
     let reply = refused c.match-next_byte.refusal in
     let noted : c.cut_off-then-not-write_response-2.result.refused ≡ refused_after c.loop-count.end.refused reply = cc in
     elim c.match-next_byte.branch [
-      | in-Byte w ↦ inr (cut_from c.args.mode start now later 0 c.loop-count.end served c.cut_off-then-not-write_response-2.result reply (rw w.refusal-is (too_many_alone c.args.mode now later w.in-Byte.field-0 refl w.in-Byte.ensures)) c.if-not-write_response-2.ensures noted c.cut_off-then-not-write_response-2.ensures.fault)
-      | in-Fault w ↦ inr (cut_from c.args.mode start now later 0 c.loop-count.end served c.cut_off-then-not-write_response-2.result reply (rw w.refusal-is (fault_alone c.args.mode 0 now later refl w.in-Fault.ensures)) c.if-not-write_response-2.ensures noted c.cut_off-then-not-write_response-2.ensures.fault)
+      | in-Byte w ↦ inr (cut_from c.args.mode start now later 0 c.loop-count.end served c.cut_off-then-not-write_response-2.result reply (rw w.refusal-is (too_many_alone c.args.mode now later w.in-Byte.field-0 refl w.in-Byte.ensures)) (λ e. cc) c.if-not-write_response-2.ensures.written noted c.cut_off-then-not-write_response-2.ensures.fault)
+      | in-Fault w ↦ inr (cut_from c.args.mode start now later 0 c.loop-count.end served c.cut_off-then-not-write_response-2.result reply (rw w.refusal-is (fault_alone c.args.mode 0 now later refl w.in-Fault.ensures)) (λ e. cc) c.if-not-write_response-2.ensures.written noted c.cut_off-then-not-write_response-2.ensures.fault)
     ]
 
 pub returns : goal.returns
@@ -96,6 +96,6 @@ returns g c =
     let served = rw none at c.loop-count.invariant.served in
     let reply = refused c.match-next_byte.refusal in
     elim c.match-next_byte.branch [
-      | in-Byte w ↦ inl (ran_from c.args.mode start now later 0 c.loop-count.end served c.noting-end-2.result reply (rw w.refusal-is (too_many_closes c.args.mode now later w.in-Byte.field-0 refl w.in-Byte.ensures)) c.if-not-write_response-2.ensures c.noting-end-2.ensures.refused c.noting-end-2.ensures.fault)
-      | in-Fault w ↦ inl (ran_from c.args.mode start now later 0 c.loop-count.end served c.noting-end-2.result reply (rw w.refusal-is (fault_closes c.args.mode 0 now later refl w.in-Fault.ensures)) c.if-not-write_response-2.ensures c.noting-end-2.ensures.refused c.noting-end-2.ensures.fault)
+      | in-Byte w ↦ inl (ran_from c.args.mode start now later 0 c.loop-count.end served c.noting-end-2.result reply (rw w.refusal-is (too_many_closes c.args.mode now later w.in-Byte.field-0 refl w.in-Byte.ensures)) c.if-not-write_response-2.ensures.written c.noting-end-2.ensures.refused c.noting-end-2.ensures.fault)
+      | in-Fault w ↦ inl (ran_from c.args.mode start now later 0 c.loop-count.end served c.noting-end-2.result reply (rw w.refusal-is (fault_closes c.args.mode 0 now later refl w.in-Fault.ensures)) c.if-not-write_response-2.ensures.written c.noting-end-2.ensures.refused c.noting-end-2.ensures.fault)
     ]

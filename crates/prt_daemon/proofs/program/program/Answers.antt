@@ -1,0 +1,9 @@
+use Rattle.std.proofs.Common.{◌≡◌, ◌≢◌, inr, ap}
+use Rattle.prt_daemon.proofs.Reports.{reported}
+use Rattle.prt_daemon.proofs.program.program.Goals as goal
+
+pub returns-in-Err : goal.returns-in-Err
+returns-in-Err g c =
+    let contents = g.W.Write.contents in
+    inr (reported c.in-Err.fault c.report.result (contents c.args.output.now) (contents c.run.new.output) (contents c.report.new.output)
+    c.report.ensures.status c.in-Err.ensures.unwritten c.report.ensures.unwritten)
