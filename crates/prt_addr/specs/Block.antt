@@ -10,7 +10,7 @@ pub record Block : Type 0 where
 abbrev pub host_bits : Block → ℕ
 host_bits block = block.bits % 2 ^ (32 - block.len)
 
--- a block of whole addresses, with no bits behind its length
+-- a length of at most 32, bits of an address, and none of them behind the length
 pub record IsPrefix (block : Block) : Type 0 where
   pub short : block.len ≤ 32
   pub fits : block.bits < 2 ^ 32
