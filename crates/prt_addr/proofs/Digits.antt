@@ -18,7 +18,7 @@ grows [] n m e = omega (arith, same_Some n m e)
 grows (b ∷ w) n m e = grows_by w n m (digit_of b) (grows w) e
 
 -- a number of at least n, where n is over the limit
-over_limit_by : (limit n : ℕ) (number : Option ℕ) → limit < n → ((m : ℕ) → number ≡ Some m → n ≤ m) → at_most limit number ≡ None
+pub over_limit_by : (limit n : ℕ) (number : Option ℕ) → limit < n → ((m : ℕ) → number ≡ Some m → n ≤ m) → at_most limit number ≡ None
 over_limit_by limit n None over least = refl
 over_limit_by limit n (Some m) over least = let past : nat_le m limit ≡ false = grind (arith, least m refl) in simp past refl
 

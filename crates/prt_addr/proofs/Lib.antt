@@ -2,3 +2,4 @@ pub mod Words
 pub mod Digits
 pub mod Octets
 pub mod Blocks
+pub mod Hexadecimal

@@ -4,3 +4,4 @@ pub mod Decimal
 pub mod Addr
 pub mod Block
 pub mod Prefix
+pub mod Number

@@ -47,6 +47,10 @@ without_host_bits (Some b) = if host_bits b == 0 then Ok b else Err HostBits
 abbrev pub prefix : Word → Result Block Refusal
 prefix w = without_host_bits (block w)
 
+-- the block that a word spells, host bits cleared
+abbrev pub net : Word → Option Block
+net w = option_map masked (block w)
+
 -- an address, and its length unless that is 32
 abbrev pub prefix_text : Block → List ℕ
 prefix_text b = addr_text (record { 0 = b.bits }) ++ (if b.len == 32 then [] else codes "/" ++ decimal b.len)

@@ -12,7 +12,7 @@ pub(crate) fn read_decimal(word: &[u8], digits: usize, limit: u8) -> Option<u8>
 }
 
 /// The same up to 2^32 - 1.
-fn read_number(word: &[u8], digits: usize, limit: u32) -> Option<u32>
+pub(crate) fn read_number(word: &[u8], digits: usize, limit: u32) -> Option<u32>
     ensures { result ≡ decimal_within digits limit word.now }
 {
     let begins_with_zero = word.len() > 1 && word[0] == b'0';

@@ -1,8 +1,9 @@
-//! The values that every layer above speaks of: refusals, addresses and prefixes.
+//! The values that every layer above speaks of: refusals, addresses, prefixes and numbers.
 #![tactic(auto)]
 
 mod addr;
 mod decimal;
+mod number;
 mod prefix;
 mod refusal;
 #[cfg(test)]
@@ -10,5 +11,6 @@ mod tests;
 mod word;
 
 pub use addr::{Addr, addr_text, read_addr};
-pub use prefix::{Prefix, prefix_text, read_prefix};
+pub use number::read_number;
+pub use prefix::{Prefix, prefix_text, read_net, read_prefix};
 pub use refusal::{Refusal, StoreCall};

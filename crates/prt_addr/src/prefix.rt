@@ -1,8 +1,9 @@
 ghost use Rattle.std.specs.Prelude.{◌≡◌, ◌≤◌, option_map, IfSome, Some};
-ghost use Rattle.std.specs.Option.{SomeIff};
+ghost use Rattle.std.specs.Option.{SomeIff, ok_or};
 ghost use Rattle.prt_addr.specs.Word.{is_one_of};
 ghost use Rattle.prt_addr.specs.Block.{Block, host_bits, IsPrefix};
-ghost use Rattle.prt_addr.specs.Prefix.{contains, masked, prefix, prefix_text, block, block_from, everything_words};
+ghost use Rattle.prt_addr.specs.Prefix.{contains, masked, net, prefix, prefix_text, block, block_from, everything_words};
+ghost use Rattle.prt_addr.specs.declared.refusal.Refusal.TheVariants.{BadPrefix};
 
 use crate::addr::parse_addr;
 use crate::decimal::read_decimal;
@@ -99,6 +100,18 @@ pub fn read_prefix(word: &[u8]) -> Result<Prefix, Refusal>
 {
     let (addr, len) = read_block(word).ok_or(Refusal::BadPrefix)?;
     Prefix::new(addr.0, len).ok_or(Refusal::HostBits)
+}
+
+/// Reads a prefix as `read_prefix` does, but clears the bits behind the length.
+///
+/// # Errors
+///
+/// `BadPrefix` where the word spells no prefix.
+pub fn read_net(word: &[u8]) -> Result<Prefix, Refusal>
+    ensures { result ≡ ok_or (net word.now) BadPrefix }
+{
+    let (addr, len) = read_block(word).ok_or(Refusal::BadPrefix)?;
+    Ok(Prefix::masked(addr.0, len))
 }
 
 /// Whether the word stands for every address.

@@ -1,4 +1,7 @@
-use crate::{Addr, Prefix, Refusal, StoreCall, addr_text, prefix_text, read_addr, read_prefix};
+use crate::{
+    Addr, Prefix, Refusal, StoreCall, addr_text, prefix_text, read_addr, read_net, read_number,
+    read_prefix,
+};
 
 #[test]
 fn addresses(rt: HostRuntime) {
@@ -67,6 +70,66 @@ fn prefixes(rt: HostRuntime) {
         Prefix::masked(0x0a00_0001, 8),
         Prefix::new(0x0a00_0000, 8).unwrap()
     );
+}
+
+#[test]
+fn nets(rt: HostRuntime) {
+    for (word, bits, len) in [
+        ("10.0.0.1/8", 0x0a00_0000, 8),
+        ("default", 0, 0),
+        ("255.255.255.255/0", 0, 0),
+        ("10.1", 0x0a01_0000, 32),
+    ] {
+        let net = read_net(word.as_bytes()).ok();
+        assert!(rt; net.is_some(), "{word}");
+        assert_eq!(rt; net, Prefix::new(bits, len), "{word}");
+    }
+    for word in ["", "10/33", "10.0.0.1/8/8", "256/8"] {
+        assert_eq!(rt;
+            read_net(word.as_bytes()),
+            Err(Refusal::BadPrefix),
+            "{word}"
+        );
+    }
+}
+
+#[test]
+fn numbers(rt: HostRuntime) {
+    for (word, number) in [
+        ("0", 0),
+        ("7", 7),
+        ("4294967295", 4294967295),
+        ("0x1F", 31),
+        ("0X10", 16),
+        ("0xffffffff", 4294967295),
+        ("0xABCdef", 0x00ab_cdef),
+        ("0x00000000000000001", 1),
+    ] {
+        assert_eq!(rt; read_number(word.as_bytes()), Ok(number), "{word}");
+    }
+    for word in [
+        "",
+        "01",
+        "00",
+        "4294967296",
+        "99999999999999999999",
+        "0x",
+        "0X",
+        "x1",
+        "0x100000000",
+        "0xg",
+        "0x1x2",
+        "1/",
+        "-1",
+        "a",
+        "1f",
+    ] {
+        assert_eq!(rt;
+            read_number(word.as_bytes()),
+            Err(Refusal::BadNumber),
+            "{word}"
+        );
+    }
 }
 
 #[test]

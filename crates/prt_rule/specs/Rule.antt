@@ -1,0 +1,51 @@
+-- Which packets a rule matches, which rules are the same, and where a new one goes: ip-rule(8).
+use Rattle.std.specs.Prelude.{◌≡◌, ℕ, ◌-◌, Bool, true, not, ◌&&◌, ◌==◌, nat_lt, ◌||◌, if◌then◌else◌, List, [], ◌∷◌, Option, Some, None, bytes_eq, bit_and, bit_xor}
+use Rattle.prt_addr.specs.Prefix.{contains}
+use Rattle.prt_addr.specs.Word.{Word}
+use Rattle.prt_rule.specs.declared.packet.Packet.{Packet}
+use Rattle.prt_rule.specs.declared.rule.Mark.{Mark}
+use Rattle.prt_rule.specs.declared.rule.Rule.{Rule}
+
+-- the interface is the one that is given, if one is
+abbrev pub takes_interface : Option Word → Word → Bool
+takes_interface None iif = true
+takes_interface (Some name) iif = bytes_eq name iif
+
+-- the marks agree in the bits of the mask, if a mark is given
+abbrev pub takes_mark : Option Mark → ℕ → Bool
+takes_mark None mark = true
+takes_mark (Some m) mark = bit_and (bit_xor m.mark mark) m.mask == 0
+
+-- all that the selector names holds of the packet
+abbrev pub selects : Rule → Packet → Bool
+selects rule packet = contains rule.from packet.src && contains rule.to packet.dst && takes_interface rule.iif packet.iif && takes_mark rule.mark packet.mark
+
+-- `not` turns the whole answer round
+abbrev pub matches : Rule → Packet → Bool
+matches rule packet = if rule.inverted then not (selects rule packet) else selects rule packet
+
+-- all but the id is equal
+pub record IsSame (rule other : Rule) : Type 0 where
+  pub priority : rule.priority ≡ other.priority
+  pub inverted : rule.inverted ≡ other.inverted
+  pub from : rule.from ≡ other.from
+  pub to : rule.to ≡ other.to
+  pub iif : rule.iif ≡ other.iif
+  pub mark : rule.mark ≡ other.mark
+  pub action : rule.action ≡ other.action
+
+-- the rule is asked before the other: by priority, then by id
+abbrev pub is_before : Rule → Rule → Bool
+is_before rule other = nat_lt rule.priority other.priority || (rule.priority == other.priority && nat_lt rule.id other.id)
+
+-- each rule is asked before the one behind it
+abbrev pub IsInOrder : List Rule → Type 0
+IsInOrder [] = Unit {0}
+IsInOrder (rule ∷ []) = Unit {0}
+IsInOrder (rule ∷ next ∷ rules) = (is_before rule next ≡ true) × IsInOrder (next ∷ rules)
+
+-- the priority of a rule that is added without one, to rules in order: that of the second rule less one, or 0
+abbrev pub auto_priority : List Rule → ℕ
+auto_priority [] = 0
+auto_priority (first ∷ []) = 0
+auto_priority (first ∷ second ∷ rules) = second.priority - 1

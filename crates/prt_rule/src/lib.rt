@@ -1,0 +1,15 @@
+//! Rules of the routing policy database: which packets a rule matches, and which rules are the same.
+#![tactic(auto)]
+
+mod matching;
+mod order;
+mod packet;
+mod rule;
+#[cfg(test)]
+mod tests;
+
+pub use matching::matches;
+pub use order::{auto_priority, is_before, same};
+pub use packet::Packet;
+pub use prt_route::{Addr, Dev, Prefix, Refusal};
+pub use rule::{Action, Mark, Rule};

@@ -1,0 +1,44 @@
+ghost use Rattle.std.specs.Prelude.{◌≡◌, ◌↔◌, IsTrue};
+ghost use Rattle.prt_rule.specs.Rule.{IsInOrder, IsSame, auto_priority, is_before};
+
+use crate::{Dev, Rule};
+
+/// Whether the rules are equal in all but their ids.
+pub fn same(rule: &Rule, other: &Rule) -> bool
+    ensures { IsTrue result ↔ IsSame rule.now other.now }
+{
+    rule.priority == other.priority
+        && rule.inverted == other.inverted
+        && rule.from == other.from
+        && rule.to == other.to
+        && same_interface(rule.iif, other.iif)
+        && rule.mark == other.mark
+        && rule.action == other.action
+}
+
+/// Whether the interfaces have the same name, or none is named.
+fn same_interface(iif: Option<Dev>, other: Option<Dev>) -> bool
+    ensures { IsTrue result ↔ iif ≡ other }
+{
+    iif == other
+}
+
+/// Whether the rule is asked before the other: by priority, and among equal priorities by id.
+pub fn is_before(rule: &Rule, other: &Rule) -> bool
+    ensures { result ≡ is_before rule.now other.now }
+{
+    rule.priority < other.priority || rule.priority == other.priority && rule.id < other.id
+}
+
+/// The priority of a rule that is added without one, to rules in the order in which they are asked.
+///
+/// It is one less than that of the second rule, but at least 0, and 0 where there is no second rule (`ip-rule(8)`).
+pub fn auto_priority(rules: &[Rule]) -> u32
+    requires { IsInOrder rules.now }
+    ensures { result ≡ auto_priority rules.now }
+{
+    match rules {
+        [_, second, ..] => second.priority.saturating_sub(1),
+        _ => 0,
+    }
+}

@@ -1,0 +1,14 @@
+use crate::{Addr, Dev};
+
+/// What rules look at of a packet.
+#[derive(Clone, Copy, Debug, PartialEq, Eq)]
+pub struct Packet {
+    /// The destination.
+    pub dst: Addr,
+    /// The source; 0.0.0.0 where none is named.
+    pub src: Addr,
+    /// The interface that it came in by; `lo` where none is named.
+    pub iif: Dev,
+    /// The firewall mark; 0 where none is named.
+    pub mark: u32,
+}
