@@ -4,7 +4,7 @@ use Rattle.prt_command.specs.Grammar.{EachOnce}
 use Rattle.prt_command.specs.Items.{Item, Value, has, with_value, with_item, with_all}
 use Rattle.prt_command.specs.declared.item.Items.{Items}
 use Rattle.prt_command.specs.declared.item.Slot.{Slot}
-use Rattle.prt_command.specs.declared.item.Slot.TheVariants.{Destination, Via, Dev, Address}
+use Rattle.prt_command.specs.declared.item.Slot.TheVariants.{Destination, Via, Dev, Table, Metric, Address, Source, Iif, Mark, Inverted, From, To, Fwmark, Priority, Action}
 
 -- What two items of different slots do to each other: nothing.
 pub record Apart (s t : Slot) (x : Value s) (y : Value t) (given : Items) : Type 0 where
@@ -20,8 +20,30 @@ apart Via Via x y given h = absurd cc
 apart Via t x y given h = record { same = refl; first = refl; second = refl }
 apart Dev Dev x y given h = absurd cc
 apart Dev t x y given h = record { same = refl; first = refl; second = refl }
+apart Table Table x y given h = absurd cc
+apart Table t x y given h = record { same = refl; first = refl; second = refl }
+apart Metric Metric x y given h = absurd cc
+apart Metric t x y given h = record { same = refl; first = refl; second = refl }
 apart Address Address x y given h = absurd cc
 apart Address t x y given h = record { same = refl; first = refl; second = refl }
+apart Source Source x y given h = absurd cc
+apart Source t x y given h = record { same = refl; first = refl; second = refl }
+apart Iif Iif x y given h = absurd cc
+apart Iif t x y given h = record { same = refl; first = refl; second = refl }
+apart Mark Mark x y given h = absurd cc
+apart Mark t x y given h = record { same = refl; first = refl; second = refl }
+apart Inverted Inverted x y given h = absurd cc
+apart Inverted t x y given h = record { same = refl; first = refl; second = refl }
+apart From From x y given h = absurd cc
+apart From t x y given h = record { same = refl; first = refl; second = refl }
+apart To To x y given h = absurd cc
+apart To t x y given h = record { same = refl; first = refl; second = refl }
+apart Fwmark Fwmark x y given h = absurd cc
+apart Fwmark t x y given h = record { same = refl; first = refl; second = refl }
+apart Priority Priority x y given h = absurd cc
+apart Priority t x y given h = record { same = refl; first = refl; second = refl }
+apart Action Action x y given h = absurd cc
+apart Action t x y given h = record { same = refl; first = refl; second = refl }
 
 pub swapped_once : (given : Items) (front rest : List Item) (a b : Item) → EachOnce given (front ++ (a ∷ b ∷ rest)) → EachOnce given (front ++ (b ∷ a ∷ rest))
 swapped_once given [] rest a b once =

@@ -1,11 +1,13 @@
 pub mod Items
 pub mod Grammar
+pub mod Mark
 pub mod Line
 pub mod Reading
 pub mod Verbs
 pub use Rattle.prt_addr.specs.Addr
 pub use Rattle.prt_addr.specs.Block
 pub use Rattle.prt_addr.specs.Decimal
+pub use Rattle.prt_addr.specs.Number
 pub use Rattle.prt_addr.specs.Prefix
 pub use Rattle.prt_addr.specs.Refusal
 pub use Rattle.prt_addr.specs.Word
@@ -15,3 +17,4 @@ pub use Rattle.prt_route.specs.Kind
 pub use Rattle.prt_route.specs.Name
 pub use Rattle.prt_route.specs.Names
 pub use Rattle.prt_route.specs.Route
+pub use Rattle.prt_rule.specs.Rule

@@ -1,18 +1,24 @@
 -- What a line asks for, or its first fault.
-use Rattle.std.specs.Prelude.{◌≡◌, ℕ, Bool, true, false, not, ◌&&◌, ◌||◌, ◌==◌, nat_lt, nat_le, List, [], ◌∷◌, length, filter, find, Option, Some, None, is_some, Result, Ok, Err, bytes_eq, codes, if◌then◌else◌}
+use Rattle.std.specs.Prelude.{◌≡◌, ℕ, Bool, true, false, not, ◌&&◌, ◌||◌, ◌==◌, nat_lt, nat_le, List, [], ◌∷◌, length, filter, find, Option, Some, None, is_some, unwrap_or, Result, Ok, Err, bytes_eq, codes, if◌then◌else◌}
 use Rattle.std.specs.List.{before_first, list_all, slice_split}
 use Rattle.std.specs.Option.{ok_or}
 use Rattle.prt_addr.specs.Block.{Block}
+use Rattle.prt_addr.specs.Prefix.{everything}
 use Rattle.prt_addr.specs.Word.{Word, is_white, is_one_of}
+use Rattle.prt_addr.specs.declared.addr.Addr.{Addr}
 use Rattle.prt_addr.specs.declared.refusal.Refusal.{Refusal}
-use Rattle.prt_addr.specs.declared.refusal.Refusal.TheVariants.{LineTooLong, NotAscii, UnknownObject, UnknownVerb, MissingDestination, NoNextHop}
+use Rattle.prt_addr.specs.declared.refusal.Refusal.TheVariants.{LineTooLong, NotAscii, UnknownObject, UnknownVerb, MissingDestination, NoNextHop, NextHopNotAllowed}
+use Rattle.prt_route.specs.declared.kind.Kind.{Kind}
 use Rattle.prt_route.specs.declared.kind.Kind.TheVariants.{Unicast}
 use Rattle.prt_route.specs.declared.route.Route.{Route}
+use Rattle.prt_rule.specs.declared.packet.Packet.{Packet}
+use Rattle.prt_rule.specs.declared.rule.Action.TheVariants.{Lookup}
 use Rattle.prt_command.specs.Grammar.{◌>>=◌, FirstFault, Good, LineKind, items_of}
 use Rattle.prt_command.specs.Items.{Item, no_items, with_all}
-use Rattle.prt_command.specs.Line.{add_items, get_items}
+use Rattle.prt_command.specs.Line.{route_add_items, route_get_items, rule_add_items}
 use Rattle.prt_command.specs.declared.item.Items.{Items}
-use Rattle.prt_command.specs.declared.request.Command.TheVariants.{RouteAdd}
+use Rattle.prt_command.specs.declared.request.Command.TheVariants.{RouteAdd, RuleAdd}
+use Rattle.prt_command.specs.declared.request.NewRule.{NewRule}
 use Rattle.prt_command.specs.declared.request.Query.TheVariants.{Get}
 use Rattle.prt_command.specs.declared.request.Request.{Request}
 use Rattle.prt_command.specs.declared.request.Request.TheVariants as requests
@@ -44,28 +50,71 @@ refuse_if false refusal = Ok tt
 abbrev pub Asks : Type 0
 Asks = Items → Result Request Refusal
 
--- a route of table main (254) and protocol boot (3), with scope global (0) through a gateway and else link (253)
-abbrev pub route_of : Items → Block → Route
-route_of items destination = record {
-  table = 254;
-  prefix = destination;
-  metric = 0;
-  kind = Unicast;
+abbrev pub is_unicast : Kind → Bool
+is_unicast Unicast = true
+is_unicast kind = false
+
+-- a gateway or an interface
+abbrev pub has_next_hop : Items → Bool
+has_next_hop items = is_some items.via || is_some items.dev
+
+-- a unicast route has scope global (0) through a gateway and else link (253), and a route of another kind has scope global
+abbrev pub scope_of : Kind → Option Addr → ℕ
+scope_of kind via = if is_unicast kind && not (is_some via) then 253 else 0
+
+-- a route of protocol boot (3), in table main (254) with metric 0 where none are given
+abbrev pub route_of : Items → Kind → Block → Route
+route_of items kind prefix = record {
+  table = unwrap_or items.table 254;
+  prefix = prefix;
+  metric = unwrap_or items.metric 0;
+  kind = kind;
   via = items.via;
   dev = items.dev;
   src = None;
   proto = 3;
-  scope = if is_some items.via then 0 else 253;
+  scope = scope_of kind items.via;
 }
 
-abbrev pub add_request : Asks
-add_request items =
-    ok_or items.destination MissingDestination >>= λ destination.
-    refuse_if (not (is_some items.via || is_some items.dev)) NoNextHop >>= λ _.
-    Ok (requests.Command (RouteAdd (route_of items destination)))
+-- a unicast route needs a next hop, and a route of another kind has none; without a kind it is unicast
+abbrev pub route_by : Items → Kind → Block → Result Route Refusal
+route_by items kind prefix =
+    refuse_if (is_unicast kind && not (has_next_hop items)) NoNextHop >>= λ _.
+    refuse_if (not (is_unicast kind) && has_next_hop items) NextHopNotAllowed >>= λ _.
+    Ok (route_of items kind prefix)
 
-abbrev pub get_request : Asks
-get_request items = ok_or items.address MissingDestination >>= λ address. Ok (requests.Query (Get address))
+abbrev pub route_add_request : Asks
+route_add_request items =
+    ok_or items.destination MissingDestination >>= λ target.
+    route_by items (unwrap_or target.kind Unicast) target.prefix >>= λ route.
+    Ok (requests.Command (RouteAdd route))
+
+-- a packet from 0.0.0.0 that came in by lo without a mark (0), where nothing else is given
+abbrev pub packet_of : Items → Addr → Packet
+packet_of items dst = record {
+  dst = dst;
+  src = unwrap_or items.source (record { 0 = 0 });
+  iif = unwrap_or items.iif (codes "lo");
+  mark = unwrap_or items.mark 0;
+}
+
+abbrev pub route_get_request : Asks
+route_get_request items = ok_or items.address MissingDestination >>= λ dst. Ok (requests.Query (Get (packet_of items dst)))
+
+-- a rule for all sources and destinations that looks up table main (254), where nothing else is given
+abbrev pub rule_of : Items → NewRule
+rule_of items = record {
+  priority = items.priority;
+  inverted = items.inverted;
+  from = unwrap_or items.from everything;
+  to = unwrap_or items.to everything;
+  iif = items.iif;
+  mark = items.fwmark;
+  action = unwrap_or items.action (Lookup 254);
+}
+
+abbrev pub rule_add_request : Asks
+rule_add_request items = Ok (requests.Command (RuleAdd (rule_of items)))
 
 -- ---- objects and verbs
 
@@ -79,17 +128,29 @@ pub record Object : Type 0 where
   pub words : List Word
   pub verbs : List Verb
 
-abbrev pub add_verb : Verb
-add_verb = record { words = codes "add" ∷ codes "a" ∷ []; line = add_items; asks = add_request }
+abbrev pub add_words : List Word
+add_words = codes "add" ∷ codes "a" ∷ []
 
-abbrev pub get_verb : Verb
-get_verb = record { words = codes "get" ∷ []; line = get_items; asks = get_request }
+abbrev pub route_add : Verb
+route_add = record { words = add_words; line = route_add_items; asks = route_add_request }
+
+abbrev pub route_get : Verb
+route_get = record { words = codes "get" ∷ []; line = route_get_items; asks = route_get_request }
+
+abbrev pub rule_add : Verb
+rule_add = record { words = add_words; line = rule_add_items; asks = rule_add_request }
 
 abbrev pub route_verbs : List Verb
-route_verbs = add_verb ∷ get_verb ∷ []
+route_verbs = route_add ∷ route_get ∷ []
+
+abbrev pub rule_verbs : List Verb
+rule_verbs = rule_add ∷ []
 
 abbrev pub objects : List Object
-objects = record { words = codes "route" ∷ codes "ro" ∷ codes "r" ∷ []; verbs = route_verbs } ∷ []
+objects =
+    record { words = codes "route" ∷ codes "ro" ∷ codes "r" ∷ []; verbs = route_verbs }
+    ∷ record { words = codes "rule" ∷ codes "ru" ∷ []; verbs = rule_verbs }
+    ∷ []
 
 abbrev pub verb_of : List Verb → Word → Option Verb
 verb_of verbs w = find (λ verb. is_one_of w verb.words) verbs

@@ -1,11 +1,12 @@
 //! Lines with what they ask for, computed with the definitions alone.
-ghost use Rattle.std.specs.Prelude.{◌≡◌, ◌∷◌, [], ◌++◌, Err, None, Ok, Some, codes, replicate};
-ghost use Rattle.prt_addr.specs.declared.refusal.Refusal.TheVariants.{BadAddress, BadName, BadPrefix, HostBits, LineTooLong, MissingDestination, MissingValue, NoNextHop, NotAscii, Repeated, UnknownObject, UnknownVerb, UnknownWord};
+ghost use Rattle.std.specs.Prelude.{◌≡◌, ◌∷◌, [], ◌++◌, Err, None, Ok, Some, codes, false, replicate, true};
+ghost use Rattle.prt_addr.specs.declared.refusal.Refusal.TheVariants.{BadAddress, BadName, BadNumber, BadPrefix, BadTable, HostBits, LineTooLong, MissingDestination, MissingValue, NextHopNotAllowed, NoNextHop, NotAscii, Repeated, UnknownObject, UnknownVerb, UnknownWord};
 ghost use Rattle.prt_command.specs.Reading.{reading};
-ghost use Rattle.prt_command.specs.declared.request.Command.TheVariants.{RouteAdd};
+ghost use Rattle.prt_command.specs.declared.request.Command.TheVariants.{RouteAdd, RuleAdd};
 ghost use Rattle.prt_command.specs.declared.request.Query.TheVariants.{Get};
 ghost use Rattle.prt_command.specs.declared.request.Request.TheVariants as requests;
-ghost use Rattle.prt_route.specs.declared.kind.Kind.TheVariants.{Unicast};
+ghost use Rattle.prt_route.specs.declared.kind.Kind.TheVariants as kinds;
+ghost use Rattle.prt_rule.specs.declared.rule.Action.TheVariants as actions;
 
 /// Refused lines, each with its first fault.
 pub fn refused_lines()
@@ -15,25 +16,57 @@ pub fn refused_lines()
     ensures unknown_object { reading (codes "link show") ≡ Err UnknownObject }
     ensures skipped_in_order { reading (codes "-4 ip route get 1") ≡ Err UnknownObject }
     ensures no_verb { reading (codes "ip route") ≡ Err UnknownVerb }
+    ensures no_rule_verb { reading (codes "rule") ≡ Err UnknownVerb }
+    ensures unknown_rule_verb { reading (codes "rule get 1") ≡ Err UnknownVerb }
     ensures unknown_verb { reading (codes "route append 10/8 dev eth0") ≡ Err UnknownVerb }
     ensures unknown_word { reading (codes "route add 10/8 dev eth0 onlink") ≡ Err UnknownWord }
+    ensures unknown_rule_word { reading (codes "rule add goto 100") ≡ Err UnknownWord }
+    ensures no_plain_item { reading (codes "rule add 10/8") ≡ Err UnknownWord }
+    ensures interface_of_route { reading (codes "route add 10/8 iif eth0") ≡ Err UnknownWord }
+    ensures unknown_kind { reading (codes "route add local 10/8") ≡ Err BadPrefix }
     ensures second_destination { reading (codes "route add 10/8 11/8") ≡ Err UnknownWord }
     ensures missing_value { reading (codes "route add 10/8 dev") ≡ Err MissingValue }
     ensures missing_before_repeated { reading (codes "route add 10/8 dev a dev") ≡ Err MissingValue }
     ensures nothing_behind_to { reading (codes "route add 10/8 to") ≡ Err MissingValue }
+    ensures nothing_behind_kind { reading (codes "route add blackhole") ≡ Err MissingValue }
+    ensures nothing_behind_both { reading (codes "route add to blackhole") ≡ Err MissingValue }
     ensures repeated { reading (codes "route add 10/8 dev a dev b") ≡ Err Repeated }
     ensures repeated_destination { reading (codes "route add 10/8 to 11/8") ≡ Err Repeated }
+    ensures repeated_before_kind { reading (codes "route add 10/8 to blackhole") ≡ Err Repeated }
+    ensures repeated_kind { reading (codes "route add blackhole 10/8 throw 11/8") ≡ Err Repeated }
+    ensures repeated_action { reading (codes "rule add table 7 prohibit") ≡ Err Repeated }
+    ensures repeated_lookup { reading (codes "rule add prohibit lookup 7") ≡ Err Repeated }
+    ensures repeated_not { reading (codes "rule add not not") ≡ Err Repeated }
+    ensures repeated_interface { reading (codes "rule add iif a dev b") ≡ Err Repeated }
+    ensures repeated_priority { reading (codes "rule add pref 1 order 2") ≡ Err Repeated }
+    ensures repeated_metric { reading (codes "route add 10/8 dev a metric 1 preference 2") ≡ Err Repeated }
     ensures repeated_before_value { reading (codes "route add via 1 via x 10/8") ≡ Err Repeated }
     ensures bad_gateway { reading (codes "route add 10/8 via 192.0.2.256") ≡ Err BadAddress }
     ensures bad_address { reading (codes "route get default") ≡ Err BadAddress }
+    ensures bad_source { reading (codes "route get 10.1 from 10/8") ≡ Err BadAddress }
     ensures first_of_two { reading (codes "route add x via y") ≡ Err BadPrefix }
     ensures long_length { reading (codes "route add 10/33 dev eth0") ≡ Err BadPrefix }
     ensures leading_zero { reading (codes "route add 010/8 dev eth0") ≡ Err BadPrefix }
+    ensures bad_rule_prefix { reading (codes "rule add from 10/33") ≡ Err BadPrefix }
+    ensures two_kinds { reading (codes "route add blackhole throw 10/8") ≡ Err BadPrefix }
+    ensures host_bits_of_kind { reading (codes "route add prohibit 10.0.0.1/8") ≡ Err HostBits }
     ensures host_bits { reading (codes "route add 10.0.0.1/8 dev eth0") ≡ Err HostBits }
+    ensures large_metric { reading (codes "route add 10/8 dev eth0 metric 4294967296") ≡ Err BadNumber }
+    ensures bad_priority { reading (codes "rule add priority -1") ≡ Err BadNumber }
+    ensures bad_mark { reading (codes "rule add fwmark 1/ table 7") ≡ Err BadNumber }
+    ensures three_marks { reading (codes "rule add fwmark 1/2/3 table 7") ≡ Err BadNumber }
+    ensures mask_in_get { reading (codes "route get 1 mark 1/2") ≡ Err BadNumber }
+    ensures table_zero { reading (codes "route add 10/8 dev eth0 table 0") ≡ Err BadTable }
+    ensures all_tables { reading (codes "route add 10/8 dev eth0 table all") ≡ Err BadTable }
+    ensures bad_lookup { reading (codes "rule add lookup 0") ≡ Err BadTable }
+    ensures long_name { reading (codes "rule add iif abcdefghijklmnop table 7") ≡ Err BadName }
     ensures bad_name { reading (codes "route add 10/8 dev a/b") ≡ Err BadName }
     ensures no_destination { reading (codes "route add dev eth0") ≡ Err MissingDestination }
     ensures nothing_asked { reading (codes "route get") ≡ Err MissingDestination }
     ensures no_next_hop { reading (codes "route add 10/8") ≡ Err NoNextHop }
+    ensures no_next_hop_of_unicast { reading (codes "route add unicast 10/8 table 7") ≡ Err NoNextHop }
+    ensures next_hop_of_kind { reading (codes "route add blackhole 10/8 dev eth0") ≡ Err NextHopNotAllowed }
+    ensures gateway_of_kind { reading (codes "route add via 192.0.2.1 throw 10/8") ≡ Err NextHopNotAllowed }
 {}
 
 /// Accepted lines, each with what it asks for.
@@ -41,9 +74,17 @@ pub fn accepted_lines()
     ensures blank { reading (codes " \t\r") ≡ Ok None }
     ensures comment { reading (codes "# route add" ++ 195 ∷ []) ≡ Ok None }
     ensures longest { reading (replicate 1024 32) ≡ Ok None }
-    ensures add { reading (codes "route add default via 192.0.2.1 dev eth0") ≡ Ok (Some (requests.Command (RouteAdd (record { table = 254; prefix = record { bits = 0; len = 0 }; metric = 0; kind = Unicast; via = Some (record { 0 = 0xc0000201 }); dev = Some (codes "eth0"); src = None; proto = 3; scope = 0 })))) }
-    ensures any_order { reading (codes "ip -4 ro a dev eth0 to 10.1/16 # on the link") ≡ Ok (Some (requests.Command (RouteAdd (record { table = 254; prefix = record { bits = 0x0a010000; len = 16 }; metric = 0; kind = Unicast; via = None; dev = Some (codes "eth0"); src = None; proto = 3; scope = 253 })))) }
-    ensures keyword_as_value { reading (codes "r add 10/8 dev via") ≡ Ok (Some (requests.Command (RouteAdd (record { table = 254; prefix = record { bits = 0x0a000000; len = 8 }; metric = 0; kind = Unicast; via = None; dev = Some (codes "via"); src = None; proto = 3; scope = 253 })))) }
-    ensures get { reading (codes "route get 198.51.100.7") ≡ Ok (Some (requests.Query (Get (record { 0 = 0xc6336407 })))) }
-    ensures get_to { reading (codes "-4 r get to 10#") ≡ Ok (Some (requests.Query (Get (record { 0 = 0x0a000000 })))) }
+    ensures add { reading (codes "route add default via 192.0.2.1 dev eth0") ≡ Ok (Some (requests.Command (RouteAdd (record { table = 254; prefix = record { bits = 0; len = 0 }; metric = 0; kind = kinds.Unicast; via = Some (record { 0 = 0xc0000201 }); dev = Some (codes "eth0"); src = None; proto = 3; scope = 0 })))) }
+    ensures any_order { reading (codes "ip -4 ro a dev eth0 to 10.1/16 # on the link") ≡ Ok (Some (requests.Command (RouteAdd (record { table = 254; prefix = record { bits = 0x0a010000; len = 16 }; metric = 0; kind = kinds.Unicast; via = None; dev = Some (codes "eth0"); src = None; proto = 3; scope = 253 })))) }
+    ensures keyword_as_value { reading (codes "r add 10/8 dev via") ≡ Ok (Some (requests.Command (RouteAdd (record { table = 254; prefix = record { bits = 0x0a000000; len = 8 }; metric = 0; kind = kinds.Unicast; via = None; dev = Some (codes "via"); src = None; proto = 3; scope = 253 })))) }
+    ensures all_items { reading (codes "route add unicast 10/8 via 192.0.2.1 table local preference 0x20") ≡ Ok (Some (requests.Command (RouteAdd (record { table = 255; prefix = record { bits = 0x0a000000; len = 8 }; metric = 32; kind = kinds.Unicast; via = Some (record { 0 = 0xc0000201 }); dev = None; src = None; proto = 3; scope = 0 })))) }
+    ensures kind { reading (codes "r a to blackhole 10/8") ≡ Ok (Some (requests.Command (RouteAdd (record { table = 254; prefix = record { bits = 0x0a000000; len = 8 }; metric = 0; kind = kinds.Blackhole; via = None; dev = None; src = None; proto = 3; scope = 0 })))) }
+    ensures throw { reading (codes "route add table 100 throw default") ≡ Ok (Some (requests.Command (RouteAdd (record { table = 100; prefix = record { bits = 0; len = 0 }; metric = 0; kind = kinds.Throw; via = None; dev = None; src = None; proto = 3; scope = 0 })))) }
+    ensures get { reading (codes "route get 198.51.100.7") ≡ Ok (Some (requests.Query (Get (record { dst = record { 0 = 0xc6336407 }; src = record { 0 = 0 }; iif = codes "lo"; mark = 0 })))) }
+    ensures get_to { reading (codes "-4 r get to 10#") ≡ Ok (Some (requests.Query (Get (record { dst = record { 0 = 0x0a000000 }; src = record { 0 = 0 }; iif = codes "lo"; mark = 0 })))) }
+    ensures get_packet { reading (codes "route get to 10.1.2 iif eth1 mark 0x1F from 192.0.2.9") ≡ Ok (Some (requests.Query (Get (record { dst = record { 0 = 0x0a010200 }; src = record { 0 = 0xc0000209 }; iif = codes "eth1"; mark = 31 })))) }
+    ensures rule { reading (codes "rule add") ≡ Ok (Some (requests.Command (RuleAdd (record { priority = None; inverted = false; from = record { bits = 0; len = 0 }; to = record { bits = 0; len = 0 }; iif = None; mark = None; action = actions.Lookup 254 })))) }
+    ensures not_marked { reading (codes "ip -4 rule add not fwmark 51820 table 51820") ≡ Ok (Some (requests.Command (RuleAdd (record { priority = None; inverted = true; from = record { bits = 0; len = 0 }; to = record { bits = 0; len = 0 }; iif = None; mark = Some (record { mark = 51820; mask = 0xffffffff }); action = actions.Lookup 51820 })))) }
+    ensures from_source { reading (codes "rule add priority 10 from 192.0.2.1/24 blackhole") ≡ Ok (Some (requests.Command (RuleAdd (record { priority = Some 10; inverted = false; from = record { bits = 0xc0000200; len = 24 }; to = record { bits = 0; len = 0 }; iif = None; mark = None; action = actions.Blackhole })))) }
+    ensures all_rule_items { reading (codes "ru a lookup default order 0 dev eth0 to 10.1 from all fwmark 0xFF/0x0f not") ≡ Ok (Some (requests.Command (RuleAdd (record { priority = Some 0; inverted = true; from = record { bits = 0; len = 0 }; to = record { bits = 0x0a010000; len = 32 }; iif = Some (codes "eth0"); mark = Some (record { mark = 255; mask = 15 }); action = actions.Lookup 253 })))) }
 {}

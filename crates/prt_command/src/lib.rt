@@ -5,6 +5,7 @@ mod examples;
 mod item;
 mod laws;
 mod line;
+mod mark;
 mod reader;
 mod request;
 #[cfg(test)]
@@ -13,8 +14,9 @@ mod verb;
 mod words;
 
 pub use examples::{accepted_lines, refused_lines};
-pub use item::{Items, Slot};
+pub use item::{ItemWord, Items, Slot, Target};
 pub use laws::{any_order, first_faults, readings};
 pub use line::{LONGEST_LINE, read_line};
 pub use prt_route::{Addr, Dev, Kind, Prefix, Refusal, Route, RouteKey};
-pub use request::{Command, Query, Request};
+pub use prt_rule::{Action, Mark, Packet, Rule};
+pub use request::{Command, NewRule, Query, Request};

@@ -1,9 +1,10 @@
 ghost use Rattle.std.specs.Prelude.{◌≡◌, codes};
-ghost use Rattle.prt_command.specs.Reading.{skip_word, object_request, reading, route_verbs, verb_request, words, words_request, before_comment};
+ghost use Rattle.prt_command.specs.Reading.{skip_word, object_request, reading, verb_request, words, words_request, before_comment};
+ghost use Rattle.prt_command.specs.Verbs.{verbs_of};
 
 use crate::Request;
 use crate::reader::read_request;
-use crate::verb::RouteVerb;
+use crate::verb::Object;
 use crate::words::{before_comment, is, is_ascii_text, next_word};
 use prt_route::Refusal;
 
@@ -20,12 +21,12 @@ fn skip_word<'a>(skipped: &[u8], text: &'a [u8]) -> &'a [u8]
     }
 }
 
-/// What a verb on routes and its items ask for.
-fn read_verb(text: &[u8]) -> Result<Request, Refusal>
-    ensures { result ≡ verb_request route_verbs (words text.now) }
+/// What a verb of an object and its items ask for.
+fn read_verb(object: Object, text: &[u8]) -> Result<Request, Refusal>
+    ensures { result ≡ verb_request (verbs_of object) (words text.now) }
 {
     let (word, rest) = next_word(text).ok_or(Refusal::UnknownVerb)?;
-    let verb = RouteVerb::from_word(word).ok_or(Refusal::UnknownVerb)?;
+    let verb = object.verb(word).ok_or(Refusal::UnknownVerb)?;
     read_request(verb, rest)
 }
 
@@ -34,7 +35,8 @@ fn read_object(text: &[u8]) -> Result<Request, Refusal>
     ensures { result ≡ object_request (words text.now) }
 {
     match next_word(text) {
-        Some((b"route" | b"ro" | b"r", rest)) => read_verb(rest),
+        Some((b"route" | b"ro" | b"r", rest)) => read_verb(Object::Route, rest),
+        Some((b"rule" | b"ru", rest)) => read_verb(Object::Rule, rest),
         _ => Err(Refusal::UnknownObject),
     }
 }

@@ -1,22 +1,25 @@
-ghost use Rattle.std.specs.Prelude.{◌≡◌, ◌<◌, ◌≤◌, List, ◌∷◌, length, IfOk, IfErr, OnErr, MatchResult, Some, Ok, Err};
+ghost use Rattle.std.specs.Prelude.{◌≡◌, ◌<◌, ◌≤◌, List, ◌∷◌, false, length, IfOk, IfErr, OnErr, MatchResult, Some, Ok, Err};
 ghost use Rattle.prt_addr.specs.Word.{Word};
-ghost use Rattle.prt_command.specs.Grammar.{Scanned, and_items, behind, items_of, one_more, plain_item};
+ghost use Rattle.prt_command.specs.Grammar.{LineKind, Scanned, and_items, behind, items_of, one_more, plain_by, plain_item, qualifier_of};
 ghost use Rattle.prt_command.specs.Items.{Value, no_items, with_value};
-ghost use Rattle.prt_command.specs.Line.{plain, value_of};
+ghost use Rattle.prt_command.specs.Line.{lookup, plain, target, value_of};
 ghost use Rattle.prt_command.specs.Reading.{items_request, words};
-ghost use Rattle.prt_command.specs.Verbs.{line_of, meaning_of};
+ghost use Rattle.prt_command.specs.Verbs.{line_of, meaning_of, value_item, word_item};
 
-use crate::verb::RouteVerb;
+use crate::mark::read_mark;
+use crate::verb::ObjectVerb;
 use crate::words::{is, next_word};
-use crate::{Items, Request, Slot};
-use prt_addr::{read_addr, read_prefix};
-use prt_route::{Refusal, read_dev};
+use crate::{ItemWord, Items, Request, Slot, Target};
+use prt_addr::{read_addr, read_net, read_number, read_prefix};
+use prt_route::{Kind, Refusal, read_dev, read_table};
+use prt_rule::Action;
 
 /// The value behind a word that something must follow, and the text behind the value.
 fn value_behind(given: bool, rest: &[u8]) -> Result<(&[u8], &[u8]), Refusal>
     ensures value { IfOk result (λ x. (reads : Word → List Word → Scanned) → behind given reads (words rest.now) ≡ one_more (reads x.0.now (words x.1.now))) }
     ensures words { IfOk result (λ x. words rest.now ≡ x.0.now ∷ words x.1.now) }
     ensures shorter { IfOk result (λ x. length x.1.now < length rest.now) }
+    ensures new { IfOk result (λ x. given ≡ false) }
     ensures fault { IfErr result (λ e. (reads : Word → List Word → Scanned) → behind given reads (words rest.now) ≡ Err e) }
 {
     match next_word(rest) {
@@ -26,56 +29,139 @@ fn value_behind(given: bool, rest: &[u8]) -> Result<(&[u8], &[u8]), Refusal>
     }
 }
 
+/// Reads the prefix of a destination, behind the kind that stands before it.
+fn read_target(kind: Option<Kind>, word: &[u8]) -> Result<Target, Refusal>
+    ensures { result ≡ target kind word.now }
+{
+    match read_prefix(word) {
+        Ok(prefix) => Ok(Target { kind, prefix }),
+        Err(refusal) => Err(refusal),
+    }
+}
+
+/// Reads the table that a rule looks up.
+fn read_lookup(word: &[u8]) -> Result<Action, Refusal>
+    ensures { result ≡ lookup word.now }
+{
+    match read_table(word) {
+        Ok(table) => Ok(Action::Lookup(table)),
+        Err(refusal) => Err(refusal),
+    }
+}
+
 impl Items {
-    /// Reads the value of an item and adds the item.
+    /// Reads the value of an item, behind the kind that stands before it, and adds the item.
     ///
     /// # Errors
     ///
     /// The refusal of the value, which leaves the items as they were.
-    fn read(&mut self, slot: Slot, word: &[u8]) -> Result<(), Refusal>
+    fn read(&mut self, slot: Slot, kind: Option<Kind>, word: &[u8]) -> Result<(), Refusal>
         ensures value { MatchResult result
-            (λ _. (x : Value slot) × (value_of slot word.now ≡ Ok x) × (self.new ≡ with_value slot x self.old))
-            (λ e. value_of slot word.now ≡ Err e) }
+            (λ _. (x : Value slot) × (value_of slot kind word.now ≡ Ok x) × (self.new ≡ with_value slot x self.old))
+            (λ e. value_of slot kind word.now ≡ Err e) }
         ensures unchanged { OnErr result (self.new ≡ self.old) }
     {
         match slot {
-            Slot::Destination => self.destination = Some(read_prefix(word)?),
+            Slot::Destination => self.destination = Some(read_target(kind, word)?),
             Slot::Via => self.via = Some(read_addr(word)?),
             Slot::Dev => self.dev = Some(read_dev(word)?),
+            Slot::Table => self.table = Some(read_table(word)?),
+            Slot::Metric => self.metric = Some(read_number(word)?),
             Slot::Address => self.address = Some(read_addr(word)?),
+            Slot::Source => self.source = Some(read_addr(word)?),
+            Slot::Iif => self.iif = Some(read_dev(word)?),
+            Slot::Mark => self.mark = Some(read_number(word)?),
+            Slot::Inverted => self.inverted = true,
+            Slot::From => self.from = Some(read_net(word)?),
+            Slot::To => self.to = Some(read_net(word)?),
+            Slot::Fwmark => self.fwmark = Some(read_mark(word)?),
+            Slot::Priority => self.priority = Some(read_number(word)?),
+            Slot::Action => self.action = Some(read_lookup(word)?),
         }
         Ok(())
     }
 }
 
-/// Reads the item that needs no word of its own, at this word; the text behind the item.
-fn read_plain<'a>(
-    verb: RouteVerb,
+/// Reads the value behind the word of an item, or behind a kind; the text behind the value.
+fn read_value<'a>(
     items: &mut Items,
+    slot: Slot,
+    kind: Option<Kind>,
+    rest: &'a [u8],
+) -> Result<&'a [u8], Refusal>
+    ensures items { IfOk result (λ after. (line : LineKind) → and_items line items.old (value_item slot kind items.old (words rest.now)) (words rest.now) ≡ items_of line items.new (words after.now)) }
+    ensures shorter { IfOk result (λ after. length after.now ≤ length rest.now) }
+    ensures fault { IfErr result (λ e. value_item slot kind items.old (words rest.now) ≡ Err e) }
+{
+    let (value, after) = value_behind(items.has(slot), rest)?;
+    items.read(slot, kind, value)?;
+    Ok(after)
+}
+
+/// Reads a value that may stand behind a kind, from this word on; the text behind the value.
+fn read_qualified<'a>(
+    items: &mut Items,
+    slot: Slot,
     word: &[u8],
     rest: &'a [u8],
 ) -> Result<&'a [u8], Refusal>
-    ensures items { IfOk result (λ after. and_items (line_of verb) items.old (plain_item (line_of verb).plain items.old word.now (words rest.now)) (words rest.now) ≡ items_of (line_of verb) items.new (words after.now)) }
+    ensures items { IfOk result (λ after. (line : LineKind) → and_items line items.old (plain_by (plain slot) false (qualifier_of (plain slot) word.now) items.old word.now (words rest.now)) (words rest.now) ≡ items_of line items.new (words after.now)) }
     ensures shorter { IfOk result (λ after. length after.now ≤ length rest.now) }
-    ensures fault { IfErr result (λ e. plain_item (line_of verb).plain items.old word.now (words rest.now) ≡ Err e) }
+    ensures fault { IfErr result (λ e. plain_by (plain slot) false (qualifier_of (plain slot) word.now) items.old word.now (words rest.now) ≡ Err e) }
 {
-    let slot = verb.plain_slot();
+    match slot.kind(word) {
+        Some(kind) => read_value(items, slot, Some(kind), rest),
+        None if items.has(slot) => Err(Refusal::UnknownWord),
+        None => {
+            items.read(slot, None, word)?;
+            Ok(rest)
+        }
+    }
+}
+
+/// Reads the item that needs no word of its own, at this word; the text behind the item.
+fn read_plain<'a>(
+    items: &mut Items,
+    slot: Slot,
+    word: &[u8],
+    rest: &'a [u8],
+) -> Result<&'a [u8], Refusal>
+    ensures items { IfOk result (λ after. (line : LineKind) → and_items line items.old (plain_item (Some (plain slot)) items.old word.now (words rest.now)) (words rest.now) ≡ items_of line items.new (words after.now)) }
+    ensures shorter { IfOk result (λ after. length after.now ≤ length rest.now) }
+    ensures fault { IfErr result (λ e. plain_item (Some (plain slot)) items.old word.now (words rest.now) ≡ Err e) }
+{
     if is(word, b"to") {
         let (value, after) = value_behind(items.has(slot), rest)?;
-        items.read(slot, value)?;
-        return Ok(after);
+        return read_qualified(items, slot, value, after);
     }
-    if items.has(slot) {
-        return Err(Refusal::UnknownWord);
+    read_qualified(items, slot, word, rest)
+}
+
+/// Reads the item that a word begins, from the text behind the word on; the text behind the item.
+fn read_begun<'a>(items: &mut Items, item: ItemWord, rest: &'a [u8]) -> Result<&'a [u8], Refusal>
+    ensures items { IfOk result (λ after. (line : LineKind) → and_items line items.old (word_item item items.old (words rest.now)) (words rest.now) ≡ items_of line items.new (words after.now)) }
+    ensures shorter { IfOk result (λ after. length after.now ≤ length rest.now) }
+    ensures fault { IfErr result (λ e. word_item item items.old (words rest.now) ≡ Err e) }
+{
+    match item {
+        ItemWord::Value(slot) => read_value(items, slot, None, rest),
+        ItemWord::Not if items.inverted => Err(Refusal::Repeated),
+        ItemWord::Not => {
+            items.inverted = true;
+            Ok(rest)
+        }
+        ItemWord::Act(_) if items.action.is_some() => Err(Refusal::Repeated),
+        ItemWord::Act(action) => {
+            items.action = Some(action);
+            Ok(rest)
+        }
     }
-    items.read(slot, word)?;
-    Ok(rest)
 }
 
 /// Reads the item that begins at this word; the text behind the item.
-#[tactic(auto, using(crate::proofs::Rows::items_of_plain))]
+#[tactic(auto, using(crate::proofs::Rows::items_of_plain, crate::proofs::Rows::no_row))]
 fn read_item<'a>(
-    verb: RouteVerb,
+    verb: ObjectVerb,
     items: &mut Items,
     word: &[u8],
     rest: &'a [u8],
@@ -84,18 +170,17 @@ fn read_item<'a>(
     ensures shorter { IfOk result (λ after. length after.now ≤ length rest.now) }
     ensures fault { IfErr result (λ e. items_of (line_of verb) items.old (word.now ∷ words rest.now) ≡ Err e) }
 {
-    match verb.slot_of(word) {
-        Some(slot) => {
-            let (value, after) = value_behind(items.has(slot), rest)?;
-            items.read(slot, value)?;
-            Ok(after)
-        }
-        None => read_plain(verb, items, word, rest),
+    match verb.item_word(word) {
+        Some(item) => read_begun(items, item, rest),
+        None => match verb.plain_slot() {
+            Some(slot) => read_plain(items, slot, word, rest),
+            None => Err(Refusal::UnknownWord),
+        },
     }
 }
 
 /// The items of a text, or their first fault.
-fn read_items(verb: RouteVerb, text: &[u8]) -> Result<Items, Refusal>
+fn read_items(verb: ObjectVerb, text: &[u8]) -> Result<Items, Refusal>
     ensures { result ≡ items_of (line_of verb) no_items (words text.now) }
 {
     let mut items = Items::new();
@@ -107,7 +192,7 @@ fn read_items(verb: RouteVerb, text: &[u8]) -> Result<Items, Refusal>
 }
 
 /// What the items of a text ask for, or their first fault.
-pub(crate) fn read_request(verb: RouteVerb, text: &[u8]) -> Result<Request, Refusal>
+pub(crate) fn read_request(verb: ObjectVerb, text: &[u8]) -> Result<Request, Refusal>
     ensures { result ≡ items_request (meaning_of verb) (words text.now) }
 {
     match read_items(verb, text) {

@@ -6,8 +6,6 @@ pub mod RefusalText
 pub mod Replies
 pub mod Served
 pub mod SessionSteps
-pub mod FirstBest
-pub mod Rules
 pub mod Parts
 pub mod Turns
 pub mod Length

@@ -1,5 +1,5 @@
 -- A fault that was reported.
-use Rattle.std.proofs.Common.{◌≡◌, ◌≢◌, ◌⊎◌, inl, inr, ℕ, List, Option, ◌∙◌, arith}
+use Rattle.std.proofs.Common.{◌≡◌, ◌≢◌, inl, inr, ℕ, List, Option, ◌∙◌, arith}
 use Rattle.prt_daemon.specs.Faults.{StatusOf}
 use Rattle.prt_daemon.specs.Program.{RunsNothing}
 use Rattle.prt_daemon.specs.declared.program.Fault.{Fault}

@@ -1,10 +1,7 @@
-pub mod State
-pub mod Select
 pub mod Text
 pub mod Session
 pub mod Run
 pub mod Steps
-pub mod Choice
 pub mod Program
 pub mod Faults
 pub mod Example

@@ -3,7 +3,7 @@ use Rattle.std.specs.Prelude.{◌≡◌, ◌⊎◌, ℕ, Bool, true, false, List
 use Rattle.prt_addr.specs.declared.refusal.Refusal.{Refusal}
 use Rattle.prt_daemon.specs.Run.{RunIs}
 use Rattle.prt_daemon.specs.Session.{DeskState, settled}
-use Rattle.prt_daemon.specs.State.{opening}
+use Rattle.prt_version.specs.State.{opening_state}
 use Rattle.prt_daemon.specs.declared.script.OnRefusal.{OnRefusal}
 use Rattle.prt_daemon.specs.declared.script.ScriptEnd.{ScriptEnd}
 
@@ -21,7 +21,7 @@ pub record RunsBatch (mode : OnRefusal) (reader0 writer0 writer : Option (List �
   pub desk : DeskState
   pub reader : Option (List ℕ)
   pub end : ScriptEnd
-  pub run : RunIs mode (settled opening) desk reader0 reader writer0 writer end
+  pub run : RunIs mode (settled opening_state) desk reader0 reader writer0 writer end
   pub status_is : status ≡ exit_status end
 
 -- The same in some mode, over the input or over a file.

@@ -10,7 +10,8 @@ use Rattle.prt_command.specs.declared.request.Command.{Command}
 use Rattle.prt_command.specs.declared.request.Query.{Query}
 use Rattle.prt_command.specs.declared.request.Request.{Request}
 use Rattle.prt_command.specs.declared.request.Request.TheVariants as requests
-use Rattle.prt_daemon.specs.State.{State, refusal, apply}
+use Rattle.prt_version.specs.Change.{refusal, apply}
+use Rattle.prt_version.specs.State.{State}
 use Rattle.prt_daemon.specs.Text.{answer_text}
 use Rattle.prt_daemon.specs.declared.script.OnRefusal.{OnRefusal}
 use Rattle.prt_daemon.specs.declared.script.OnRefusal.TheVariants.{Stop, GoOn}

@@ -11,8 +11,12 @@ use Rattle.prt_route.specs.declared.kind.Kind.TheVariants.{Unicast}
 use Rattle.prt_route.specs.declared.route.Route.{Route}
 use Rattle.prt_command.specs.declared.request.Query.{Query}
 use Rattle.prt_command.specs.declared.request.Query.TheVariants.{Get}
-use Rattle.prt_daemon.specs.State.{State}
-use Rattle.prt_daemon.specs.Select.{Decided, select, opening_rules}
+use Rattle.prt_rule.specs.declared.rule.Action.{Action}
+use Rattle.prt_rule.specs.declared.rule.Action.TheVariants.{Lookup, Blackhole, Unreachable, Prohibit}
+use Rattle.prt_version.specs.Select.{select}
+use Rattle.prt_version.specs.State.{State}
+use Rattle.prt_version.specs.declared.answer.Verdict.{Verdict}
+use Rattle.prt_version.specs.declared.answer.Verdict.TheVariants as verdict
 
 -- the name of a number, or the number
 abbrev pub name_or_number : List (Word × ℕ) → ℕ → List ℕ
@@ -48,12 +52,27 @@ route_text route =
     ++ part (codes " src ") (option_map addr_text route.src)
     ++ part (codes " metric ") (unless 0 route.metric (decimal route.metric))
 
--- answer N rule P table TABLE ROUTE, or answer N none
-abbrev pub verdict_text : ℕ → Option Decided → List ℕ
-verdict_text number None = codes "answer " ++ decimal number ++ codes " none\n"
-verdict_text number (Some decided) =
-    codes "answer " ++ decimal number ++ codes " rule " ++ decimal decided.priority ++ codes " table " ++ name_or_number tables decided.route.table ++ codes " " ++ route_text decided.route ++ codes "\n"
+-- `lookup TABLE`, or the word of a failure action
+abbrev pub action_text : Action → List ℕ
+action_text (Lookup table) = codes "lookup " ++ name_or_number tables table
+action_text Blackhole = codes "blackhole"
+action_text Unreachable = codes "unreachable"
+action_text Prohibit = codes "prohibit"
+
+-- what the rule with this priority says
+abbrev pub rule_says : ℕ → List ℕ → List ℕ
+rule_says priority text = codes " rule " ++ decimal priority ++ codes " " ++ text
+
+-- rule P table TABLE ROUTE, rule P ACTION, or none
+abbrev pub verdict_text : Verdict → List ℕ
+verdict_text (verdict.Route priority route) = rule_says priority (codes "table " ++ name_or_number tables route.table ++ codes " " ++ route_text route)
+verdict_text (verdict.RuleSays priority action) = rule_says priority (action_text action)
+verdict_text verdict.NoRoute = codes " none"
+
+-- answer N, and the verdict in the version of this number
+abbrev pub answer_line : ℕ → Verdict → List ℕ
+answer_line number says = codes "answer " ++ decimal number ++ verdict_text says ++ codes "\n"
 
 -- the lines that answer a query
 abbrev pub answer_text : State → Query → List ℕ
-answer_text state (Get addr) = verdict_text state.count (select opening_rules state.routes addr)
+answer_text state (Get packet) = answer_line state.count (select state packet)

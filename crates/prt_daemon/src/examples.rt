@@ -16,6 +16,30 @@ pub fn longest_prefix()
         ≡ codes "ok 1\nok 2\nok 3\nok 4\nanswer 4 rule 32766 table main 10.1.2.3 dev a3 scope link\nanswer 4 rule 32766 table main default dev a0 scope link\n" }
 {}
 
+/// Of one prefix the lowest metric.
+pub fn lowest_metric()
+    ensures { replies_to GoOn (codes "route add 10.0.0.0/8 via 192.0.2.1 metric 100\nroute add 10.0.0.0/8 via 192.0.2.2 metric 50\nroute add 0.0.0.0/0 via 192.0.2.3\nroute get 10.9.9.9\n") end_of_input []
+        ≡ codes "ok 1\nok 2\nok 3\nanswer 3 rule 32766 table main 10.0.0.0/8 via 192.0.2.2 metric 50\n" }
+{}
+
+/// A throw route leaves the packet to the next rule.
+pub fn throw_falls_through()
+    ensures { replies_to GoOn (codes "route add throw 10.0.0.0/8 table 100\nrule add priority 500 table 100\nroute add default via 192.0.2.1\nroute get 10.1.2.3\n") end_of_input []
+        ≡ codes "ok 1\nok 2\nok 3\nanswer 3 rule 32766 table main default via 192.0.2.1\n" }
+{}
+
+/// Routes and rules that drop.
+pub fn failure_kinds()
+    ensures { replies_to GoOn (codes "route add blackhole 10.0.0.0/8\nroute add prohibit 10.2.0.0/16\nrule add priority 10 from 192.0.2.0/24 blackhole\nrule add priority 11 iif eth1 unreachable\nroute get 10.3.0.1\nroute get 10.2.0.1\nroute get 10.2.0.1 from 192.0.2.9\nroute get 10.3.0.1 iif eth1\n") end_of_input []
+        ≡ codes "ok 1\nok 2\nok 3\nok 4\nanswer 4 rule 32766 table main blackhole 10.0.0.0/8\nanswer 4 rule 32766 table main prohibit 10.2.0.0/16\nanswer 4 rule 10 blackhole\nanswer 4 rule 11 unreachable\n" }
+{}
+
+/// A table for all packets but those with a mark.
+pub fn not_fwmark()
+    ensures { replies_to GoOn (codes "ip -4 route add 0.0.0.0/0 dev wg0 table 51820\nip -4 rule add not fwmark 51820 table 51820\nroute get 192.0.2.7\nroute get 192.0.2.7 mark 51820\n") end_of_input []
+        ≡ codes "ok 1\nok 2\nanswer 2 rule 32765 table 51820 default dev wg0 scope link\nanswer 2 none\n" }
+{}
+
 /// The same key twice, with force and without.
 pub fn force()
     ensures forced { replies_to GoOn (codes "route add 10/8 via 192.0.2.1\nroute add 10/8 via 192.0.2.2\nroute get 10") end_of_input []

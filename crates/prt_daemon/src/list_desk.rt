@@ -1,79 +1,43 @@
-ghost use Rattle.std.specs.Prelude.{◌≡◌, ◌⊎◌, None, Some, IfErr, IsOkAnd};
+ghost use Rattle.std.specs.Prelude.{◌≡◌, ◌⊎◌, None, Some, IfErr, IfOk};
 ghost use Rattle.prt_addr.specs.declared.refusal.Refusal.TheVariants.{NoMemory};
-ghost use Rattle.prt_route.specs.Route.{key_of};
 ghost use Rattle.prt_daemon.specs.Run.{CommandGives};
 ghost use Rattle.prt_daemon.specs.Session.{settled};
-ghost use Rattle.prt_daemon.specs.State.{has_key, opening, refusal};
+ghost use Rattle.prt_version.specs.Change.{refusal};
+ghost use Rattle.prt_version.specs.State.{opening_state};
 
 use crate::desk::Desk;
-use crate::select::choose;
-use crate::text::push_verdict;
-use prt_command::{Command, Query, Refusal, Route, RouteKey};
+use crate::text::push_answer;
+use prt_command::{Command, Query, Refusal};
+use prt_version::Version;
 use std::alloc::Global;
 use std::marker::Model;
 
-/// The most routes that a database holds.
-const MOST_ROUTES: usize = 100_000;
-
-/// The most commands that a database ever accepts.
-const MOST_COMMANDS: u64 = 1_000_000_000_000_000;
-
-/// A desk over a plain list of routes, which it keeps in memory alone.
+/// A desk over one version of the tables, which it keeps in memory alone.
 #[derive(Drop)]
 pub struct ListDesk {
-    count: u64,
-    routes: Vec<Route>,
+    version: Version,
 }
 
 impl Model for ListDesk {
-    ghost use Rattle.std.specs.Prelude.{◌≤◌};
-    ghost use Rattle.prt_daemon.specs.State.{State};
-    ghost use Rattle.prt_daemon.specs.declared.list_desk.TheConstants.{MOST_COMMANDS};
+    ghost use Rattle.prt_version.specs.State.{State};
 
     ghost Value = { State };
 
-    ghost view = { λ desk. record { count = desk.count; routes = desk.routes.items } };
-
-    ghost invariant = { λ desk. desk.count ≤ MOST_COMMANDS };
-}
-
-/// Whether one of the routes has the key.
-fn has_key(routes: &[Route], key: RouteKey) -> bool
-    ensures { result ≡ has_key key routes.now }
-{
-    routes.iter().any(|route| route.key() == key)
+    ghost view = { λ desk. desk.version };
 }
 
 impl ListDesk {
-    /// A desk with no routes, which has accepted no command.
+    /// A desk over the opening rules and no routes, which has accepted no command.
     ///
     /// # Errors
     ///
-    /// None: an empty list takes no memory.
+    /// `NoMemory`.
     pub fn opening(alloc: Global) -> Result<ListDesk, Refusal>
-        ensures { IsOkAnd result (λ desk. settled desk ≡ settled opening) }
+        ensures opening { IfOk result (λ desk. settled desk ≡ settled opening_state) }
+        ensures memory { IfErr result (λ e. e ≡ NoMemory) }
     {
-        Ok(ListDesk {
-            count: 0,
-            routes: Vec::new(alloc),
-        })
-    }
-
-    /// Why the command is refused, where it is.
-    fn refusal(&self, command: &Command) -> Option<Refusal>
-        ensures { result ≡ refusal self.now command.now }
-    {
-        let Command::RouteAdd(route) = command;
-        if has_key(&self.routes, route.key()) {
-            return Some(Refusal::Exists);
-        }
-        if self.routes.len() >= MOST_ROUTES {
-            return Some(Refusal::Full);
-        }
-        if self.count >= MOST_COMMANDS {
-            return Some(Refusal::CountFull);
-        }
-        None
+        let version = Version::opening(alloc)?;
+        Ok(ListDesk { version })
     }
 }
 
@@ -85,24 +49,22 @@ impl Desk for ListDesk {
         ensures turn { CommandGives (settled self.old) command.now result (settled self.new) }
         ensures reason { IfErr result (λ e. (refusal self.old command.now ≡ Some e) ⊎ ((refusal self.old command.now ≡ None) × (e ≡ NoMemory))) }
     {
-        if let Some(reason) = self.refusal(command) {
-            return Err(reason);
+        let change = match self.version.check(command) {
+            Ok(change) => change,
+            Err(reason) => return Err(reason),
+        };
+        match self.version.next(&change) {
+            Ok(next) => self.version = next,
+            Err(reason) => return Err(reason),
         }
-        let Command::RouteAdd(route) = command;
-        if self.routes.push(*route).is_err() {
-            return Err(Refusal::NoMemory);
-        }
-        self.count += 1;
-        Ok(self.count)
+        Ok(self.version.number())
     }
 
     fn answer(&mut self, query: &Query, out: &mut Vec<u8>) -> Result<(), Refusal> {
-        let Query::Get(addr) = query;
-        let choice = choose(&self.routes, *addr);
+        let Query::Get(packet) = query;
+        let answer = self.version.select(packet);
         let mut text = Vec::new(*out.allocator());
-        if push_verdict(&mut text, self.count, choice).is_err()
-            || out.extend_from_slice(&text).is_err()
-        {
+        if push_answer(&mut text, &answer).is_err() || out.extend_from_slice(&text).is_err() {
             return Err(Refusal::NoMemory);
         }
         Ok(())

@@ -9,13 +9,15 @@ mod list_desk;
 mod program;
 mod reply;
 mod script;
-mod select;
 #[cfg(test)]
 mod tests;
 mod text;
 
 pub use desk::Desk;
-pub use examples::{first_run, force, line_limits, longest_prefix, mishaps, refused_script};
+pub use examples::{
+    failure_kinds, first_run, force, line_limits, longest_prefix, lowest_metric, mishaps,
+    not_fwmark, refused_script, throw_falls_through,
+};
 pub use input::LONGEST_UNENDED;
 pub use laws::session_ends;
 pub use list_desk::ListDesk;

@@ -77,7 +77,7 @@ fn command_line<'a>(alloc: Global) -> Result<Command<'a>, AllocError> {
         .value_name("FILE")
         .help("The script; standard input where it is missing or `-`");
     let batch = Command::new(alloc, "batch")
-        .about("Runs a script of route commands over a new database in memory")
+        .about("Runs a script of route and rule commands over a new database in memory")
         .arg(force)?
         .arg(file)?;
     Command::new(alloc, "prt")

@@ -1,8 +1,8 @@
 ghost use Rattle.prt_daemon.specs.Session.{settled, shut};
-ghost use Rattle.prt_daemon.specs.State.{opening};
+ghost use Rattle.prt_version.specs.State.{opening_state};
 
 use super::*;
-use prt_command::{Command, Query, Refusal};
+use prt_command::{Addr, Command, Dev, Packet, Query, Refusal};
 use std::alloc::Global;
 use std::io;
 use std::io::{Read, Write};
@@ -13,7 +13,7 @@ use std::test::Fail;
 struct ClosedDesk {}
 
 impl Desk for ClosedDesk {
-    ghost meaning = { λ _. shut (settled opening) opening };
+    ghost meaning = { λ _. shut (settled opening_state) opening_state };
 
     fn command(&mut self, command: &Command) -> Result<u64, Refusal> {
         Err(Refusal::Closed)
@@ -202,7 +202,13 @@ fn executes_a_script_and_stops_at_a_writer_that_fails(rt: HostRuntime) -> Result
     );
     assert!(rt; end.fault == Some(Refusal::WriteFault) && !end.refused);
     let mut text = Vec::new(rt.alloc());
-    desk.answer(&Query::Get(prt_command::Addr(0x0a00_0000)), &mut text)?;
+    let packet = Packet {
+        dst: Addr(0x0a00_0000),
+        src: Addr(0),
+        iif: Dev::loopback(),
+        mark: 0,
+    };
+    desk.answer(&Query::Get(packet), &mut text)?;
     assert!(rt; text.as_slice().starts_with(b"answer 1 "));
     Ok(())
 }

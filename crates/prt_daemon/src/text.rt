@@ -1,14 +1,13 @@
 ghost use Rattle.std.specs.Prelude.{◌≡◌, ◌++◌, decimal, OnOk, option_map, unwrap_or, codes};
 ghost use Rattle.prt_addr.specs.Addr.{addr_text};
 ghost use Rattle.prt_route.specs.Names.{protocols, scopes, tables};
-ghost use Rattle.prt_daemon.specs.Choice.{choice_text, decided_of};
-ghost use Rattle.prt_daemon.specs.Text.{destination_text, kind_text, name_or_number, part, route_text, unless, verdict_text};
+ghost use Rattle.prt_daemon.specs.Text.{action_text, answer_line, destination_text, kind_text, name_or_number, part, route_text, unless, verdict_text};
 
-use crate::select::Choice;
 use itoa::Buffer;
 use prt_addr::{addr_text, prefix_text};
-use prt_command::{Addr, Dev, Kind, Prefix, Route};
+use prt_command::{Action, Addr, Dev, Kind, Prefix, Route};
 use prt_route::{protocol_name, scope_name, table_name};
+use prt_version::{Answer, Verdict};
 use std::alloc::AllocError;
 
 /// The protocol that goes without saying: boot.
@@ -139,36 +138,67 @@ pub(crate) fn push_route(out: &mut Vec<u8>, route: &Route) -> Result<(), AllocEr
     Ok(())
 }
 
-/// Appends the rule, the table and the route of a choice.
-fn push_choice(out: &mut Vec<u8>, choice: Choice) -> Result<(), AllocError>
-    ensures { OnOk result (out.new.items ≡ out.old.items ++ choice_text (decided_of choice.entry)) }
+/// Appends what an action does.
+fn push_action(out: &mut Vec<u8>, action: Action) -> Result<(), AllocError>
+    ensures { OnOk result (out.new.items ≡ out.old.items ++ action_text action) }
 {
-    let table = choice.route.table;
-    push_text(out, " rule ")?;
-    push_number(out, u64::from(choice.priority))?;
-    push_text(out, " table ")?;
-    push_name_or_number(out, table_name(table), table)?;
-    push_text(out, " ")?;
-    push_route(out, choice.route)
+    match action {
+        Action::Lookup(table) => {
+            push_text(out, "lookup ")?;
+            push_name_or_number(out, table_name(table), table)
+        }
+        Action::Blackhole => push_text(out, "blackhole"),
+        Action::Unreachable => push_text(out, "unreachable"),
+        Action::Prohibit => push_text(out, "prohibit"),
+    }
 }
 
-/// Appends the line of an answer: its number, and the rule, the table and the route, or `none`.
+/// Appends the rule that decides.
+fn push_rule(out: &mut Vec<u8>, priority: u32) -> Result<(), AllocError>
+    ensures { OnOk result (out.new.items ≡ out.old.items ++ codes " rule " ++ decimal priority ++ codes " ") }
+{
+    push_text(out, " rule ")?;
+    push_number(out, u64::from(priority))?;
+    push_text(out, " ")
+}
+
+/// Appends a route with its table.
+fn push_table_route(out: &mut Vec<u8>, route: &Route) -> Result<(), AllocError>
+    ensures { OnOk result (out.new.items ≡ out.old.items ++ (codes "table " ++ name_or_number tables route.now.table ++ codes " " ++ route_text route.now)) }
+{
+    push_text(out, "table ")?;
+    push_name_or_number(out, table_name(route.table), route.table)?;
+    push_text(out, " ")?;
+    push_route(out, route)
+}
+
+/// Appends what becomes of a packet.
+fn push_verdict(out: &mut Vec<u8>, verdict: &Verdict) -> Result<(), AllocError>
+    ensures { OnOk result (out.new.items ≡ out.old.items ++ verdict_text verdict.now) }
+{
+    match verdict {
+        Verdict::Route(priority, route) => {
+            push_rule(out, *priority)?;
+            push_table_route(out, route)
+        }
+        Verdict::RuleSays(priority, action) => {
+            push_rule(out, *priority)?;
+            push_action(out, *action)
+        }
+        Verdict::NoRoute => push_text(out, " none"),
+    }
+}
+
+/// Appends the line of an answer: its number, and the rule with its route or action, or `none`.
 ///
 /// # Errors
 ///
 /// Memory was refused; some of the text may stand behind what `out` had.
-pub(crate) fn push_verdict(
-    out: &mut Vec<u8>,
-    number: u64,
-    choice: Option<Choice>,
-) -> Result<(), AllocError>
-    ensures { OnOk result (out.new.items ≡ out.old.items ++ verdict_text number (option_map decided_of choice.entry)) }
+pub(crate) fn push_answer(out: &mut Vec<u8>, answer: &Answer) -> Result<(), AllocError>
+    ensures { OnOk result (out.new.items ≡ out.old.items ++ answer_line answer.now.number answer.now.verdict) }
 {
     push_text(out, "answer ")?;
-    push_number(out, number)?;
-    let Some(choice) = choice else {
-        return push_text(out, " none\n");
-    };
-    push_choice(out, choice)?;
+    push_number(out, answer.number)?;
+    push_verdict(out, &answer.verdict)?;
     push_text(out, "\n")
 }

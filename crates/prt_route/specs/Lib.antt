@@ -7,6 +7,7 @@ pub mod Best
 pub use Rattle.prt_addr.specs.Addr
 pub use Rattle.prt_addr.specs.Block
 pub use Rattle.prt_addr.specs.Decimal
+pub use Rattle.prt_addr.specs.Number
 pub use Rattle.prt_addr.specs.Prefix
 pub use Rattle.prt_addr.specs.Refusal
 pub use Rattle.prt_addr.specs.Word

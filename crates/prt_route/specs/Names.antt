@@ -1,6 +1,8 @@
 -- Numbers that have names: tables, protocols and scopes.
-use Rattle.std.specs.Prelude.{ℕ, ◌==◌, if◌then◌else◌, List, [], ◌∷◌, Option, Some, None, codes}
-use Rattle.prt_addr.specs.Word.{Word}
+use Rattle.std.specs.Prelude.{ℕ, nat_le, ◌==◌, if◌then◌else◌, List, [], ◌∷◌, Option, Some, None, bytes_eq, codes}
+use Rattle.std.specs.Option.{option_or}
+use Rattle.prt_addr.specs.Number.{number}
+use Rattle.prt_addr.specs.Word.{Word, keep}
 
 abbrev pub tables : List (Word × ℕ)
 tables = (codes "local", 255) ∷ (codes "main", 254) ∷ (codes "default", 253) ∷ []
@@ -15,3 +17,12 @@ scopes = (codes "global", 0) ∷ (codes "site", 200) ∷ (codes "link", 253) ∷
 abbrev pub name_in : List (Word × ℕ) → ℕ → Option Word
 name_in [] n = None
 name_in (row ∷ rows) n = if row.1 == n then Some row.0 else name_in rows n
+
+-- the number of a name in such a list
+abbrev pub number_in : List (Word × ℕ) → Word → Option ℕ
+number_in [] w = None
+number_in (row ∷ rows) w = if bytes_eq row.0 w then Some row.1 else number_in rows w
+
+-- the table that a word spells: a name, or a number from 1 on
+abbrev pub table : Word → Option ℕ
+table w = option_or (number_in tables w) (keep (λ n. nat_le 1 n) (number w))

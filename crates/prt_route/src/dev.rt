@@ -37,6 +37,16 @@ impl Model for Dev {
 }
 
 impl Dev {
+    /// The loopback interface, `lo`.
+    pub fn loopback() -> Dev
+        ensures { result ≡ codes "lo" }
+    {
+        let mut bytes = [0u8; LONGEST];
+        bytes[0] = b'l';
+        bytes[1] = b'o';
+        Dev { bytes, len: 2 }
+    }
+
     /// The bytes of the name.
     pub fn as_bytes(&self) -> &[u8]
         ensures { result.now ≡ self.now }

@@ -2,6 +2,7 @@
 #![tactic(auto)]
 
 mod dev;
+mod edit;
 mod kind;
 mod names;
 mod route;
@@ -9,7 +10,8 @@ mod route;
 mod tests;
 
 pub use dev::{Dev, read_dev};
+pub use edit::RouteEdit;
 pub use kind::Kind;
-pub use names::{protocol_name, scope_name, table_name};
+pub use names::{protocol_name, read_table, scope_name, table_name};
 pub use prt_addr::{Addr, Prefix, Refusal};
 pub use route::{Route, RouteKey};

@@ -1,5 +1,10 @@
 ghost use Rattle.std.specs.Prelude.{◌≡◌, option_map};
-ghost use Rattle.prt_route.specs.Names.{name_in, protocols, scopes, tables};
+ghost use Rattle.std.specs.Option.{ok_or};
+ghost use Rattle.prt_addr.specs.declared.refusal.Refusal.TheVariants.{BadTable};
+ghost use Rattle.prt_route.specs.Names.{name_in, number_in, protocols, scopes, table, tables};
+
+use crate::Refusal;
+use prt_addr::read_number;
 
 /// The name of a routing protocol's number, where it has one.
 pub fn protocol_name(number: u8) -> Option<&'static str>
@@ -48,4 +53,34 @@ pub fn table_name(number: u32) -> Option<&'static str>
         _ => return None,
     };
     Some(name)
+}
+
+/// The number of a table's name.
+fn named_table(word: &[u8]) -> Option<u32>
+    ensures { result ≡ number_in tables word.now }
+{
+    match word {
+        b"local" => Some(255),
+        b"main" => Some(254),
+        b"default" => Some(253),
+        _ => None,
+    }
+}
+
+/// Reads a table: `local`, `main` or `default`, or a number from 1 on.
+///
+/// # Errors
+///
+/// `BadTable` where the word spells no table.
+pub fn read_table(word: &[u8]) -> Result<u32, Refusal>
+    ensures { result ≡ ok_or (table word.now) BadTable }
+{
+    match named_table(word) {
+        Some(number) => Ok(number),
+        None => match read_number(word) {
+            Ok(number) if number > 0 => Ok(number),
+            Ok(_) => Err(Refusal::BadTable),
+            Err(_) => Err(Refusal::BadTable),
+        },
+    }
 }

@@ -1,5 +1,6 @@
 use crate::{
-    Addr, Dev, Kind, Prefix, Refusal, Route, protocol_name, read_dev, scope_name, table_name,
+    Addr, Dev, Kind, Prefix, Refusal, Route, protocol_name, read_dev, read_table, scope_name,
+    table_name,
 };
 use std::test::Fail;
 
@@ -36,6 +37,31 @@ fn reads_names(rt: HostRuntime) -> Result<(), Fail> {
         assert_eq!(rt; read_dev(word.as_bytes()), Err(Refusal::BadName), "{word}");
     }
     Ok(())
+}
+
+#[test]
+fn names_the_loopback_interface(rt: HostRuntime) {
+    assert_eq!(rt; read_dev(b"lo"), Ok(Dev::loopback()));
+}
+
+#[test]
+fn reads_tables(rt: HostRuntime) {
+    for (word, table) in [
+        ("local", 255),
+        ("main", 254),
+        ("default", 253),
+        ("1", 1),
+        ("0xFFFFFFFF", 4294967295),
+    ] {
+        assert_eq!(rt; read_table(word.as_bytes()), Ok(table), "{word}");
+    }
+    for word in ["", "0", "all", "4294967296", "Main"] {
+        assert_eq!(rt;
+            read_table(word.as_bytes()),
+            Err(Refusal::BadTable),
+            "{word}"
+        );
+    }
 }
 
 #[test]

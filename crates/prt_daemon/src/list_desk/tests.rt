@@ -1,6 +1,6 @@
 use super::ListDesk;
 use crate::desk::Desk;
-use prt_command::{Addr, Command, Kind, Prefix, Query, Refusal, Route};
+use prt_command::{Addr, Command, Dev, Kind, Packet, Prefix, Query, Refusal, Route};
 use prt_route::read_dev;
 use std::process::Abort;
 use std::test::Fail;
@@ -32,7 +32,13 @@ fn assert_answer(
     want: &str,
 ) -> Result<(), Refusal> {
     out.clear();
-    desk.answer(&Query::Get(Addr(addr)), out)?;
+    let packet = Packet {
+        dst: Addr(addr),
+        src: Addr(0),
+        iif: Dev::loopback(),
+        mark: 0,
+    };
+    desk.answer(&Query::Get(packet), out)?;
     assert_eq!(rt; out.as_slice(), want.as_bytes());
     Ok(())
 }

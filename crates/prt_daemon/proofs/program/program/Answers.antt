@@ -1,4 +1,4 @@
-use Rattle.std.proofs.Common.{◌≡◌, ◌≢◌, inr, ap}
+use Rattle.std.proofs.Common.{inr}
 use Rattle.prt_daemon.proofs.Reports.{reported}
 use Rattle.prt_daemon.proofs.program.program.Goals as goal
 

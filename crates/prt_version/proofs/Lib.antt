@@ -1,0 +1,5 @@
+pub mod FirstBest
+pub mod Order
+pub mod Rules
+pub mod Sameness
+pub mod Successor

@@ -1,0 +1,82 @@
+-- Routes, rules and packets for examples.
+use Rattle.std.specs.Prelude.{ℕ, ◌+◌, ◌*◌, ◌-◌, ◌^◌, true, false, List, [], ◌∷◌, Option, Some, None, codes}
+use Rattle.prt_addr.specs.Block.{Block}
+use Rattle.prt_addr.specs.Prefix.{everything}
+use Rattle.prt_addr.specs.declared.addr.Addr.{Addr}
+use Rattle.prt_route.specs.declared.kind.Kind.{Kind}
+use Rattle.prt_route.specs.declared.kind.Kind.TheVariants.{Unicast, Throw}
+use Rattle.prt_route.specs.declared.kind.Kind.TheVariants as kinds
+use Rattle.prt_route.specs.declared.route.Route.{Route}
+use Rattle.prt_rule.specs.declared.packet.Packet.{Packet}
+use Rattle.prt_rule.specs.declared.rule.Action.{Action}
+use Rattle.prt_rule.specs.declared.rule.Action.TheVariants.{Lookup, Blackhole, Unreachable}
+use Rattle.prt_rule.specs.declared.rule.Mark.{Mark}
+use Rattle.prt_command.specs.declared.request.Command.{Command}
+use Rattle.prt_command.specs.declared.request.Command.TheVariants.{RouteAdd, RuleAdd}
+use Rattle.prt_command.specs.declared.request.NewRule.{NewRule}
+use Rattle.prt_version.specs.Change.{fold}
+use Rattle.prt_version.specs.Select.{select}
+use Rattle.prt_version.specs.State.{opening_state}
+use Rattle.prt_version.specs.declared.answer.Verdict.{Verdict}
+
+-- an address by its four parts
+abbrev pub address : ℕ → ℕ → ℕ → ℕ → Addr
+address a b c d = record { 0 = a * 2 ^ 24 + b * 2 ^ 16 + c * 2 ^ 8 + d }
+
+abbrev pub prefix : Addr → ℕ → Block
+prefix addr len = record { bits = addr.0; len = len }
+
+-- 10.0.0.0/8
+abbrev pub ten : Block
+ten = prefix (address 10 0 0 0) 8
+
+-- a route of this table without a next hop
+abbrev pub route_of : ℕ → Block → Kind → Route
+route_of table block kind = record { table = table; prefix = block; metric = 0; kind = kind; via = None; dev = None; src = None; proto = 3; scope = 0 }
+
+-- a route of this table through 192.0.2.x
+abbrev pub through : ℕ → ℕ → Block → ℕ → Route
+through x table block metric = record { table = table; prefix = block; metric = metric; kind = Unicast; via = Some (address 192 0 2 x); dev = None; src = None; proto = 3; scope = 0 }
+
+-- a new rule for every packet
+abbrev pub rule_for_all : Option ℕ → Action → NewRule
+rule_for_all priority action = record { priority = priority; inverted = false; from = everything; to = everything; iif = None; mark = None; action = action }
+
+-- a packet from nowhere in particular
+abbrev pub packet_to : Addr → Packet
+packet_to addr = record { dst = addr; src = address 0 0 0 0; iif = codes "lo"; mark = 0 }
+
+-- the verdict after these commands on a new database
+abbrev pub verdict_after : List Command → Packet → Verdict
+verdict_after commands packet = select (fold opening_state commands) packet
+
+-- 10/8 through two gateways, and a default route
+abbrev pub metrics : List Command
+metrics = RouteAdd (through 1 254 ten 100) ∷ RouteAdd (through 2 254 ten 50) ∷ RouteAdd (through 3 254 everything 0) ∷ []
+
+-- a throw route for 10/8 in table 100, which is asked before main, and a default route in main
+abbrev pub throws : List Command
+throws = RouteAdd (route_of 100 ten Throw) ∷ RuleAdd (rule_for_all (Some 500) (Lookup 100)) ∷ RouteAdd (through 1 254 everything 0) ∷ []
+
+-- two routes and two rules that drop packets
+abbrev pub failures : List Command
+failures =
+    RouteAdd (route_of 254 ten kinds.Blackhole)
+    ∷ RouteAdd (route_of 254 (prefix (address 10 2 0 0) 16) kinds.Prohibit)
+    ∷ RuleAdd (record (rule_for_all (Some 10) Blackhole) { from = prefix (address 192 0 2 0) 24 })
+    ∷ RuleAdd (record (rule_for_all (Some 11) Unreachable) { iif = Some (codes "eth1") })
+    ∷ []
+
+-- every bit of the mark 51820
+abbrev pub whole_mark : Mark
+whole_mark = record { mark = 51820; mask = 2 ^ 32 - 1 }
+
+-- a default route in table 51820, which is looked up for packets without the mark 51820
+abbrev pub not_fwmark_commands : List Command
+not_fwmark_commands =
+    RouteAdd (through 1 51820 everything 0)
+    ∷ RuleAdd (record (rule_for_all None (Lookup 51820)) { inverted = true; mark = Some whole_mark })
+    ∷ []
+
+abbrev pub marked_packet : Packet
+marked_packet = record (packet_to (address 198 51 100 7)) { mark = 51820 }

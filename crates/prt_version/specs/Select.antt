@@ -1,0 +1,52 @@
+-- What becomes of a packet: ip-rule(8), ip-route(8).
+use Rattle.std.specs.Prelude.{ℕ, Bool, true, false, not, if◌then◌else◌, List, filter, find, Option, Some, None, is_some, option_map, option_and_then, unwrap_or}
+use Rattle.std.specs.List.{list_any}
+use Rattle.prt_addr.specs.Word.{keep}
+use Rattle.prt_route.specs.Best.{best}
+use Rattle.prt_route.specs.declared.kind.Kind.{Kind}
+use Rattle.prt_route.specs.declared.kind.Kind.TheVariants.{Throw}
+use Rattle.prt_route.specs.declared.route.Route.{Route}
+use Rattle.prt_rule.specs.Rule.{is_before, matches}
+use Rattle.prt_rule.specs.declared.packet.Packet.{Packet}
+use Rattle.prt_rule.specs.declared.rule.Action.{Action}
+use Rattle.prt_rule.specs.declared.rule.Action.TheVariants.{Lookup}
+use Rattle.prt_rule.specs.declared.rule.Rule.{Rule}
+use Rattle.prt_version.specs.State.{State}
+use Rattle.prt_version.specs.declared.answer.Verdict.{Verdict}
+use Rattle.prt_version.specs.declared.answer.Verdict.TheVariants as verdict
+
+abbrev pub is_throw : Kind → Bool
+is_throw Throw = true
+is_throw kind = false
+
+-- the best route of a table for the packet, if it is no throw route
+abbrev pub found : ℕ → List Route → Packet → Option Route
+found table routes packet = keep (λ route. not (is_throw route.kind)) (best routes table packet.dst)
+
+-- a lookup gives the route that it finds, if it finds one, and any other action is itself the verdict
+abbrev pub verdict_by : Action → ℕ → List Route → Packet → Option Verdict
+verdict_by (Lookup table) priority routes packet = option_map (λ route. verdict.Route priority route) (found table routes packet)
+verdict_by action priority routes packet = Some (verdict.RuleSays priority action)
+
+-- what one rule says of a packet, if it decides
+abbrev pub decision : Rule → List Route → Packet → Option Verdict
+decision rule routes packet = if matches rule packet then verdict_by rule.action rule.priority routes packet else None
+
+-- the rules that decide
+abbrev pub deciding : List Rule → List Route → Packet → List Rule
+deciding rules routes packet = filter (λ rule. is_some (decision rule routes packet)) rules
+
+-- none of these is before it
+abbrev pub is_first : List Rule → Rule → Bool
+is_first others rule = not (list_any (λ other. is_before other rule) others)
+
+-- the deciding rule that no deciding rule is before
+abbrev pub decider : List Rule → List Route → Packet → Option Rule
+decider rules routes packet = find (is_first (deciding rules routes packet)) (deciding rules routes packet)
+
+-- what that rule says
+abbrev pub verdict_of : List Rule → List Route → Packet → Verdict
+verdict_of rules routes packet = unwrap_or (option_and_then (λ rule. decision rule routes packet) (decider rules routes packet)) verdict.NoRoute
+
+abbrev pub select : State → Packet → Verdict
+select state packet = verdict_of state.rules state.routes packet

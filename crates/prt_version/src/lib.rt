@@ -1,0 +1,16 @@
+//! Versions of the policy database: what one holds, what it answers, and which version a command makes of it.
+#![tactic(auto)]
+
+mod answer;
+mod change;
+pub mod examples;
+mod rows;
+mod select;
+#[cfg(test)]
+mod tests;
+mod version;
+
+pub use answer::{Answer, Verdict};
+pub use change::Change;
+pub use prt_command::{Action, Command, NewRule, Packet, Refusal, Route, Rule};
+pub use version::Version;

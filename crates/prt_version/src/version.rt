@@ -1,0 +1,241 @@
+ghost use Rattle.std.specs.Prelude.{◌≡◌, IfErr, IfOk, None};
+ghost use Rattle.prt_addr.specs.declared.refusal.Refusal.TheVariants.{NoMemory};
+ghost use Rattle.prt_rule.specs.Rule.{IsInOrder};
+ghost use Rattle.prt_version.specs.Change.{IsChecked, change_of, is_full, is_there, put, refusal, rule_of};
+ghost use Rattle.prt_version.specs.Select.{select};
+ghost use Rattle.prt_version.specs.State.{opening_state, table_rule};
+
+use crate::rows::{has_key, has_rule, with_route, with_rule};
+use crate::select::verdict_of;
+use crate::{Action, Answer, Change, Command, NewRule, Packet, Refusal, Route, Rule};
+use prt_route::{Prefix, RouteEdit};
+use prt_rule::auto_priority;
+use std::alloc::{AllocError, Global};
+use std::marker::Model;
+
+/// The most rules that a database holds.
+const MOST_RULES: usize = 1_000;
+
+/// The most routes that a database holds.
+const MOST_ROUTES: usize = 100_000;
+
+/// The most commands that a database ever accepts.
+const MOST_COMMANDS: u64 = 1_000_000_000_000_000;
+
+/// A version of the policy database, which never changes: a command makes a new one.
+#[derive(Drop)]
+pub struct Version {
+    count: u64,
+    rules: Vec<Rule>,
+    routes: Vec<Route>,
+}
+
+impl Model for Version {
+    ghost use Rattle.prt_version.specs.State.{State};
+    ghost use Rattle.prt_version.specs.Sound.{IsSound};
+
+    ghost Value = { State };
+
+    ghost view = { λ v. record { count = v.count; rules = v.rules.items; routes = v.routes.items } };
+
+    ghost invariant = { λ v. IsSound (record { count = v.count; rules = v.rules.items; routes = v.routes.items }) };
+}
+
+/// A rule that looks up a table for every packet.
+fn table_rule(id: u64, priority: u32, table: u32) -> Rule
+    ensures { result ≡ table_rule id priority table }
+{
+    Rule {
+        id,
+        priority,
+        inverted: false,
+        from: Prefix::masked(0, 0),
+        to: Prefix::masked(0, 0),
+        iif: None,
+        mark: None,
+        action: Action::Lookup(table),
+    }
+}
+
+impl Version {
+    /// The version of a new database: no routes, and the rules for local, main and default (`ip-rule(8)`).
+    ///
+    /// # Errors
+    ///
+    /// `NoMemory` alone.
+    pub fn opening(alloc: Global) -> Result<Version, Refusal>
+        ensures value { IfOk result (λ version. version ≡ opening_state) }
+        ensures reason { IfErr result (λ reason. reason ≡ NoMemory) }
+    {
+        let rules = [
+            table_rule(1, 0, 255),
+            table_rule(2, 32766, 254),
+            table_rule(3, 32767, 253),
+        ];
+        let Ok(rules) = Vec::from_slice(alloc, &rules) else {
+            return Err(Refusal::NoMemory);
+        };
+        Ok(Version {
+            count: 0,
+            rules,
+            routes: Vec::new(alloc),
+        })
+    }
+
+    /// The number of commands that were accepted up to this version.
+    pub fn number(&self) -> u64
+        ensures { result ≡ self.now.count }
+    {
+        self.count
+    }
+
+    /// The rules, in the order in which they are asked.
+    pub fn rules(&self) -> &[Rule]
+        ensures value { result.now ≡ self.now.rules }
+        ensures order { IsInOrder result.now }
+    {
+        self.rules.as_slice()
+    }
+
+    /// The routes, in the order in which they came.
+    pub fn routes(&self) -> &[Route]
+        ensures { result.now ≡ self.now.routes }
+    {
+        self.routes.as_slice()
+    }
+
+    /// The rule with its id, and the priority that is given or the automatic one.
+    fn rule_of(&self, new: &NewRule) -> Rule
+        ensures { result ≡ rule_of self.now new.now }
+    {
+        Rule {
+            id: self.count + 4,
+            priority: new.priority.unwrap_or(auto_priority(&self.rules)),
+            inverted: new.inverted,
+            from: new.from,
+            to: new.to,
+            iif: new.iif,
+            mark: new.mark,
+            action: new.action,
+        }
+    }
+
+    /// Whether what the command adds is there already.
+    fn is_there(&self, command: &Command) -> bool
+        ensures { result ≡ is_there self.now command.now }
+    {
+        match command {
+            Command::RouteAdd(route) => has_key(&self.routes, route.key()),
+            Command::RuleAdd(new) => has_rule(&self.rules, &self.rule_of(new)),
+        }
+    }
+
+    /// Whether there is no room for what the command adds.
+    fn is_full(&self, command: &Command) -> bool
+        ensures { result ≡ is_full self.now command.now }
+    {
+        match command {
+            Command::RouteAdd(_) => self.routes.len() >= MOST_ROUTES,
+            Command::RuleAdd(_) => self.rules.len() >= MOST_RULES,
+        }
+    }
+
+    /// Why the command is refused, where it is.
+    fn refusal(&self, command: &Command) -> Option<Refusal>
+        ensures { result ≡ refusal self.now command.now }
+    {
+        if self.is_there(command) {
+            return Some(Refusal::Exists);
+        }
+        if self.is_full(command) {
+            return Some(Refusal::Full);
+        }
+        if self.count >= MOST_COMMANDS {
+            return Some(Refusal::CountFull);
+        }
+        None
+    }
+
+    /// The change that the command makes.
+    fn change_of(&self, command: &Command) -> Change
+        ensures { result ≡ change_of self.now command.now }
+    {
+        match command {
+            Command::RouteAdd(route) => Change::Route(RouteEdit::Put(*route)),
+            Command::RuleAdd(new) => Change::RulePut(self.rule_of(new)),
+        }
+    }
+
+    /// The change that the command makes of this version. It takes no memory.
+    ///
+    /// # Errors
+    ///
+    /// `Exists` where the route's key, or a rule equal in all but the id, is there; otherwise `Full` at 1,000 rules or
+    /// 100,000 routes; otherwise `CountFull` after 1,000,000,000,000,000 commands.
+    pub fn check(&self, command: &Command) -> Result<Change, Refusal>
+        ensures accepted { IfOk result (λ change. (refusal self.now command.now ≡ None) × (change ≡ change_of self.now command.now)) }
+        ensures refused { IfErr result (λ reason. refusal self.now command.now ≡ Some reason) }
+        ensures usable { IfOk result (λ change. IsChecked self.now change) }
+    {
+        match self.refusal(command) {
+            Some(reason) => Err(reason),
+            None => Ok(self.change_of(command)),
+        }
+    }
+
+    /// The rules after a change.
+    fn rules_after(&self, change: &Change) -> Result<Vec<Rule>, AllocError>
+        ensures { IfOk result (λ rows. rows.items ≡ (put self.now change.now).rules) }
+    {
+        let alloc = *self.rules.allocator();
+        match change {
+            Change::Route(_) => Vec::from_slice(alloc, &self.rules),
+            Change::RulePut(rule) => with_rule(alloc, &self.rules, rule),
+        }
+    }
+
+    /// The routes after a change.
+    fn routes_after(&self, change: &Change) -> Result<Vec<Route>, AllocError>
+        ensures { IfOk result (λ rows. rows.items ≡ (put self.now change.now).routes) }
+    {
+        let alloc = *self.routes.allocator();
+        match change {
+            Change::Route(RouteEdit::Put(route)) => with_route(alloc, &self.routes, route),
+            Change::RulePut(_) => Vec::from_slice(alloc, &self.routes),
+        }
+    }
+
+    /// The version after a change that `check` gave for this one, which stays as it is.
+    ///
+    /// # Errors
+    ///
+    /// `NoMemory` alone.
+    pub fn next(&self, change: &Change) -> Result<Version, Refusal>
+        requires { IsChecked self.now change.now }
+        ensures value { IfOk result (λ version. version ≡ put self.now change.now) }
+        ensures reason { IfErr result (λ reason. reason ≡ NoMemory) }
+    {
+        let Ok(rules) = self.rules_after(change) else {
+            return Err(Refusal::NoMemory);
+        };
+        let Ok(routes) = self.routes_after(change) else {
+            return Err(Refusal::NoMemory);
+        };
+        Ok(Version {
+            count: self.count + 1,
+            rules,
+            routes,
+        })
+    }
+
+    /// What becomes of a packet: what the first rule that decides says of it (`ip-rule(8)`). It takes no memory.
+    pub fn select(&self, packet: &Packet) -> Answer
+        ensures number { result.number ≡ self.now.count }
+        ensures verdict { result.verdict ≡ select self.now packet.now }
+    {
+        Answer {
+            number: self.count,
+            verdict: verdict_of(&self.rules, &self.routes, packet),
+        }
+    }
+}
