@@ -76,13 +76,14 @@ route_of items kind prefix = record {
   scope = scope_of kind items.via;
 }
 
--- a unicast route needs a next hop, and a route of another kind has none; without a kind it is unicast
+-- a unicast route needs a next hop, and a route of another kind has none
 abbrev pub route_by : Items → Kind → Block → Result Route Refusal
 route_by items kind prefix =
     refuse_if (is_unicast kind && not (has_next_hop items)) NoNextHop >>= λ _.
     refuse_if (not (is_unicast kind) && has_next_hop items) NextHopNotAllowed >>= λ _.
     Ok (route_of items kind prefix)
 
+-- the kind is unicast where none is given
 abbrev pub route_add_request : Asks
 route_add_request items =
     ok_or items.destination MissingDestination >>= λ target.
