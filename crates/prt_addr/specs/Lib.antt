@@ -1,5 +1,6 @@
 pub mod Refusal
 pub mod Word
+pub mod Given
 pub mod Decimal
 pub mod Addr
 pub mod Block

@@ -1,5 +1,5 @@
 -- Prefixes: reading, matching and text.
-use Rattle.std.specs.Prelude.{ℕ, ◌-◌, ◌/◌, ◌^◌, Bool, ◌==◌, if◌then◌else◌, List, [], ◌∷◌, ◌++◌, Option, Some, None, Result, Ok, Err, option_and_then, option_map, codes, decimal}
+use Rattle.std.specs.Prelude.{ℕ, ◌-◌, ◌/◌, ◌^◌, Bool, ◌&&◌, ◌==◌, nat_le, if◌then◌else◌, List, [], ◌∷◌, ◌++◌, Option, Some, None, Result, Ok, Err, option_and_then, option_map, codes, decimal}
 use Rattle.prt_addr.specs.Word.{Word, parts_at, is_one_of}
 use Rattle.prt_addr.specs.Decimal.{decimal_within}
 use Rattle.prt_addr.specs.Addr.{address, addr_text}
@@ -11,6 +11,13 @@ use Rattle.prt_addr.specs.declared.refusal.Refusal.TheVariants.{BadPrefix, HostB
 -- Basic Match: the address has the prefix's bits, as far as the prefix's length
 abbrev pub contains : Block → Addr → Bool
 contains block addr = addr.0 / 2 ^ (32 - block.len) == block.bits / 2 ^ (32 - block.len)
+
+-- the prefix has the other's bits, as far as the other's length, and isn't shorter
+abbrev pub within : Block → Block → Bool
+within block other = contains other (record { 0 = block.bits }) && nat_le other.len block.len
+
+abbrev pub is_same_prefix : Block → Block → Bool
+is_same_prefix a b = a.bits == b.bits && a.len == b.len
 
 -- the same bits without those behind the length
 abbrev pub masked : Block → Block

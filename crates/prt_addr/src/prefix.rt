@@ -2,7 +2,7 @@ ghost use Rattle.std.specs.Prelude.{◌≡◌, ◌≤◌, option_map, IfSome, So
 ghost use Rattle.std.specs.Option.{SomeIff, ok_or};
 ghost use Rattle.prt_addr.specs.Word.{is_one_of};
 ghost use Rattle.prt_addr.specs.Block.{Block, host_bits, IsPrefix};
-ghost use Rattle.prt_addr.specs.Prefix.{contains, masked, net, prefix, prefix_text, block, block_from, everything_words};
+ghost use Rattle.prt_addr.specs.Prefix.{contains, masked, net, prefix, prefix_text, block, block_from, everything_words, within};
 ghost use Rattle.prt_addr.specs.declared.refusal.Refusal.TheVariants.{BadPrefix};
 
 use crate::addr::parse_addr;
@@ -85,6 +85,13 @@ impl Prefix {
     {
         let host = 32 - u32::from(self.len);
         u64::from(addr.0) >> host == u64::from(self.bits) >> host
+    }
+
+    /// Whether every address of this prefix is one of the other's.
+    pub fn within(&self, other: &Prefix) -> bool
+        ensures { result ≡ within self.now other.now }
+    {
+        other.contains(Addr(self.bits)) && other.len <= self.len
     }
 }
 

@@ -168,6 +168,25 @@ fn members(rt: HostRuntime) {
 }
 
 #[test]
+fn prefixes_within(rt: HostRuntime) {
+    let (ten, ten_one) = (
+        Prefix::masked(0x0a00_0000, 8),
+        Prefix::masked(0x0a01_0000, 16),
+    );
+    let (everything, eleven) = (Prefix::masked(0, 0), Prefix::masked(0x0b00_0000, 16));
+    for (prefix, other, inside) in [
+        (ten_one, ten, true),
+        (ten, ten, true),
+        (ten, everything, true),
+        (ten, ten_one, false),
+        (eleven, ten, false),
+        (everything, ten, false),
+    ] {
+        assert_eq!(rt; prefix.within(&other), inside, "{prefix} {other}");
+    }
+}
+
+#[test]
 fn refusals(rt: HostRuntime) {
     for (refusal, code, name) in [
         (Refusal::LineTooLong, 1, "LineTooLong"),

@@ -4,7 +4,7 @@ use Rattle.prt_command.specs.Grammar.{EachOnce}
 use Rattle.prt_command.specs.Items.{Item, Value, has, with_value, with_item, with_all}
 use Rattle.prt_command.specs.declared.item.Items.{Items}
 use Rattle.prt_command.specs.declared.item.Slot.{Slot}
-use Rattle.prt_command.specs.declared.item.Slot.TheVariants.{Destination, Via, Dev, Table, Metric, Address, Source, Iif, Mark, Inverted, From, To, Fwmark, Priority, Action}
+use Rattle.prt_command.specs.declared.item.Slot.TheVariants.{Destination, Via, Dev, Table, Proto, Scope, Src, Metric, Range, Tables, OfKind, Address, Source, Iif, Mark, Inverted, From, To, Fwmark, Priority, Action}
 
 -- What two items of different slots do to each other: nothing.
 pub record Apart (s t : Slot) (x : Value s) (y : Value t) (given : Items) : Type 0 where
@@ -22,8 +22,20 @@ apart Dev Dev x y given h = absurd cc
 apart Dev t x y given h = record { same = refl; first = refl; second = refl }
 apart Table Table x y given h = absurd cc
 apart Table t x y given h = record { same = refl; first = refl; second = refl }
+apart Proto Proto x y given h = absurd cc
+apart Proto t x y given h = record { same = refl; first = refl; second = refl }
+apart Scope Scope x y given h = absurd cc
+apart Scope t x y given h = record { same = refl; first = refl; second = refl }
+apart Src Src x y given h = absurd cc
+apart Src t x y given h = record { same = refl; first = refl; second = refl }
 apart Metric Metric x y given h = absurd cc
 apart Metric t x y given h = record { same = refl; first = refl; second = refl }
+apart Range Range x y given h = absurd cc
+apart Range t x y given h = record { same = refl; first = refl; second = refl }
+apart Tables Tables x y given h = absurd cc
+apart Tables t x y given h = record { same = refl; first = refl; second = refl }
+apart OfKind OfKind x y given h = absurd cc
+apart OfKind t x y given h = record { same = refl; first = refl; second = refl }
 apart Address Address x y given h = absurd cc
 apart Address t x y given h = record { same = refl; first = refl; second = refl }
 apart Source Source x y given h = absurd cc

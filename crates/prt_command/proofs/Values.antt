@@ -2,17 +2,17 @@
 use Rattle.std.proofs.Common.{◌≡◌, Option, Ok, Err, sym, subst}
 use Rattle.prt_addr.specs.Word.{Word}
 use Rattle.prt_addr.specs.declared.refusal.Refusal.{Refusal}
-use Rattle.prt_route.specs.declared.kind.Kind.{Kind}
 use Rattle.prt_command.specs.Items.{Value, with_value}
 use Rattle.prt_command.specs.Line.{value_of}
 use Rattle.prt_command.specs.declared.item.Items.{Items}
+use Rattle.prt_command.specs.declared.item.PrefixWord.{PrefixWord}
 use Rattle.prt_command.specs.declared.item.Slot.{Slot}
 
-abbrev pub Adds : Slot → Option Kind → Word → Items → Items → Type 0
-Adds slot kind w old new = (x : Value slot) × (value_of slot kind w ≡ Ok x) × (new ≡ with_value slot x old)
+abbrev pub Adds : Slot → Option PrefixWord → Word → Items → Items → Type 0
+Adds slot b w old new = (x : Value slot) × (value_of slot b w ≡ Ok x) × (new ≡ with_value slot x old)
 
-pub added : (slot this : Slot) (kind : Option Kind) (w : Word) (old new : Items) (x : Value this) → slot ≡ this → value_of this kind w ≡ Ok x → new ≡ with_value this x old → Adds slot kind w old new
-added slot this kind w old new x is value new_is = subst (λ (s : Slot). Adds s kind w old new) (sym is) (x, value, new_is)
+pub added : (slot this : Slot) (b : Option PrefixWord) (w : Word) (old new : Items) (x : Value this) → slot ≡ this → value_of this b w ≡ Ok x → new ≡ with_value this x old → Adds slot b w old new
+added slot this b w old new x is value new_is = subst (λ (s : Slot). Adds s b w old new) (sym is) (x, value, new_is)
 
-pub not_read : (slot this : Slot) (kind : Option Kind) (w : Word) (e : Refusal) → slot ≡ this → value_of this kind w ≡ Err e → value_of slot kind w ≡ Err e
-not_read slot this kind w e is fault = subst (λ (s : Slot). value_of s kind w ≡ Err e) (sym is) fault
+pub not_read : (slot this : Slot) (b : Option PrefixWord) (w : Word) (e : Refusal) → slot ≡ this → value_of this b w ≡ Err e → value_of slot b w ≡ Err e
+not_read slot this b w e is fault = subst (λ (s : Slot). value_of s b w ≡ Err e) (sym is) fault

@@ -101,7 +101,7 @@ item_at slot read = read >>= λ x. Ok (record { slot = slot; value = x }, 0)
 abbrev pub one_more : Scanned → Scanned
 one_more taken = taken >>= λ t. Ok (t.0, suc t.1)
 
--- What stands behind a word that something must follow: nothing is a fault, then an item that was given before is one, then it is what follows.
+-- Behind a word that something must follow: if nothing does, that is the fault; else, if the item was given before, that; else what follows is read.
 abbrev pub behind : Bool → (Word → List Word → Scanned) → List Word → Scanned
 behind given reads [] = Err MissingValue
 behind true reads (v ∷ vs) = Err Repeated
@@ -141,7 +141,7 @@ item_by line None given w ws = plain_item line.plain given w ws
 abbrev pub item_or_fault : LineKind → Items → Word → List Word → Scanned
 item_or_fault line given w ws = item_by line (row_of line w) given w ws
 
--- Behind the longest good prefix stands an item with this fault.
+-- Behind good words stands an item with this fault; no good words reach further (the law `first_faults`).
 pub record FirstFault (line : LineKind) (ws : List Word) (given : Items) (fault : Refusal) : Type 0 where
   pub front : List Word
   pub taken : List Item
@@ -153,13 +153,13 @@ pub record FirstFault (line : LineKind) (ws : List Word) (given : Items) (fault 
 
 -- ---- all items of a line, as a function
 
--- the items from the words on, behind n more words of an item that was read already
+-- n words are skipped, which belong to the item just read, and then items are read
 abbrev pub items_behind : LineKind → ℕ → Items → List Word → Result Items Refusal
 items_behind line n given [] = Ok given
 items_behind line (suc n) given (w ∷ ws) = items_behind line n given ws
 items_behind line zero given (w ∷ ws) = item_or_fault line given w ws >>= λ t. items_behind line t.1 (with_item t.0 given) ws
 
--- what follows an item that was read, or its fault
+-- an item that was read and the items behind it, or its fault
 abbrev pub and_items : LineKind → Items → Scanned → List Word → Result Items Refusal
 and_items line given taken ws = taken >>= λ t. items_behind line t.1 (with_item t.0 given) ws
 

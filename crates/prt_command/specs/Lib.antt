@@ -2,11 +2,13 @@ pub mod Items
 pub mod Grammar
 pub mod Mark
 pub mod Line
+pub mod Requests
 pub mod Reading
 pub mod Verbs
 pub use Rattle.prt_addr.specs.Addr
 pub use Rattle.prt_addr.specs.Block
 pub use Rattle.prt_addr.specs.Decimal
+pub use Rattle.prt_addr.specs.Given
 pub use Rattle.prt_addr.specs.Number
 pub use Rattle.prt_addr.specs.Prefix
 pub use Rattle.prt_addr.specs.Refusal
@@ -17,4 +19,7 @@ pub use Rattle.prt_route.specs.Kind
 pub use Rattle.prt_route.specs.Name
 pub use Rattle.prt_route.specs.Names
 pub use Rattle.prt_route.specs.Route
+pub use Rattle.prt_route.specs.RouteChoice
 pub use Rattle.prt_rule.specs.Rule
+pub use Rattle.prt_rule.specs.RuleChoice
+pub use Rattle.prt_rule.specs.Same

@@ -1,9 +1,9 @@
 ghost use Rattle.std.specs.Prelude.{◌≡◌, option_map};
 ghost use Rattle.prt_command.specs.Grammar.{qualifier_of};
-ghost use Rattle.prt_command.specs.Items.{has, no_items};
-ghost use Rattle.prt_command.specs.Line.{kind_in, kinds_before, plain, qualifier};
+ghost use Rattle.prt_command.specs.Items.{has, has_any, no_items};
+ghost use Rattle.prt_command.specs.Line.{before_in, kind_in, kinds_of_route, plain, qualifier, words_before};
 
-use prt_route::{Addr, Dev, Kind, Prefix};
+use prt_route::{Addr, Dev, Kind, Prefix, Range};
 use prt_rule::{Action, Mark};
 
 /// Which item of a line.
@@ -17,8 +17,20 @@ pub enum Slot {
     Dev,
     /// The table of a route.
     Table,
+    /// The protocol that a route comes from.
+    Proto,
+    /// The scope of a route.
+    Scope,
+    /// The source address that a route prefers.
+    Src,
     /// The metric of a route.
     Metric,
+    /// The prefixes that a listing or a flush is about.
+    Range,
+    /// The tables that it is about.
+    Tables,
+    /// The kind of the routes that it is about.
+    OfKind,
     /// The address that is asked for.
     Address,
     /// The source of the packet that is asked for.
@@ -52,22 +64,36 @@ pub enum ItemWord {
     Act(Action),
 }
 
+/// A word that may stand before the prefix of an item.
+#[derive(Clone, Copy, Debug, PartialEq, Eq)]
+pub enum PrefixWord {
+    /// The kind of a route, before its destination.
+    Kind(Kind),
+    /// `root`: the prefixes within the one that follows.
+    Root,
+    /// `match`: the prefixes that the one that follows is within.
+    Match,
+    /// `exact`: the one that follows alone.
+    Exact,
+}
+
 impl Slot {
-    /// The kind that the word is, where a kind may stand before the value of this item.
-    #[tactic(auto, using(crate::proofs::Rows::qualifiers_of))]
-    pub(crate) fn kind(self, word: &[u8]) -> Option<Kind>
+    /// What the word says, where a word may stand before the prefix of this item.
+    #[tactic(auto, using(crate::proofs::Rows::qualifiers_of, crate::proofs::Rows::kinds_before))]
+    pub(crate) fn prefix_word(self, word: &[u8]) -> Option<PrefixWord>
         ensures { qualifier_of (plain self) word.now ≡ option_map (qualifier self) result }
     {
         match self {
-            Slot::Destination => kind_named(word),
+            Slot::Destination => kind_word(word),
+            Slot::Range => range_word(word),
             _ => None,
         }
     }
 }
 
 /// The kind of a route that the word is.
-fn kind_named(word: &[u8]) -> Option<Kind>
-    ensures { result ≡ kind_in (kinds_before Slot.Destination) word.now }
+pub(crate) fn kind_named(word: &[u8]) -> Option<Kind>
+    ensures { result ≡ kind_in kinds_of_route word.now }
 {
     match word {
         b"unicast" => Some(Kind::Unicast),
@@ -77,6 +103,37 @@ fn kind_named(word: &[u8]) -> Option<Kind>
         b"throw" => Some(Kind::Throw),
         _ => None,
     }
+}
+
+/// The word before a destination.
+#[tactic(auto, using(crate::proofs::Rows::kinds_before))]
+fn kind_word(word: &[u8]) -> Option<PrefixWord>
+    ensures { result ≡ before_in (words_before Slot.Destination) word.now }
+{
+    match kind_named(word) {
+        Some(kind) => Some(PrefixWord::Kind(kind)),
+        None => None,
+    }
+}
+
+/// The word before a range.
+fn range_word(word: &[u8]) -> Option<PrefixWord>
+    ensures { result ≡ before_in (words_before Slot.Range) word.now }
+{
+    match word {
+        b"root" => Some(PrefixWord::Root),
+        b"match" => Some(PrefixWord::Match),
+        b"exact" => Some(PrefixWord::Exact),
+        _ => None,
+    }
+}
+
+/// The tables that a listing or a flush is about.
+#[derive(Clone, Copy, Debug, PartialEq, Eq)]
+pub enum WhichTables {
+    /// The one with this number.
+    One(u32),
+    All,
 }
 
 /// The destination of a line on routes.
@@ -94,7 +151,13 @@ pub struct Items {
     pub via: Option<Addr>,
     pub dev: Option<Dev>,
     pub table: Option<u32>,
+    pub proto: Option<u8>,
+    pub scope: Option<u8>,
+    pub src: Option<Addr>,
     pub metric: Option<u32>,
+    pub range: Option<Range>,
+    pub tables: Option<WhichTables>,
+    pub of_kind: Option<Kind>,
     pub address: Option<Addr>,
     pub source: Option<Addr>,
     pub iif: Option<Dev>,
@@ -117,7 +180,13 @@ impl Items {
             via: None,
             dev: None,
             table: None,
+            proto: None,
+            scope: None,
+            src: None,
             metric: None,
+            range: None,
+            tables: None,
+            of_kind: None,
             address: None,
             source: None,
             iif: None,
@@ -140,7 +209,13 @@ impl Items {
             Slot::Via => self.via.is_some(),
             Slot::Dev => self.dev.is_some(),
             Slot::Table => self.table.is_some(),
+            Slot::Proto => self.proto.is_some(),
+            Slot::Scope => self.scope.is_some(),
+            Slot::Src => self.src.is_some(),
             Slot::Metric => self.metric.is_some(),
+            Slot::Range => self.range.is_some(),
+            Slot::Tables => self.tables.is_some(),
+            Slot::OfKind => self.of_kind.is_some(),
             Slot::Address => self.address.is_some(),
             Slot::Source => self.source.is_some(),
             Slot::Iif => self.iif.is_some(),
@@ -152,5 +227,11 @@ impl Items {
             Slot::Priority => self.priority.is_some(),
             Slot::Action => self.action.is_some(),
         }
+    }
+    /// Whether one of these items was given.
+    pub fn has_any(&self, slots: &[Slot]) -> bool
+        ensures { result ≡ has_any slots.now self.now }
+    {
+        slots.iter().any(|slot| self.has(*slot))
     }
 }

@@ -1,6 +1,7 @@
 //! The command language: what a line of it asks for, or its first fault.
 #![tactic(auto)]
 
+mod ask;
 mod examples;
 mod item;
 mod laws;
@@ -14,9 +15,11 @@ mod verb;
 mod words;
 
 pub use examples::{accepted_lines, refused_lines};
-pub use item::{ItemWord, Items, Slot, Target};
+pub use item::{ItemWord, Items, PrefixWord, Slot, Target, WhichTables};
 pub use laws::{any_order, first_faults, readings};
 pub use line::{LONGEST_LINE, read_line};
-pub use prt_route::{Addr, Dev, Kind, Prefix, Refusal, Route, RouteKey};
-pub use prt_rule::{Action, Mark, Packet, Rule};
+pub use prt_route::{
+    Addr, Dev, Kind, Prefix, Range, Refusal, Route, RouteChoice, RouteKey, Selector,
+};
+pub use prt_rule::{Action, Mark, Packet, Rule, RuleChoice};
 pub use request::{Command, NewRule, Query, Request};

@@ -1,6 +1,6 @@
 ghost use Rattle.std.specs.Prelude.{◌≡◌, codes};
 ghost use Rattle.prt_command.specs.Reading.{skip_word, object_request, reading, verb_request, words, words_request, before_comment};
-ghost use Rattle.prt_command.specs.Verbs.{verbs_of};
+ghost use Rattle.prt_command.specs.Verbs.{object_meant};
 
 use crate::Request;
 use crate::reader::read_request;
@@ -21,13 +21,17 @@ fn skip_word<'a>(skipped: &[u8], text: &'a [u8]) -> &'a [u8]
     }
 }
 
-/// What a verb of an object and its items ask for.
+/// What a verb of an object and its items ask for; an object alone is shown.
 fn read_verb(object: Object, text: &[u8]) -> Result<Request, Refusal>
-    ensures { result ≡ verb_request (verbs_of object) (words text.now) }
+    ensures { result ≡ verb_request (object_meant object) (words text.now) }
 {
-    let (word, rest) = next_word(text).ok_or(Refusal::UnknownVerb)?;
-    let verb = object.verb(word).ok_or(Refusal::UnknownVerb)?;
-    read_request(verb, rest)
+    match next_word(text) {
+        Some((word, rest)) => {
+            let verb = object.verb(word).ok_or(Refusal::UnknownVerb)?;
+            read_request(verb, rest)
+        }
+        None => read_request(object.alone(), text),
+    }
 }
 
 /// What an object, its verb and the items ask for.
@@ -38,6 +42,19 @@ fn read_object(text: &[u8]) -> Result<Request, Refusal>
         Some((b"route" | b"ro" | b"r", rest)) => read_verb(Object::Route, rest),
         Some((b"rule" | b"ru", rest)) => read_verb(Object::Rule, rest),
         _ => Err(Refusal::UnknownObject),
+    }
+}
+
+/// What words ask for, or None where there are none.
+fn read_words(text: &[u8]) -> Result<Option<Request>, Refusal>
+    ensures { result ≡ words_request (words text.now) }
+{
+    match next_word(text) {
+        None => Ok(None),
+        Some(_) => {
+            let request = read_object(skip_word(b"-4", skip_word(b"ip", text)))?;
+            Ok(Some(request))
+        }
     }
 }
 
@@ -57,9 +74,5 @@ pub fn read_line(line: &[u8]) -> Result<Option<Request>, Refusal>
     if !is_ascii_text(text) {
         return Err(Refusal::NotAscii);
     }
-    if next_word(text).is_none() {
-        return Ok(None);
-    }
-    let request = read_object(skip_word(b"-4", skip_word(b"ip", text)))?;
-    Ok(Some(request))
+    read_words(text)
 }

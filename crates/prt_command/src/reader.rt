@@ -1,17 +1,20 @@
 ghost use Rattle.std.specs.Prelude.{◌≡◌, ◌<◌, ◌≤◌, List, ◌∷◌, false, length, IfOk, IfErr, OnErr, MatchResult, Some, Ok, Err};
+ghost use Rattle.std.specs.Option.{ok_or};
 ghost use Rattle.prt_addr.specs.Word.{Word};
+ghost use Rattle.prt_addr.specs.declared.refusal.Refusal.TheVariants.{UnknownWord};
 ghost use Rattle.prt_command.specs.Grammar.{LineKind, Scanned, and_items, behind, items_of, one_more, plain_by, plain_item, qualifier_of};
 ghost use Rattle.prt_command.specs.Items.{Value, no_items, with_value};
-ghost use Rattle.prt_command.specs.Line.{lookup, plain, target, value_of};
+ghost use Rattle.prt_command.specs.Line.{kind_before, kind_in, kinds_of_route, lookup, plain, range, target, value_of, which_tables};
 ghost use Rattle.prt_command.specs.Reading.{items_request, words};
 ghost use Rattle.prt_command.specs.Verbs.{line_of, meaning_of, value_item, word_item};
 
+use crate::item::kind_named;
 use crate::mark::read_mark;
 use crate::verb::ObjectVerb;
 use crate::words::{is, next_word};
-use crate::{ItemWord, Items, Request, Slot, Target};
+use crate::{ItemWord, Items, PrefixWord, Request, Slot, Target, WhichTables};
 use prt_addr::{read_addr, read_net, read_number, read_prefix};
-use prt_route::{Kind, Refusal, read_dev, read_table};
+use prt_route::{Kind, Range, Refusal, read_dev, read_protocol, read_scope, read_table};
 use prt_rule::Action;
 
 /// The value behind a word that something must follow, and the text behind the value.
@@ -29,14 +32,55 @@ fn value_behind(given: bool, rest: &[u8]) -> Result<(&[u8], &[u8]), Refusal>
     }
 }
 
-/// Reads the prefix of a destination, behind the kind that stands before it.
-fn read_target(kind: Option<Kind>, word: &[u8]) -> Result<Target, Refusal>
-    ensures { result ≡ target kind word.now }
+/// The kind that stands before a destination.
+fn kind_before(before: Option<PrefixWord>) -> Option<Kind>
+    ensures { result ≡ kind_before before }
 {
+    match before {
+        Some(PrefixWord::Kind(kind)) => Some(kind),
+        _ => None,
+    }
+}
+
+/// Reads the prefix of a destination, behind the kind that stands before it.
+fn read_target(before: Option<PrefixWord>, word: &[u8]) -> Result<Target, Refusal>
+    ensures { result ≡ target before word.now }
+{
+    let kind = kind_before(before);
     match read_prefix(word) {
         Ok(prefix) => Ok(Target { kind, prefix }),
         Err(refusal) => Err(refusal),
     }
+}
+
+/// Reads the prefix of a range, behind the word that stands before it.
+fn read_range(before: Option<PrefixWord>, word: &[u8]) -> Result<Range, Refusal>
+    ensures { result ≡ range before word.now }
+{
+    let prefix = read_net(word)?;
+    Ok(match before {
+        Some(PrefixWord::Root) => Range::Root(prefix),
+        Some(PrefixWord::Match) => Range::Covering(prefix),
+        _ => Range::Exact(prefix),
+    })
+}
+
+/// Reads `all`, or a table.
+fn read_tables(word: &[u8]) -> Result<WhichTables, Refusal>
+    ensures { result ≡ which_tables word.now }
+{
+    if is(word, b"all") {
+        return Ok(WhichTables::All);
+    }
+    let table = read_table(word)?;
+    Ok(WhichTables::One(table))
+}
+
+/// Reads a kind behind the word `type`.
+fn read_kind(word: &[u8]) -> Result<Kind, Refusal>
+    ensures { result ≡ ok_or (kind_in kinds_of_route word.now) UnknownWord }
+{
+    kind_named(word).ok_or(Refusal::UnknownWord)
 }
 
 /// Reads the table that a rule looks up.
@@ -50,23 +94,29 @@ fn read_lookup(word: &[u8]) -> Result<Action, Refusal>
 }
 
 impl Items {
-    /// Reads the value of an item, behind the kind that stands before it, and adds the item.
+    /// Reads the value of an item, behind the word that stands before its prefix, and adds the item.
     ///
     /// # Errors
     ///
     /// The refusal of the value, which leaves the items as they were.
-    fn read(&mut self, slot: Slot, kind: Option<Kind>, word: &[u8]) -> Result<(), Refusal>
+    fn read(&mut self, slot: Slot, before: Option<PrefixWord>, word: &[u8]) -> Result<(), Refusal>
         ensures value { MatchResult result
-            (λ _. (x : Value slot) × (value_of slot kind word.now ≡ Ok x) × (self.new ≡ with_value slot x self.old))
-            (λ e. value_of slot kind word.now ≡ Err e) }
+            (λ _. (x : Value slot) × (value_of slot before word.now ≡ Ok x) × (self.new ≡ with_value slot x self.old))
+            (λ e. value_of slot before word.now ≡ Err e) }
         ensures unchanged { OnErr result (self.new ≡ self.old) }
     {
         match slot {
-            Slot::Destination => self.destination = Some(read_target(kind, word)?),
+            Slot::Destination => self.destination = Some(read_target(before, word)?),
             Slot::Via => self.via = Some(read_addr(word)?),
             Slot::Dev => self.dev = Some(read_dev(word)?),
             Slot::Table => self.table = Some(read_table(word)?),
+            Slot::Proto => self.proto = Some(read_protocol(word)?),
+            Slot::Scope => self.scope = Some(read_scope(word)?),
+            Slot::Src => self.src = Some(read_addr(word)?),
             Slot::Metric => self.metric = Some(read_number(word)?),
+            Slot::Range => self.range = Some(read_range(before, word)?),
+            Slot::Tables => self.tables = Some(read_tables(word)?),
+            Slot::OfKind => self.of_kind = Some(read_kind(word)?),
             Slot::Address => self.address = Some(read_addr(word)?),
             Slot::Source => self.source = Some(read_addr(word)?),
             Slot::Iif => self.iif = Some(read_dev(word)?),
@@ -82,23 +132,23 @@ impl Items {
     }
 }
 
-/// Reads the value behind the word of an item, or behind a kind; the text behind the value.
+/// Reads the value behind the word of an item, or behind a word that stands before its prefix; the text behind the value.
 fn read_value<'a>(
     items: &mut Items,
     slot: Slot,
-    kind: Option<Kind>,
+    before: Option<PrefixWord>,
     rest: &'a [u8],
 ) -> Result<&'a [u8], Refusal>
-    ensures items { IfOk result (λ after. (line : LineKind) → and_items line items.old (value_item slot kind items.old (words rest.now)) (words rest.now) ≡ items_of line items.new (words after.now)) }
+    ensures items { IfOk result (λ after. (line : LineKind) → and_items line items.old (value_item slot before items.old (words rest.now)) (words rest.now) ≡ items_of line items.new (words after.now)) }
     ensures shorter { IfOk result (λ after. length after.now ≤ length rest.now) }
-    ensures fault { IfErr result (λ e. value_item slot kind items.old (words rest.now) ≡ Err e) }
+    ensures fault { IfErr result (λ e. value_item slot before items.old (words rest.now) ≡ Err e) }
 {
     let (value, after) = value_behind(items.has(slot), rest)?;
-    items.read(slot, kind, value)?;
+    items.read(slot, before, value)?;
     Ok(after)
 }
 
-/// Reads a value that may stand behind a kind, from this word on; the text behind the value.
+/// Reads a value before whose prefix a word may stand, from this word on; the text behind the value.
 fn read_qualified<'a>(
     items: &mut Items,
     slot: Slot,
@@ -109,8 +159,8 @@ fn read_qualified<'a>(
     ensures shorter { IfOk result (λ after. length after.now ≤ length rest.now) }
     ensures fault { IfErr result (λ e. plain_by (plain slot) false (qualifier_of (plain slot) word.now) items.old word.now (words rest.now) ≡ Err e) }
 {
-    match slot.kind(word) {
-        Some(kind) => read_value(items, slot, Some(kind), rest),
+    match slot.prefix_word(word) {
+        Some(before) => read_value(items, slot, Some(before), rest),
         None if items.has(slot) => Err(Refusal::UnknownWord),
         None => {
             items.read(slot, None, word)?;

@@ -6,7 +6,8 @@ pub mod RefusalText
 pub mod Replies
 pub mod Served
 pub mod SessionSteps
-pub mod Parts
 pub mod Turns
 pub mod Length
 pub mod Reports
+pub mod ListingLines
+pub mod Kept

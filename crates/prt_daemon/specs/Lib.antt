@@ -1,4 +1,4 @@
-pub mod Text
+pub mod QueryText
 pub mod Session
 pub mod Run
 pub mod Steps

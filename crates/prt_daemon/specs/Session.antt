@@ -12,7 +12,7 @@ use Rattle.prt_command.specs.declared.request.Request.{Request}
 use Rattle.prt_command.specs.declared.request.Request.TheVariants as requests
 use Rattle.prt_version.specs.Change.{refusal, apply}
 use Rattle.prt_version.specs.State.{State}
-use Rattle.prt_daemon.specs.Text.{answer_text}
+use Rattle.prt_daemon.specs.QueryText.{query_text}
 use Rattle.prt_daemon.specs.declared.script.OnRefusal.{OnRefusal}
 use Rattle.prt_daemon.specs.declared.script.OnRefusal.TheVariants.{Stop, GoOn}
 
@@ -79,7 +79,7 @@ command_turn desk command mishap = command_or_refusal desk command desk.closed (
 -- a query is answered from the published state, also where the desk is closed
 abbrev pub query_turn : DeskState → Query → Option Mishap → Turn
 query_turn desk query (Some no_memory) = record { reply = refused NoMemory; desk = desk }
-query_turn desk query mishap = record { reply = answered (answer_text desk.published query); desk = desk }
+query_turn desk query mishap = record { reply = answered (query_text desk.published query); desk = desk }
 
 abbrev pub turn_on : DeskState → Result (Option Request) Refusal → Option Mishap → Turn
 turn_on desk (Err reason) mishap = record { reply = refused reason; desk = desk }

@@ -1,7 +1,7 @@
 ghost use Rattle.std.specs.Prelude.{◌≡◌, ◌++◌, IfErr, OnErr, OnOk};
 ghost use Rattle.prt_daemon.specs.Run.{CommandGives};
 ghost use Rattle.prt_daemon.specs.Session.{DeskState};
-ghost use Rattle.prt_daemon.specs.Text.{answer_text};
+ghost use Rattle.prt_daemon.specs.QueryText.{query_text};
 
 use prt_command::{Command, Query, Refusal};
 
@@ -21,7 +21,7 @@ pub trait Desk {
     /// `NoMemory`, which leaves `out` as it was.
     fn answer(&mut self, query: &Query, out: &mut Vec<u8>) -> Result<(), Refusal>
         ensures same { meaning self.new ≡ meaning self.old }
-        ensures ok { OnOk result (out.new.items ≡ out.old.items ++ answer_text (meaning self.old).published query.now) }
+        ensures ok { OnOk result (out.new.items ≡ out.old.items ++ query_text (meaning self.old).published query.now) }
         ensures err { IfErr result (λ e. e ≡ Refusal.NoMemory) }
         ensures unchanged { OnErr result (out.new.items ≡ out.old.items) };
 }

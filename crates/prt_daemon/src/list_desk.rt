@@ -6,7 +6,7 @@ ghost use Rattle.prt_version.specs.Change.{refusal};
 ghost use Rattle.prt_version.specs.State.{opening_state};
 
 use crate::desk::Desk;
-use crate::text::push_answer;
+use crate::query::answer_query;
 use prt_command::{Command, Query, Refusal};
 use prt_version::Version;
 use std::alloc::Global;
@@ -61,13 +61,7 @@ impl Desk for ListDesk {
     }
 
     fn answer(&mut self, query: &Query, out: &mut Vec<u8>) -> Result<(), Refusal> {
-        let Query::Get(packet) = query;
-        let answer = self.version.select(packet);
-        let mut text = Vec::new(*out.allocator());
-        if push_answer(&mut text, &answer).is_err() || out.extend_from_slice(&text).is_err() {
-            return Err(Refusal::NoMemory);
-        }
-        Ok(())
+        answer_query(out, &self.version, query)
     }
 }
 

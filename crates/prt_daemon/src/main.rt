@@ -7,16 +7,17 @@ mod input;
 mod laws;
 mod list_desk;
 mod program;
+mod query;
 mod reply;
 mod script;
 #[cfg(test)]
 mod tests;
-mod text;
 
 pub use desk::Desk;
 pub use examples::{
-    failure_kinds, first_run, force, line_limits, longest_prefix, lowest_metric, mishaps,
-    not_fwmark, refused_script, throw_falls_through,
+    delete_lowest_metric, failure_kinds, first_run, force, full_route_text, line_limits,
+    longest_prefix, lowest_metric, mishaps, not_fwmark, opening_rules, ranges, refused_script,
+    replace_and_change, rule_delete, rule_flush, rule_selectors, throw_falls_through,
 };
 pub use input::LONGEST_UNENDED;
 pub use laws::session_ends;

@@ -26,3 +26,13 @@ number_in (row ∷ rows) w = if bytes_eq row.0 w then Some row.1 else number_in 
 -- the table that a word spells: a name, or a number from 1 on
 abbrev pub table : Word → Option ℕ
 table w = option_or (number_in tables w) (keep (λ n. nat_le 1 n) (number w))
+
+-- the protocol or scope that a word spells: a name, or a number up to 255
+abbrev pub byte_named : List (Word × ℕ) → Word → Option ℕ
+byte_named names w = option_or (number_in names w) (keep (λ n. nat_le n 255) (number w))
+
+abbrev pub protocol : Word → Option ℕ
+protocol w = byte_named protocols w
+
+abbrev pub scope : Word → Option ℕ
+scope w = byte_named scopes w

@@ -1,8 +1,12 @@
-use crate::Route;
+use crate::{Route, RouteKey, Selector};
 
 /// A change of the list of routes.
 #[derive(Clone, Copy, Debug, PartialEq, Eq)]
 pub enum RouteEdit {
-    /// Put this route behind the others; its key is none of theirs.
+    /// Put this route behind the others, without the one that has its key.
     Put(Route),
+    /// Remove the route with this key.
+    Remove(RouteKey),
+    /// Remove all routes that the selector takes.
+    Flush(Selector),
 }

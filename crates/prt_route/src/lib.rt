@@ -1,6 +1,7 @@
-//! Routes: what a route says, its key, and which of two routes is better.
+//! Routes: what a route says, its key, which of two routes is better, and which ones a command names.
 #![tactic(auto)]
 
+mod choice;
 mod dev;
 mod edit;
 mod kind;
@@ -9,9 +10,10 @@ mod route;
 #[cfg(test)]
 mod tests;
 
+pub use choice::{Range, RouteChoice, Selector};
 pub use dev::{Dev, read_dev};
 pub use edit::RouteEdit;
 pub use kind::Kind;
-pub use names::{protocol_name, read_table, scope_name, table_name};
+pub use names::{protocol_name, read_protocol, read_scope, read_table, scope_name, table_name};
 pub use prt_addr::{Addr, Prefix, Refusal};
 pub use route::{Route, RouteKey};

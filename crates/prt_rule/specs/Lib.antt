@@ -1,10 +1,14 @@
 pub mod Rule
+pub mod Same
+pub mod RuleChoice
 pub use Rattle.prt_addr.specs.Addr
 pub use Rattle.prt_addr.specs.Block
 pub use Rattle.prt_addr.specs.Decimal
+pub use Rattle.prt_addr.specs.Given
 pub use Rattle.prt_addr.specs.Prefix
 pub use Rattle.prt_addr.specs.Refusal
 pub use Rattle.prt_addr.specs.Word
+pub use Rattle.prt_route.specs.RouteChoice
 pub use Rattle.prt_route.specs.Dev
 pub use Rattle.prt_route.specs.Name
 pub use Rattle.prt_route.specs.Names

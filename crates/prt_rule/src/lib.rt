@@ -1,6 +1,7 @@
-//! Rules of the routing policy database: which packets a rule matches, and which rules are the same.
+//! Rules of the routing policy database: which packets a rule matches, which rules are the same, and which ones a command names.
 #![tactic(auto)]
 
+mod choice;
 mod matching;
 mod order;
 mod packet;
@@ -8,6 +9,7 @@ mod rule;
 #[cfg(test)]
 mod tests;
 
+pub use choice::RuleChoice;
 pub use matching::matches;
 pub use order::{auto_priority, is_before, same};
 pub use packet::Packet;

@@ -1,7 +1,8 @@
 ghost use Rattle.std.specs.Prelude.{◌≡◌};
 
 use crate::{
-    Action, Addr, Dev, Mark, Packet, Prefix, Rule, auto_priority, is_before, matches, same,
+    Action, Addr, Dev, Mark, Packet, Prefix, Rule, RuleChoice, auto_priority, is_before, matches,
+    same,
 };
 use prt_route::read_dev;
 use std::test::Fail;
@@ -218,4 +219,111 @@ fn goes_before_the_second_rule(rt: HostRuntime) {
     assert!(rt; is_before(&rule(4, 1), &rule(9, 1)));
     assert!(rt; !is_before(&rule(9, 1), &rule(4, 1)));
     assert!(rt; !is_before(&rule(4, 1), &rule(4, 1)));
+}
+
+#[test]
+fn agrees_with_what_is_given(rt: HostRuntime) {
+    let rule = Rule {
+        mark: Some(Mark {
+            mark: 16,
+            mask: 240,
+        }),
+        inverted: true,
+        ..rule(4, 10)
+    };
+    let choice = RuleChoice {
+        priority: None,
+        inverted: false,
+        from: None,
+        to: None,
+        iif: None,
+        mark: None,
+        action: None,
+    };
+    assert!(rt; choice.agrees(&rule));
+    assert!(rt;
+        RuleChoice {
+            priority: Some(10),
+            inverted: true,
+            ..choice
+        }
+        .agrees(&rule)
+    );
+    assert!(rt;
+        RuleChoice {
+            from: Some(Prefix::masked(0, 0)),
+            ..choice
+        }
+        .agrees(&rule)
+    );
+    assert!(rt;
+        RuleChoice {
+            mark: rule.mark,
+            ..choice
+        }
+        .agrees(&rule)
+    );
+    assert!(rt;
+        RuleChoice {
+            action: Some(Action::Lookup(254)),
+            ..choice
+        }
+        .agrees(&rule)
+    );
+    assert!(rt;
+        !RuleChoice {
+            priority: Some(11),
+            ..choice
+        }
+        .agrees(&rule)
+    );
+    assert!(rt;
+        !RuleChoice {
+            inverted: true,
+            ..choice
+        }
+        .agrees(&Rule {
+            inverted: false,
+            ..rule
+        })
+    );
+    assert!(rt;
+        !RuleChoice {
+            to: Some(Prefix::masked(0x0a00_0000, 8)),
+            ..choice
+        }
+        .agrees(&rule)
+    );
+    assert!(rt;
+        !RuleChoice {
+            iif: Some(Dev::loopback()),
+            ..choice
+        }
+        .agrees(&rule)
+    );
+    let unmasked = Mark {
+        mark: 16,
+        mask: 0xffff_ffff,
+    };
+    assert!(rt;
+        !RuleChoice {
+            mark: Some(unmasked),
+            ..choice
+        }
+        .agrees(&rule)
+    );
+    assert!(rt;
+        !RuleChoice {
+            action: Some(Action::Lookup(255)),
+            ..choice
+        }
+        .agrees(&rule)
+    );
+    assert!(rt;
+        !RuleChoice {
+            action: Some(Action::Prohibit),
+            ..choice
+        }
+        .agrees(&rule)
+    );
 }

@@ -1,13 +1,13 @@
 -- Rules in the order in which they are asked.
 use Rattle.std.proofs.Common.{◌≡◌, ℕ, ◌+◌, ◌<◌, ◌≤◌, Bool, true, false, suc, List, [], ◌∷◌, ◌++◌, length, refl, ap, ◌∙◌, arith, cond}
-use Rattle.std.specs.Prelude.{Option, Some, None, not, nat_lt, unwrap_or}
+use Rattle.std.specs.Prelude.{Option, Some, None, not, nat_lt, unwrap_or, filter}
 use Rattle.std.specs.List.{insert, position, position_or_len, AllByRecursion as Each}
 use Rattle.std.proofs.lemmas.Bool.Decides.{nat_tests}
 use Rattle.std.proofs.lemmas.List.Sums.{prefix_len-le-length}
 use Rattle.prt_rule.specs.Rule.{IsInOrder, is_before}
 use Rattle.prt_rule.specs.declared.rule.Rule.{Rule}
 use Rattle.prt_version.specs.Change.{put_rule}
-use Rattle.prt_version.proofs.FirstBest.{each_implies}
+use Rattle.prt_version.proofs.FirstBest.{each_filtered, each_implies}
 
 before_both : (a b c : Rule) → is_before a b ≡ true → is_before b c ≡ true → is_before a c ≡ true
 before_both a b c first second = grind (arith, nat_tests)
@@ -56,6 +56,16 @@ put_in new rule rules false later older order placed =
 pub put_keeps_order : (new : Rule) (rules : List Rule) → Each (λ rule. rule.id < new.id) rules → IsInOrder rules → IsInOrder (put_rule new rules)
 put_keeps_order new [] older order = tt
 put_keeps_order new (rule ∷ rules) older order = put_in new rule rules (is_before new rule) refl older.0 order (put_keeps_order new rules older.1 (order_of_rest rule rules order))
+
+kept_in : (rule : Rule) (kept : List Rule) (b : Bool) → Each (λ other. is_before rule other ≡ true) kept → IsInOrder kept → IsInOrder (cond b (rule ∷ kept) kept)
+kept_in rule kept true all order = behind rule kept all order
+kept_in rule kept false all order = order
+
+-- the rules that pass a test stay in order
+pub filter_keeps_order : (p : Rule → Bool) (rules : List Rule) → IsInOrder rules → IsInOrder (filter p rules)
+filter_keeps_order p [] order = tt
+filter_keeps_order p (rule ∷ rules) order =
+    kept_in rule (filter p rules) (p rule) (each_filtered (λ other. is_before rule other ≡ true) p rules (all_before rule rules order)) (filter_keeps_order p rules (order_of_rest rule rules order))
 
 one_more : (n : ℕ) → 1 + n ≡ suc n
 one_more n = omega arith

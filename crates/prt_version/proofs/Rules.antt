@@ -1,6 +1,6 @@
 -- Rules that are asked one after another.
-use Rattle.std.proofs.Common.{◌≡◌, ℕ, ◌+◌, ◌<◌, List, [], ◌∷◌, Option, Some, None, refl, sym, ap, ◌∙◌, length, drop, get_or, drop-cons, add-one, suc, Bool, true, false, not, ◌||◌, find, cond}
-use Rattle.std.specs.Prelude.{filter, is_some, option_and_then, unwrap_or}
+use Rattle.std.proofs.Common.{◌≡◌, ℕ, ◌+◌, ◌<◌, List, [], ◌∷◌, Option, Some, None, refl, sym, ap, ◌∙◌, length, drop, get_or, drop-cons, add-one, suc, true, false, not, ◌||◌, find, cond}
+use Rattle.std.specs.Prelude.{is_some, option_and_then, unwrap_or}
 use Rattle.std.specs.List.{list_any, AllByRecursion as Each}
 use Rattle.prt_route.specs.declared.route.Route.{Route}
 use Rattle.prt_rule.specs.Rule.{IsInOrder, is_before}
@@ -10,7 +10,7 @@ use Rattle.prt_version.specs.Select.{deciding, decision, is_first, verdict_of}
 use Rattle.prt_version.specs.Steps.{first_verdict}
 use Rattle.prt_version.specs.declared.answer.Verdict.{Verdict}
 use Rattle.prt_version.specs.declared.answer.Verdict.TheVariants.{NoRoute}
-use Rattle.prt_version.proofs.FirstBest.{any_none}
+use Rattle.prt_version.proofs.FirstBest.{any_none, each_filtered}
 use Rattle.prt_version.proofs.Order.{all_after, not_before_itself, order_of_rest}
 
 first_rule : (rules : List Rule) (i : ℕ) (rule : Rule) → i < length rules → rule ≡ get_or rules i rule → drop i rules ≡ rule ∷ drop (i + 1) rules
@@ -33,15 +33,6 @@ decides rules i rule routes packet verdict inside is says =
 pub passes_on : (rules : List Rule) (i : ℕ) (rule : Rule) (routes : List Route) (packet : Packet) → i < length rules → rule ≡ get_or rules i rule → decision rule routes packet ≡ None → first_verdict (drop i rules) routes packet ≡ first_verdict (drop (i + 1) rules) routes packet
 passes_on rules i rule routes packet inside is silent =
     ap (λ rest. first_verdict rest routes packet) (first_rule rules i rule inside is) ∙ by rule (drop (i + 1) rules) routes packet None silent
-
-each_kept : {X : Type 0} (P : X → Type 0) (x : X) (xs : List X) (b : Bool) → P x → Each P xs → Each P (cond b (x ∷ xs) xs)
-each_kept P x xs true first others = (first, others)
-each_kept P x xs false first others = others
-
--- what holds of each holds of those that pass the test
-each_filtered : {X : Type 0} (P : X → Type 0) (p : X → Bool) (xs : List X) → Each P xs → Each P (filter p xs)
-each_filtered P p [] h = tt
-each_filtered P p (x ∷ xs) h = each_kept P x (filter p xs) (p x) h.0 (each_filtered P p xs h.1)
 
 abbrev says : List Route → Packet → List Rule → Verdict
 says routes packet rules = unwrap_or (option_and_then (λ rule. decision rule routes packet) (find (is_first rules) rules)) NoRoute

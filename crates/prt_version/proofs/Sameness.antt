@@ -10,7 +10,8 @@ use Rattle.prt_rule.specs.declared.rule.Action.{Action}
 use Rattle.prt_rule.specs.declared.rule.Action.TheVariants.{Lookup, Blackhole, Unreachable, Prohibit}
 use Rattle.prt_rule.specs.declared.rule.Mark.{Mark}
 use Rattle.prt_rule.specs.declared.rule.Rule.{Rule}
-use Rattle.prt_version.specs.Same.{is_same_flag, is_same_prefix, is_same_option, is_same_mark, is_same_action, is_same_selector, is_same_rule}
+use Rattle.prt_addr.specs.Prefix.{is_same_prefix}
+use Rattle.prt_rule.specs.Same.{is_same_flag, is_same_option, is_same_mark, is_same_action, is_same_selector, is_same_rule}
 
 flag : (a b : Bool) → Decides (is_same_flag a b) (a ≡ b)
 flag true true = (λ _. refl, λ _. refl)

@@ -1,6 +1,6 @@
 pub mod State
-pub mod Same
 pub mod Change
+pub mod Listing
 pub mod Sound
 pub mod Select
 pub mod Steps

@@ -1,11 +1,15 @@
 use prt_route::RouteEdit;
 use prt_rule::Rule;
 
-/// What an accepted command changes in the database.
+/// A command made exact.
 #[derive(Clone, Copy, Debug, PartialEq, Eq)]
 pub enum Change {
     /// This edit of the routes.
     Route(RouteEdit),
-    /// Put this rule into its place among the others.
+    /// One more rule, with its id and priority, at its place in the order.
     RulePut(Rule),
+    /// Without the rule that has this id.
+    RuleDrop(u64),
+    /// Without the rules whose priority is not 0.
+    RuleFlush,
 }

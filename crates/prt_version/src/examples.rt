@@ -1,13 +1,14 @@
-//! Verdicts and refusals, computed with the definitions alone.
-ghost use Rattle.std.specs.Prelude.{◌≡◌, ◌∷◌, [], None, Some, codes, false};
+//! Verdicts, refusals and listings, computed with the definitions alone.
+ghost use Rattle.std.specs.Prelude.{◌≡◌, ◌++◌, ◌∷◌, [], None, Some, codes, false};
 ghost use Rattle.prt_addr.specs.Prefix.{everything};
-ghost use Rattle.prt_addr.specs.declared.refusal.Refusal.TheVariants.{Exists};
+ghost use Rattle.prt_addr.specs.declared.refusal.Refusal.TheVariants.{Exists, Full, NoSuch};
+ghost use Rattle.prt_route.specs.declared.choice.Range.TheVariants.{All, Covering, Exact, Root};
 ghost use Rattle.prt_route.specs.declared.kind.Kind.TheVariants as kinds;
 ghost use Rattle.prt_rule.specs.declared.rule.Action.TheVariants.{Blackhole, Lookup, Unreachable};
-ghost use Rattle.prt_command.specs.declared.request.Command.TheVariants.{RuleAdd};
+ghost use Rattle.prt_command.specs.declared.request.Command.TheVariants.{RouteChange, RuleAdd, RuleDel, RuleFlush};
 ghost use Rattle.prt_version.specs.Change.{change_of, fold, refusal};
-ghost use Rattle.prt_version.specs.Example.{address, not_fwmark_commands, packet_to, prefix, route_of, rule_for_all, failures, marked_packet, metrics, ten, through, throws, verdict_after};
-ghost use Rattle.prt_version.specs.State.{opening_state};
+ghost use Rattle.prt_version.specs.Example.{address, choice_of, delete_ten, failures, listing_after, marked_packet, metrics, nested, not_fwmark_commands, packet_to, prefix, refusals, replaces, route_of, rule_adds, rule_choice, rule_for_all, selector_of, ten, ten_one, ten_one_two, through, throws, two_metrics, verdict_after};
+ghost use Rattle.prt_version.specs.State.{opening_state, table_rule};
 ghost use Rattle.prt_version.specs.declared.answer.Verdict.TheVariants.{NoRoute, Route, RuleSays};
 ghost use Rattle.prt_version.specs.declared.change.Change.TheVariants.{RulePut};
 
@@ -43,4 +44,43 @@ pub fn rule_twice()
 /// The first rule that is added without a priority.
 pub fn first_automatic_priority()
     ensures { change_of opening_state (RuleAdd (rule_for_all None (Lookup 7))) ≡ RulePut (record { id = 4; priority = 32765; inverted = false; from = everything; to = everything; iif = None; mark = None; action = Lookup 7 }) }
+{}
+
+/// `del` removes the route of lowest metric, and is refused where none is left (`ip-route(8)`).
+pub fn delete_lowest_metric()
+    ensures taken { refusals opening_state (two_metrics ++ delete_ten ∷ delete_ten ∷ delete_ten ∷ []) ≡ None ∷ None ∷ None ∷ None ∷ Some NoSuch ∷ [] }
+    ensures left { (fold opening_state (two_metrics ++ delete_ten ∷ [])).routes ≡ through 1 254 ten 100 ∷ [] }
+{}
+
+/// A flush leaves the rules of priority 0, and the next rule without a priority gets 0 too (`ip-rule(8)`).
+pub fn rule_flush()
+    ensures left { (fold opening_state (RuleFlush ∷ [])).rules ≡ table_rule 1 0 255 ∷ [] }
+    ensures added { change_of (fold opening_state (RuleFlush ∷ [])) (RuleAdd (rule_for_all None (Lookup 7))) ≡ RulePut (table_rule 5 0 7) }
+    ensures twice { refusals opening_state (RuleFlush ∷ RuleAdd (rule_for_all None (Lookup 7)) ∷ RuleAdd (rule_for_all None (Lookup 7)) ∷ []) ≡ None ∷ None ∷ Some Exists ∷ [] }
+{}
+
+/// Rules are deleted by what is given of them (`ip-rule(8)`).
+pub fn rule_delete()
+    ensures taken { refusals opening_state (RuleDel (rule_choice None (Some (Lookup 254))) ∷ RuleDel (rule_choice (Some 0) None) ∷ []) ≡ None ∷ None ∷ [] }
+    ensures left { (fold opening_state (RuleDel (rule_choice None (Some (Lookup 254))) ∷ RuleDel (rule_choice (Some 0) None) ∷ [])).rules ≡ table_rule 3 32767 253 ∷ [] }
+{}
+
+/// `change` wants the route to be there, and `replace` does not (`ip-route(8)`).
+pub fn replace_and_change()
+    ensures missing { refusal opening_state (RouteChange (through 1 254 ten 0)) ≡ Some NoSuch }
+    ensures taken { refusals opening_state replaces ≡ None ∷ None ∷ None ∷ None ∷ None ∷ [] }
+    ensures left { listing_after replaces (selector_of (Some 254) All) ≡ route_of 254 ten kinds.Blackhole ∷ through 3 254 ten 5 ∷ [] }
+{}
+
+/// The prefixes within one, those that one is within, and one alone, in the order of a listing (`ip-route(8)`, `show`).
+pub fn ranges()
+    ensures root { listing_after nested (selector_of (Some 254) (Root ten_one)) ≡ through 5 254 ten_one 0 ∷ through 5 254 ten_one_two 0 ∷ [] }
+    ensures covering { listing_after nested (selector_of (Some 254) (Covering ten_one)) ≡ through 5 254 everything 0 ∷ through 5 254 ten 0 ∷ through 5 254 ten_one 0 ∷ [] }
+    ensures exact { listing_after nested (selector_of None (Exact ten_one)) ≡ through 5 100 ten_one 0 ∷ through 5 254 ten_one 0 ∷ [] }
+{}
+
+/// The thousand-and-first rule is refused as one too many, and a rule that is there as being there.
+pub fn rule_limit()
+    ensures full { refusal (fold opening_state (rule_adds 997)) (RuleAdd (rule_for_all (Some 998) (Lookup 7))) ≡ Some Full }
+    ensures there { refusal (fold opening_state (rule_adds 997)) (RuleAdd (rule_for_all (Some 500) (Lookup 7))) ≡ Some Exists }
 {}

@@ -3,7 +3,9 @@
 
 mod answer;
 mod change;
+mod checks;
 pub mod examples;
+mod listing;
 mod rows;
 mod select;
 #[cfg(test)]

@@ -1,8 +1,9 @@
 ghost use Rattle.std.specs.Prelude.{◌≡◌, option_map};
 ghost use Rattle.prt_route.specs.Best.{best, is_candidate};
+ghost use Rattle.prt_route.specs.Route.{is_better};
 ghost use Rattle.prt_rule.specs.Rule.{IsInOrder};
 ghost use Rattle.prt_version.specs.Select.{decision, found, verdict_of};
-ghost use Rattle.prt_version.specs.Steps.{better_of, first_verdict};
+ghost use Rattle.prt_version.specs.Steps.{first_verdict, preferred};
 
 use crate::{Action, Packet, Route, Rule, Verdict};
 use prt_route::{Addr, Kind};
@@ -17,7 +18,7 @@ fn is_candidate(route: &Route, table: u32, addr: Addr) -> bool
 
 /// The route, unless the one that is kept is at least as good.
 fn better_of<'a>(kept: Option<&'a Route>, route: &'a Route) -> &'a Route
-    ensures { result.now ≡ better_of (option_map (λ r. r.now) kept.entry) route.now }
+    ensures { result.now ≡ preferred is_better (option_map (λ r. r.now) kept.entry) route.now }
 {
     match kept {
         Some(kept) if !route.better(kept) => kept,

@@ -1,26 +1,20 @@
 ghost use Rattle.std.specs.Prelude.{◌≡◌, IfErr, IfOk, None};
 ghost use Rattle.prt_addr.specs.declared.refusal.Refusal.TheVariants.{NoMemory};
 ghost use Rattle.prt_rule.specs.Rule.{IsInOrder};
-ghost use Rattle.prt_version.specs.Change.{IsChecked, change_of, is_full, is_there, put, refusal, rule_of};
+ghost use Rattle.prt_version.specs.Change.{IsChecked, change_of, put, refusal, rule_of};
+ghost use Rattle.prt_version.specs.Listing.{listed};
 ghost use Rattle.prt_version.specs.Select.{select};
 ghost use Rattle.prt_version.specs.State.{opening_state, table_rule};
 
-use crate::rows::{has_key, has_rule, with_route, with_rule};
+use crate::checks::{change_of, refusal};
+use crate::listing::sorted_routes;
+use crate::rows::{edited, flushed_rules, with_rule, without_rule};
 use crate::select::verdict_of;
 use crate::{Action, Answer, Change, Command, NewRule, Packet, Refusal, Route, Rule};
-use prt_route::{Prefix, RouteEdit};
+use prt_route::{Prefix, Selector};
 use prt_rule::auto_priority;
 use std::alloc::{AllocError, Global};
 use std::marker::Model;
-
-/// The most rules that a database holds.
-const MOST_RULES: usize = 1_000;
-
-/// The most routes that a database holds.
-const MOST_ROUTES: usize = 100_000;
-
-/// The most commands that a database ever accepts.
-const MOST_COMMANDS: u64 = 1_000_000_000_000_000;
 
 /// A version of the policy database, which never changes: a command makes a new one.
 #[derive(Drop)]
@@ -98,14 +92,29 @@ impl Version {
     }
 
     /// The routes, in the order in which they came.
-    pub fn routes(&self) -> &[Route]
+    pub(crate) fn all_routes(&self) -> &[Route]
         ensures { result.now ≡ self.now.routes }
     {
         self.routes.as_slice()
     }
 
+    /// The routes that the selector takes, by table, address, length and metric (`ip-route(8)`, `show`).
+    ///
+    /// # Errors
+    ///
+    /// `NoMemory` alone.
+    pub fn routes(&self, selector: &Selector) -> Result<Vec<Route>, Refusal>
+        ensures value { IfOk result (λ rows. rows.items ≡ listed selector.now self.now.routes) }
+        ensures reason { IfErr result (λ reason. reason ≡ NoMemory) }
+    {
+        let Ok(rows) = sorted_routes(*self.routes.allocator(), &self.routes, selector) else {
+            return Err(Refusal::NoMemory);
+        };
+        Ok(rows)
+    }
+
     /// The rule with its id, and the priority that is given or the automatic one.
-    fn rule_of(&self, new: &NewRule) -> Rule
+    pub(crate) fn rule_of(&self, new: &NewRule) -> Rule
         ensures { result ≡ rule_of self.now new.now }
     {
         Rule {
@@ -120,66 +129,22 @@ impl Version {
         }
     }
 
-    /// Whether what the command adds is there already.
-    fn is_there(&self, command: &Command) -> bool
-        ensures { result ≡ is_there self.now command.now }
-    {
-        match command {
-            Command::RouteAdd(route) => has_key(&self.routes, route.key()),
-            Command::RuleAdd(new) => has_rule(&self.rules, &self.rule_of(new)),
-        }
-    }
-
-    /// Whether there is no room for what the command adds.
-    fn is_full(&self, command: &Command) -> bool
-        ensures { result ≡ is_full self.now command.now }
-    {
-        match command {
-            Command::RouteAdd(_) => self.routes.len() >= MOST_ROUTES,
-            Command::RuleAdd(_) => self.rules.len() >= MOST_RULES,
-        }
-    }
-
-    /// Why the command is refused, where it is.
-    fn refusal(&self, command: &Command) -> Option<Refusal>
-        ensures { result ≡ refusal self.now command.now }
-    {
-        if self.is_there(command) {
-            return Some(Refusal::Exists);
-        }
-        if self.is_full(command) {
-            return Some(Refusal::Full);
-        }
-        if self.count >= MOST_COMMANDS {
-            return Some(Refusal::CountFull);
-        }
-        None
-    }
-
-    /// The change that the command makes.
-    fn change_of(&self, command: &Command) -> Change
-        ensures { result ≡ change_of self.now command.now }
-    {
-        match command {
-            Command::RouteAdd(route) => Change::Route(RouteEdit::Put(*route)),
-            Command::RuleAdd(new) => Change::RulePut(self.rule_of(new)),
-        }
-    }
-
     /// The change that the command makes of this version. It takes no memory.
     ///
     /// # Errors
     ///
-    /// `Exists` where the route's key, or a rule equal in all but the id, is there; otherwise `Full` at 1,000 rules or
-    /// 100,000 routes; otherwise `CountFull` after 1,000,000,000,000,000 commands.
+    /// `Exists` where the key of a route to add, or a rule equal in all but the id to the one to add, is there; `NoSuch`
+    /// where what is to be changed or removed is not (`ip-route(8)`, `ip-rule(8)`); otherwise `Full` where a rule would
+    /// be one more than 1,000, or a route one more than 100,000; otherwise `CountFull` after 1,000,000,000,000,000
+    /// commands.
     pub fn check(&self, command: &Command) -> Result<Change, Refusal>
         ensures accepted { IfOk result (λ change. (refusal self.now command.now ≡ None) × (change ≡ change_of self.now command.now)) }
         ensures refused { IfErr result (λ reason. refusal self.now command.now ≡ Some reason) }
         ensures usable { IfOk result (λ change. IsChecked self.now change) }
     {
-        match self.refusal(command) {
+        match refusal(self, command) {
             Some(reason) => Err(reason),
-            None => Ok(self.change_of(command)),
+            None => Ok(change_of(self, command)),
         }
     }
 
@@ -191,6 +156,8 @@ impl Version {
         match change {
             Change::Route(_) => Vec::from_slice(alloc, &self.rules),
             Change::RulePut(rule) => with_rule(alloc, &self.rules, rule),
+            Change::RuleDrop(id) => without_rule(alloc, &self.rules, *id),
+            Change::RuleFlush => flushed_rules(alloc, &self.rules),
         }
     }
 
@@ -200,8 +167,10 @@ impl Version {
     {
         let alloc = *self.routes.allocator();
         match change {
-            Change::Route(RouteEdit::Put(route)) => with_route(alloc, &self.routes, route),
-            Change::RulePut(_) => Vec::from_slice(alloc, &self.routes),
+            Change::Route(edit) => edited(alloc, &self.routes, edit),
+            Change::RulePut(_) | Change::RuleDrop(_) | Change::RuleFlush => {
+                Vec::from_slice(alloc, &self.routes)
+            }
         }
     }
 

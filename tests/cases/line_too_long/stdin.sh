@@ -1,1 +1,1 @@
-printf "route get 1%1014s\nroute get 1\n" ""
+printf "rule show%1016s\nrule show\n" ""

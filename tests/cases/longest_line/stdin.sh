@@ -1,1 +1,1 @@
-printf "route get 1%1013s\n" ""
+printf "rule show%1015s\nrule show%1015s" "" ""

@@ -1,6 +1,8 @@
 use super::ListDesk;
 use crate::desk::Desk;
-use prt_command::{Addr, Command, Dev, Kind, Packet, Prefix, Query, Refusal, Route};
+use prt_command::{
+    Addr, Command, Dev, Kind, Packet, Prefix, Query, Range, Refusal, Route, Selector,
+};
 use prt_route::read_dev;
 use std::process::Abort;
 use std::test::Fail;
@@ -119,5 +121,38 @@ fn throw_goes_on_to_the_next_table(rt: HostRuntime) -> Result<(), Fail> {
     let text =
         "answer 2 rule 32766 table main 10.0.0.0/8 via 192.0.2.1 dev eth0 proto static src 192.0.2.7 metric 20\n";
     assert_answer(&rt, &mut out, &mut desk, 0x0A01_0203, text)?;
+    Ok(())
+}
+
+#[test]
+fn lists_rules_and_routes(rt: HostRuntime) -> Result<(), Fail> {
+    let mut desk = ListDesk::opening(rt.alloc())?;
+    let mut out = Vec::new(rt.alloc());
+    desk.answer(&Query::RuleShow, &mut out)?;
+    let rules =
+        "0:\tfrom all lookup local\n32766:\tfrom all lookup main\n32767:\tfrom all lookup default\nend 3\n";
+    assert_eq!(rt; out.as_slice(), rules.as_bytes());
+    let local = Route {
+        table: LOCAL,
+        ..link_route(0x0B00_0000, 8, b"a1")?
+    };
+    desk.command(&Command::RouteAdd(local))?;
+    desk.command(&Command::RouteAdd(link_route(0x0A00_0000, 8, b"a0")?))?;
+    let all = Selector {
+        table: None,
+        range: Range::All,
+        kind: None,
+        proto: None,
+        scope: None,
+        dev: None,
+    };
+    out.clear();
+    desk.answer(&Query::RouteShow(all), &mut out)?;
+    let routes = "10.0.0.0/8 dev a0 scope link\n11.0.0.0/8 dev a1 table local scope link\nend 2\n";
+    assert_eq!(rt; out.as_slice(), routes.as_bytes());
+    desk.command(&Command::RouteFlush(all))?;
+    out.clear();
+    desk.answer(&Query::RouteShow(all), &mut out)?;
+    assert_eq!(rt; out.as_slice(), b"end 0\n");
     Ok(())
 }

@@ -7,6 +7,10 @@ pub returns-clause-longest : goal.returns-clause-longest
 unfolding session session_lines lines_of line_turn stops_after replies_text digits
 returns-clause-longest c = refl
 
+pub returns-clause-longest_ended : goal.returns-clause-longest_ended
+unfolding session session_lines lines_of line_turn stops_after replies_text digits
+returns-clause-longest_ended c = refl
+
 pub returns-clause-too_long : goal.returns-clause-too_long
 unfolding session session_lines lines_of line_turn stops_after replies_text digits
 returns-clause-too_long c = refl

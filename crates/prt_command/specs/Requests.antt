@@ -1,0 +1,180 @@
+-- What the items of a line ask for.
+use Rattle.std.specs.Prelude.{ℕ, Bool, true, false, not, ◌&&◌, ◌||◌, nat_lt, if◌then◌else◌, List, [], ◌∷◌, Option, Some, None, is_some, unwrap_or, Result, Ok, Err, codes}
+use Rattle.std.specs.Option.{ok_or}
+use Rattle.prt_addr.specs.Block.{Block}
+use Rattle.prt_addr.specs.Prefix.{everything}
+use Rattle.prt_addr.specs.Word.{keep}
+use Rattle.prt_addr.specs.declared.addr.Addr.{Addr}
+use Rattle.prt_addr.specs.declared.refusal.Refusal.{Refusal}
+use Rattle.prt_addr.specs.declared.refusal.Refusal.TheVariants.{MissingDestination, NoNextHop, NextHopNotAllowed, TooBroad}
+use Rattle.prt_route.specs.declared.choice.Range.TheVariants as ranges
+use Rattle.prt_route.specs.declared.choice.RouteChoice.{RouteChoice}
+use Rattle.prt_route.specs.declared.choice.Selector.{Selector}
+use Rattle.prt_route.specs.declared.kind.Kind.{Kind}
+use Rattle.prt_route.specs.declared.kind.Kind.TheVariants.{Unicast}
+use Rattle.prt_route.specs.declared.route.Route.{Route}
+use Rattle.prt_rule.specs.declared.choice.RuleChoice.{RuleChoice}
+use Rattle.prt_rule.specs.declared.packet.Packet.{Packet}
+use Rattle.prt_rule.specs.declared.rule.Action.TheVariants.{Lookup}
+use Rattle.prt_command.specs.Grammar.{◌>>=◌}
+use Rattle.prt_command.specs.Items.{has_any}
+use Rattle.prt_command.specs.declared.item.Items.{Items}
+use Rattle.prt_command.specs.declared.item.Slot.{Slot}
+use Rattle.prt_command.specs.declared.item.Slot.TheVariants as slots
+use Rattle.prt_command.specs.declared.item.Target.{Target}
+use Rattle.prt_command.specs.declared.item.WhichTables.{WhichTables}
+use Rattle.prt_command.specs.declared.item.WhichTables.TheVariants.{One, All}
+use Rattle.prt_command.specs.declared.request.Command.{Command}
+use Rattle.prt_command.specs.declared.request.Command.TheVariants.{RouteDel, RouteFlush, RuleAdd, RuleDel}
+use Rattle.prt_command.specs.declared.request.NewRule.{NewRule}
+use Rattle.prt_command.specs.declared.request.Query.TheVariants.{RouteShow, Get}
+use Rattle.prt_command.specs.declared.request.Request.{Request}
+use Rattle.prt_command.specs.declared.request.Request.TheVariants as requests
+
+abbrev pub refuse_if : Bool → Refusal → Result (Unit {0}) Refusal
+refuse_if true refusal = Err refusal
+refuse_if false refusal = Ok tt
+
+abbrev pub Asks : Type 0
+Asks = Items → Result Request Refusal
+
+-- ---- a route to be put
+
+abbrev pub is_unicast : Kind → Bool
+is_unicast Unicast = true
+is_unicast kind = false
+
+-- a gateway or an interface
+abbrev pub has_next_hop : Items → Bool
+has_next_hop items = is_some items.via || is_some items.dev
+
+-- a unicast route has the scope that is given, else global (0) through a gateway and link (253) without one; a route of another kind has scope global
+abbrev pub scope_of : Kind → Option Addr → Option ℕ → ℕ
+scope_of kind via scope = if is_unicast kind then unwrap_or scope (if is_some via then 0 else 253) else 0
+
+-- a route of protocol boot (3), in table main (254) with metric 0 where none are given
+abbrev pub route_of : Items → Kind → Block → Route
+route_of items kind prefix = record {
+  table = unwrap_or items.table 254;
+  prefix = prefix;
+  metric = unwrap_or items.metric 0;
+  kind = kind;
+  via = items.via;
+  dev = items.dev;
+  src = items.src;
+  proto = unwrap_or items.proto 3;
+  scope = scope_of kind items.via items.scope;
+}
+
+-- a unicast route needs a next hop, and a route of another kind has none, and no source to prefer
+abbrev pub route_by : Items → Kind → Block → Result Route Refusal
+route_by items kind prefix =
+    refuse_if (is_unicast kind && not (has_next_hop items)) NoNextHop >>= λ _.
+    refuse_if (not (is_unicast kind) && (has_next_hop items || is_some items.src)) NextHopNotAllowed >>= λ _.
+    Ok (route_of items kind prefix)
+
+-- the kind is unicast where none is given
+abbrev pub new_route : Items → Result Route Refusal
+new_route items = ok_or items.destination MissingDestination >>= λ target. route_by items (unwrap_or target.kind Unicast) target.prefix
+
+-- what add, change and replace ask for
+abbrev pub route_request : (Route → Command) → Asks
+route_request verb items = new_route items >>= λ route. Ok (requests.Command (verb route))
+
+-- ---- routes that are there
+
+-- the table is main (254) where none is given, and a metric of 0 counts as not given
+abbrev pub route_choice : Items → Target → RouteChoice
+route_choice items target = record {
+  table = unwrap_or items.table 254;
+  prefix = target.prefix;
+  metric = keep (λ metric. nat_lt 0 metric) items.metric;
+  kind = target.kind;
+  via = items.via;
+  dev = items.dev;
+  src = items.src;
+  proto = items.proto;
+  scope = items.scope;
+}
+
+abbrev pub route_del_request : Asks
+route_del_request items = ok_or items.destination MissingDestination >>= λ target. Ok (requests.Command (RouteDel (route_choice items target)))
+
+-- main (254) where none is given
+abbrev pub selected_table : Option WhichTables → Option ℕ
+selected_table None = Some 254
+selected_table (Some All) = None
+selected_table (Some (One table)) = Some table
+
+abbrev pub selector_of : Items → Selector
+selector_of items = record {
+  table = selected_table items.tables;
+  range = unwrap_or items.range ranges.All;
+  kind = items.of_kind;
+  proto = items.proto;
+  scope = items.scope;
+  dev = items.dev;
+}
+
+abbrev pub route_list_slots : List Slot
+route_list_slots = slots.Range ∷ slots.Tables ∷ slots.OfKind ∷ slots.Proto ∷ slots.Scope ∷ slots.Dev ∷ []
+
+-- at least one item has to be given
+abbrev pub route_flush_request : Asks
+route_flush_request items =
+    refuse_if (not (has_any route_list_slots items)) TooBroad >>= λ _.
+    Ok (requests.Command (RouteFlush (selector_of items)))
+
+abbrev pub route_show_request : Asks
+route_show_request items = Ok (requests.Query (RouteShow (selector_of items)))
+
+-- ---- a packet
+
+-- a packet from 0.0.0.0 that came in by lo without a mark (0), where nothing else is given
+abbrev pub packet_of : Items → Addr → Packet
+packet_of items dst = record {
+  dst = dst;
+  src = unwrap_or items.source (record { 0 = 0 });
+  iif = unwrap_or items.iif (codes "lo");
+  mark = unwrap_or items.mark 0;
+}
+
+abbrev pub route_get_request : Asks
+route_get_request items = ok_or items.address MissingDestination >>= λ dst. Ok (requests.Query (Get (packet_of items dst)))
+
+-- ---- rules
+
+-- a rule for all sources and destinations that looks up table main (254), where nothing else is given
+abbrev pub rule_of : Items → NewRule
+rule_of items = record {
+  priority = items.priority;
+  inverted = items.inverted;
+  from = unwrap_or items.from everything;
+  to = unwrap_or items.to everything;
+  iif = items.iif;
+  mark = items.fwmark;
+  action = unwrap_or items.action (Lookup 254);
+}
+
+abbrev pub rule_add_request : Asks
+rule_add_request items = Ok (requests.Command (RuleAdd (rule_of items)))
+
+abbrev pub rule_choice : Items → RuleChoice
+rule_choice items = record {
+  priority = items.priority;
+  inverted = items.inverted;
+  from = items.from;
+  to = items.to;
+  iif = items.iif;
+  mark = items.fwmark;
+  action = items.action;
+}
+
+abbrev pub rule_slots : List Slot
+rule_slots = slots.Inverted ∷ slots.From ∷ slots.To ∷ slots.Iif ∷ slots.Fwmark ∷ slots.Priority ∷ slots.Action ∷ []
+
+-- at least one item has to be given
+abbrev pub rule_del_request : Asks
+rule_del_request items =
+    refuse_if (not (has_any rule_slots items)) TooBroad >>= λ _.
+    Ok (requests.Command (RuleDel (rule_choice items)))

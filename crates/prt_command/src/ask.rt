@@ -1,0 +1,242 @@
+//! What the items of a line ask for.
+ghost use Rattle.std.specs.Prelude.{◌≡◌, nat_lt};
+ghost use Rattle.prt_addr.specs.Word.{keep};
+ghost use Rattle.prt_command.specs.Requests.{has_next_hop, new_route, packet_of, route_by, route_choice, route_del_request, route_flush_request, route_get_request, route_of, rule_choice, rule_del_request, rule_of, scope_of, selected_table, selector_of};
+ghost use Rattle.prt_command.specs.Verbs.{meaning_of};
+
+use crate::verb::ObjectVerb;
+use crate::{Command, Items, NewRule, Query, Request, Slot, Target, WhichTables};
+use prt_route::{Addr, Dev, Kind, Prefix, Range, Refusal, Route, RouteChoice, Selector};
+use prt_rule::{Action, Packet, RuleChoice};
+
+/// The table that a route belongs to, and that a rule looks up, where none is named.
+const MAIN: u32 = 254;
+
+/// The protocol of a route where none is named.
+const BOOT: u8 = 3;
+
+/// The scope of a route through a gateway, and of one that is not unicast.
+const GLOBAL: u8 = 0;
+
+/// The scope of a route to a directly connected network.
+const LINK: u8 = 253;
+
+impl ObjectVerb {
+    /// What the items of a line ask for.
+    pub(crate) fn request(self, items: &Items) -> Result<Request, Refusal>
+        ensures { result ≡ (meaning_of self).asks items.now }
+    {
+        match self {
+            ObjectVerb::RouteAdd => {
+                new_route(items).map(|route| Request::Command(Command::RouteAdd(route)))
+            }
+            ObjectVerb::RouteChange => {
+                new_route(items).map(|route| Request::Command(Command::RouteChange(route)))
+            }
+            ObjectVerb::RouteReplace => {
+                new_route(items).map(|route| Request::Command(Command::RouteReplace(route)))
+            }
+            ObjectVerb::RouteDel => route_del_request(items),
+            ObjectVerb::RouteFlush => route_flush_request(items),
+            ObjectVerb::RouteShow => Ok(Request::Query(Query::RouteShow(selector_of(items)))),
+            ObjectVerb::RouteGet => route_get_request(items),
+            ObjectVerb::RuleAdd => Ok(Request::Command(Command::RuleAdd(rule_of(items)))),
+            ObjectVerb::RuleDel => rule_del_request(items),
+            ObjectVerb::RuleFlush => Ok(Request::Command(Command::RuleFlush)),
+            ObjectVerb::RuleShow => Ok(Request::Query(Query::RuleShow)),
+        }
+    }
+}
+
+/// The scope of a route of this kind, by its gateway and the scope that is given.
+fn scope_of(kind: Kind, via: Option<Addr>, scope: Option<u8>) -> u8
+    ensures { result ≡ scope_of kind via scope }
+{
+    match (kind, scope, via) {
+        (Kind::Unicast, Some(scope), _) => scope,
+        (Kind::Unicast, None, None) => LINK,
+        _ => GLOBAL,
+    }
+}
+
+fn route_of(items: &Items, kind: Kind, prefix: Prefix) -> Route
+    ensures { result ≡ route_of items.now kind prefix }
+{
+    Route {
+        table: items.table.unwrap_or(MAIN),
+        prefix,
+        metric: items.metric.unwrap_or(0),
+        kind,
+        via: items.via,
+        dev: items.dev,
+        src: items.src,
+        proto: items.proto.unwrap_or(BOOT),
+        scope: scope_of(kind, items.via, items.scope),
+    }
+}
+
+/// Whether a gateway or an interface was given.
+fn has_next_hop(items: &Items) -> bool
+    ensures { result ≡ has_next_hop items.now }
+{
+    items.via.is_some() || items.dev.is_some()
+}
+
+/// The route of this kind and prefix, which has a next hop where it is unicast, and only then.
+fn route_by(items: &Items, kind: Kind, prefix: Prefix) -> Result<Route, Refusal>
+    ensures { result ≡ route_by items.now kind prefix }
+{
+    match (kind, has_next_hop(items)) {
+        (Kind::Unicast, true) => Ok(route_of(items, kind, prefix)),
+        (Kind::Unicast, false) => Err(Refusal::NoNextHop),
+        (_, false) if items.src.is_none() => Ok(route_of(items, kind, prefix)),
+        _ => Err(Refusal::NextHopNotAllowed),
+    }
+}
+
+/// The route that the items say.
+fn new_route(items: &Items) -> Result<Route, Refusal>
+    ensures { result ≡ new_route items.now }
+{
+    let target = items.destination.ok_or(Refusal::MissingDestination)?;
+    route_by(items, target.kind.unwrap_or(Kind::Unicast), target.prefix)
+}
+
+/// The metric, where it is not 0.
+fn metric_named(metric: Option<u32>) -> Option<u32>
+    ensures { result ≡ keep (λ metric. nat_lt 0 metric) metric }
+{
+    match metric {
+        Some(metric) if metric > 0 => Some(metric),
+        _ => None,
+    }
+}
+
+fn route_choice(items: &Items, target: Target) -> RouteChoice
+    ensures { result ≡ route_choice items.now target }
+{
+    RouteChoice {
+        table: items.table.unwrap_or(MAIN),
+        prefix: target.prefix,
+        metric: metric_named(items.metric),
+        kind: target.kind,
+        via: items.via,
+        dev: items.dev,
+        src: items.src,
+        proto: items.proto,
+        scope: items.scope,
+    }
+}
+
+fn route_del_request(items: &Items) -> Result<Request, Refusal>
+    ensures { result ≡ route_del_request items.now }
+{
+    let target = items.destination.ok_or(Refusal::MissingDestination)?;
+    let choice = route_choice(items, target);
+    Ok(Request::Command(Command::RouteDel(choice)))
+}
+
+/// The number of the table that is selected; None for all.
+fn selected_table(tables: Option<WhichTables>) -> Option<u32>
+    ensures { result ≡ selected_table tables }
+{
+    match tables {
+        None => Some(MAIN),
+        Some(WhichTables::One(table)) => Some(table),
+        Some(WhichTables::All) => None,
+    }
+}
+
+fn selector_of(items: &Items) -> Selector
+    ensures { result ≡ selector_of items.now }
+{
+    Selector {
+        table: selected_table(items.tables),
+        range: items.range.unwrap_or(Range::All),
+        kind: items.of_kind,
+        proto: items.proto,
+        scope: items.scope,
+        dev: items.dev,
+    }
+}
+
+fn route_flush_request(items: &Items) -> Result<Request, Refusal>
+    ensures { result ≡ route_flush_request items.now }
+{
+    let slots = [
+        Slot::Range,
+        Slot::Tables,
+        Slot::OfKind,
+        Slot::Proto,
+        Slot::Scope,
+        Slot::Dev,
+    ];
+    if !items.has_any(&slots) {
+        return Err(Refusal::TooBroad);
+    }
+    Ok(Request::Command(Command::RouteFlush(selector_of(items))))
+}
+
+fn packet_of(items: &Items, dst: Addr) -> Packet
+    ensures { result ≡ packet_of items.now dst }
+{
+    Packet {
+        dst,
+        src: items.source.unwrap_or(Addr(0)),
+        iif: items.iif.unwrap_or(Dev::loopback()),
+        mark: items.mark.unwrap_or(0),
+    }
+}
+
+fn route_get_request(items: &Items) -> Result<Request, Refusal>
+    ensures { result ≡ route_get_request items.now }
+{
+    let dst = items.address.ok_or(Refusal::MissingDestination)?;
+    Ok(Request::Query(Query::Get(packet_of(items, dst))))
+}
+
+fn rule_of(items: &Items) -> NewRule
+    ensures { result ≡ rule_of items.now }
+{
+    NewRule {
+        priority: items.priority,
+        inverted: items.inverted,
+        from: items.from.unwrap_or(Prefix::masked(0, 0)),
+        to: items.to.unwrap_or(Prefix::masked(0, 0)),
+        iif: items.iif,
+        mark: items.fwmark,
+        action: items.action.unwrap_or(Action::Lookup(MAIN)),
+    }
+}
+
+fn rule_choice(items: &Items) -> RuleChoice
+    ensures { result ≡ rule_choice items.now }
+{
+    RuleChoice {
+        priority: items.priority,
+        inverted: items.inverted,
+        from: items.from,
+        to: items.to,
+        iif: items.iif,
+        mark: items.fwmark,
+        action: items.action,
+    }
+}
+
+fn rule_del_request(items: &Items) -> Result<Request, Refusal>
+    ensures { result ≡ rule_del_request items.now }
+{
+    let slots = [
+        Slot::Inverted,
+        Slot::From,
+        Slot::To,
+        Slot::Iif,
+        Slot::Fwmark,
+        Slot::Priority,
+        Slot::Action,
+    ];
+    if !items.has_any(&slots) {
+        return Err(Refusal::TooBroad);
+    }
+    Ok(Request::Command(Command::RuleDel(rule_choice(items))))
+}

@@ -1,0 +1,148 @@
+//! The lines that answer a query.
+ghost use Rattle.std.specs.Prelude.{◌≡◌, ◌++◌, IsOkUnless, OnErr, OnOk, codes, decimal, map};
+ghost use Rattle.prt_addr.specs.declared.refusal.Refusal.TheVariants.{NoMemory};
+ghost use Rattle.prt_daemon.specs.QueryText.{lines_text, query_text, table_part};
+ghost use Rattle.prt_listing.specs.Keeps.{Keeps};
+ghost use Rattle.prt_listing.specs.RouteText.{route_text};
+ghost use Rattle.prt_listing.specs.RuleText.{rule_text};
+
+use itoa::Buffer;
+use prt_command::{Query, Refusal, Route, Rule, Selector};
+use prt_listing::{TablePart, answer_text, route_text, rule_text};
+use prt_version::Version;
+
+/// Appends a text.
+fn push_text(out: &mut Vec<u8>, text: &str) -> Result<(), Refusal>
+    ensures ok { OnOk result (out.new.items ≡ out.old.items ++ text.now) }
+    ensures err { OnErr result (Keeps out.old.items out.new.items) }
+    ensures reason { IsOkUnless result NoMemory }
+{
+    match out.extend_from_slice(text.as_bytes()) {
+        Ok(()) => Ok(()),
+        Err(_) => Err(Refusal::NoMemory),
+    }
+}
+
+/// Appends the last line of a listing.
+fn push_end(out: &mut Vec<u8>, count: usize) -> Result<(), Refusal>
+    ensures ok { OnOk result (out.new.items ≡ out.old.items ++ codes "end " ++ decimal count ++ codes "\n") }
+    ensures err { OnErr result (Keeps out.old.items out.new.items) }
+    ensures reason { IsOkUnless result NoMemory }
+{
+    push_text(out, "end ")?;
+    push_text(out, Buffer::new().format(count as u64))?;
+    push_text(out, "\n")
+}
+
+/// Appends the line of a rule.
+fn push_rule_line(out: &mut Vec<u8>, rule: &Rule) -> Result<(), Refusal>
+    ensures ok { OnOk result (out.new.items ≡ out.old.items ++ (rule_text rule.now ++ codes "\n")) }
+    ensures err { OnErr result (Keeps out.old.items out.new.items) }
+    ensures reason { IsOkUnless result NoMemory }
+{
+    rule_text(out, rule)?;
+    push_text(out, "\n")
+}
+
+/// Appends the line of a route.
+fn push_route_line(out: &mut Vec<u8>, route: &Route, table: TablePart) -> Result<(), Refusal>
+    ensures ok { OnOk result (out.new.items ≡ out.old.items ++ (route_text route.now table ++ codes "\n")) }
+    ensures err { OnErr result (Keeps out.old.items out.new.items) }
+    ensures reason { IsOkUnless result NoMemory }
+{
+    route_text(out, route, table)?;
+    push_text(out, "\n")
+}
+
+/// Appends a line for each rule.
+fn push_rules(out: &mut Vec<u8>, rules: &[Rule]) -> Result<(), Refusal>
+    ensures ok { OnOk result (out.new.items ≡ out.old.items ++ lines_text (map rule_text rules.now)) }
+    ensures err { OnErr result (Keeps out.old.items out.new.items) }
+    ensures reason { IsOkUnless result NoMemory }
+{
+    for rule in rules {
+        push_rule_line(out, rule)?;
+    }
+    Ok(())
+}
+
+/// Appends a line for each route.
+fn push_routes(out: &mut Vec<u8>, routes: &[Route], table: TablePart) -> Result<(), Refusal>
+    ensures ok { OnOk result (out.new.items ≡ out.old.items ++ lines_text (map (λ route. route_text route table) routes.now)) }
+    ensures err { OnErr result (Keeps out.old.items out.new.items) }
+    ensures reason { IsOkUnless result NoMemory }
+{
+    for route in routes {
+        push_route_line(out, route, table)?;
+    }
+    Ok(())
+}
+
+/// Whether a listing of the selector's routes names their tables.
+fn table_part(selector: &Selector) -> TablePart
+    ensures { result ≡ table_part selector.now.table }
+{
+    match selector.table {
+        Some(_) => TablePart::LeftOut,
+        None => TablePart::Shown,
+    }
+}
+
+/// Appends the listing of the routes that a selector takes.
+fn push_route_listing(
+    out: &mut Vec<u8>,
+    version: &Version,
+    selector: &Selector,
+) -> Result<(), Refusal>
+    ensures ok { OnOk result (out.new.items ≡ out.old.items ++ query_text version.now (Query.RouteShow selector.now)) }
+    ensures err { OnErr result (Keeps out.old.items out.new.items) }
+    ensures reason { IsOkUnless result NoMemory }
+{
+    let routes = match version.routes(selector) {
+        Ok(routes) => routes,
+        Err(refusal) => return Err(refusal),
+    };
+    push_routes(out, &routes, table_part(selector))?;
+    push_end(out, routes.len())
+}
+
+/// Appends the answer to a query; where memory is refused, a part of it.
+fn push_answer(out: &mut Vec<u8>, version: &Version, query: &Query) -> Result<(), Refusal>
+    ensures ok { OnOk result (out.new.items ≡ out.old.items ++ query_text version.now query.now) }
+    ensures err { OnErr result (Keeps out.old.items out.new.items) }
+    ensures reason { IsOkUnless result NoMemory }
+{
+    match query {
+        Query::RouteShow(selector) => push_route_listing(out, version, selector),
+        Query::RuleShow => {
+            push_rules(out, version.rules())?;
+            push_end(out, version.rules().len())
+        }
+        Query::Get(packet) => {
+            answer_text(out, &version.select(packet))?;
+            push_text(out, "\n")
+        }
+    }
+}
+
+/// Appends the lines that answer a query from this version.
+///
+/// # Errors
+///
+/// `NoMemory` where memory is refused; `out` is as it was.
+pub(crate) fn answer_query(
+    out: &mut Vec<u8>,
+    version: &Version,
+    query: &Query,
+) -> Result<(), Refusal>
+    ensures ok { OnOk result (out.new.items ≡ out.old.items ++ query_text version.now query.now) }
+    ensures err { OnErr result (out.new.items ≡ out.old.items) }
+    ensures reason { IsOkUnless result NoMemory }
+{
+    let len = out.len();
+    let pushed = push_answer(out, version, query);
+    if pushed.is_err() {
+        out.truncate(len);
+    }
+    pushed
+}

@@ -1,0 +1,16 @@
+-- What failed pushes leave.
+use Rattle.std.proofs.Common.{◌≡◌, ℕ, List, ◌++◌, ◌∙◌, ap, append_assoc, Result, Ok, Err, OnErr}
+use Rattle.prt_listing.specs.Keeps.{Keeps}
+
+-- a text was pushed before the push that failed
+keeps_before : (old text middle new : List ℕ) → middle ≡ old ++ text → Keeps middle new → Keeps old new
+keeps_before old text middle new pushed kept = record {
+  behind = text ++ kept.behind;
+  whole = kept.whole ∙ ap (λ xs. xs ++ kept.behind) pushed ∙ append_assoc old text kept.behind;
+}
+
+-- two texts were pushed before the last push
+pub keeps_before_two : {T E : Type 0} (result : Result T E) (old one two first second new : List ℕ) → first ≡ old ++ one → second ≡ first ++ two → OnErr result (Keeps second new) → OnErr result (Keeps old new)
+keeps_before_two (Ok value) old one two first second new pushed_one pushed_two kept = tt
+keeps_before_two (Err reason) old one two first second new pushed_one pushed_two kept =
+    keeps_before old one first new pushed_one (keeps_before first two second new pushed_two kept)

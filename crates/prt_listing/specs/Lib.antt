@@ -1,0 +1,14 @@
+pub mod Parts
+pub mod RouteText
+pub mod RuleText
+pub mod AnswerText
+pub mod Keeps
+pub mod Steps
+pub mod Example
+pub use Rattle.prt_addr.specs.Addr
+pub use Rattle.prt_addr.specs.Block
+pub use Rattle.prt_addr.specs.Prefix
+pub use Rattle.prt_addr.specs.Refusal
+pub use Rattle.prt_addr.specs.Word
+pub use Rattle.prt_route.specs.Kind
+pub use Rattle.prt_route.specs.Names

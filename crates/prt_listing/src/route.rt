@@ -1,0 +1,134 @@
+ghost use Rattle.std.specs.Prelude.{◌≡◌, ◌++◌, IsOkUnless, OnErr, OnOk, map};
+ghost use Rattle.prt_addr.specs.declared.refusal.Refusal.TheVariants.{NoMemory};
+ghost use Rattle.prt_listing.specs.Keeps.{Keeps};
+ghost use Rattle.prt_listing.specs.RouteText.{kind_part, metric_part, protocol_part, route_parts, route_text, scope_part, table_part};
+ghost use Rattle.prt_listing.specs.Steps.{part_of};
+
+use crate::part::{Part, Value, addr_part, dev_part, name_or_number, prefix_or, table_value};
+use crate::push::{push_parts, whole_or_nothing};
+use prt_addr::Refusal;
+use prt_route::{Kind, Route, protocol_name, scope_name};
+use std::alloc::AllocError;
+
+/// The table that goes without saying: main.
+const UNSAID_TABLE: u32 = 254;
+
+/// The protocol that goes without saying: boot.
+const UNSAID_PROTOCOL: u8 = 3;
+
+/// The scope that goes without saying: global.
+const UNSAID_SCOPE: u8 = 0;
+
+/// The metric that goes without saying.
+const UNSAID_METRIC: u32 = 0;
+
+/// Whether the text of a route names its table.
+#[derive(Clone, Copy, Debug, PartialEq, Eq)]
+pub enum TablePart {
+    /// It does, but for the table main.
+    Shown,
+    /// It names no table.
+    LeftOut,
+}
+
+/// The kind, but for unicast.
+fn kind_part(kind: Kind) -> Option<Part>
+    ensures { part_of result ≡ kind_part kind }
+{
+    match kind {
+        Kind::Unicast => None,
+        _ => Some(Part::Alone(Value::Text(kind.name()))),
+    }
+}
+
+/// The table, unless it goes without saying.
+fn table_part(shown: TablePart, table: u32) -> Option<Part>
+    ensures { part_of result ≡ table_part shown table }
+{
+    match shown {
+        TablePart::Shown if table != UNSAID_TABLE => {
+            Some(Part::Named("table", table_value(table)))
+        }
+        _ => None,
+    }
+}
+
+/// The protocol, unless it goes without saying.
+fn protocol_part(proto: u8) -> Option<Part>
+    ensures { part_of result ≡ protocol_part proto }
+{
+    if proto == UNSAID_PROTOCOL {
+        return None;
+    }
+    let value = name_or_number(protocol_name(proto), u32::from(proto));
+    Some(Part::Named("proto", value))
+}
+
+/// The scope, unless it goes without saying.
+fn scope_part(scope: u8) -> Option<Part>
+    ensures { part_of result ≡ scope_part scope }
+{
+    if scope == UNSAID_SCOPE {
+        return None;
+    }
+    let value = name_or_number(scope_name(scope), u32::from(scope));
+    Some(Part::Named("scope", value))
+}
+
+/// The metric, unless it goes without saying.
+fn metric_part(metric: u32) -> Option<Part>
+    ensures { part_of result ≡ metric_part metric }
+{
+    if metric == UNSAID_METRIC {
+        return None;
+    }
+    Some(Part::Named("metric", Value::Number(u64::from(metric))))
+}
+
+/// The parts of a route in their order.
+fn route_parts(route: &Route, table: TablePart) -> [Option<Part>; 9]
+    ensures { map part_of result ≡ route_parts route.now table }
+{
+    [
+        kind_part(route.kind),
+        Some(Part::Alone(prefix_or("default", &route.prefix))),
+        addr_part("via", route.via),
+        dev_part("dev", route.dev),
+        table_part(table, route.table),
+        protocol_part(route.proto),
+        scope_part(route.scope),
+        addr_part("src", route.src),
+        metric_part(route.metric),
+    ]
+}
+
+/// Appends a route.
+///
+/// # Errors
+///
+/// Memory is refused; a part of the text may stand behind what `out` had.
+pub(crate) fn push_route(
+    out: &mut Vec<u8>,
+    route: &Route,
+    table: TablePart,
+) -> Result<(), AllocError>
+    ensures ok { OnOk result (out.new.items ≡ out.old.items ++ route_text route.now table) }
+    ensures err { OnErr result (Keeps out.old.items out.new.items) }
+{
+    push_parts(out, &route_parts(route, table))
+}
+
+/// Appends a route in the form of `ip-route(8)`, without what goes without saying.
+///
+/// # Errors
+///
+/// `NoMemory` where memory is refused; `out` is as it was.
+pub fn route_text(out: &mut Vec<u8>, route: &Route, table: TablePart) -> Result<(), Refusal>
+    ensures ok { OnOk result (out.new.items ≡ out.old.items ++ route_text route.now table) }
+    ensures err { OnErr result (out.new.items ≡ out.old.items) }
+    ensures reason { IsOkUnless result NoMemory }
+{
+    let len = out.len();
+    let pushed = push_route(out, route, table);
+    whole_or_nothing(out, len, pushed)
+}

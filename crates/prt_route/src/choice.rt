@@ -1,0 +1,165 @@
+ghost use Rattle.std.specs.Prelude.{◌≡◌, ◌==◌, bytes_eq};
+ghost use Rattle.prt_addr.specs.Given.{agrees, agrees_there};
+ghost use Rattle.prt_route.specs.RouteChoice.{in_range, is_chosen, is_same_addr, is_same_kind, is_selected};
+
+use crate::{Addr, Dev, Kind, Prefix, Route};
+
+/// Which prefixes a command on several routes takes (`ip-route(8)`, `show`).
+#[derive(Clone, Copy, Debug, PartialEq, Eq)]
+pub enum Range {
+    /// Each prefix.
+    All,
+    /// `root`: the prefixes within this one, and it itself.
+    Root(Prefix),
+    /// `match`: the prefixes that this one is within, and it itself.
+    Covering(Prefix),
+    /// `exact`: this prefix alone.
+    Exact(Prefix),
+}
+
+impl Range {
+    /// Whether the prefix is one of the range.
+    fn takes(&self, prefix: &Prefix) -> bool
+        ensures { result ≡ in_range self.now prefix.now }
+    {
+        match self {
+            Range::All => true,
+            Range::Root(block) => prefix.within(block),
+            Range::Covering(block) => block.within(prefix),
+            Range::Exact(block) => block == prefix,
+        }
+    }
+}
+
+/// The routes that `show` and `flush` are about: all that agree with what is given.
+#[derive(Clone, Copy, Debug, PartialEq, Eq)]
+pub struct Selector {
+    /// The number of the table; None for all tables.
+    pub table: Option<u32>,
+    pub range: Range,
+    pub kind: Option<Kind>,
+    /// The number of the protocol.
+    pub proto: Option<u8>,
+    /// The number of the scope.
+    pub scope: Option<u8>,
+    /// The interface to send through.
+    pub dev: Option<Dev>,
+}
+
+/// What `del` says of the route that it removes: its table and prefix, and what else is given.
+#[derive(Clone, Copy, Debug, PartialEq, Eq)]
+pub struct RouteChoice {
+    /// The number of the table, from 1 on.
+    pub table: u32,
+    pub prefix: Prefix,
+    /// The metric, where one other than 0 is given.
+    pub metric: Option<u32>,
+    pub kind: Option<Kind>,
+    /// The gateway.
+    pub via: Option<Addr>,
+    /// The interface to send through.
+    pub dev: Option<Dev>,
+    /// The source address to prefer.
+    pub src: Option<Addr>,
+    /// The number of the protocol.
+    pub proto: Option<u8>,
+    /// The number of the scope.
+    pub scope: Option<u8>,
+}
+
+/// Whether the number is the one that is given, if one is.
+fn agrees_in_number(given: Option<u32>, number: u32) -> bool
+    ensures { result ≡ agrees (λ a b. a == b) given number }
+{
+    match given {
+        Some(given) => given == number,
+        None => true,
+    }
+}
+
+/// The same for the number of a protocol or scope.
+fn agrees_in_byte(given: Option<u8>, number: u8) -> bool
+    ensures { result ≡ agrees (λ a b. a == b) given number }
+{
+    match given {
+        Some(given) => given == number,
+        None => true,
+    }
+}
+
+/// Whether the kinds are the same.
+fn is_same_kind(kind: Kind, other: Kind) -> bool
+    ensures { result ≡ is_same_kind kind other }
+{
+    match (kind, other) {
+        (Kind::Unicast, Kind::Unicast)
+        | (Kind::Blackhole, Kind::Blackhole)
+        | (Kind::Unreachable, Kind::Unreachable)
+        | (Kind::Prohibit, Kind::Prohibit)
+        | (Kind::Throw, Kind::Throw) => true,
+        _ => false,
+    }
+}
+
+/// Whether the kind is the one that is given, if one is.
+fn agrees_in_kind(given: Option<Kind>, kind: Kind) -> bool
+    ensures { result ≡ agrees is_same_kind given kind }
+{
+    match given {
+        Some(given) => is_same_kind(given, kind),
+        None => true,
+    }
+}
+
+/// Whether the address is there and is the one that is given, if one is.
+fn agrees_in_addr(given: Option<Addr>, addr: Option<Addr>) -> bool
+    ensures { result ≡ agrees_there is_same_addr given addr }
+{
+    match (given, addr) {
+        (Some(given), Some(addr)) => given.0 == addr.0,
+        (Some(_), None) => false,
+        (None, _) => true,
+    }
+}
+
+/// Whether the interface is there and is the one that is given, if one is.
+fn agrees_in_dev(given: &Option<Dev>, dev: &Option<Dev>) -> bool
+    ensures { result ≡ agrees_there bytes_eq given.now dev.now }
+{
+    match (given, dev) {
+        (Some(given), Some(dev)) => given.as_bytes() == dev.as_bytes(),
+        (Some(_), None) => false,
+        (None, _) => true,
+    }
+}
+
+impl Selector {
+    /// Whether the route agrees with all that is given (`ip-route(8)`, `show`).
+    pub fn takes(&self, route: &Route) -> bool
+        ensures { result ≡ is_selected self.now route.now }
+    {
+        agrees_in_number(self.table, route.table)
+            && self.range.takes(&route.prefix)
+            && agrees_in_kind(self.kind, route.kind)
+            && agrees_in_byte(self.proto, route.proto)
+            && agrees_in_byte(self.scope, route.scope)
+            && agrees_in_dev(&self.dev, &route.dev)
+    }
+}
+
+impl RouteChoice {
+    /// Whether the route agrees with all that is given (`ip-route(8)`, `delete`).
+    pub fn takes(&self, route: &Route) -> bool
+        ensures { result ≡ is_chosen self.now route.now }
+    {
+        self.table == route.table
+            && self.prefix == route.prefix
+            && agrees_in_number(self.metric, route.metric)
+            && agrees_in_kind(self.kind, route.kind)
+            && agrees_in_addr(self.via, route.via)
+            && agrees_in_dev(&self.dev, &route.dev)
+            && agrees_in_addr(self.src, route.src)
+            && agrees_in_byte(self.proto, route.proto)
+            && agrees_in_byte(self.scope, route.scope)
+    }
+}
