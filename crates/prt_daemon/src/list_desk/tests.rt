@@ -153,6 +153,6 @@ fn lists_rules_and_routes(rt: HostRuntime) -> Result<(), Fail> {
     desk.command(&Command::RouteFlush(all))?;
     out.clear();
     desk.answer(&Query::RouteShow(all), &mut out)?;
-    assert_eq!(rt; out.as_slice(), b"end 0\n");
+    assert_eq!(rt; out.as_slice(), b"end 0\n".as_slice());
     Ok(())
 }
