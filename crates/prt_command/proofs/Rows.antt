@@ -3,13 +3,11 @@ use Rattle.std.proofs.Common.{◌≡◌, Bool, true, false, List, [], ◌∷◌,
 use Rattle.std.specs.Prelude.{find, if◌then◌else◌}
 use Rattle.prt_addr.specs.Word.{Word, is_one_of}
 use Rattle.prt_addr.specs.declared.refusal.Refusal.TheVariants.{UnknownWord}
-use Rattle.prt_route.specs.Kind.{kind_name}
-use Rattle.prt_route.specs.declared.kind.Kind.{Kind}
 use Rattle.prt_command.specs.Grammar.{LineKind, Row, Scanned, Qualifier, row_of, qualifier_of, is_to, item_at, one_more, behind, item_by, plain_item, plain_by, behind_to, to_by, and_items, items_of}
 use Rattle.prt_command.specs.Items.{has}
 use Rattle.prt_command.specs.Line.{Entry, row, word_in, plain, qualifier, words_before, word_before, before_in, kind_in, kinds_of_route}
-use Rattle.prt_command.specs.Reading.{verb_of}
-use Rattle.prt_command.specs.Verbs.{line_of, meaning_of, object_meant, verb_in, verbs_of, words_of, word_item}
+use Rattle.prt_command.specs.Reading.{object_of, verb_of}
+use Rattle.prt_command.specs.Verbs.{every_object, line_of, meaning_of, object_in, object_meant, verb_in, verbs_of, words_of, word_item}
 use Rattle.prt_command.specs.declared.verb.Object.{Object}
 use Rattle.prt_command.specs.declared.verb.Object.TheVariants as objects
 use Rattle.prt_command.specs.declared.item.Items.{Items}
@@ -17,20 +15,26 @@ use Rattle.prt_command.specs.declared.item.ItemWord.{ItemWord}
 use Rattle.prt_command.specs.declared.item.ItemWord.TheVariants.{Value, Not, Act}
 use Rattle.prt_command.specs.declared.item.Slot.{Slot}
 use Rattle.prt_command.specs.declared.item.Slot.TheVariants.{Destination}
-use Rattle.prt_command.specs.declared.item.PrefixWord.{PrefixWord}
 use Rattle.prt_command.specs.declared.item.PrefixWord.TheVariants as before
 use Rattle.prt_command.specs.declared.verb.ObjectVerb.{ObjectVerb}
 use Rattle.prt_command.specs.declared.verb.ObjectVerb.TheVariants.{RouteAdd, RouteChange, RouteReplace, RouteDel, RouteFlush, RouteShow, RouteGet, RuleAdd, RuleDel, RuleFlush, RuleShow}
 
--- ---- verbs
+-- ---- the first that passes a test
 
-verb_by : (w : Word) (verb : ObjectVerb) (verbs : List ObjectVerb) (test : Bool) → verb_of (map meaning_of verbs) w ≡ option_map meaning_of (verb_in verbs w) → (if test then Some (meaning_of verb) else verb_of (map meaning_of verbs) w) ≡ option_map meaning_of (if test then Some verb else verb_in verbs w)
-verb_by w verb verbs true rest = refl
-verb_by w verb verbs false rest = rest
+first_mapped : {A B : Type 0} (f : A → B) (p : B → Bool) (x : A) (xs : List A) (test : Bool) → find p (map f xs) ≡ option_map f (find (λ y. p (f y)) xs) → (if test then Some (f x) else find p (map f xs)) ≡ option_map f (if test then Some x else find (λ y. p (f y)) xs)
+first_mapped f p x xs true rest = refl
+first_mapped f p x xs false rest = rest
 
-verbs_in : (w : Word) (verbs : List ObjectVerb) → verb_of (map meaning_of verbs) w ≡ option_map meaning_of (verb_in verbs w)
-verbs_in w [] = refl
-verbs_in w (verb ∷ verbs) = verb_by w verb verbs (is_one_of w (meaning_of verb).words) (verbs_in w verbs)
+-- among what f makes of some, the first is what f makes of the first
+find-map : {A B : Type 0} (f : A → B) (p : B → Bool) (xs : List A) → find p (map f xs) ≡ option_map f (find (λ y. p (f y)) xs)
+find-map f p [] = refl
+find-map f p (x ∷ xs) = first_mapped f p x xs (p (f x)) (find-map f p xs)
+
+-- ---- objects and verbs
+
+-- the object that a word spells
+pub spelled_object : (w : Word) → object_of w ≡ option_map object_meant (object_in w)
+spelled_object w = find-map object_meant (λ object. is_one_of w object.words) every_object
 
 verbs_meant : (object : Object) → (object_meant object).verbs ≡ map meaning_of (verbs_of object)
 verbs_meant objects.Route = refl
@@ -38,7 +42,7 @@ verbs_meant objects.Rule = refl
 
 -- the verb that a word spells behind an object
 pub spelled_verb : (object : Object) (w : Word) → verb_of (object_meant object).verbs w ≡ option_map meaning_of (verb_in (verbs_of object) w)
-spelled_verb object w = ap (λ verbs. verb_of verbs w) (verbs_meant object) ∙ verbs_in w (verbs_of object)
+spelled_verb object w = ap (λ verbs. verb_of verbs w) (verbs_meant object) ∙ find-map meaning_of (λ verb. is_one_of w verb.words) (verbs_of object)
 
 -- ---- rows
 
@@ -135,30 +139,13 @@ in_second (entry ∷ entries) others w h = in_second_by (is_one_of w entry.0) en
 
 -- ---- words before a prefix
 
-first_by : (slot : Slot) (w : Word) (b : PrefixWord) (bs : List PrefixWord) → (test : Bool) → find (λ q. bytes_eq q.word w) (map (qualifier slot) bs) ≡ option_map (qualifier slot) (before_in bs w) → (if test then Some (qualifier slot b) else find (λ q. bytes_eq q.word w) (map (qualifier slot) bs)) ≡ option_map (qualifier slot) (if test then Some b else before_in bs w)
-first_by slot w b bs true rest = refl
-first_by slot w b bs false rest = rest
-
--- the first of these whose word it is
-qualifiers_in : (slot : Slot) (w : Word) (bs : List PrefixWord) → find (λ q. bytes_eq q.word w) (map (qualifier slot) bs) ≡ option_map (qualifier slot) (before_in bs w)
-qualifiers_in slot w [] = refl
-qualifiers_in slot w (b ∷ bs) = first_by slot w b bs (bytes_eq (word_before b) w) (qualifiers_in slot w bs)
-
 -- the qualifier that a word is, by what it says before a prefix
 pub qualifiers_of : (slot : Slot) (w : Word) → qualifier_of (plain slot) w ≡ option_map (qualifier slot) (before_in (words_before slot) w)
-qualifiers_of slot w = qualifiers_in slot w (words_before slot)
-
-kind_by : (w : Word) (kind : Kind) (kinds : List Kind) (test : Bool) → before_in (map before.Kind kinds) w ≡ option_map before.Kind (kind_in kinds w) → (if test then Some (before.Kind kind) else before_in (map before.Kind kinds) w) ≡ option_map before.Kind (if test then Some kind else kind_in kinds w)
-kind_by w kind kinds true rest = refl
-kind_by w kind kinds false rest = rest
-
-kinds_in : (w : Word) (kinds : List Kind) → before_in (map before.Kind kinds) w ≡ option_map before.Kind (kind_in kinds w)
-kinds_in w [] = refl
-kinds_in w (kind ∷ kinds) = kind_by w kind kinds (bytes_eq (kind_name kind) w) (kinds_in w kinds)
+qualifiers_of slot w = find-map (qualifier slot) (λ q. bytes_eq q.word w) (words_before slot)
 
 -- a word before a destination is the kind that it names
 pub kinds_before : (w : Word) → before_in (words_before Destination) w ≡ option_map before.Kind (kind_in kinds_of_route w)
-kinds_before w = kinds_in w kinds_of_route
+kinds_before w = find-map before.Kind (λ b. bytes_eq (word_before b) w) kinds_of_route
 
 -- ---- behind `to`
 

@@ -1,11 +1,11 @@
 -- The first word of a text.
 use Rattle.std.proofs.Common.{◌≡◌, ℕ, zero, suc, ◌<◌, ◌≤◌, List, [], ◌∷◌, Bool, true, false, not, refl, length, filter, take, drop, ◌∙◌, ap, sym, arith, ◌⊎◌, inl, inr, ◌==◌, ◌+◌}
-use Rattle.std.specs.List.{position, position_or_len, onto_first, slice_split}
+use Rattle.std.specs.List.{before_first, list_any, position, position_or_len, onto_first, slice_split}
 use Rattle.std.specs.Prelude.{unwrap_or, nat_lt, ◌-◌}
 use Rattle.std.proofs.lemmas.Bool.{ltb-false}
 use Rattle.std.proofs.lemmas.List.{take_all, length-drop}
 use Rattle.prt_addr.specs.Word.{Word, is_white}
-use Rattle.prt_command.specs.Reading.{words, has_bytes}
+use Rattle.prt_command.specs.Reading.{before_comment, words, has_bytes}
 
 abbrev pub is_black : ℕ → Bool
 is_black b = not (is_white b)
@@ -17,6 +17,17 @@ sides false = inr refl
 
 one_plus : (n : ℕ) → 1 + n ≡ suc n
 one_plus n = omega arith
+
+none_first : (p : ℕ → Bool) (xs : List ℕ) → list_any p xs ≡ false → before_first p xs ≡ xs
+none_first p [] none = refl
+none_first p (x ∷ xs) none = elim (sides (p x)) [
+  | inl h ↦ let k : true ≡ false = simp h at none in absurd cc
+  | inr h ↦ let i = none_first p xs (simp h at none) in simp (h, one_plus) (ap (λ ys. x ∷ ys) i)
+]
+
+-- a line without `#` is all text
+pub no_comment : (line : List ℕ) → list_any (λ b. b == 35) line ≡ false → before_comment line ≡ line
+no_comment line none = none_first (λ b. b == 35) line none
 
 -- white space in front says nothing
 words-white : (b : ℕ) (bs : List ℕ) → is_white b ≡ true → words (b ∷ bs) ≡ words bs

@@ -20,6 +20,13 @@ abbrev pub object_meant : Object → reading.Object
 object_meant objects.Route = reading.route_object
 object_meant objects.Rule = reading.rule_object
 
+abbrev pub every_object : List Object
+every_object = objects.Route ∷ objects.Rule ∷ []
+
+-- the object that the word spells
+abbrev pub object_in : Word → Option Object
+object_in w = find (λ object. is_one_of w (object_meant object).words) every_object
+
 abbrev pub meaning_of : ObjectVerb → reading.Verb
 meaning_of RouteAdd = reading.route_add
 meaning_of RouteChange = reading.route_change

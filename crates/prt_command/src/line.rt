@@ -1,4 +1,4 @@
-ghost use Rattle.std.specs.Prelude.{◌≡◌, codes};
+ghost use Rattle.std.specs.Prelude.{◌≡◌, ◌∷◌, [], codes, MatchOption};
 ghost use Rattle.prt_command.specs.Reading.{skip_word, object_request, reading, verb_request, words, words_request, before_comment};
 ghost use Rattle.prt_command.specs.Verbs.{object_meant};
 
@@ -11,13 +11,15 @@ use prt_route::Refusal;
 /// The most bytes of a line, without its newline.
 pub const LONGEST_LINE: usize = 1024;
 
-/// The text behind this word where it is the first, and else the text.
-fn skip_word<'a>(skipped: &[u8], text: &'a [u8]) -> &'a [u8]
-    ensures { words result.now ≡ skip_word skipped.now (words text.now) }
+/// The first word behind a word that is skipped where it is this one, and else that word; the text behind it.
+fn skip_word<'a>(skipped: &[u8], word: &'a [u8], rest: &'a [u8]) -> Option<(&'a [u8], &'a [u8])>
+    ensures { MatchOption result (skip_word skipped.now (word.now ∷ words rest.now) ≡ [])
+        (λ next. skip_word skipped.now (word.now ∷ words rest.now) ≡ next.0.now ∷ words next.1.now) }
 {
-    match next_word(text) {
-        Some((word, after)) if is(word, skipped) => after,
-        _ => text,
+    if is(word, skipped) {
+        next_word(rest)
+    } else {
+        Some((word, rest))
     }
 }
 
@@ -35,26 +37,33 @@ fn read_verb(object: Object, text: &[u8]) -> Result<Request, Refusal>
 }
 
 /// What an object, its verb and the items ask for.
-fn read_object(text: &[u8]) -> Result<Request, Refusal>
-    ensures { result ≡ object_request (words text.now) }
+#[tactic(auto, using(crate::proofs::Rows::spelled_object))]
+fn read_object(word: &[u8], rest: &[u8]) -> Result<Request, Refusal>
+    ensures { result ≡ object_request (word.now ∷ words rest.now) }
 {
-    match next_word(text) {
-        Some((b"route" | b"ro" | b"r", rest)) => read_verb(Object::Route, rest),
-        Some((b"rule" | b"ru", rest)) => read_verb(Object::Rule, rest),
-        _ => Err(Refusal::UnknownObject),
-    }
+    let object = Object::named(word).ok_or(Refusal::UnknownObject)?;
+    read_verb(object, rest)
 }
 
-/// What words ask for, or None where there are none.
-fn read_words(text: &[u8]) -> Result<Option<Request>, Refusal>
+/// What words from this one on ask for, behind `ip` and `-4`.
+fn read_words(word: &[u8], rest: &[u8]) -> Result<Request, Refusal>
+    ensures { result ≡ object_request (skip_word (codes "-4") (skip_word (codes "ip") (word.now ∷ words rest.now))) }
+{
+    let (word, rest) = skip_word(b"ip", word, rest).ok_or(Refusal::UnknownObject)?;
+    let (word, rest) = skip_word(b"-4", word, rest).ok_or(Refusal::UnknownObject)?;
+    read_object(word, rest)
+}
+
+/// What a text asks for, or None where it has no words.
+fn read_text(text: &[u8]) -> Result<Option<Request>, Refusal>
     ensures { result ≡ words_request (words text.now) }
 {
     match next_word(text) {
         None => Ok(None),
-        Some(_) => {
-            let request = read_object(skip_word(b"-4", skip_word(b"ip", text)))?;
-            Ok(Some(request))
-        }
+        Some((word, rest)) => match read_words(word, rest) {
+            Ok(request) => Ok(Some(request)),
+            Err(refusal) => Err(refusal),
+        },
     }
 }
 
@@ -74,5 +83,5 @@ pub fn read_line(line: &[u8]) -> Result<Option<Request>, Refusal>
     if !is_ascii_text(text) {
         return Err(Refusal::NotAscii);
     }
-    read_words(text)
+    read_text(text)
 }

@@ -1,7 +1,7 @@
 ghost use Rattle.std.specs.Prelude.{◌≡◌, option_map};
 ghost use Rattle.prt_command.specs.Line.{action_words, plain, route_edit_words, route_get_words, route_list_words, rule_edit_words, selector_words, word_in};
 ghost use Rattle.prt_command.specs.Reading.{verb_of};
-ghost use Rattle.prt_command.specs.Verbs.{line_of, meaning_of, object_meant, verb_in, verbs_of, words_of};
+ghost use Rattle.prt_command.specs.Verbs.{line_of, meaning_of, object_in, object_meant, verb_in, verbs_of, words_of};
 
 use crate::{ItemWord, Slot};
 use prt_rule::Action;
@@ -30,6 +30,17 @@ pub enum ObjectVerb {
 }
 
 impl Object {
+    /// The object that a word spells.
+    pub(crate) fn named(word: &[u8]) -> Option<Object>
+        ensures { result ≡ object_in word.now }
+    {
+        match word {
+            b"route" | b"ro" | b"r" => Some(Object::Route),
+            b"rule" | b"ru" => Some(Object::Rule),
+            _ => None,
+        }
+    }
+
     /// The verb that a word spells behind this object.
     #[tactic(auto, using(crate::proofs::Rows::spelled_verb))]
     pub(crate) fn verb(self, word: &[u8]) -> Option<ObjectVerb>

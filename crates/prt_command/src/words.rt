@@ -1,5 +1,5 @@
 ghost use Rattle.std.specs.Prelude.{◌≡◌, ◌<◌, [], ◌∷◌, length, not, ◌==◌, MatchOption, bytes_eq, position, unwrap_or};
-ghost use Rattle.std.specs.List.{list_all};
+ghost use Rattle.std.specs.List.{list_all, list_any};
 ghost use Rattle.prt_addr.specs.Word.{is_white};
 ghost use Rattle.prt_command.specs.Reading.{before_comment, is_text_byte, words};
 
@@ -18,10 +18,27 @@ fn is_text(byte: u8) -> bool
 }
 
 /// Whether a text has no byte but white space and printable ASCII characters.
+///
+/// The loop has no early end, so that it can look at many bytes at once.
 pub(crate) fn is_ascii_text(text: &[u8]) -> bool
     ensures { result ≡ list_all is_text_byte text.now }
 {
-    text.iter().all(|byte| is_text(*byte))
+    let mut is_clean = true;
+    for byte in text {
+        is_clean &= is_text(*byte);
+    }
+    is_clean
+}
+
+/// Whether a `#` is among the bytes, by a loop that looks at many bytes at once.
+fn has_hash(line: &[u8]) -> bool
+    ensures { result ≡ list_any (λ b. b == 35) line.now }
+{
+    let mut is_found = false;
+    for byte in line {
+        is_found |= *byte == b'#';
+    }
+    is_found
 }
 
 fn first_hash(line: &[u8]) -> Option<usize>
@@ -31,9 +48,13 @@ fn first_hash(line: &[u8]) -> Option<usize>
 }
 
 /// What stands before the first `#` of a line, or the whole line.
+#[tactic(auto, using(crate::proofs::Splitting::no_comment))]
 pub(crate) fn before_comment(line: &[u8]) -> &[u8]
     ensures { result.now ≡ before_comment line.now }
 {
+    if !has_hash(line) {
+        return line;
+    }
     match first_hash(line) {
         Some(at) => &line[..at],
         None => line,
