@@ -1,11 +1,11 @@
 -- The first word of a text.
-use Rattle.std.proofs.Common.{◌≡◌, ℕ, zero, suc, ◌<◌, ◌≤◌, List, [], ◌∷◌, Bool, true, false, not, refl, length, filter, take, drop, ◌∙◌, ap, sym, arith, ◌⊎◌, inl, inr, ◌==◌, ◌+◌}
-use Rattle.std.specs.List.{before_first, list_any, position, position_or_len, onto_first, slice_split}
+use Rattle.std.proofs.Common.{◌≡◌, ℕ, zero, suc, ◌<◌, ◌≤◌, List, [], ◌∷◌, Bool, true, false, not, ◌&&◌, refl, length, filter, take, drop, ◌∙◌, ap, sym, arith, ◌⊎◌, inl, inr, ◌==◌, ◌+◌}
+use Rattle.std.specs.List.{list_all, position, position_or_len, onto_first, slice_split}
 use Rattle.std.specs.Prelude.{unwrap_or, nat_lt, ◌-◌}
 use Rattle.std.proofs.lemmas.Bool.{ltb-false}
 use Rattle.std.proofs.lemmas.List.{take_all, length-drop}
 use Rattle.prt_addr.specs.Word.{Word, is_white}
-use Rattle.prt_command.specs.Reading.{before_comment, words, has_bytes}
+use Rattle.prt_command.specs.Reading.{before_comment, words, has_bytes, is_text_byte}
 
 abbrev pub is_black : ℕ → Bool
 is_black b = not (is_white b)
@@ -18,16 +18,39 @@ sides false = inr refl
 one_plus : (n : ℕ) → 1 + n ≡ suc n
 one_plus n = omega arith
 
-none_first : (p : ℕ → Bool) (xs : List ℕ) → list_any p xs ≡ false → before_first p xs ≡ xs
-none_first p [] none = refl
-none_first p (x ∷ xs) none = elim (sides (p x)) [
-  | inl h ↦ let k : true ≡ false = simp h at none in absurd cc
-  | inr h ↦ let i = none_first p xs (simp h at none) in simp (h, one_plus) (ap (λ ys. x ∷ ys) i)
+both : (p q : Bool) → p && q ≡ true → (p ≡ true) × (q ≡ true)
+both true true h = (refl, refl)
+both true false h = absurd cc
+both false q h = absurd cc
+
+-- a byte of a line that is all plain is ASCII text and no `#`
+text_first : (b : ℕ) → is_text_byte b && not (b == 35) ≡ true → is_text_byte b ≡ true
+text_first b plain = (both (is_text_byte b) (not (b == 35)) plain).0
+
+no_hash_first : (b : ℕ) → is_text_byte b && not (b == 35) ≡ true → b == 35 ≡ false
+no_hash_first b plain = elim (sides (b == 35)) [
+  | inl h ↦ let k : false ≡ true = ap not (sym h) ∙ (both (is_text_byte b) (not (b == 35)) plain).1 in absurd cc
+  | inr h ↦ h
 ]
 
--- a line without `#` is all text
-pub no_comment : (line : List ℕ) → list_any (λ b. b == 35) line ≡ false → before_comment line ≡ line
-no_comment line none = none_first (λ b. b == 35) line none
+abbrev is_plain_byte : ℕ → Bool
+is_plain_byte b = is_text_byte b && not (b == 35)
+
+-- a line of such bytes has no comment
+pub plain_line : (line : List ℕ) → list_all is_plain_byte line ≡ true → before_comment line ≡ line
+plain_line [] plain = refl
+plain_line (b ∷ bs) plain =
+    let each = both (is_plain_byte b) (list_all is_plain_byte bs) plain in
+    let h = no_hash_first b each.0 in
+    simp (h, one_plus) (ap (λ ys. b ∷ ys) (plain_line bs each.1))
+
+-- and it is ASCII text
+pub plain_text : (line : List ℕ) → list_all is_plain_byte line ≡ true → list_all is_text_byte line ≡ true
+plain_text [] plain = refl
+plain_text (b ∷ bs) plain =
+    let each = both (is_plain_byte b) (list_all is_plain_byte bs) plain in
+    let h = text_first b each.0 in
+    simp h (plain_text bs each.1)
 
 -- white space in front says nothing
 words-white : (b : ℕ) (bs : List ℕ) → is_white b ≡ true → words (b ∷ bs) ≡ words bs

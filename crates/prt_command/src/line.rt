@@ -5,7 +5,7 @@ ghost use Rattle.prt_command.specs.Verbs.{object_meant};
 use crate::Request;
 use crate::reader::read_request;
 use crate::verb::Object;
-use crate::words::{before_comment, is, is_ascii_text, next_word};
+use crate::words::{is, next_word, text_of};
 use prt_route::Refusal;
 
 /// The most bytes of a line, without its newline.
@@ -79,9 +79,6 @@ pub fn read_line(line: &[u8]) -> Result<Option<Request>, Refusal>
     if line.len() > LONGEST_LINE {
         return Err(Refusal::LineTooLong);
     }
-    let text = before_comment(line);
-    if !is_ascii_text(text) {
-        return Err(Refusal::NotAscii);
-    }
+    let text = text_of(line).ok_or(Refusal::NotAscii)?;
     read_text(text)
 }

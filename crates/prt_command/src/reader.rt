@@ -229,24 +229,28 @@ fn read_item<'a>(
     }
 }
 
-/// The items of a text, or their first fault.
-fn read_items(verb: ObjectVerb, text: &[u8]) -> Result<Items, Refusal>
-    ensures { result ≡ items_of (line_of verb) no_items (words text.now) }
+/// Adds the items of a text to those that were given.
+///
+/// # Errors
+///
+/// The first fault of the text, which leaves the items read so far.
+fn read_items(verb: ObjectVerb, items: &mut Items, text: &[u8]) -> Result<(), Refusal>
+    ensures { MatchResult result
+        (λ _. items_of (line_of verb) items.old (words text.now) ≡ Ok items.new)
+        (λ e. items_of (line_of verb) items.old (words text.now) ≡ Err e) }
 {
-    let mut items = Items::new();
     let mut rest = text;
     'items: while let Some((word, after)) = next_word(rest) {
-        rest = read_item(verb, &mut items, word, after)?;
+        rest = read_item(verb, items, word, after)?;
     }
-    Ok(items)
+    Ok(())
 }
 
 /// What the items of a text ask for, or their first fault.
 pub(crate) fn read_request(verb: ObjectVerb, text: &[u8]) -> Result<Request, Refusal>
     ensures { result ≡ items_request (meaning_of verb) (words text.now) }
 {
-    match read_items(verb, text) {
-        Ok(items) => verb.request(&items),
-        Err(refusal) => Err(refusal),
-    }
+    let mut items = Items::new();
+    read_items(verb, &mut items, text)?;
+    verb.request(&items)
 }

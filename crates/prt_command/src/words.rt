@@ -1,5 +1,5 @@
-ghost use Rattle.std.specs.Prelude.{◌≡◌, ◌<◌, [], ◌∷◌, length, not, ◌==◌, MatchOption, bytes_eq, position, unwrap_or};
-ghost use Rattle.std.specs.List.{list_all, list_any};
+ghost use Rattle.std.specs.Prelude.{◌≡◌, ◌<◌, [], ◌∷◌, length, false, true, not, ◌&&◌, ◌==◌, MatchOption, bytes_eq, position, unwrap_or};
+ghost use Rattle.std.specs.List.{list_all};
 ghost use Rattle.prt_addr.specs.Word.{is_white};
 ghost use Rattle.prt_command.specs.Reading.{before_comment, is_text_byte, words};
 
@@ -18,27 +18,23 @@ fn is_text(byte: u8) -> bool
 }
 
 /// Whether a text has no byte but white space and printable ASCII characters.
-///
-/// The loop has no early end, so that it can look at many bytes at once.
-pub(crate) fn is_ascii_text(text: &[u8]) -> bool
+fn is_ascii_text(text: &[u8]) -> bool
     ensures { result ≡ list_all is_text_byte text.now }
 {
-    let mut is_clean = true;
-    for byte in text {
-        is_clean &= is_text(*byte);
-    }
-    is_clean
+    text.iter().all(|byte| is_text(*byte))
 }
 
-/// Whether a `#` is among the bytes, by a loop that looks at many bytes at once.
-fn has_hash(line: &[u8]) -> bool
-    ensures { result ≡ list_any (λ b. b == 35) line.now }
+/// Whether a line is such a text and has no comment.
+///
+/// The loop has no early end, so that it can look at many bytes at once.
+fn is_plain(line: &[u8]) -> bool
+    ensures { result ≡ list_all (λ b. is_text_byte b && not (b == 35)) line.now }
 {
-    let mut is_found = false;
+    let mut is_plain = true;
     for byte in line {
-        is_found |= *byte == b'#';
+        is_plain &= is_text(*byte) && *byte != b'#';
     }
-    is_found
+    is_plain
 }
 
 fn first_hash(line: &[u8]) -> Option<usize>
@@ -48,17 +44,25 @@ fn first_hash(line: &[u8]) -> Option<usize>
 }
 
 /// What stands before the first `#` of a line, or the whole line.
-#[tactic(auto, using(crate::proofs::Splitting::no_comment))]
-pub(crate) fn before_comment(line: &[u8]) -> &[u8]
+fn before_comment(line: &[u8]) -> &[u8]
     ensures { result.now ≡ before_comment line.now }
 {
-    if !has_hash(line) {
-        return line;
-    }
     match first_hash(line) {
         Some(at) => &line[..at],
         None => line,
     }
+}
+
+/// The text of a line before its comment; None where that has a byte which is neither white space nor printable ASCII.
+pub(crate) fn text_of(line: &[u8]) -> Option<&[u8]>
+    ensures { MatchOption result (list_all is_text_byte (before_comment line.now) ≡ false)
+        (λ text. (text.now ≡ before_comment line.now) × (list_all is_text_byte (before_comment line.now) ≡ true)) }
+{
+    if is_plain(line) {
+        return Some(line);
+    }
+    let text = before_comment(line);
+    if is_ascii_text(text) { Some(text) } else { None }
 }
 
 /// Whether the word is this text.

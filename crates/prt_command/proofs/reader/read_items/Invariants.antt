@@ -1,12 +1,11 @@
 use Rattle.std.proofs.Common.{◌≡◌, length}
 use Rattle.prt_command.specs.Grammar.{items_of}
-use Rattle.prt_command.specs.Items.{no_items}
 use Rattle.prt_command.specs.Reading.{words}
 use Rattle.prt_command.specs.Verbs.{line_of}
 use Rattle.prt_command.proofs.reader.read_items.Given as goal
 
 abbrev pub invariant-items : goal.invariant-items
-invariant-items l = items_of (line_of l.verb) l.items (words l.rest) ≡ items_of (line_of l.verb) no_items (words l.fn.text)
+invariant-items l = items_of (line_of l.verb) l.items (words l.rest) ≡ items_of (line_of l.verb) l.fn.items (words l.fn.text)
 
 abbrev pub decreases-items : goal.decreases-items
 decreases-items l = length l.rest
