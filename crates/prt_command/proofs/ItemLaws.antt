@@ -1,11 +1,19 @@
 -- One item: what is read is what is spelled.
-use Rattle.std.proofs.Common.{◌≡◌, ℕ, ◌≤◌, List, [], ◌∷◌, ◌++◌, Bool, true, false, Some, None, Option, Result, Ok, Err, refl, length, take, ◌∙◌, ap, sym, subst, arith}
+use Rattle.std.proofs.Common.{◌≡◌, ℕ, suc, ◌≤◌, List, [], ◌∷◌, ◌++◌, Bool, true, false, Some, None, Option, Result, Ok, Err, refl, length, take, ◌∙◌, ap, sym, subst, arith}
+use Rattle.std.specs.Prelude.{if◌then◌else◌}
 use Rattle.prt_addr.specs.Word.{Word}
 use Rattle.prt_addr.specs.declared.refusal.Refusal.{Refusal}
-use Rattle.prt_addr.specs.declared.refusal.Refusal.TheVariants.{UnknownWord}
-use Rattle.prt_command.specs.Grammar.{Form, alone, followed, Row, Plain, Qualifier, LineKind, row_of, qualifier_of, is_to, IsItem, one_word, word_and_value, bare_value, qualified, to_value, to_qualified, Scanned, item_at, one_more, behind, form_item, to_by, behind_to, plain_by, plain_item, item_by, item_or_fault}
-use Rattle.prt_command.specs.Items.{Item, Value, has}
+use Rattle.prt_addr.specs.declared.refusal.Refusal.TheVariants.{UnknownWord, Repeated}
+use Rattle.prt_command.specs.Grammar.{LineKind, before, item, word_in, is_to, IsPlain, value_alone, value_behind, IsItem, word_and_value, not_word, act_word, plain_alone, plain_behind_to, Scanned, item_at, one_more, behind, value_item, lone_item, word_item, plain_by, plain_from, plain_item, item_by, item_or_fault}
+use Rattle.prt_command.specs.Items.{Item, has}
+use Rattle.prt_command.specs.Items as items
+use Rattle.prt_command.specs.Values.{value_of}
 use Rattle.prt_command.specs.declared.item.Items.{Items}
+use Rattle.prt_command.specs.declared.item.ItemWord.{ItemWord}
+use Rattle.prt_command.specs.declared.item.ItemWord.TheVariants.{Value, Not, Act}
+use Rattle.prt_command.specs.declared.item.PrefixWord.{PrefixWord}
+use Rattle.prt_command.specs.declared.item.Slot.{Slot}
+use Rattle.prt_command.specs.declared.item.Slot.TheVariants.{Inverted, Action}
 
 abbrev pub Read : Type 0
 Read = Item × ℕ
@@ -20,79 +28,109 @@ or_read d (Err e) = d
 pub read_inj : (t u : Read) → ok_read t ≡ ok_read u → t ≡ u
 read_inj t u h = ap (or_read t) h
 
-abbrev pub item_of : (slot : _) → Value slot → Item
-item_of slot x = record { slot = slot; value = x }
+-- what the reading of a value gives, by what is done with it
+by_value : (P : Read → Type 0) (slot : Slot) (n : ℕ) (t : Read) (r : Result (items.Value slot) Refusal) → ((x : items.Value slot) → r ≡ Ok x → P (item slot x, n)) → (more : Scanned → Scanned) → ((x : items.Value slot) → more (item_at slot (Ok x)) ≡ Ok (item slot x, n)) → ((e : Refusal) → more (item_at slot (Err e)) ≡ Err e) → more (item_at slot r) ≡ ok_read t → P t
+by_value P slot n t (Ok x) good more ok err h = subst P (read_inj (item slot x, n) t (sym (ok x) ∙ h)) (good x refl)
+by_value P slot n t (Err f) good more ok err h = let k : Err f ≡ ok_read t = sym (err f) ∙ h in absurd cc
 
--- The words that were read are an item which was not given.
+-- From the word w on, the words that were read are an item which was not given.
+record IsFrom (given : Items) (slot : Slot) (w : Word) (ws : List Word) (t : Read) : Type 0 where
+  within : t.1 ≤ length ws
+  item : IsPlain slot w (take t.1 ws) t.0
+  fresh : has t.0.slot given ≡ false
+
+-- The words that were read are an item of the line which was not given.
 pub record IsRead (line : LineKind) (given : Items) (w : Word) (ws : List Word) (t : Read) : Type 0 where
   pub within : t.1 ≤ length ws
   pub item : IsItem line w (take t.1 ws) t.0
   pub fresh : has t.0.slot given ≡ false
 
+module _ (given : Items) where
+  -- a value behind one word, by whether the item was given
+  value_read : (P : List Word → Read → Type 0) (slot : Slot) (b : Option PrefixWord) (is_given : Bool) → ((v : Word) (vs : List Word) (x : items.Value slot) → has slot given ≡ false → value_of slot b v ≡ Ok x → P (v ∷ vs) (item slot x, 1)) → has slot given ≡ is_given → (ws : List Word) (t : Read) → behind is_given (λ v vs. item_at slot (value_of slot b v)) ws ≡ ok_read t → P ws t
+  value_read P slot b is_given good g [] t h = absurd cc
+  value_read P slot b true good g (v ∷ vs) t h = absurd cc
+  value_read P slot b false good g (v ∷ vs) t h = by_value (P (v ∷ vs)) slot 1 t (value_of slot b v) (λ x e. good v vs x g e) one_more (λ x. refl) (λ e. refl) h
+
+  bare_read : (slot : Slot) (w : Word) (is_given : Bool) → before slot w ≡ None → has slot given ≡ is_given → (ws : List Word) (t : Read) → (if is_given then Err UnknownWord else item_at slot (value_of slot None w)) ≡ ok_read t → IsFrom given slot w ws t
+  bare_read slot w true is g ws t h = absurd cc
+  bare_read slot w false is g ws t h = by_value (IsFrom given slot w ws) slot 0 t (value_of slot None w) (λ x e. record { within = omega arith; item = value_alone x is e; fresh = g }) (λ r. r) (λ x. refl) (λ e. refl) h
+
+  from_read : (slot : Slot) (w : Word) (o : Option PrefixWord) → before slot w ≡ o → (ws : List Word) (t : Read) → plain_by slot o given w ws ≡ ok_read t → IsFrom given slot w ws t
+  from_read slot w (Some b) is ws t h = value_read (IsFrom given slot w) slot (Some b) (has slot given) (λ v vs x g e. record { within = omega arith; item = value_behind v b x is e; fresh = g }) refl ws t h
+  from_read slot w None is ws t h = bare_read slot w (has slot given) is refl ws t h
+
 module _ (line : LineKind) (given : Items) (w : Word) where
-  by_value : (slot : _) (ws : List Word) (n : ℕ) (t : Read) → (r : Result (Value slot) Refusal) → ((x : Value slot) → r ≡ Ok x → IsRead line given w ws (item_of slot x, n)) → (r' : Result (Value slot) Refusal) → r ≡ r' → (more : Scanned → Scanned) → ((x : Value slot) → more (item_at slot (Ok x)) ≡ Ok (item_of slot x, n)) → ((e : Refusal) → more (item_at slot (Err e)) ≡ Err e) → more (item_at slot r') ≡ ok_read t → IsRead line given w ws t
-  by_value slot ws n t r good (Ok x) e more ok err h = subst (λ u. IsRead line given w ws u) (read_inj (item_of slot x, n) t (sym (ok x) ∙ h)) (good x e)
-  by_value slot ws n t r good (Err f) e more ok err h = let k : Err f ≡ ok_read t = sym (err f) ∙ h in absurd cc
+  lone_read : (slot : Slot) (x : items.Value slot) (is_given : Bool) → IsItem line w [] (item slot x) → has slot given ≡ is_given → (ws : List Word) (t : Read) → (if is_given then Err Repeated else item_at slot (Ok x)) ≡ ok_read t → IsRead line given w ws t
+  lone_read slot x true is g ws t h = absurd cc
+  lone_read slot x false is g ws t h = subst (λ u. IsRead line given w ws u) (read_inj (item slot x, 0) t h) (record { within = omega arith; item = is; fresh = g })
 
-  row_read : (row : Row) → row_of line w ≡ Some row → (f : Form row.slot) → row.form ≡ f → (b : Bool) → has row.slot given ≡ b → (ws : List Word) (t : Read) → form_item f b ws ≡ ok_read t → IsRead line given w ws t
-  row_read row r (alone x) f true g ws t h = absurd cc
-  row_read row r (alone x) f false g ws t h = subst (λ u. IsRead line given w ws u) (read_inj (item_of row.slot x, 0) t h) (record { within = omega arith; item = one_word row x r f; fresh = g })
-  row_read row r (followed reads) f b g [] t h = absurd cc
-  row_read row r (followed reads) f true g (v ∷ vs) t h = absurd cc
-  row_read row r (followed reads) f false g (v ∷ vs) t h =
-      by_value row.slot (v ∷ vs) 1 t (reads v) (λ x e. record { within = omega arith; item = word_and_value v row reads x r f e; fresh = g }) (reads v) refl one_more (λ x. refl) (λ e. refl) h
+  word_read : (begun : ItemWord) → word_in line.entries w ≡ Some begun → (ws : List Word) (t : Read) → word_item begun given ws ≡ ok_read t → IsRead line given w ws t
+  word_read (Value slot) begins ws t h = value_read given (IsRead line given w) slot None (has slot given) (λ v vs x g e. record { within = omega arith; item = word_and_value v slot x begins e; fresh = g }) refl ws t h
+  word_read Not begins ws t h = lone_read Inverted tt (has Inverted given) (not_word begins) refl ws t h
+  word_read (Act action) begins ws t h = lone_read Action action (has Action given) (act_word action begins) refl ws t h
 
-  module _ (plain : Plain) (none : row_of line w ≡ None) (is : line.plain ≡ Some plain) where
-    to_read : is_to w ≡ true → has plain.slot given ≡ false → (v : Word) (vs : List Word) (o : Option (Qualifier plain.slot)) → qualifier_of plain v ≡ o → (t : Read) → one_more (to_by plain o v vs) ≡ ok_read t → IsRead line given w (v ∷ vs) t
-    to_read to g v [] (Some q) qe t h = absurd cc
-    to_read to g v (u ∷ us) (Some q) qe t h =
-        by_value plain.slot (v ∷ u ∷ us) 2 t (q.reads u) (λ x e. record { within = omega arith; item = to_qualified v u plain q x is none to qe e; fresh = g }) (q.reads u) refl (λ r. one_more (one_more r)) (λ x. refl) (λ e. refl) h
-    to_read to g v vs None qe t h =
-        by_value plain.slot (v ∷ vs) 1 t (plain.reads v) (λ x e. record { within = omega arith; item = to_value v plain x is none to qe e; fresh = g }) (plain.reads v) refl one_more (λ x. refl) (λ e. refl) h
+  module _ (slot : Slot) (none : word_in line.entries w ≡ None) (is : line.plain ≡ Some slot) where
+    to_read : is_to w ≡ true → (v : Word) (vs : List Word) (r : Scanned) → plain_from slot given v vs ≡ r → (t : Read) → one_more r ≡ ok_read t → IsRead line given w (v ∷ vs) t
+    to_read to v vs (Err e) read t h = absurd cc
+    to_read to v vs (Ok u) read t h =
+        let d = from_read given slot v (before slot v) refl vs u read in
+        subst (λ u. IsRead line given w (v ∷ vs) u) (read_inj (u.0, suc u.1) t h) (record { within = let l = d.within in omega (arith, l); item = plain_behind_to slot v (take u.1 vs) u.0 is none to d.item; fresh = d.fresh })
 
-    plain_read : (to : Bool) → is_to w ≡ to → (o : Option (Qualifier plain.slot)) → qualifier_of plain w ≡ o → (b : Bool) → has plain.slot given ≡ b → (ws : List Word) (t : Read) → plain_by plain to o given w ws ≡ ok_read t → IsRead line given w ws t
-    plain_read true to o qe b g [] t h = absurd cc
-    plain_read true to o qe true g (v ∷ vs) t h = absurd (let k : behind true (behind_to plain) (v ∷ vs) ≡ ok_read t = ap (λ b. behind b (behind_to plain) (v ∷ vs)) (sym g) ∙ h in cc)
-    plain_read true to o qe false g (v ∷ vs) t h = to_read to g v vs (qualifier_of plain v) refl t (ap (λ b. behind b (behind_to plain) (v ∷ vs)) (sym g) ∙ h)
-    plain_read false to (Some q) qe b g [] t h = absurd cc
-    plain_read false to (Some q) qe true g (v ∷ vs) t h = absurd (let k : behind true (λ v vs. item_at plain.slot (q.reads v)) (v ∷ vs) ≡ ok_read t = ap (λ b. behind b (λ v vs. item_at plain.slot (q.reads v)) (v ∷ vs)) (sym g) ∙ h in cc)
-    plain_read false to (Some q) qe false g (v ∷ vs) t h =
-        by_value plain.slot (v ∷ vs) 1 t (q.reads v) (λ x e. record { within = omega arith; item = qualified v plain q x is none to qe e; fresh = g }) (q.reads v) refl one_more (λ x. refl) (λ e. refl) (ap (λ b. behind b (λ v vs. item_at plain.slot (q.reads v)) (v ∷ vs)) (sym g) ∙ h)
-    plain_read false to None qe true g ws t h = absurd (let k : Err UnknownWord ≡ ok_read t = simp g at h in cc)
-    plain_read false to None qe false g ws t h =
-        by_value plain.slot ws 0 t (plain.reads w) (λ x e. record { within = omega arith; item = bare_value plain x is none to qe e; fresh = g }) (plain.reads w) refl (λ r. r) (λ x. refl) (λ e. refl) (simp g at h)
+    to_word_read : is_to w ≡ true → (is_given : Bool) (ws : List Word) (t : Read) → behind is_given (plain_from slot given) ws ≡ ok_read t → IsRead line given w ws t
+    to_word_read to is_given [] t h = absurd cc
+    to_word_read to true (v ∷ vs) t h = absurd cc
+    to_word_read to false (v ∷ vs) t h = to_read to v vs (plain_from slot given v vs) refl t h
 
-  plain_item_read : row_of line w ≡ None → (o : Option Plain) → line.plain ≡ o → (ws : List Word) (t : Read) → plain_item o given w ws ≡ ok_read t → IsRead line given w ws t
-  plain_item_read none None is ws t h = absurd cc
-  plain_item_read none (Some plain) is ws t h = plain_read plain none is (is_to w) refl (qualifier_of plain w) refl (has plain.slot given) refl ws t h
+    plain_read : (b : Bool) → is_to w ≡ b → (ws : List Word) (t : Read) → (if b then behind (has slot given) (plain_from slot given) ws else plain_from slot given w ws) ≡ ok_read t → IsRead line given w ws t
+    plain_read true to ws t h = to_word_read to (has slot given) ws t h
+    plain_read false to ws t h =
+        let d = from_read given slot w (before slot w) refl ws t h in
+        record { within = d.within; item = plain_alone slot (take t.1 ws) t.0 is none to d.item; fresh = d.fresh }
 
-  by_row : (o : Option Row) → row_of line w ≡ o → (ws : List Word) (t : Read) → item_by line o given w ws ≡ ok_read t → IsRead line given w ws t
-  by_row (Some row) r ws t h = row_read row r row.form refl (has row.slot given) refl ws t h
-  by_row None r ws t h = plain_item_read r line.plain refl ws t h
+  by_plain : word_in line.entries w ≡ None → (o : Option Slot) → line.plain ≡ o → (ws : List Word) (t : Read) → plain_item o given w ws ≡ ok_read t → IsRead line given w ws t
+  by_plain none None is ws t h = absurd cc
+  by_plain none (Some slot) is ws t h = plain_read slot none is (is_to w) refl ws t h
+
+  by_begun : (o : Option ItemWord) → word_in line.entries w ≡ o → (ws : List Word) (t : Read) → item_by o line.plain given w ws ≡ ok_read t → IsRead line given w ws t
+  by_begun (Some begun) begins ws t h = word_read begun begins ws t h
+  by_begun None begins ws t h = by_plain begins line.plain refl ws t h
 
   -- what is read is an item of the line that was not given
   pub is_read : (ws : List Word) (t : Read) → item_or_fault line given w ws ≡ ok_read t → IsRead line given w ws t
-  is_read ws t h = by_row (row_of line w) refl ws t h
+  is_read ws t h = by_begun (word_in line.entries w) refl ws t h
 
-  -- a row's word that is read, by the row's form
-  row_form : (row : Row) (f : Form row.slot) (ws : List Word) → row_of line w ≡ Some row → row.form ≡ f → has row.slot given ≡ false → item_or_fault line given w ws ≡ form_item f false ws
-  row_form row f ws r e g = ap (λ o. item_by line o given w ws) r ∙ ap (λ x. form_item x (has row.slot given) ws) e ∙ ap (λ b. form_item f b ws) g
+module _ (given : Items) where
+  value_form : (slot : Slot) (b : Option PrefixWord) (v : Word) (rest : List Word) (x : items.Value slot) → has slot given ≡ false → value_of slot b v ≡ Ok x → value_item slot b given (v ∷ rest) ≡ Ok (item slot x, 1)
+  value_form slot b v rest x g e = ap (λ i. behind i (λ u us. item_at slot (value_of slot b u)) (v ∷ rest)) g ∙ ap (λ r. one_more (item_at slot r)) e
 
-  plain_form : (plain : Plain) (to : Bool) (o : Option (Qualifier plain.slot)) (ws : List Word) → line.plain ≡ Some plain → row_of line w ≡ None → is_to w ≡ to → qualifier_of plain w ≡ o → item_or_fault line given w ws ≡ plain_by plain to o given w ws
-  plain_form plain to o ws is none t q =
-      ap (λ x. item_by line x given w ws) none ∙ ap (λ x. plain_item x given w ws) is ∙ ap (λ b. plain_by plain b (qualifier_of plain w) given w ws) t ∙ ap (λ x. plain_by plain to x given w ws) q
+  lone_form : (slot : Slot) (x : items.Value slot) → has slot given ≡ false → lone_item slot x given ≡ Ok (item slot x, 0)
+  lone_form slot x g = ap (λ i. if i then Err Repeated else item_at slot (Ok x)) g
 
-  to_form : (plain : Plain) (v : Word) (o : Option (Qualifier plain.slot)) (vs : List Word) → line.plain ≡ Some plain → row_of line w ≡ None → is_to w ≡ true → qualifier_of plain v ≡ o → has plain.slot given ≡ false → item_or_fault line given w (v ∷ vs) ≡ one_more (to_by plain o v vs)
-  to_form plain v o vs is none to q g =
-      plain_form plain true (qualifier_of plain w) (v ∷ vs) is none to refl ∙ ap (λ b. behind b (behind_to plain) (v ∷ vs)) g ∙ ap (λ x. one_more (to_by plain x v vs)) q
+  plain_back : (slot : Slot) (w : Word) (own rest : List Word) (x : Item) → IsPlain slot w own x → has x.slot given ≡ false → plain_from slot given w (own ++ rest) ≡ Ok (x, length own)
+  plain_back slot w own rest x (value_alone y is e) g =
+      ap (λ o. plain_by slot o given w rest) is ∙ ap (λ i. if i then Err UnknownWord else item_at slot (value_of slot None w)) g ∙ ap (item_at slot) e
+  plain_back slot w own rest x (value_behind v b y is e) g = ap (λ o. plain_by slot o given w (v ∷ rest)) is ∙ value_form slot (Some b) v rest y g e
+
+module _ (line : LineKind) (given : Items) (w : Word) where
+  begun_form : (begun : ItemWord) (ws : List Word) → word_in line.entries w ≡ Some begun → item_or_fault line given w ws ≡ word_item begun given ws
+  begun_form begun ws begins = ap (λ o. item_by o line.plain given w ws) begins
+
+  plain_form : (slot : Slot) (to : Bool) (ws : List Word) → line.plain ≡ Some slot → word_in line.entries w ≡ None → is_to w ≡ to → item_or_fault line given w ws ≡ (if to then behind (has slot given) (plain_from slot given) ws else plain_from slot given w ws)
+  plain_form slot to ws is none t =
+      ap (λ o. item_by o line.plain given w ws) none ∙ ap (λ p. plain_item p given w ws) is ∙ ap (λ b. if b then behind (has slot given) (plain_from slot given) ws else plain_from slot given w ws) t
+
+  slot_kept : (slot : Slot) (v : Word) (own : List Word) (x : Item) → IsPlain slot v own x → x.slot ≡ slot
+  slot_kept slot v own x (value_alone y is e) = refl
+  slot_kept slot v own x (value_behind u b y is e) = refl
 
   -- an item that is spelled and was not given is read, whatever stands behind it
   pub is_read_back : (own rest : List Word) (x : Item) → IsItem line w own x → has x.slot given ≡ false → item_or_fault line given w (own ++ rest) ≡ Ok (x, length own)
-  is_read_back own rest x (one_word row y r f) g = row_form row (alone y) rest r f g
-  is_read_back own rest x (word_and_value v row reads y r f e) g = row_form row (followed reads) (v ∷ rest) r f g ∙ ap (λ z. one_more (item_at row.slot z)) e
-  is_read_back own rest x (bare_value plain y is none to q e) g =
-      plain_form plain false None rest is none to q ∙ simp g (ap (item_at plain.slot) e)
-  is_read_back own rest x (qualified v plain q y is none to qe e) g =
-      plain_form plain false (Some q) (v ∷ rest) is none to qe ∙ ap (λ b. behind b (λ v vs. item_at plain.slot (q.reads v)) (v ∷ rest)) g ∙ ap (λ z. one_more (item_at plain.slot z)) e
-  is_read_back own rest x (to_value v plain y is none to qe e) g = to_form plain v None rest is none to qe g ∙ ap (λ z. one_more (item_at plain.slot z)) e
-  is_read_back own rest x (to_qualified u v plain q y is none to qe e) g = to_form plain u (Some q) (v ∷ rest) is none to qe g ∙ ap (λ z. one_more (one_more (item_at plain.slot z))) e
+  is_read_back own rest x (word_and_value v slot y begins e) g = begun_form (Value slot) (v ∷ rest) begins ∙ value_form given slot None v rest y g e
+  is_read_back own rest x (not_word begins) g = begun_form Not rest begins ∙ lone_form given Inverted tt g
+  is_read_back own rest x (act_word action begins) g = begun_form (Act action) rest begins ∙ lone_form given Action action g
+  is_read_back own rest x (plain_alone slot own2 x2 is none to from) g = plain_form slot false (own ++ rest) is none to ∙ plain_back given slot w own rest x from g
+  is_read_back own rest x (plain_behind_to slot v own2 x2 is none to from) g =
+      plain_form slot true (v ∷ (own2 ++ rest)) is none to
+      ∙ ap (λ b. behind b (plain_from slot given) (v ∷ (own2 ++ rest))) (ap (λ (s : Slot). has s given) (sym (slot_kept slot v own2 x from)) ∙ g)
+      ∙ ap one_more (plain_back given slot v own2 rest x from g)

@@ -1,5 +1,5 @@
 pub mod Splitting
-pub mod Rows
+pub mod Entries
 pub mod Values
 pub mod ItemLaws
 pub mod GrammarLaws

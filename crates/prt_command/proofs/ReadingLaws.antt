@@ -2,9 +2,10 @@
 use Rattle.std.proofs.Common.{◌≡◌, zero, List, Result, Ok, Err, refl, ◌∙◌, ap, sym, arith}
 use Rattle.prt_addr.specs.Word.{Word}
 use Rattle.prt_addr.specs.declared.refusal.Refusal.{Refusal}
-use Rattle.prt_command.specs.Grammar.{◌>>=◌, items_of}
+use Rattle.prt_command.specs.Grammar.{items_of}
 use Rattle.prt_command.specs.Items.{no_items}
 use Rattle.prt_command.specs.Reading.{Verb, Spells, HasFault, of_item, of_items, items_request}
+use Rattle.prt_command.specs.Then.{◌>>=◌}
 use Rattle.prt_command.specs.declared.item.Items.{Items}
 use Rattle.prt_command.specs.declared.request.Request.{Request}
 use Rattle.prt_command.proofs.GrammarLaws.{found, only, fault, fault_only}

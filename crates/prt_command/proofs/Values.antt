@@ -3,7 +3,7 @@ use Rattle.std.proofs.Common.{◌≡◌, Option, Ok, Err, sym, subst}
 use Rattle.prt_addr.specs.Word.{Word}
 use Rattle.prt_addr.specs.declared.refusal.Refusal.{Refusal}
 use Rattle.prt_command.specs.Items.{Value, with_value}
-use Rattle.prt_command.specs.Line.{value_of}
+use Rattle.prt_command.specs.Values.{value_of}
 use Rattle.prt_command.specs.declared.item.Items.{Items}
 use Rattle.prt_command.specs.declared.item.PrefixWord.{PrefixWord}
 use Rattle.prt_command.specs.declared.item.Slot.{Slot}

@@ -1,77 +1,65 @@
 -- Lines of items in any order, each at most once, and the first fault of one.
-use Rattle.std.specs.Prelude.{◌≡◌, ℕ, zero, suc, Bool, true, false, if◌then◌else◌, List, [], ◌∷◌, ◌++◌, Option, Some, None, Result, Ok, Err, bytes_eq, codes, find}
+use Rattle.std.specs.Prelude.{◌≡◌, ℕ, zero, suc, Bool, true, false, if◌then◌else◌, List, [], ◌∷◌, ◌++◌, Option, Some, None, Result, Ok, Err, bytes_eq, codes}
 use Rattle.prt_addr.specs.Word.{Word, is_one_of}
 use Rattle.prt_addr.specs.declared.refusal.Refusal.{Refusal}
 use Rattle.prt_addr.specs.declared.refusal.Refusal.TheVariants.{UnknownWord, MissingValue, Repeated}
-use Rattle.prt_command.specs.Items.{Value, Item, has, with_item, with_all}
+use Rattle.prt_rule.specs.declared.rule.Action as rule
+use Rattle.prt_command.specs.Items as items
+use Rattle.prt_command.specs.Items.{Item, has, with_item, with_all}
+use Rattle.prt_command.specs.Then.{◌>>=◌}
+use Rattle.prt_command.specs.Values.{before_in, value_of, words_before}
 use Rattle.prt_command.specs.declared.item.Items.{Items}
+use Rattle.prt_command.specs.declared.item.ItemWord.{ItemWord}
+use Rattle.prt_command.specs.declared.item.ItemWord.TheVariants.{Value, Not, Act}
+use Rattle.prt_command.specs.declared.item.PrefixWord.{PrefixWord}
 use Rattle.prt_command.specs.declared.item.Slot.{Slot}
+use Rattle.prt_command.specs.declared.item.Slot.TheVariants.{Inverted, Action}
 
-infixl 10 ◌>>=◌
-abbrev pub ◌>>=◌ : {A B : Type 0} → Result A Refusal → (A → Result B Refusal) → Result B Refusal
-(Ok x) >>= f = f x
-(Err e) >>= f = Err e
+-- ---- a kind of line
 
--- ---- the tables of a kind of line
+-- words, and what each of them begins
+abbrev pub Entry : Type 0
+Entry = List Word × ItemWord
 
--- what a word says as the value of this item, or why it doesn't
-abbrev pub Reads : Slot → Type 0
-Reads slot = Word → Result (Value slot) Refusal
-
--- What makes an item behind its own word: nothing more, or a value.
-pub data Form (slot : Slot) : Type 0 where
-  alone : Value slot → Form slot
-  followed : Reads slot → Form slot
-
--- An item that a word of its own begins.
-pub record Row : Type 0 where
-  pub words : List Word
-  pub slot : Slot
-  pub form : Form slot
-
--- A word that may stand before a value, and how the value is read behind it.
-pub record Qualifier (slot : Slot) : Type 0 where
-  pub word : Word
-  pub reads : Reads slot
-
--- An item that needs no word of its own: [to] [qualifier] value.
-pub record Plain : Type 0 where
-  pub slot : Slot
-  pub qualifiers : List (Qualifier slot)
-  pub reads : Reads slot
-
--- The items of a kind of line.
+-- The items of a kind of line: those that begin with a word of their own, and the one that needs none: [to] [word before it] prefix or address.
 pub record LineKind : Type 0 where
-  pub plain : Option Plain
-  pub rows : List Row
+  pub entries : List Entry
+  pub plain : Option Slot
 
--- the row that a word begins
-abbrev pub row_of : LineKind → Word → Option Row
-row_of line w = find (λ row. is_one_of w row.words) line.rows
+-- what a word begins
+abbrev pub word_in : List Entry → Word → Option ItemWord
+word_in [] w = None
+word_in (entry ∷ entries) w = if is_one_of w entry.0 then Some entry.1 else word_in entries w
 
--- the qualifier that a word is
-abbrev pub qualifier_of : (plain : Plain) → Word → Option (Qualifier plain.slot)
-qualifier_of plain w = find (λ qualifier. bytes_eq qualifier.word w) plain.qualifiers
+-- the word that may stand before the prefix of this item
+abbrev pub before : Slot → Word → Option PrefixWord
+before slot w = before_in (words_before slot) w
 
 abbrev pub is_to : Word → Bool
 is_to w = bytes_eq (codes "to") w
 
 -- ---- how an item is spelled
 
+abbrev pub item : (slot : Slot) → items.Value slot → Item
+item slot x = record { slot = slot; value = x }
+
+-- From the word w on, with the words own behind it, stands an item that needs no word of its own: its value, or a word before its prefix and the prefix.
+pub data IsPlain (slot : Slot) (w : Word) : List Word → Item → Type 0 where
+  value_alone : (x : items.Value slot) → before slot w ≡ None → value_of slot None w ≡ Ok x → IsPlain slot w [] (item slot x)
+  value_behind : (v : Word) (b : PrefixWord) (x : items.Value slot) → before slot w ≡ Some b → value_of slot (Some b) v ≡ Ok x → IsPlain slot w (v ∷ []) (item slot x)
+
 -- The word w, with the words own behind it, is an item of the line, and this is what it says.
 pub data IsItem (line : LineKind) (w : Word) : List Word → Item → Type 0 where
-  -- a row's word
-  one_word : (row : Row) (x : Value row.slot) → row_of line w ≡ Some row → row.form ≡ alone x → IsItem line w [] (record { slot = row.slot; value = x })
-  -- a row's word and a value, whatever word that is
-  word_and_value : (v : Word) (row : Row) (reads : Reads row.slot) (x : Value row.slot) → row_of line w ≡ Some row → row.form ≡ followed reads → reads v ≡ Ok x → IsItem line w (v ∷ []) (record { slot = row.slot; value = x })
-  -- a value that is no item word of the line
-  bare_value : (plain : Plain) (x : Value plain.slot) → line.plain ≡ Some plain → row_of line w ≡ None → is_to w ≡ false → qualifier_of plain w ≡ None → plain.reads w ≡ Ok x → IsItem line w [] (record { slot = plain.slot; value = x })
-  -- a qualifier and a value
-  qualified : (v : Word) (plain : Plain) (q : Qualifier plain.slot) (x : Value plain.slot) → line.plain ≡ Some plain → row_of line w ≡ None → is_to w ≡ false → qualifier_of plain w ≡ Some q → q.reads v ≡ Ok x → IsItem line w (v ∷ []) (record { slot = plain.slot; value = x })
-  -- `to` and a value
-  to_value : (v : Word) (plain : Plain) (x : Value plain.slot) → line.plain ≡ Some plain → row_of line w ≡ None → is_to w ≡ true → qualifier_of plain v ≡ None → plain.reads v ≡ Ok x → IsItem line w (v ∷ []) (record { slot = plain.slot; value = x })
-  -- `to`, a qualifier and a value
-  to_qualified : (u v : Word) (plain : Plain) (q : Qualifier plain.slot) (x : Value plain.slot) → line.plain ≡ Some plain → row_of line w ≡ None → is_to w ≡ true → qualifier_of plain u ≡ Some q → q.reads v ≡ Ok x → IsItem line w (u ∷ v ∷ []) (record { slot = plain.slot; value = x })
+  -- an item's word and a value, whatever word that is
+  word_and_value : (v : Word) (slot : Slot) (x : items.Value slot) → word_in line.entries w ≡ Some (Value slot) → value_of slot None v ≡ Ok x → IsItem line w (v ∷ []) (item slot x)
+  -- `not`
+  not_word : word_in line.entries w ≡ Some Not → IsItem line w [] (item Inverted tt)
+  -- a word that alone says what a rule does
+  act_word : (action : rule.Action) → word_in line.entries w ≡ Some (Act action) → IsItem line w [] (item Action action)
+  -- an item without a word of its own, where the first word is no item word of the line
+  plain_alone : (slot : Slot) (own : List Word) (x : Item) → line.plain ≡ Some slot → word_in line.entries w ≡ None → is_to w ≡ false → IsPlain slot w own x → IsItem line w own x
+  -- the same behind `to`
+  plain_behind_to : (slot : Slot) (v : Word) (own : List Word) (x : Item) → line.plain ≡ Some slot → word_in line.entries w ≡ None → is_to w ≡ true → IsPlain slot v own x → IsItem line w (v ∷ own) x
 
 -- The words are these items, one behind another.
 pub data AreItems (line : LineKind) : List Word → List Item → Type 0 where
@@ -95,8 +83,8 @@ abbrev pub Scanned : Type 0
 Scanned = Result (Item × ℕ) Refusal
 
 -- the value's word is the last of the item's
-abbrev pub item_at : (slot : Slot) → Result (Value slot) Refusal → Scanned
-item_at slot read = read >>= λ x. Ok (record { slot = slot; value = x }, 0)
+abbrev pub item_at : (slot : Slot) → Result (items.Value slot) Refusal → Scanned
+item_at slot read = read >>= λ x. Ok (item slot x, 0)
 
 abbrev pub one_more : Scanned → Scanned
 one_more taken = taken >>= λ t. Ok (t.0, suc t.1)
@@ -107,39 +95,42 @@ behind given reads [] = Err MissingValue
 behind true reads (v ∷ vs) = Err Repeated
 behind false reads (v ∷ vs) = one_more (reads v vs)
 
-abbrev pub form_item : {slot : Slot} → Form slot → Bool → List Word → Scanned
-form_item {slot} (alone x) given ws = if given then Err Repeated else item_at slot (Ok x)
-form_item {slot} (followed reads) given ws = behind given (λ v vs. item_at slot (reads v)) ws
+-- behind the item's word, or behind the word before its prefix
+abbrev pub value_item : Slot → Option PrefixWord → Items → List Word → Scanned
+value_item slot b given ws = behind (has slot given) (λ v vs. item_at slot (value_of slot b v)) ws
 
-abbrev pub row_item : Row → Items → List Word → Scanned
-row_item row given ws = form_item row.form (has row.slot given) ws
+-- an item that its word says alone
+abbrev pub lone_item : (slot : Slot) → items.Value slot → Items → Scanned
+lone_item slot x given = if has slot given then Err Repeated else item_at slot (Ok x)
 
--- behind `to`: a qualifier and its value, or the value
-abbrev pub to_by : (plain : Plain) → Option (Qualifier plain.slot) → Word → List Word → Scanned
-to_by plain (Some q) v vs = behind false (λ u us. item_at plain.slot (q.reads u)) vs
-to_by plain None v vs = item_at plain.slot (plain.reads v)
+-- the item that a word begins, before the words ws
+abbrev pub word_item : ItemWord → Items → List Word → Scanned
+word_item (Value slot) given ws = value_item slot None given ws
+word_item Not given ws = lone_item Inverted tt given
+word_item (Act action) given ws = lone_item Action action given
 
-abbrev pub behind_to : Plain → Word → List Word → Scanned
-behind_to plain v vs = to_by plain (qualifier_of plain v) v vs
+-- by the word before a prefix that w is
+abbrev pub plain_by : Slot → Option PrefixWord → Items → Word → List Word → Scanned
+plain_by slot (Some b) given w ws = value_item slot (Some b) given ws
+plain_by slot None given w ws = if has slot given then Err UnknownWord else item_at slot (value_of slot None w)
 
--- by whether the word is `to`, and by the qualifier that it is
-abbrev pub plain_by : (plain : Plain) → Bool → Option (Qualifier plain.slot) → Items → Word → List Word → Scanned
-plain_by plain true q given w ws = behind (has plain.slot given) (behind_to plain) ws
-plain_by plain false (Some q) given w ws = behind (has plain.slot given) (λ v vs. item_at plain.slot (q.reads v)) ws
-plain_by plain false None given w ws = if has plain.slot given then Err UnknownWord else item_at plain.slot (plain.reads w)
+-- from the word behind `to` on, or from the first where that isn't `to`
+abbrev pub plain_from : Slot → Items → Word → List Word → Scanned
+plain_from slot given w ws = plain_by slot (before slot w) given w ws
 
-abbrev pub plain_item : Option Plain → Items → Word → List Word → Scanned
+-- the item that needs no word of its own
+abbrev pub plain_item : Option Slot → Items → Word → List Word → Scanned
 plain_item None given w ws = Err UnknownWord
-plain_item (Some plain) given w ws = plain_by plain (is_to w) (qualifier_of plain w) given w ws
+plain_item (Some slot) given w ws = if is_to w then behind (has slot given) (plain_from slot given) ws else plain_from slot given w ws
 
--- by the row that the word begins
-abbrev pub item_by : LineKind → Option Row → Items → Word → List Word → Scanned
-item_by line (Some row) given w ws = row_item row given ws
-item_by line None given w ws = plain_item line.plain given w ws
+-- by what the word begins
+abbrev pub item_by : Option ItemWord → Option Slot → Items → Word → List Word → Scanned
+item_by (Some begun) plain given w ws = word_item begun given ws
+item_by None plain given w ws = plain_item plain given w ws
 
 -- the item that begins at the word w, before the words ws, or its fault
 abbrev pub item_or_fault : LineKind → Items → Word → List Word → Scanned
-item_or_fault line given w ws = item_by line (row_of line w) given w ws
+item_or_fault line given w ws = item_by (word_in line.entries w) line.plain given w ws
 
 -- Behind good words stands an item with this fault; no good words reach further (the law `first_faults`).
 pub record FirstFault (line : LineKind) (ws : List Word) (given : Items) (fault : Refusal) : Type 0 where

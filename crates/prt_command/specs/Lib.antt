@@ -1,10 +1,11 @@
 pub mod Items
-pub mod Grammar
+pub mod Then
 pub mod Mark
+pub mod Values
+pub mod Grammar
 pub mod Line
 pub mod Requests
 pub mod Reading
-pub mod Verbs
 pub use Rattle.prt_addr.specs.Addr
 pub use Rattle.prt_addr.specs.Block
 pub use Rattle.prt_addr.specs.Decimal

@@ -6,7 +6,7 @@ use Rattle.prt_addr.specs.Word.{Word}
 use Rattle.prt_addr.specs.declared.refusal.Refusal.{Refusal}
 use Rattle.prt_addr.specs.declared.refusal.Refusal.TheVariants.{BadNumber}
 use Rattle.prt_rule.specs.declared.rule.Mark.{Mark}
-use Rattle.prt_command.specs.Grammar.{◌>>=◌}
+use Rattle.prt_command.specs.Then.{◌>>=◌}
 
 abbrev pub is_slash : ℕ → Bool
 is_slash b = b == 47

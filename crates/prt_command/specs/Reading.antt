@@ -5,14 +5,19 @@ use Rattle.std.specs.Option.{ok_or}
 use Rattle.prt_addr.specs.Word.{Word, is_white, is_one_of}
 use Rattle.prt_addr.specs.declared.refusal.Refusal.{Refusal}
 use Rattle.prt_addr.specs.declared.refusal.Refusal.TheVariants.{LineTooLong, NotAscii, UnknownObject, UnknownVerb}
-use Rattle.prt_command.specs.Grammar.{◌>>=◌, FirstFault, Good, LineKind, items_of}
+use Rattle.prt_command.specs.Grammar.{FirstFault, Good, LineKind, items_of}
 use Rattle.prt_command.specs.Items.{Item, no_items, with_all}
 use Rattle.prt_command.specs.Line.{no_line_items, route_edit_items, route_get_items, route_list_items, rule_edit_items}
 use Rattle.prt_command.specs.Requests.{Asks, refuse_if, route_request, route_del_request, route_flush_request, route_show_request, route_get_request, rule_add_request, rule_del_request}
-use Rattle.prt_command.specs.declared.request.Command.TheVariants.{RouteAdd, RouteChange, RouteReplace, RuleFlush}
-use Rattle.prt_command.specs.declared.request.Query.TheVariants.{RuleShow}
+use Rattle.prt_command.specs.Then.{◌>>=◌}
+use Rattle.prt_command.specs.declared.request.Command.TheVariants as commands
+use Rattle.prt_command.specs.declared.request.Query.TheVariants as queries
 use Rattle.prt_command.specs.declared.request.Request.{Request}
 use Rattle.prt_command.specs.declared.request.Request.TheVariants as requests
+use Rattle.prt_command.specs.declared.verb.Object.{Object}
+use Rattle.prt_command.specs.declared.verb.Object.TheVariants.{Route, Rule}
+use Rattle.prt_command.specs.declared.verb.ObjectVerb.{ObjectVerb}
+use Rattle.prt_command.specs.declared.verb.ObjectVerb.TheVariants.{RouteAdd, RouteChange, RouteReplace, RouteDel, RouteFlush, RouteShow, RouteGet, RuleAdd, RuleDel, RuleFlush, RuleShow}
 
 -- ---- words
 
@@ -40,12 +45,6 @@ pub record Verb : Type 0 where
   pub line : LineKind
   pub asks : Asks
 
--- An object: its words, its verbs, and the one that is meant where no verb follows.
-pub record Object : Type 0 where
-  pub words : List Word
-  pub verbs : List Verb
-  pub alone : Verb
-
 abbrev pub add_words : List Word
 add_words = codes "add" ∷ codes "a" ∷ []
 
@@ -55,59 +54,45 @@ del_words = codes "del" ∷ codes "delete" ∷ codes "d" ∷ []
 abbrev pub show_words : List Word
 show_words = codes "show" ∷ codes "list" ∷ codes "lst" ∷ codes "ls" ∷ []
 
-abbrev pub route_add : Verb
-route_add = record { words = add_words; line = route_edit_items; asks = route_request RouteAdd }
+abbrev pub meaning_of : ObjectVerb → Verb
+meaning_of RouteAdd = record { words = add_words; line = route_edit_items; asks = route_request commands.RouteAdd }
+meaning_of RouteChange = record { words = codes "change" ∷ codes "chg" ∷ []; line = route_edit_items; asks = route_request commands.RouteChange }
+meaning_of RouteReplace = record { words = codes "replace" ∷ []; line = route_edit_items; asks = route_request commands.RouteReplace }
+meaning_of RouteDel = record { words = del_words; line = route_edit_items; asks = route_del_request }
+meaning_of RouteFlush = record { words = codes "flush" ∷ []; line = route_list_items; asks = route_flush_request }
+meaning_of RouteShow = record { words = show_words; line = route_list_items; asks = route_show_request }
+meaning_of RouteGet = record { words = codes "get" ∷ []; line = route_get_items; asks = route_get_request }
+meaning_of RuleAdd = record { words = add_words; line = rule_edit_items; asks = rule_add_request }
+meaning_of RuleDel = record { words = del_words; line = rule_edit_items; asks = rule_del_request }
+meaning_of RuleFlush = record { words = codes "flush" ∷ []; line = no_line_items; asks = λ _. Ok (requests.Command commands.RuleFlush) }
+meaning_of RuleShow = record { words = show_words; line = no_line_items; asks = λ _. Ok (requests.Query queries.RuleShow) }
 
-abbrev pub route_change : Verb
-route_change = record { words = codes "change" ∷ codes "chg" ∷ []; line = route_edit_items; asks = route_request RouteChange }
+abbrev pub line_of : ObjectVerb → LineKind
+line_of verb = (meaning_of verb).line
 
-abbrev pub route_replace : Verb
-route_replace = record { words = codes "replace" ∷ []; line = route_edit_items; asks = route_request RouteReplace }
+abbrev pub verbs_of : Object → List ObjectVerb
+verbs_of Route = RouteAdd ∷ RouteChange ∷ RouteReplace ∷ RouteDel ∷ RouteFlush ∷ RouteShow ∷ RouteGet ∷ []
+verbs_of Rule = RuleAdd ∷ RuleDel ∷ RuleFlush ∷ RuleShow ∷ []
 
-abbrev pub route_del : Verb
-route_del = record { words = del_words; line = route_edit_items; asks = route_del_request }
+-- the verb that is meant where none follows the object
+abbrev pub alone : Object → ObjectVerb
+alone Route = RouteShow
+alone Rule = RuleShow
 
-abbrev pub route_flush : Verb
-route_flush = record { words = codes "flush" ∷ []; line = route_list_items; asks = route_flush_request }
+abbrev pub object_words : Object → List Word
+object_words Route = codes "route" ∷ codes "ro" ∷ codes "r" ∷ []
+object_words Rule = codes "rule" ∷ codes "ru" ∷ []
 
-abbrev pub route_show : Verb
-route_show = record { words = show_words; line = route_list_items; asks = route_show_request }
+abbrev pub every_object : List Object
+every_object = Route ∷ Rule ∷ []
 
-abbrev pub route_get : Verb
-route_get = record { words = codes "get" ∷ []; line = route_get_items; asks = route_get_request }
+-- the verb of this object that the word spells
+abbrev pub verb_of : Object → Word → Option ObjectVerb
+verb_of object w = find (λ verb. is_one_of w (meaning_of verb).words) (verbs_of object)
 
-abbrev pub rule_add : Verb
-rule_add = record { words = add_words; line = rule_edit_items; asks = rule_add_request }
-
-abbrev pub rule_del : Verb
-rule_del = record { words = del_words; line = rule_edit_items; asks = rule_del_request }
-
-abbrev pub rule_flush : Verb
-rule_flush = record { words = codes "flush" ∷ []; line = no_line_items; asks = λ _. Ok (requests.Command RuleFlush) }
-
-abbrev pub rule_show : Verb
-rule_show = record { words = show_words; line = no_line_items; asks = λ _. Ok (requests.Query RuleShow) }
-
-abbrev pub route_verbs : List Verb
-route_verbs = route_add ∷ route_change ∷ route_replace ∷ route_del ∷ route_flush ∷ route_show ∷ route_get ∷ []
-
-abbrev pub rule_verbs : List Verb
-rule_verbs = rule_add ∷ rule_del ∷ rule_flush ∷ rule_show ∷ []
-
-abbrev pub route_object : Object
-route_object = record { words = codes "route" ∷ codes "ro" ∷ codes "r" ∷ []; verbs = route_verbs; alone = route_show }
-
-abbrev pub rule_object : Object
-rule_object = record { words = codes "rule" ∷ codes "ru" ∷ []; verbs = rule_verbs; alone = rule_show }
-
-abbrev pub objects : List Object
-objects = route_object ∷ rule_object ∷ []
-
-abbrev pub verb_of : List Verb → Word → Option Verb
-verb_of verbs w = find (λ verb. is_one_of w verb.words) verbs
-
+-- the object that the word spells
 abbrev pub object_of : Word → Option Object
-object_of w = find (λ object. is_one_of w object.words) objects
+object_of w = find (λ object. is_one_of w (object_words object)) every_object
 
 -- what the items of a verb ask for, or their first fault
 abbrev pub items_request : Verb → List Word → Result Request Refusal
@@ -126,8 +111,8 @@ pub data HasFault (verb : Verb) (ws : List Word) (fault : Refusal) : Type 0 wher
 
 -- the verb and its items
 abbrev pub verb_request : Object → List Word → Result Request Refusal
-verb_request object [] = items_request object.alone []
-verb_request object (w ∷ ws) = ok_or (verb_of object.verbs w) UnknownVerb >>= λ verb. items_request verb ws
+verb_request object [] = items_request (meaning_of (alone object)) []
+verb_request object (w ∷ ws) = ok_or (verb_of object w) UnknownVerb >>= λ verb. items_request (meaning_of verb) ws
 
 -- the object, its verb and the items
 abbrev pub object_request : List Word → Result Request Refusal

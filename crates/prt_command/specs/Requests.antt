@@ -16,7 +16,7 @@ use Rattle.prt_route.specs.declared.route.Route.{Route}
 use Rattle.prt_rule.specs.declared.choice.RuleChoice.{RuleChoice}
 use Rattle.prt_rule.specs.declared.packet.Packet.{Packet}
 use Rattle.prt_rule.specs.declared.rule.Action.TheVariants.{Lookup}
-use Rattle.prt_command.specs.Grammar.{◌>>=◌}
+use Rattle.prt_command.specs.Then.{◌>>=◌}
 use Rattle.prt_command.specs.Items.{has_any}
 use Rattle.prt_command.specs.declared.item.Items.{Items}
 use Rattle.prt_command.specs.declared.item.Slot.{Slot}

@@ -2,7 +2,7 @@
 ghost use Rattle.std.specs.Prelude.{◌≡◌, nat_lt};
 ghost use Rattle.prt_addr.specs.Word.{keep};
 ghost use Rattle.prt_command.specs.Requests.{has_next_hop, new_route, packet_of, route_by, route_choice, route_del_request, route_flush_request, route_get_request, route_of, rule_choice, rule_del_request, rule_of, scope_of, selected_table, selector_of};
-ghost use Rattle.prt_command.specs.Verbs.{meaning_of};
+ghost use Rattle.prt_command.specs.Reading.{meaning_of};
 
 use crate::verb::ObjectVerb;
 use crate::{Command, Items, NewRule, Query, Request, Slot, Target, WhichTables};

@@ -1,7 +1,7 @@
-ghost use Rattle.std.specs.Prelude.{◌≡◌, option_map};
-ghost use Rattle.prt_command.specs.Grammar.{qualifier_of};
+ghost use Rattle.std.specs.Prelude.{◌≡◌};
+ghost use Rattle.prt_command.specs.Grammar.{before};
 ghost use Rattle.prt_command.specs.Items.{has, has_any, no_items};
-ghost use Rattle.prt_command.specs.Line.{before_in, kind_in, kinds_of_route, plain, qualifier, words_before};
+ghost use Rattle.prt_command.specs.Values.{kind_in, kinds_of_route};
 
 use prt_route::{Addr, Dev, Kind, Prefix, Range};
 use prt_rule::{Action, Mark};
@@ -79,9 +79,8 @@ pub enum PrefixWord {
 
 impl Slot {
     /// What the word says, where a word may stand before the prefix of this item.
-    #[tactic(auto, using(crate::proofs::Rows::qualifiers_of, crate::proofs::Rows::kinds_before))]
     pub(crate) fn prefix_word(self, word: &[u8]) -> Option<PrefixWord>
-        ensures { qualifier_of (plain self) word.now ≡ option_map (qualifier self) result }
+        ensures { result ≡ before self word.now }
     {
         match self {
             Slot::Destination => kind_word(word),
@@ -106,9 +105,9 @@ pub(crate) fn kind_named(word: &[u8]) -> Option<Kind>
 }
 
 /// The word before a destination.
-#[tactic(auto, using(crate::proofs::Rows::kinds_before))]
+#[tactic(auto, using(crate::proofs::Entries::kinds_before))]
 fn kind_word(word: &[u8]) -> Option<PrefixWord>
-    ensures { result ≡ before_in (words_before Slot.Destination) word.now }
+    ensures { result ≡ before Slot.Destination word.now }
 {
     match kind_named(word) {
         Some(kind) => Some(PrefixWord::Kind(kind)),
@@ -118,7 +117,7 @@ fn kind_word(word: &[u8]) -> Option<PrefixWord>
 
 /// The word before a range.
 fn range_word(word: &[u8]) -> Option<PrefixWord>
-    ensures { result ≡ before_in (words_before Slot.Range) word.now }
+    ensures { result ≡ before Slot.Range word.now }
 {
     match word {
         b"root" => Some(PrefixWord::Root),

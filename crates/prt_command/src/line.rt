@@ -1,6 +1,5 @@
 ghost use Rattle.std.specs.Prelude.{◌≡◌, ◌∷◌, [], codes, MatchOption};
 ghost use Rattle.prt_command.specs.Reading.{skip_word, object_request, reading, verb_request, words, words_request, before_comment};
-ghost use Rattle.prt_command.specs.Verbs.{object_meant};
 
 use crate::Request;
 use crate::reader::read_request;
@@ -25,7 +24,7 @@ fn skip_word<'a>(skipped: &[u8], word: &'a [u8], rest: &'a [u8]) -> Option<(&'a 
 
 /// What a verb of an object and its items ask for; an object alone is shown.
 fn read_verb(object: Object, text: &[u8]) -> Result<Request, Refusal>
-    ensures { result ≡ verb_request (object_meant object) (words text.now) }
+    ensures { result ≡ verb_request object (words text.now) }
 {
     match next_word(text) {
         Some((word, rest)) => {
@@ -37,7 +36,6 @@ fn read_verb(object: Object, text: &[u8]) -> Result<Request, Refusal>
 }
 
 /// What an object, its verb and the items ask for.
-#[tactic(auto, using(crate::proofs::Rows::spelled_object))]
 fn read_object(word: &[u8], rest: &[u8]) -> Result<Request, Refusal>
     ensures { result ≡ object_request (word.now ∷ words rest.now) }
 {

@@ -2,11 +2,10 @@ ghost use Rattle.std.specs.Prelude.{◌≡◌, ◌<◌, ◌≤◌, List, ◌∷�
 ghost use Rattle.std.specs.Option.{ok_or};
 ghost use Rattle.prt_addr.specs.Word.{Word};
 ghost use Rattle.prt_addr.specs.declared.refusal.Refusal.TheVariants.{UnknownWord};
-ghost use Rattle.prt_command.specs.Grammar.{LineKind, Scanned, and_items, behind, items_of, one_more, plain_by, plain_item, qualifier_of};
-ghost use Rattle.prt_command.specs.Items.{Value, no_items, with_value};
-ghost use Rattle.prt_command.specs.Line.{kind_before, kind_in, kinds_of_route, lookup, plain, range, target, value_of, which_tables};
-ghost use Rattle.prt_command.specs.Reading.{items_request, words};
-ghost use Rattle.prt_command.specs.Verbs.{line_of, meaning_of, value_item, word_item};
+ghost use Rattle.prt_command.specs.Grammar.{LineKind, Scanned, and_items, behind, items_of, one_more, plain_from, plain_item, value_item, word_item};
+ghost use Rattle.prt_command.specs.Items.{Value, with_value};
+ghost use Rattle.prt_command.specs.Reading.{items_request, line_of, meaning_of, words};
+ghost use Rattle.prt_command.specs.Values.{kind_before, kind_in, kinds_of_route, lookup, range, target, value_of, which_tables};
 
 use crate::item::kind_named;
 use crate::mark::read_mark;
@@ -155,9 +154,9 @@ fn read_qualified<'a>(
     word: &[u8],
     rest: &'a [u8],
 ) -> Result<&'a [u8], Refusal>
-    ensures items { IfOk result (λ after. (line : LineKind) → and_items line items.old (plain_by (plain slot) false (qualifier_of (plain slot) word.now) items.old word.now (words rest.now)) (words rest.now) ≡ items_of line items.new (words after.now)) }
+    ensures items { IfOk result (λ after. (line : LineKind) → and_items line items.old (plain_from slot items.old word.now (words rest.now)) (words rest.now) ≡ items_of line items.new (words after.now)) }
     ensures shorter { IfOk result (λ after. length after.now ≤ length rest.now) }
-    ensures fault { IfErr result (λ e. plain_by (plain slot) false (qualifier_of (plain slot) word.now) items.old word.now (words rest.now) ≡ Err e) }
+    ensures fault { IfErr result (λ e. plain_from slot items.old word.now (words rest.now) ≡ Err e) }
 {
     match slot.prefix_word(word) {
         Some(before) => read_value(items, slot, Some(before), rest),
@@ -176,9 +175,9 @@ fn read_plain<'a>(
     word: &[u8],
     rest: &'a [u8],
 ) -> Result<&'a [u8], Refusal>
-    ensures items { IfOk result (λ after. (line : LineKind) → and_items line items.old (plain_item (Some (plain slot)) items.old word.now (words rest.now)) (words rest.now) ≡ items_of line items.new (words after.now)) }
+    ensures items { IfOk result (λ after. (line : LineKind) → and_items line items.old (plain_item (Some slot) items.old word.now (words rest.now)) (words rest.now) ≡ items_of line items.new (words after.now)) }
     ensures shorter { IfOk result (λ after. length after.now ≤ length rest.now) }
-    ensures fault { IfErr result (λ e. plain_item (Some (plain slot)) items.old word.now (words rest.now) ≡ Err e) }
+    ensures fault { IfErr result (λ e. plain_item (Some slot) items.old word.now (words rest.now) ≡ Err e) }
 {
     if is(word, b"to") {
         let (value, after) = value_behind(items.has(slot), rest)?;
@@ -209,7 +208,6 @@ fn read_begun<'a>(items: &mut Items, item: ItemWord, rest: &'a [u8]) -> Result<&
 }
 
 /// Reads the item that begins at this word; the text behind the item.
-#[tactic(auto, using(crate::proofs::Rows::items_of_plain, crate::proofs::Rows::no_row))]
 fn read_item<'a>(
     verb: ObjectVerb,
     items: &mut Items,

@@ -1,7 +1,7 @@
-ghost use Rattle.std.specs.Prelude.{◌≡◌, option_map};
-ghost use Rattle.prt_command.specs.Line.{action_words, plain, route_edit_words, route_get_words, route_list_words, rule_edit_words, selector_words, word_in};
-ghost use Rattle.prt_command.specs.Reading.{verb_of};
-ghost use Rattle.prt_command.specs.Verbs.{line_of, meaning_of, object_in, object_meant, verb_in, verbs_of, words_of};
+ghost use Rattle.std.specs.Prelude.{◌≡◌};
+ghost use Rattle.prt_command.specs.Grammar.{word_in};
+ghost use Rattle.prt_command.specs.Line.{action_words, route_edit_words, route_get_words, route_list_words, rule_edit_words, selector_words};
+ghost use Rattle.prt_command.specs.Reading.{alone, line_of, object_of, verb_of};
 
 use crate::{ItemWord, Slot};
 use prt_rule::Action;
@@ -32,7 +32,7 @@ pub enum ObjectVerb {
 impl Object {
     /// The object that a word spells.
     pub(crate) fn named(word: &[u8]) -> Option<Object>
-        ensures { result ≡ object_in word.now }
+        ensures { result ≡ object_of word.now }
     {
         match word {
             b"route" | b"ro" | b"r" => Some(Object::Route),
@@ -42,9 +42,8 @@ impl Object {
     }
 
     /// The verb that a word spells behind this object.
-    #[tactic(auto, using(crate::proofs::Rows::spelled_verb))]
     pub(crate) fn verb(self, word: &[u8]) -> Option<ObjectVerb>
-        ensures { option_map meaning_of result ≡ verb_of (object_meant self).verbs word.now }
+        ensures { result ≡ verb_of self word.now }
     {
         match self {
             Object::Route => route_verb(word),
@@ -54,7 +53,7 @@ impl Object {
 
     /// The verb that is meant where none follows.
     pub(crate) fn alone(self) -> ObjectVerb
-        ensures { meaning_of result ≡ (object_meant self).alone }
+        ensures { result ≡ alone self }
     {
         match self {
             Object::Route => ObjectVerb::RouteShow,
@@ -65,7 +64,7 @@ impl Object {
 
 /// The verb of routes that the word is.
 fn route_verb(word: &[u8]) -> Option<ObjectVerb>
-    ensures { result ≡ verb_in (verbs_of Object.Route) word.now }
+    ensures { result ≡ verb_of Object.Route word.now }
 {
     match word {
         b"add" | b"a" => Some(ObjectVerb::RouteAdd),
@@ -81,7 +80,7 @@ fn route_verb(word: &[u8]) -> Option<ObjectVerb>
 
 /// The verb of rules that the word is.
 fn rule_verb(word: &[u8]) -> Option<ObjectVerb>
-    ensures { result ≡ verb_in (verbs_of Object.Rule) word.now }
+    ensures { result ≡ verb_of Object.Rule word.now }
 {
     match word {
         b"add" | b"a" => Some(ObjectVerb::RuleAdd),
@@ -95,7 +94,7 @@ fn rule_verb(word: &[u8]) -> Option<ObjectVerb>
 impl ObjectVerb {
     /// What the word begins as one of the item words of this verb's line.
     pub(crate) fn item_word(self, word: &[u8]) -> Option<ItemWord>
-        ensures { result ≡ word_in (words_of self) word.now }
+        ensures { result ≡ word_in (line_of self).entries word.now }
     {
         match self {
             ObjectVerb::RouteAdd
@@ -111,7 +110,7 @@ impl ObjectVerb {
 
     /// The item that needs no word of its own.
     pub(crate) fn plain_slot(self) -> Option<Slot>
-        ensures { option_map plain result ≡ (line_of self).plain }
+        ensures { result ≡ (line_of self).plain }
     {
         match self {
             ObjectVerb::RouteAdd

@@ -1,7 +1,6 @@
 use Rattle.std.proofs.Common.{◌≡◌, length}
 use Rattle.prt_command.specs.Grammar.{items_of}
-use Rattle.prt_command.specs.Reading.{words}
-use Rattle.prt_command.specs.Verbs.{line_of}
+use Rattle.prt_command.specs.Reading.{line_of, words}
 use Rattle.prt_command.proofs.reader.read_items.Given as goal
 
 abbrev pub invariant-items : goal.invariant-items

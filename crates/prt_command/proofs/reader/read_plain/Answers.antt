@@ -1,5 +1,5 @@
 use Rattle.std.proofs.Common.{sym, ◌∙◌}
-use Rattle.prt_command.proofs.Rows.{items_behind_to, on_ok}
+use Rattle.prt_command.proofs.Entries.{items_behind_to, on_ok}
 use Rattle.prt_command.proofs.reader.read_plain.Goals as goal
 
 pub returns-then-is-clause-items : goal.returns-then-is-clause-items
