@@ -21,11 +21,11 @@ abbrev pub listing_text : List (List ℕ) → List ℕ
 listing_text lines = lines_text lines ++ codes "end " ++ decimal (length lines) ++ codes "\n"
 
 -- the table is shown where all tables are listed
-abbrev pub table_part : Option ℕ → TablePart
-table_part (Some table) = LeftOut
-table_part None = Shown
+abbrev pub table_shown : Option ℕ → TablePart
+table_shown (Some table) = LeftOut
+table_shown None = Shown
 
 abbrev pub query_text : State → Query → List ℕ
-query_text state (RouteShow selector) = listing_text (map (λ route. route_text route (table_part selector.table)) (listed selector state.routes))
+query_text state (RouteShow selector) = listing_text (map (λ route. route_text route (table_shown selector.table)) (listed selector state.routes))
 query_text state RuleShow = listing_text (map rule_text state.rules)
 query_text state (Get packet) = answer_text (record { number = state.count; verdict = select state packet }) ++ codes "\n"

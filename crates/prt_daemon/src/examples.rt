@@ -91,7 +91,7 @@ pub fn ranges()
         ≡ codes "ok 1\nok 2\nok 3\nok 4\nok 5\n10.1.0.0/16 via 192.0.2.5\n10.1.2.0/24 via 192.0.2.5\nend 2\ndefault via 192.0.2.5\n10.0.0.0/8 via 192.0.2.5\n10.1.0.0/16 via 192.0.2.5\nend 3\n10.1.0.0/16 via 192.0.2.5 table 100\n10.1.0.0/16 via 192.0.2.5\nend 2\n" }
 {}
 
-/// Every part of a route.
+/// A route with a protocol, a scope, a source and a metric.
 pub fn full_route_text()
     ensures { replies_to GoOn (codes "route add 192.0.2.0/24 dev eth0 proto kernel scope link src 192.0.2.10 metric 100\nroute show\n") end_of_input []
         ≡ codes "ok 1\n192.0.2.0/24 dev eth0 proto kernel scope link src 192.0.2.10 metric 100\nend 1\n" }

@@ -1,7 +1,7 @@
 //! The lines that answer a query.
 ghost use Rattle.std.specs.Prelude.{◌≡◌, ◌++◌, IsOkUnless, OnErr, OnOk, codes, decimal, map};
 ghost use Rattle.prt_addr.specs.declared.refusal.Refusal.TheVariants.{NoMemory};
-ghost use Rattle.prt_daemon.specs.QueryText.{lines_text, query_text, table_part};
+ghost use Rattle.prt_daemon.specs.QueryText.{lines_text, query_text, table_shown};
 ghost use Rattle.prt_listing.specs.Keeps.{Keeps};
 ghost use Rattle.prt_listing.specs.RouteText.{route_text};
 ghost use Rattle.prt_listing.specs.RuleText.{rule_text};
@@ -79,8 +79,8 @@ fn push_routes(out: &mut Vec<u8>, routes: &[Route], table: TablePart) -> Result<
 }
 
 /// Whether a listing of the selector's routes names their tables.
-fn table_part(selector: &Selector) -> TablePart
-    ensures { result ≡ table_part selector.now.table }
+fn table_shown(selector: &Selector) -> TablePart
+    ensures { result ≡ table_shown selector.now.table }
 {
     match selector.table {
         Some(_) => TablePart::LeftOut,
@@ -102,7 +102,7 @@ fn push_route_listing(
         Ok(routes) => routes,
         Err(refusal) => return Err(refusal),
     };
-    push_routes(out, &routes, table_part(selector))?;
+    push_routes(out, &routes, table_shown(selector))?;
     push_end(out, routes.len())
 }
 

@@ -28,7 +28,7 @@ name_or_number names n = unwrap_or (name_in names n) (decimal n)
 abbrev pub table_text : ℕ → List ℕ
 table_text table = name_or_number tables table
 
--- 0.0.0.0/0
+-- whether it is 0.0.0.0/0
 abbrev pub is_everything : Block → Bool
 is_everything prefix = prefix.bits == 0 && prefix.len == 0
 
