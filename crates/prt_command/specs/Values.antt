@@ -17,9 +17,10 @@ use Rattle.prt_route.specs.declared.kind.Kind.{Kind}
 use Rattle.prt_route.specs.declared.kind.Kind.TheVariants as kinds
 use Rattle.prt_rule.specs.declared.rule.Action as rule
 use Rattle.prt_rule.specs.declared.rule.Action.TheVariants as actions
-use Rattle.prt_command.specs.Items.{Value}
+use Rattle.prt_command.specs.Items.{Value, with_value}
 use Rattle.prt_command.specs.Mark.{mark}
-use Rattle.prt_command.specs.Then.{◌>>=◌}
+use Rattle.prt_command.specs.Then.{◌>>=◌, map_ok}
+use Rattle.prt_command.specs.declared.item.Items.{Items}
 use Rattle.prt_command.specs.declared.item.Slot.{Slot}
 use Rattle.prt_command.specs.declared.item.Slot.TheVariants.{Destination, Via, Dev, Table, Proto, Scope, Src, Metric, Range, Tables, OfKind, Address, Source, Iif, Mark, Inverted, From, To, Fwmark, Priority, Action}
 use Rattle.prt_command.specs.declared.item.PrefixWord.{PrefixWord}
@@ -104,3 +105,7 @@ value_of To b w = ok_or (net w) BadPrefix
 value_of Fwmark b w = mark w
 value_of Priority b w = ok_or (number w) BadNumber
 value_of Action b w = lookup w
+
+-- the items with the value of one more, or why there is none
+abbrev pub with_read : (slot : Slot) → Option PrefixWord → Word → Items → Result Items Refusal
+with_read slot b w items = map_ok (λ x. with_value slot x items) (value_of slot b w)

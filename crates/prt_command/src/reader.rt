@@ -1,11 +1,11 @@
 ghost use Rattle.std.specs.Prelude.{◌≡◌, ◌<◌, ◌≤◌, List, ◌∷◌, false, length, IfOk, IfErr, OnErr, MatchResult, Some, Ok, Err};
 ghost use Rattle.std.specs.Option.{ok_or};
+ghost use Rattle.prt_command.specs.Then.{map_ok};
 ghost use Rattle.prt_addr.specs.Word.{Word};
 ghost use Rattle.prt_addr.specs.declared.refusal.Refusal.TheVariants.{UnknownWord};
 ghost use Rattle.prt_command.specs.Grammar.{LineKind, Scanned, and_items, behind, items_of, one_more, plain_from, plain_item, value_item, word_item};
-ghost use Rattle.prt_command.specs.Items.{Value, with_value};
 ghost use Rattle.prt_command.specs.Reading.{items_request, line_of, meaning_of, words};
-ghost use Rattle.prt_command.specs.Values.{kind_before, kind_in, kinds_of_route, lookup, range, target, value_of, which_tables};
+ghost use Rattle.prt_command.specs.Values.{kind_before, kind_in, kinds_of_route, lookup, range, target, which_tables, with_read};
 
 use crate::item::kind_named;
 use crate::mark::read_mark;
@@ -92,6 +92,21 @@ fn read_lookup(word: &[u8]) -> Result<Action, Refusal>
     }
 }
 
+/// Puts a value that was read in its place.
+///
+/// # Errors
+///
+/// The refusal of the value, which leaves the place as it was.
+fn put<T: Copy>(place: &mut Option<T>, read: Result<T, Refusal>) -> Result<(), Refusal>
+    ensures value { MatchResult result
+        (λ _. map_ok Some read ≡ Ok place.new)
+        (λ e. read ≡ Err e) }
+    ensures unchanged { OnErr result (place.new ≡ place.old) }
+{
+    *place = Some(read?);
+    Ok(())
+}
+
 impl Items {
     /// Reads the value of an item, behind the word that stands before its prefix, and adds the item.
     ///
@@ -100,34 +115,36 @@ impl Items {
     /// The refusal of the value, which leaves the items as they were.
     fn read(&mut self, slot: Slot, before: Option<PrefixWord>, word: &[u8]) -> Result<(), Refusal>
         ensures value { MatchResult result
-            (λ _. (x : Value slot) × (value_of slot before word.now ≡ Ok x) × (self.new ≡ with_value slot x self.old))
-            (λ e. value_of slot before word.now ≡ Err e) }
+            (λ _. with_read slot before word.now self.old ≡ Ok self.new)
+            (λ e. with_read slot before word.now self.old ≡ Err e) }
         ensures unchanged { OnErr result (self.new ≡ self.old) }
     {
         match slot {
-            Slot::Destination => self.destination = Some(read_target(before, word)?),
-            Slot::Via => self.via = Some(read_addr(word)?),
-            Slot::Dev => self.dev = Some(read_dev(word)?),
-            Slot::Table => self.table = Some(read_table(word)?),
-            Slot::Proto => self.proto = Some(read_protocol(word)?),
-            Slot::Scope => self.scope = Some(read_scope(word)?),
-            Slot::Src => self.src = Some(read_addr(word)?),
-            Slot::Metric => self.metric = Some(read_number(word)?),
-            Slot::Range => self.range = Some(read_range(before, word)?),
-            Slot::Tables => self.tables = Some(read_tables(word)?),
-            Slot::OfKind => self.of_kind = Some(read_kind(word)?),
-            Slot::Address => self.address = Some(read_addr(word)?),
-            Slot::Source => self.source = Some(read_addr(word)?),
-            Slot::Iif => self.iif = Some(read_dev(word)?),
-            Slot::Mark => self.mark = Some(read_number(word)?),
-            Slot::Inverted => self.inverted = true,
-            Slot::From => self.from = Some(read_net(word)?),
-            Slot::To => self.to = Some(read_net(word)?),
-            Slot::Fwmark => self.fwmark = Some(read_mark(word)?),
-            Slot::Priority => self.priority = Some(read_number(word)?),
-            Slot::Action => self.action = Some(read_lookup(word)?),
+            Slot::Destination => put(&mut self.destination, read_target(before, word)),
+            Slot::Via => put(&mut self.via, read_addr(word)),
+            Slot::Dev => put(&mut self.dev, read_dev(word)),
+            Slot::Table => put(&mut self.table, read_table(word)),
+            Slot::Proto => put(&mut self.proto, read_protocol(word)),
+            Slot::Scope => put(&mut self.scope, read_scope(word)),
+            Slot::Src => put(&mut self.src, read_addr(word)),
+            Slot::Metric => put(&mut self.metric, read_number(word)),
+            Slot::Range => put(&mut self.range, read_range(before, word)),
+            Slot::Tables => put(&mut self.tables, read_tables(word)),
+            Slot::OfKind => put(&mut self.of_kind, read_kind(word)),
+            Slot::Address => put(&mut self.address, read_addr(word)),
+            Slot::Source => put(&mut self.source, read_addr(word)),
+            Slot::Iif => put(&mut self.iif, read_dev(word)),
+            Slot::Mark => put(&mut self.mark, read_number(word)),
+            Slot::Inverted => {
+                self.inverted = true;
+                Ok(())
+            }
+            Slot::From => put(&mut self.from, read_net(word)),
+            Slot::To => put(&mut self.to, read_net(word)),
+            Slot::Fwmark => put(&mut self.fwmark, read_mark(word)),
+            Slot::Priority => put(&mut self.priority, read_number(word)),
+            Slot::Action => put(&mut self.action, read_lookup(word)),
         }
-        Ok(())
     }
 }
 
