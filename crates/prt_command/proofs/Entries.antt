@@ -2,9 +2,9 @@
 use Rattle.std.proofs.Common.{◌≡◌, Bool, true, false, List, [], ◌∷◌, ◌++◌, Option, Some, None, Result, Ok, Err, IfOk, IfErr, map, option_map, bytes_eq, refl, ◌∙◌, ap}
 use Rattle.std.specs.Prelude.{find, if◌then◌else◌}
 use Rattle.prt_addr.specs.Word.{Word, is_one_of}
-use Rattle.prt_command.specs.Grammar.{Entry, LineKind, Scanned, before, is_to, one_more, behind, item_by, items_of, plain_from, plain_item, and_items, word_in, word_item}
+use Rattle.prt_command.specs.Grammar.{Entry, LineKind, Scanned, prefix_word, is_to, one_more, behind, item_by, items_of, plain_from, plain_item, and_items, word_in, word_item}
 use Rattle.prt_command.specs.Items.{has}
-use Rattle.prt_command.specs.Values.{word_before, kind_in, kinds_of_route}
+use Rattle.prt_command.specs.Values.{every_kind, kind_of, spelling}
 use Rattle.prt_command.specs.declared.item.Items.{Items}
 use Rattle.prt_command.specs.declared.item.ItemWord.{ItemWord}
 use Rattle.prt_command.specs.declared.item.Slot.{Slot}
@@ -21,8 +21,8 @@ find-map f p [] = refl
 find-map f p (x ∷ xs) = first_mapped f p x xs (p (f x)) (find-map f p xs)
 
 -- a word before a destination is the kind that it names
-pub kinds_before : (w : Word) → before Destination w ≡ option_map befores.Kind (kind_in kinds_of_route w)
-kinds_before w = find-map befores.Kind (λ b. bytes_eq (word_before b) w) kinds_of_route
+pub kinds_before : (w : Word) → prefix_word Destination w ≡ option_map befores.Kind (kind_of w)
+kinds_before w = find-map befores.Kind (λ b. bytes_eq (spelling b) w) every_kind
 
 -- ---- two lists of entries
 

@@ -64,7 +64,7 @@ goes_on line ws xs taken given (more w own rest item others i are) once =
 pub only : (line : LineKind) (given : Items) (ws : List Word) (taken : List Item) → Good line given ws taken → items_of line given ws ≡ Ok (with_all taken given)
 only line given ws taken good = ap (items_of line given) (sym (append-nil ws)) ∙ goes_on line ws [] taken given good.spelled good.once
 
-fault_step : (line : LineKind) (given : Items) (e : Refusal) (w : Word) (ws : List Word) → ((n : ℕ) (k : Items) → items_behind line n k ws ≡ Err e → n ≤ length ws → FirstFault line (drop n ws) k e) → (r : Scanned) → item_or_fault line given w ws ≡ r → and_items line given r ws ≡ Err e → FirstFault line (w ∷ ws) given e
+fault_step : (line : LineKind) (given : Items) (e : Refusal) (w : Word) (ws : List Word) → ((n : ℕ) (k : Items) → items_behind line n k ws ≡ Err e → n ≤ length ws → FirstFault line k (drop n ws) e) → (r : Scanned) → item_or_fault line given w ws ≡ r → and_items line given r ws ≡ Err e → FirstFault line given (w ∷ ws) e
 fault_step line given e w ws rec (Err f) read h = record { front = []; taken = []; w = w; rest = ws; splits = refl; good = record { spelled = none; once = tt }; first = read ∙ ap (λ x. Err x) (ap (or_refusal e) h) }
 fault_step line given e w ws rec (Ok t) read h =
     let i = is_read line given w ws t read in
@@ -79,13 +79,13 @@ fault_step line given e w ws rec (Ok t) read h =
       first = d.first;
     }
 
-pub fault : (line : LineKind) (ws : List Word) (n : ℕ) (given : Items) (e : Refusal) → items_behind line n given ws ≡ Err e → n ≤ length ws → FirstFault line (drop n ws) given e
+pub fault : (line : LineKind) (ws : List Word) (n : ℕ) (given : Items) (e : Refusal) → items_behind line n given ws ≡ Err e → n ≤ length ws → FirstFault line given (drop n ws) e
 fault line [] zero given e h l = absurd cc
 fault line [] (suc n) given e h l = absurd (omega (arith, l))
 fault line (w ∷ ws) zero given e h l = fault_step line given e w ws (λ n k. fault line ws n k e) (item_or_fault line given w ws) refl h
 fault line (w ∷ ws) (suc n) given e h l = fault line ws n given e h (omega (arith, l))
 
-pub fault_only : (line : LineKind) (given : Items) (ws : List Word) (e : Refusal) → FirstFault line ws given e → items_of line given ws ≡ Err e
+pub fault_only : (line : LineKind) (given : Items) (ws : List Word) (e : Refusal) → FirstFault line given ws e → items_of line given ws ≡ Err e
 fault_only line given ws e d =
     ap (items_of line given) d.splits ∙ goes_on line d.front (d.w ∷ d.rest) d.taken given d.good.spelled d.good.once
     ∙ ap (λ r. and_items line (with_all d.taken given) r d.rest) d.first
@@ -131,5 +131,5 @@ not_longer line given front ahead taken others w rest behind e (more w1 own1 res
     let l2 = length-append own2 rest2 in
     omega (arith, i, l1, l2, len)
 
-pub longest : (line : LineKind) (given : Items) (ws ahead behind : List Word) (taken : List Item) (e : Refusal) → (first : FirstFault line ws given e) → Good line given ahead taken → ws ≡ ahead ++ behind → length ahead ≤ length first.front
+pub longest : (line : LineKind) (given : Items) (ws ahead behind : List Word) (taken : List Item) (e : Refusal) → (first : FirstFault line given ws e) → Good line given ahead taken → ws ≡ ahead ++ behind → length ahead ≤ length first.front
 longest line given ws ahead behind taken e d good s = not_longer line given d.front ahead d.taken taken d.w d.rest behind e d.good.spelled d.good.once d.first good.spelled good.once (sym d.splits ∙ s)

@@ -4,24 +4,23 @@ use Rattle.prt_addr.specs.Word.{Word, is_one_of}
 use Rattle.prt_addr.specs.declared.refusal.Refusal.{Refusal}
 use Rattle.prt_addr.specs.declared.refusal.Refusal.TheVariants.{UnknownWord, MissingValue, Repeated}
 use Rattle.prt_rule.specs.declared.rule.Action as rule
-use Rattle.prt_command.specs.Items as items
-use Rattle.prt_command.specs.Items.{Item, has, with_item, with_all}
+use Rattle.prt_command.specs.Items.{Item, Value, has, with_item, with_all}
 use Rattle.prt_command.specs.Then.{◌>>=◌}
-use Rattle.prt_command.specs.Values.{before_in, value_of, words_before}
+use Rattle.prt_command.specs.Values.{prefix_word_in, value_of, prefix_words}
 use Rattle.prt_command.specs.declared.item.Items.{Items}
 use Rattle.prt_command.specs.declared.item.ItemWord.{ItemWord}
-use Rattle.prt_command.specs.declared.item.ItemWord.TheVariants.{Value, Not, Act}
+use Rattle.prt_command.specs.declared.item.ItemWord.TheVariants.{Keyword, Not, Act}
 use Rattle.prt_command.specs.declared.item.PrefixWord.{PrefixWord}
 use Rattle.prt_command.specs.declared.item.Slot.{Slot}
 use Rattle.prt_command.specs.declared.item.Slot.TheVariants.{Inverted, Action}
 
 -- ---- a kind of line
 
--- words, and what each of them begins
+-- the spellings of a word, and what it begins
 abbrev pub Entry : Type 0
 Entry = List Word × ItemWord
 
--- The items of a kind of line: those that begin with a word of their own, and the one that needs none: [to] [word before it] prefix or address.
+-- The items of a kind of line: those with a word of their own, and at most one without: [to] [word before its prefix] prefix, or [to] address.
 pub record LineKind : Type 0 where
   pub entries : List Entry
   pub plain : Option Slot
@@ -31,27 +30,27 @@ abbrev pub word_in : List Entry → Word → Option ItemWord
 word_in [] w = None
 word_in (entry ∷ entries) w = if is_one_of w entry.0 then Some entry.1 else word_in entries w
 
--- the word that may stand before the prefix of this item
-abbrev pub before : Slot → Word → Option PrefixWord
-before slot w = before_in (words_before slot) w
+-- the word that w is, if one such may stand before the prefix of this item
+abbrev pub prefix_word : Slot → Word → Option PrefixWord
+prefix_word slot w = prefix_word_in (prefix_words slot) w
 
 abbrev pub is_to : Word → Bool
 is_to w = bytes_eq (codes "to") w
 
 -- ---- how an item is spelled
 
-abbrev pub item : (slot : Slot) → items.Value slot → Item
+abbrev pub item : (slot : Slot) → Value slot → Item
 item slot x = record { slot = slot; value = x }
 
 -- From the word w on, with the words own behind it, stands an item that needs no word of its own: its value, or a word before its prefix and the prefix.
 pub data IsPlain (slot : Slot) (w : Word) : List Word → Item → Type 0 where
-  value_alone : (x : items.Value slot) → before slot w ≡ None → value_of slot None w ≡ Ok x → IsPlain slot w [] (item slot x)
-  value_behind : (v : Word) (b : PrefixWord) (x : items.Value slot) → before slot w ≡ Some b → value_of slot (Some b) v ≡ Ok x → IsPlain slot w (v ∷ []) (item slot x)
+  value_alone : (x : Value slot) → prefix_word slot w ≡ None → value_of slot None w ≡ Ok x → IsPlain slot w [] (item slot x)
+  value_behind : (v : Word) (b : PrefixWord) (x : Value slot) → prefix_word slot w ≡ Some b → value_of slot (Some b) v ≡ Ok x → IsPlain slot w (v ∷ []) (item slot x)
 
 -- The word w, with the words own behind it, is an item of the line, and this is what it says.
 pub data IsItem (line : LineKind) (w : Word) : List Word → Item → Type 0 where
   -- an item's word and a value, whatever word that is
-  word_and_value : (v : Word) (slot : Slot) (x : items.Value slot) → word_in line.entries w ≡ Some (Value slot) → value_of slot None v ≡ Ok x → IsItem line w (v ∷ []) (item slot x)
+  word_and_value : (v : Word) (slot : Slot) (x : Value slot) → word_in line.entries w ≡ Some (Keyword slot) → value_of slot None v ≡ Ok x → IsItem line w (v ∷ []) (item slot x)
   -- `not`
   not_word : word_in line.entries w ≡ Some Not → IsItem line w [] (item Inverted tt)
   -- a word that alone says what a rule does
@@ -82,41 +81,42 @@ pub record Good (line : LineKind) (given : Items) (ws : List Word) (taken : List
 abbrev pub Scanned : Type 0
 Scanned = Result (Item × ℕ) Refusal
 
--- the value's word is the last of the item's
-abbrev pub item_at : (slot : Slot) → Result (items.Value slot) Refusal → Scanned
-item_at slot read = read >>= λ x. Ok (item slot x, 0)
+-- an item whose value was read, behind which no word is its own
+abbrev pub item_ends : (slot : Slot) → Result (Value slot) Refusal → Scanned
+item_ends slot read = read >>= λ x. Ok (item slot x, 0)
 
+-- one word more is the item's own
 abbrev pub one_more : Scanned → Scanned
-one_more taken = taken >>= λ t. Ok (t.0, suc t.1)
+one_more scanned = scanned >>= λ t. Ok (t.0, suc t.1)
 
--- Behind a word that something must follow: if nothing does, that is the fault; else, if the item was given before, that; else what follows is read.
+-- Behind a word that something must follow: MissingValue at the end of the line, else Repeated if the item was given, else what follows is read.
 abbrev pub behind : Bool → (Word → List Word → Scanned) → List Word → Scanned
-behind given reads [] = Err MissingValue
+behind repeated reads [] = Err MissingValue
 behind true reads (v ∷ vs) = Err Repeated
 behind false reads (v ∷ vs) = one_more (reads v vs)
 
 -- behind the item's word, or behind the word before its prefix
 abbrev pub value_item : Slot → Option PrefixWord → Items → List Word → Scanned
-value_item slot b given ws = behind (has slot given) (λ v vs. item_at slot (value_of slot b v)) ws
+value_item slot b given ws = behind (has slot given) (λ v vs. item_ends slot (value_of slot b v)) ws
 
 -- an item that its word says alone
-abbrev pub lone_item : (slot : Slot) → items.Value slot → Items → Scanned
-lone_item slot x given = if has slot given then Err Repeated else item_at slot (Ok x)
+abbrev pub lone_item : (slot : Slot) → Value slot → Items → Scanned
+lone_item slot x given = if has slot given then Err Repeated else item_ends slot (Ok x)
 
 -- the item that a word begins, before the words ws
 abbrev pub word_item : ItemWord → Items → List Word → Scanned
-word_item (Value slot) given ws = value_item slot None given ws
+word_item (Keyword slot) given ws = value_item slot None given ws
 word_item Not given ws = lone_item Inverted tt given
 word_item (Act action) given ws = lone_item Action action given
 
--- by the word before a prefix that w is
+-- the item at w, by the word before a prefix that w is
 abbrev pub plain_by : Slot → Option PrefixWord → Items → Word → List Word → Scanned
 plain_by slot (Some b) given w ws = value_item slot (Some b) given ws
-plain_by slot None given w ws = if has slot given then Err UnknownWord else item_at slot (value_of slot None w)
+plain_by slot None given w ws = if has slot given then Err UnknownWord else item_ends slot (value_of slot None w)
 
 -- from the word behind `to` on, or from the first where that isn't `to`
 abbrev pub plain_from : Slot → Items → Word → List Word → Scanned
-plain_from slot given w ws = plain_by slot (before slot w) given w ws
+plain_from slot given w ws = plain_by slot (prefix_word slot w) given w ws
 
 -- the item that needs no word of its own
 abbrev pub plain_item : Option Slot → Items → Word → List Word → Scanned
@@ -132,8 +132,8 @@ item_by None plain given w ws = plain_item plain given w ws
 abbrev pub item_or_fault : LineKind → Items → Word → List Word → Scanned
 item_or_fault line given w ws = item_by (word_in line.entries w) line.plain given w ws
 
--- Behind good words stands an item with this fault; no good words reach further (the law `first_faults`).
-pub record FirstFault (line : LineKind) (ws : List Word) (given : Items) (fault : Refusal) : Type 0 where
+-- Behind good words stands an item with this fault; there is one such place alone (the law `first_faults`).
+pub record FirstFault (line : LineKind) (given : Items) (ws : List Word) (fault : Refusal) : Type 0 where
   pub front : List Word
   pub taken : List Item
   pub w : Word

@@ -123,7 +123,7 @@ with_value Action action items = record items { action = Some action }
 abbrev pub with_item : Item → Items → Items
 with_item item items = with_value item.slot item.value items
 
--- these items, with more from the left on
+-- these items, with more put in from left to right
 abbrev pub with_all : List Item → Items → Items
 with_all [] items = items
 with_all (item ∷ more) items = with_all more (with_item item items)

@@ -7,7 +7,7 @@ use Rattle.prt_addr.specs.declared.refusal.Refusal.{Refusal}
 use Rattle.prt_addr.specs.declared.refusal.Refusal.TheVariants.{LineTooLong, NotAscii, UnknownObject, UnknownVerb}
 use Rattle.prt_command.specs.Grammar.{FirstFault, Good, LineKind, items_of}
 use Rattle.prt_command.specs.Items.{Item, no_items, with_all}
-use Rattle.prt_command.specs.Line.{no_line_items, route_edit_items, route_get_items, route_list_items, rule_edit_items}
+use Rattle.prt_command.specs.Line.{bare_line, route_edit_line, route_get_line, route_list_line, rule_edit_line}
 use Rattle.prt_command.specs.Requests.{Asks, refuse_if, route_request, route_del_request, route_flush_request, route_show_request, route_get_request, rule_add_request, rule_del_request}
 use Rattle.prt_command.specs.Then.{◌>>=◌}
 use Rattle.prt_command.specs.declared.request.Command.TheVariants as commands
@@ -21,7 +21,7 @@ use Rattle.prt_command.specs.declared.verb.ObjectVerb.TheVariants.{RouteAdd, Rou
 
 -- ---- words
 
--- what stands before the first `#`, wherever that is
+-- what stands before the first `#`, also inside a word
 abbrev pub before_comment : List ℕ → List ℕ
 before_comment line = before_first (λ b. b == 35) line
 
@@ -39,9 +39,9 @@ is_text_byte b = b == 9 || b == 13 || (nat_le 32 b && nat_le b 126)
 
 -- ---- objects and verbs
 
--- A verb of an object: its words, its items, and what they ask for.
-pub record Verb : Type 0 where
-  pub words : List Word
+-- What a verb means: the words that spell it, the items of its line, and what they ask for.
+pub record Meaning : Type 0 where
+  pub spellings : List Word
   pub line : LineKind
   pub asks : Asks
 
@@ -54,18 +54,18 @@ del_words = codes "del" ∷ codes "delete" ∷ codes "d" ∷ []
 abbrev pub show_words : List Word
 show_words = codes "show" ∷ codes "list" ∷ codes "lst" ∷ codes "ls" ∷ []
 
-abbrev pub meaning_of : ObjectVerb → Verb
-meaning_of RouteAdd = record { words = add_words; line = route_edit_items; asks = route_request commands.RouteAdd }
-meaning_of RouteChange = record { words = codes "change" ∷ codes "chg" ∷ []; line = route_edit_items; asks = route_request commands.RouteChange }
-meaning_of RouteReplace = record { words = codes "replace" ∷ []; line = route_edit_items; asks = route_request commands.RouteReplace }
-meaning_of RouteDel = record { words = del_words; line = route_edit_items; asks = route_del_request }
-meaning_of RouteFlush = record { words = codes "flush" ∷ []; line = route_list_items; asks = route_flush_request }
-meaning_of RouteShow = record { words = show_words; line = route_list_items; asks = route_show_request }
-meaning_of RouteGet = record { words = codes "get" ∷ []; line = route_get_items; asks = route_get_request }
-meaning_of RuleAdd = record { words = add_words; line = rule_edit_items; asks = rule_add_request }
-meaning_of RuleDel = record { words = del_words; line = rule_edit_items; asks = rule_del_request }
-meaning_of RuleFlush = record { words = codes "flush" ∷ []; line = no_line_items; asks = λ _. Ok (requests.Command commands.RuleFlush) }
-meaning_of RuleShow = record { words = show_words; line = no_line_items; asks = λ _. Ok (requests.Query queries.RuleShow) }
+abbrev pub meaning_of : ObjectVerb → Meaning
+meaning_of RouteAdd = record { spellings = add_words; line = route_edit_line; asks = route_request commands.RouteAdd }
+meaning_of RouteChange = record { spellings = codes "change" ∷ codes "chg" ∷ []; line = route_edit_line; asks = route_request commands.RouteChange }
+meaning_of RouteReplace = record { spellings = codes "replace" ∷ []; line = route_edit_line; asks = route_request commands.RouteReplace }
+meaning_of RouteDel = record { spellings = del_words; line = route_edit_line; asks = route_del_request }
+meaning_of RouteFlush = record { spellings = codes "flush" ∷ []; line = route_list_line; asks = route_flush_request }
+meaning_of RouteShow = record { spellings = show_words; line = route_list_line; asks = route_show_request }
+meaning_of RouteGet = record { spellings = codes "get" ∷ []; line = route_get_line; asks = route_get_request }
+meaning_of RuleAdd = record { spellings = add_words; line = rule_edit_line; asks = rule_add_request }
+meaning_of RuleDel = record { spellings = del_words; line = rule_edit_line; asks = rule_del_request }
+meaning_of RuleFlush = record { spellings = codes "flush" ∷ []; line = bare_line; asks = λ _. Ok (requests.Command commands.RuleFlush) }
+meaning_of RuleShow = record { spellings = show_words; line = bare_line; asks = λ _. Ok (requests.Query queries.RuleShow) }
 
 abbrev pub line_of : ObjectVerb → LineKind
 line_of verb = (meaning_of verb).line
@@ -88,25 +88,25 @@ every_object = Route ∷ Rule ∷ []
 
 -- the verb of this object that the word spells
 abbrev pub verb_of : Object → Word → Option ObjectVerb
-verb_of object w = find (λ verb. is_one_of w (meaning_of verb).words) (verbs_of object)
+verb_of object w = find (λ verb. is_one_of w (meaning_of verb).spellings) (verbs_of object)
 
 -- the object that the word spells
 abbrev pub object_of : Word → Option Object
 object_of w = find (λ object. is_one_of w (object_words object)) every_object
 
 -- what the items of a verb ask for, or their first fault
-abbrev pub items_request : Verb → List Word → Result Request Refusal
+abbrev pub items_request : Meaning → List Word → Result Request Refusal
 items_request verb ws = items_of verb.line no_items ws >>= verb.asks
 
 -- The words are whole items of the verb, each at most once, which together ask for this.
-pub record Spells (verb : Verb) (ws : List Word) (request : Request) : Type 0 where
+pub record Spells (verb : Meaning) (ws : List Word) (request : Request) : Type 0 where
   pub taken : List Item
   pub good : Good verb.line no_items ws taken
   pub asks : verb.asks (with_all taken no_items) ≡ Ok request
 
--- The first fault: of an item behind the longest good prefix, or, where all words are good, of what the items say together.
-pub data HasFault (verb : Verb) (ws : List Word) (fault : Refusal) : Type 0 where
-  of_item : FirstFault verb.line ws no_items fault → HasFault verb ws fault
+-- The first fault: of the item behind the longest run of good items, or, where all words are good, of what the items say together.
+pub data HasFault (verb : Meaning) (ws : List Word) (fault : Refusal) : Type 0 where
+  of_item : FirstFault verb.line no_items ws fault → HasFault verb ws fault
   of_items : (taken : List Item) → Good verb.line no_items ws taken → verb.asks (with_all taken no_items) ≡ Err fault → HasFault verb ws fault
 
 -- the verb and its items
@@ -119,7 +119,7 @@ abbrev pub object_request : List Word → Result Request Refusal
 object_request [] = Err UnknownObject
 object_request (w ∷ ws) = ok_or (object_of w) UnknownObject >>= λ object. verb_request object ws
 
--- the words without this one in front
+-- the words, without this one if it stands in front
 abbrev pub skip_word : Word → List Word → List Word
 skip_word x [] = []
 skip_word x (w ∷ ws) = if bytes_eq x w then ws else w ∷ ws

@@ -35,6 +35,7 @@ abbrev pub refuse_if : Bool → Refusal → Result (Unit {0}) Refusal
 refuse_if true refusal = Err refusal
 refuse_if false refusal = Ok tt
 
+-- what good items ask for together, or their fault
 abbrev pub Asks : Type 0
 Asks = Items → Result Request Refusal
 
@@ -79,7 +80,7 @@ new_route items = ok_or items.destination MissingDestination >>= λ target. rout
 
 -- what add, change and replace ask for
 abbrev pub route_request : (Route → Command) → Asks
-route_request verb items = new_route items >>= λ route. Ok (requests.Command (verb route))
+route_request command items = new_route items >>= λ route. Ok (requests.Command (command route))
 
 -- ---- routes that are there
 
@@ -116,6 +117,7 @@ selector_of items = record {
   dev = items.dev;
 }
 
+-- all items of show and flush
 abbrev pub route_list_slots : List Slot
 route_list_slots = slots.Range ∷ slots.Tables ∷ slots.OfKind ∷ slots.Proto ∷ slots.Scope ∷ slots.Dev ∷ []
 
@@ -170,6 +172,7 @@ rule_choice items = record {
   action = items.action;
 }
 
+-- all items of rule add and del
 abbrev pub rule_slots : List Slot
 rule_slots = slots.Inverted ∷ slots.From ∷ slots.To ∷ slots.Iif ∷ slots.Fwmark ∷ slots.Priority ∷ slots.Action ∷ []
 

@@ -31,28 +31,28 @@ use Rattle.prt_command.specs.declared.item.WhichTables.TheVariants.{One, All}
 
 -- ---- words before a prefix
 
-abbrev pub kinds_of_route : List Kind
-kinds_of_route = kinds.Unicast ∷ kinds.Blackhole ∷ kinds.Unreachable ∷ kinds.Prohibit ∷ kinds.Throw ∷ []
+abbrev pub every_kind : List Kind
+every_kind = kinds.Unicast ∷ kinds.Blackhole ∷ kinds.Unreachable ∷ kinds.Prohibit ∷ kinds.Throw ∷ []
 
--- the kind among these that the word is
-abbrev pub kind_in : List Kind → Word → Option Kind
-kind_in kinds w = find (λ kind. bytes_eq (kind_name kind) w) kinds
+-- the kind that the word is
+abbrev pub kind_of : Word → Option Kind
+kind_of w = find (λ kind. bytes_eq (kind_name kind) w) every_kind
 
-abbrev pub word_before : PrefixWord → Word
-word_before (before.Kind kind) = kind_name kind
-word_before before.Root = codes "root"
-word_before before.Match = codes "match"
-word_before before.Exact = codes "exact"
+abbrev pub spelling : PrefixWord → Word
+spelling (before.Kind kind) = kind_name kind
+spelling before.Root = codes "root"
+spelling before.Match = codes "match"
+spelling before.Exact = codes "exact"
 
 -- the words that may stand before the prefix of each item
-abbrev pub words_before : Slot → List PrefixWord
-words_before Destination = map before.Kind kinds_of_route
-words_before Range = before.Root ∷ before.Match ∷ before.Exact ∷ []
-words_before slot = []
+abbrev pub prefix_words : Slot → List PrefixWord
+prefix_words Destination = map before.Kind every_kind
+prefix_words Range = before.Root ∷ before.Match ∷ before.Exact ∷ []
+prefix_words slot = []
 
 -- the one among these that the word is
-abbrev pub before_in : List PrefixWord → Word → Option PrefixWord
-before_in befores w = find (λ b. bytes_eq (word_before b) w) befores
+abbrev pub prefix_word_in : List PrefixWord → Word → Option PrefixWord
+prefix_word_in befores w = find (λ b. bytes_eq (spelling b) w) befores
 
 -- ---- values
 
@@ -64,7 +64,7 @@ kind_before other = None
 abbrev pub target : Option PrefixWord → Word → Result Target Refusal
 target b w = prefix w >>= λ prefix. Ok (record { kind = kind_before b; prefix = prefix })
 
--- the prefixes within this one, those that it is within, or it alone, which is meant where no word stands before it
+-- `root`: the prefixes within the block; `match`: those that it is within; `exact` or no word: the block alone
 abbrev pub range_by : Option PrefixWord → Block → ranges.Range
 range_by (Some before.Root) block = Root block
 range_by (Some before.Match) block = Covering block
@@ -82,7 +82,7 @@ which_tables w = if bytes_eq (codes "all") w then Ok All else ok_or (table w) Ba
 abbrev pub lookup : Word → Result rule.Action Refusal
 lookup w = ok_or (table w) BadTable >>= λ table. Ok (actions.Lookup table)
 
--- how the value of each item is read, behind the word that stands before its prefix if one does; `not` has nothing to read
+-- the value that a word spells, behind the word before its prefix if there is one; `not` has no value
 abbrev pub value_of : (slot : Slot) → Option PrefixWord → Word → Result (Value slot) Refusal
 value_of Destination b w = target b w
 value_of Via b w = ok_or (address w) BadAddress
@@ -94,7 +94,7 @@ value_of Src b w = ok_or (address w) BadAddress
 value_of Metric b w = ok_or (number w) BadNumber
 value_of Range b w = range b w
 value_of Tables b w = which_tables w
-value_of OfKind b w = ok_or (kind_in kinds_of_route w) UnknownWord
+value_of OfKind b w = ok_or (kind_of w) UnknownWord
 value_of Address b w = ok_or (address w) BadAddress
 value_of Source b w = ok_or (address w) BadAddress
 value_of Iif b w = ok_or (device w) BadName

@@ -1,7 +1,7 @@
 ghost use Rattle.std.specs.Prelude.{◌≡◌};
-ghost use Rattle.prt_command.specs.Grammar.{before};
+ghost use Rattle.prt_command.specs.Grammar.{prefix_word};
 ghost use Rattle.prt_command.specs.Items.{has, has_any, no_items};
-ghost use Rattle.prt_command.specs.Values.{kind_in, kinds_of_route};
+ghost use Rattle.prt_command.specs.Values.{kind_of};
 
 use prt_route::{Addr, Dev, Kind, Prefix, Range};
 use prt_rule::{Action, Mark};
@@ -57,7 +57,7 @@ pub enum Slot {
 #[derive(Clone, Copy, Debug, PartialEq, Eq)]
 pub enum ItemWord {
     /// An item whose value is the next word.
-    Value(Slot),
+    Keyword(Slot),
     /// That a rule is inverted.
     Not,
     /// What a rule does, which is said by the word alone.
@@ -80,7 +80,7 @@ pub enum PrefixWord {
 impl Slot {
     /// What the word says, where a word may stand before the prefix of this item.
     pub(crate) fn prefix_word(self, word: &[u8]) -> Option<PrefixWord>
-        ensures { result ≡ before self word.now }
+        ensures { result ≡ prefix_word self word.now }
     {
         match self {
             Slot::Destination => kind_word(word),
@@ -92,7 +92,7 @@ impl Slot {
 
 /// The kind of a route that the word is.
 pub(crate) fn kind_named(word: &[u8]) -> Option<Kind>
-    ensures { result ≡ kind_in kinds_of_route word.now }
+    ensures { result ≡ kind_of word.now }
 {
     match word {
         b"unicast" => Some(Kind::Unicast),
@@ -107,7 +107,7 @@ pub(crate) fn kind_named(word: &[u8]) -> Option<Kind>
 /// The word before a destination.
 #[tactic(auto, using(crate::proofs::Entries::kinds_before))]
 fn kind_word(word: &[u8]) -> Option<PrefixWord>
-    ensures { result ≡ before Slot.Destination word.now }
+    ensures { result ≡ prefix_word Slot.Destination word.now }
 {
     match kind_named(word) {
         Some(kind) => Some(PrefixWord::Kind(kind)),
@@ -117,7 +117,7 @@ fn kind_word(word: &[u8]) -> Option<PrefixWord>
 
 /// The word before a range.
 fn range_word(word: &[u8]) -> Option<PrefixWord>
-    ensures { result ≡ before Slot.Range word.now }
+    ensures { result ≡ prefix_word Slot.Range word.now }
 {
     match word {
         b"root" => Some(PrefixWord::Root),

@@ -4,27 +4,27 @@ ghost use Rattle.prt_addr.specs.Word.{Word};
 ghost use Rattle.prt_addr.specs.declared.refusal.Refusal.{Refusal};
 ghost use Rattle.prt_command.specs.Grammar.{EachOnce, FirstFault, Good, LineKind, items_of};
 ghost use Rattle.prt_command.specs.Items.{Item, with_all};
-ghost use Rattle.prt_command.specs.Reading.{HasFault, Spells, Verb, items_request};
+ghost use Rattle.prt_command.specs.Reading.{HasFault, Meaning, Spells, items_request};
 ghost use Rattle.prt_command.specs.declared.item.Items.{Items};
 ghost use Rattle.prt_command.specs.declared.request.Request.{Request};
 
 /// Words give items exactly where they are whole items, each at most once; otherwise the fault is that of what stands
-/// behind the longest good prefix.
+/// behind the longest run of good items.
 pub fn first_faults()
     ensures found { (line : LineKind) (given items : Items) (ws : List Word) → items_of line given ws ≡ Ok items →
         (taken : List Item) × Good line given ws taken × (items ≡ with_all taken given) }
     ensures only { (line : LineKind) (given : Items) (ws : List Word) (taken : List Item) → Good line given ws taken →
         items_of line given ws ≡ Ok (with_all taken given) }
-    ensures fault { (line : LineKind) (given : Items) (ws : List Word) (e : Refusal) → items_of line given ws ≡ Err e → FirstFault line ws given e }
-    ensures fault_only { (line : LineKind) (given : Items) (ws : List Word) (e : Refusal) → FirstFault line ws given e → items_of line given ws ≡ Err e }
+    ensures fault { (line : LineKind) (given : Items) (ws : List Word) (e : Refusal) → items_of line given ws ≡ Err e → FirstFault line given ws e }
+    ensures fault_only { (line : LineKind) (given : Items) (ws : List Word) (e : Refusal) → FirstFault line given ws e → items_of line given ws ≡ Err e }
     ensures longest { (line : LineKind) (given : Items) (ws ahead behind : List Word) (taken : List Item) (e : Refusal) →
-        (first : FirstFault line ws given e) → Good line given ahead taken → ws ≡ ahead ++ behind → length ahead ≤ length first.front }
+        (first : FirstFault line given ws e) → Good line given ahead taken → ws ≡ ahead ++ behind → length ahead ≤ length first.front }
 {}
 
 /// The words behind a verb give the request that they spell, or their first fault, and one of both always.
 pub fn readings()
-    ensures request { (verb : Verb) (ws : List Word) (request : Request) → (items_request verb ws ≡ Ok request) ↔ Spells verb ws request }
-    ensures fault { (verb : Verb) (ws : List Word) (e : Refusal) → (items_request verb ws ≡ Err e) ↔ HasFault verb ws e }
+    ensures request { (verb : Meaning) (ws : List Word) (request : Request) → (items_request verb ws ≡ Ok request) ↔ Spells verb ws request }
+    ensures fault { (verb : Meaning) (ws : List Word) (e : Refusal) → (items_request verb ws ≡ Err e) ↔ HasFault verb ws e }
 {}
 
 /// The order of items doesn't matter: two neighbours that change places are as good, and together give the same.

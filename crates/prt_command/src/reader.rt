@@ -5,7 +5,7 @@ ghost use Rattle.prt_addr.specs.Word.{Word};
 ghost use Rattle.prt_addr.specs.declared.refusal.Refusal.TheVariants.{UnknownWord};
 ghost use Rattle.prt_command.specs.Grammar.{LineKind, Scanned, and_items, behind, items_of, one_more, plain_from, plain_item, value_item, word_item};
 ghost use Rattle.prt_command.specs.Reading.{items_request, line_of, meaning_of, words};
-ghost use Rattle.prt_command.specs.Values.{kind_before, kind_in, kinds_of_route, lookup, range, target, which_tables, with_read};
+ghost use Rattle.prt_command.specs.Values.{kind_before, kind_of, lookup, range, target, which_tables, with_read};
 
 use crate::item::kind_named;
 use crate::mark::read_mark;
@@ -77,7 +77,7 @@ fn read_tables(word: &[u8]) -> Result<WhichTables, Refusal>
 
 /// Reads a kind behind the word `type`.
 fn read_kind(word: &[u8]) -> Result<Kind, Refusal>
-    ensures { result ≡ ok_or (kind_in kinds_of_route word.now) UnknownWord }
+    ensures { result ≡ ok_or (kind_of word.now) UnknownWord }
 {
     kind_named(word).ok_or(Refusal::UnknownWord)
 }
@@ -210,7 +210,7 @@ fn read_begun<'a>(items: &mut Items, item: ItemWord, rest: &'a [u8]) -> Result<&
     ensures fault { IfErr result (λ e. word_item item items.old (words rest.now) ≡ Err e) }
 {
     match item {
-        ItemWord::Value(slot) => read_value(items, slot, None, rest),
+        ItemWord::Keyword(slot) => read_value(items, slot, None, rest),
         ItemWord::Not if items.inverted => Err(Refusal::Repeated),
         ItemWord::Not => {
             items.inverted = true;

@@ -132,13 +132,13 @@ fn route_edit_word(word: &[u8]) -> Option<ItemWord>
     ensures { result ≡ word_in route_edit_words word.now }
 {
     match word {
-        b"via" => Some(ItemWord::Value(Slot::Via)),
-        b"dev" => Some(ItemWord::Value(Slot::Dev)),
-        b"table" => Some(ItemWord::Value(Slot::Table)),
-        b"proto" | b"protocol" => Some(ItemWord::Value(Slot::Proto)),
-        b"scope" => Some(ItemWord::Value(Slot::Scope)),
-        b"src" => Some(ItemWord::Value(Slot::Src)),
-        b"metric" | b"priority" | b"preference" => Some(ItemWord::Value(Slot::Metric)),
+        b"via" => Some(ItemWord::Keyword(Slot::Via)),
+        b"dev" => Some(ItemWord::Keyword(Slot::Dev)),
+        b"table" => Some(ItemWord::Keyword(Slot::Table)),
+        b"proto" | b"protocol" => Some(ItemWord::Keyword(Slot::Proto)),
+        b"scope" => Some(ItemWord::Keyword(Slot::Scope)),
+        b"src" => Some(ItemWord::Keyword(Slot::Src)),
+        b"metric" | b"priority" | b"preference" => Some(ItemWord::Keyword(Slot::Metric)),
         _ => None,
     }
 }
@@ -148,11 +148,11 @@ fn route_list_word(word: &[u8]) -> Option<ItemWord>
     ensures { result ≡ word_in route_list_words word.now }
 {
     match word {
-        b"table" => Some(ItemWord::Value(Slot::Tables)),
-        b"type" => Some(ItemWord::Value(Slot::OfKind)),
-        b"proto" | b"protocol" => Some(ItemWord::Value(Slot::Proto)),
-        b"scope" => Some(ItemWord::Value(Slot::Scope)),
-        b"dev" => Some(ItemWord::Value(Slot::Dev)),
+        b"table" => Some(ItemWord::Keyword(Slot::Tables)),
+        b"type" => Some(ItemWord::Keyword(Slot::OfKind)),
+        b"proto" | b"protocol" => Some(ItemWord::Keyword(Slot::Proto)),
+        b"scope" => Some(ItemWord::Keyword(Slot::Scope)),
+        b"dev" => Some(ItemWord::Keyword(Slot::Dev)),
         _ => None,
     }
 }
@@ -162,9 +162,9 @@ fn route_get_word(word: &[u8]) -> Option<ItemWord>
     ensures { result ≡ word_in route_get_words word.now }
 {
     match word {
-        b"from" => Some(ItemWord::Value(Slot::Source)),
-        b"iif" => Some(ItemWord::Value(Slot::Iif)),
-        b"mark" => Some(ItemWord::Value(Slot::Mark)),
+        b"from" => Some(ItemWord::Keyword(Slot::Source)),
+        b"iif" => Some(ItemWord::Keyword(Slot::Iif)),
+        b"mark" => Some(ItemWord::Keyword(Slot::Mark)),
         _ => None,
     }
 }
@@ -175,11 +175,11 @@ fn selector_word(word: &[u8]) -> Option<ItemWord>
 {
     match word {
         b"not" => Some(ItemWord::Not),
-        b"from" => Some(ItemWord::Value(Slot::From)),
-        b"to" => Some(ItemWord::Value(Slot::To)),
-        b"iif" | b"dev" => Some(ItemWord::Value(Slot::Iif)),
-        b"fwmark" => Some(ItemWord::Value(Slot::Fwmark)),
-        b"priority" | b"preference" | b"pref" | b"order" => Some(ItemWord::Value(Slot::Priority)),
+        b"from" => Some(ItemWord::Keyword(Slot::From)),
+        b"to" => Some(ItemWord::Keyword(Slot::To)),
+        b"iif" | b"dev" => Some(ItemWord::Keyword(Slot::Iif)),
+        b"fwmark" => Some(ItemWord::Keyword(Slot::Fwmark)),
+        b"priority" | b"preference" | b"pref" | b"order" => Some(ItemWord::Keyword(Slot::Priority)),
         _ => None,
     }
 }
@@ -189,7 +189,7 @@ fn action_word(word: &[u8]) -> Option<ItemWord>
     ensures { result ≡ word_in action_words word.now }
 {
     match word {
-        b"table" | b"lookup" => Some(ItemWord::Value(Slot::Action)),
+        b"table" | b"lookup" => Some(ItemWord::Keyword(Slot::Action)),
         b"blackhole" => Some(ItemWord::Act(Action::Blackhole)),
         b"unreachable" => Some(ItemWord::Act(Action::Unreachable)),
         b"prohibit" => Some(ItemWord::Act(Action::Prohibit)),

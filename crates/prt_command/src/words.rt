@@ -62,7 +62,11 @@ pub(crate) fn text_of(line: &[u8]) -> Option<&[u8]>
         return Some(line);
     }
     let text = before_comment(line);
-    if is_ascii_text(text) { Some(text) } else { None }
+    if is_ascii_text(text) {
+        Some(text)
+    } else {
+        None
+    }
 }
 
 /// Whether the word is this text.
