@@ -1,5 +1,5 @@
 -- Lists without repeats, and how long they get.
-use Rattle.std.proofs.Common.{◌≡◌, ℕ, ◌+◌, ◌≤◌, ◌<◌, Bool, true, false, not, ◌||◌, List, [], ◌∷◌, ◌++◌, length, refl, arith, cond}
+use Rattle.std.proofs.Common.{◌≡◌, ℕ, ◌+◌, ◌≤◌, ◌<◌, Bool, true, false, not, ◌||◌, List, [], ◌∷◌, ◌++◌, length, refl, ◌∙◌, arith, cond}
 use Rattle.std.specs.Prelude.{filter, ◌==◌}
 use Rattle.std.specs.List.{list_any, AllByRecursion as Each, IsDistinct}
 use Rattle.std.proofs.lemmas.Bool.Decides.{nat_tests}
@@ -7,10 +7,12 @@ use Rattle.std.proofs.lemmas.List.Sums.{count_by-le-length, length-filter}
 use Rattle.prt_route.specs.Route.{is_same_key, key_of}
 use Rattle.prt_route.specs.declared.route.Route.{Route}
 use Rattle.prt_rule.specs.Rule.{is_before}
+use Rattle.prt_rule.specs.Same.{is_same_rule}
 use Rattle.prt_rule.specs.declared.rule.Rule.{Rule}
-use Rattle.prt_version.specs.Change.{put_rule, without_key}
-use Rattle.prt_version.proofs.FirstBest.{each_filtered, each_implies}
+use Rattle.prt_version.specs.Change.{has_rule, put_rule, without_key}
+use Rattle.prt_version.proofs.FirstBest.{each_fails, each_filtered, each_implies}
 use Rattle.prt_version.proofs.Order.{each_put}
+use Rattle.prt_version.proofs.Sameness.{same_both_ways}
 
 distinct_kept : {X : Type 0} (same : X → X → Bool) (x : X) (xs : List X) (b : Bool) → Each (λ y. same x y ≡ false) xs → IsDistinct same xs → IsDistinct same (cond b (x ∷ xs) xs)
 unfolding IsDistinct
@@ -55,16 +57,31 @@ other_id new rule older = grind (arith, nat_tests)
 new_id : (new rule : Rule) → rule.id < new.id → (new.id == rule.id) ≡ false
 new_id new rule older = grind (arith, nat_tests)
 
-put_ids_by : (new rule : Rule) (rules : List Rule) (b : Bool) → Each (λ other. other.id < new.id) (rule ∷ rules) → IsDistinct (λ a b. a.id == b.id) (rule ∷ rules) → IsDistinct (λ a b. a.id == b.id) (put_rule new rules) → IsDistinct (λ a b. a.id == b.id) (cond b (new ∷ (rule ∷ rules)) (rule ∷ put_rule new rules))
+put_apart_by : (same : Rule → Rule → Bool) (new rule : Rule) (rules : List Rule) (b : Bool) → Each (λ other. same new other ≡ false) (rule ∷ rules) → same rule new ≡ false → IsDistinct same (rule ∷ rules) → IsDistinct same (put_rule new rules) → IsDistinct same (cond b (new ∷ (rule ∷ rules)) (rule ∷ put_rule new rules))
 unfolding IsDistinct
-put_ids_by new rule rules true older h placed = (each_implies (λ other. other.id < new.id) (λ other. (new.id == other.id) ≡ false) (λ other. new_id new other) (rule ∷ rules) older, h)
-put_ids_by new rule rules false older h placed = (each_put (λ other. (rule.id == other.id) ≡ false) new rules (other_id new rule older.0) h.0, placed)
+put_apart_by same new rule rules true ahead behind h placed = (ahead, h)
+put_apart_by same new rule rules false ahead behind h placed = (each_put (λ other. same rule other ≡ false) new rules behind h.0, placed)
+
+-- a new rule that is the same as none of the others, whichever of the two comes first
+put_apart : (same : Rule → Rule → Bool) (new : Rule) (rules : List Rule) → Each (λ other. same new other ≡ false) rules → Each (λ other. same other new ≡ false) rules → IsDistinct same rules → IsDistinct same (put_rule new rules)
+unfolding IsDistinct
+put_apart same new [] ahead behind h = (tt, tt)
+put_apart same new (rule ∷ rules) ahead behind h = put_apart_by same new rule rules (is_before new rule) ahead behind.0 h (put_apart same new rules ahead.1 behind.1 h.1)
 
 -- a new rule of the highest id
 pub put_ids : (new : Rule) (rules : List Rule) → Each (λ rule. rule.id < new.id) rules → IsDistinct (λ a b. a.id == b.id) rules → IsDistinct (λ a b. a.id == b.id) (put_rule new rules)
-unfolding IsDistinct
-put_ids new [] older h = (tt, tt)
-put_ids new (rule ∷ rules) older h = put_ids_by new rule rules (is_before new rule) older h (put_ids new rules older.1 h.1)
+put_ids new rules older h =
+    put_apart (λ a b. a.id == b.id) new rules
+    (each_implies (λ other. other.id < new.id) (λ other. (new.id == other.id) ≡ false) (λ other. new_id new other) rules older)
+    (each_implies (λ other. other.id < new.id) (λ other. (other.id == new.id) ≡ false) (λ other. other_id new other) rules older)
+    h
+
+-- a new rule that none of the others equals in all but the id
+pub put_unlike : (new : Rule) (rules : List Rule) → has_rule new rules ≡ false → IsDistinct is_same_rule rules → IsDistinct is_same_rule (put_rule new rules)
+put_unlike new rules absent h =
+    let behind : Each (λ other. is_same_rule other new ≡ false) rules = each_fails (λ other. is_same_rule other new) rules absent in
+    let ahead : Each (λ other. is_same_rule new other ≡ false) rules = each_implies (λ other. is_same_rule other new ≡ false) (λ other. is_same_rule new other ≡ false) (λ other differs. same_both_ways new other ∙ differs) rules behind in
+    put_apart is_same_rule new rules ahead behind h
 
 -- no more pass a test than there are
 pub filtered_fit : {X : Type 0} (p : X → Bool) (xs : List X) (most : ℕ) → length xs ≤ most → length (filter p xs) ≤ most

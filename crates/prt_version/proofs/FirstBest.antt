@@ -38,6 +38,17 @@ pub any_none : {X : Type 0} (p : X → Bool) (xs : List X) → Each (λ x. p x �
 any_none p [] h = refl
 any_none p (x ∷ xs) h = simp h.0 (any_none p xs h.1)
 
+neither : (b c : Bool) → (b || c) ≡ false → (b ≡ false) × (c ≡ false)
+neither true c h = absurd cc
+neither false c h = (refl, h)
+
+-- where none passes, each fails
+pub each_fails : {X : Type 0} (p : X → Bool) (xs : List X) → list_any p xs ≡ false → Each (λ x. p x ≡ false) xs
+each_fails p [] h = tt
+each_fails p (x ∷ xs) h =
+    let both : (p x ≡ false) × (list_any p xs ≡ false) = neither (p x) (list_any p xs) h in
+    (both.0, each_fails p xs both.1)
+
 -- the first that passes is k
 finds : {X : Type 0} (p : X → Bool) (front back : List X) (k : X) → Each (λ x. p x ≡ false) front → p k ≡ true → find p (front ++ k ∷ back) ≡ Some k
 finds p [] back k h good = simp good refl

@@ -1,5 +1,5 @@
 -- The test of two rules says what `IsSame` says.
-use Rattle.std.proofs.Common.{◌≡◌, ℕ, Bool, true, false, Option, Some, None, refl, ap, ◌∙◌}
+use Rattle.std.proofs.Common.{◌≡◌, ℕ, Bool, true, false, Option, Some, None, refl, sym, ap, ◌∙◌}
 use Rattle.std.specs.Prelude.{◌↔◌, IsTrue, bytes_eq}
 use Rattle.std.specs.Bool.{Decides}
 use Rattle.std.proofs.lemmas.Bool.Decides.{same_from_decides, Decides-eqb, Decides-and, Decides-like}
@@ -60,3 +60,10 @@ rules_same a b =
 -- a test that says the same
 pub test_of_same : (a b : Rule) (r : Bool) → IsTrue r ↔ IsSame a b → r ≡ is_same_rule a b
 test_of_same a b r h = same_from_decides r (is_same_rule a b) h (rules_same a b)
+
+turned : (a b : Rule) → IsSame a b → IsSame b a
+turned a b h = record { priority = sym h.priority; inverted = sym h.inverted; from = sym h.from; to = sym h.to; iif = sym h.iif; mark = sym h.mark; action = sym h.action }
+
+-- whichever of the two comes first
+pub same_both_ways : (a b : Rule) → is_same_rule a b ≡ is_same_rule b a
+same_both_ways a b = same_from_decides (is_same_rule a b) (is_same_rule b a) (rules_same a b) (Decides-like (is_same_rule b a) (turned b a) (turned a b) (rules_same b a))

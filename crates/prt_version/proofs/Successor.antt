@@ -8,15 +8,16 @@ use Rattle.prt_route.specs.Route.{is_same_key, key_of}
 use Rattle.prt_route.specs.RouteChoice.{is_selected}
 use Rattle.prt_route.specs.declared.edit.RouteEdit.TheVariants.{Put}
 use Rattle.prt_route.specs.declared.route.Route.{Route}
+use Rattle.prt_rule.specs.Same.{is_same_rule}
 use Rattle.prt_rule.specs.declared.rule.Rule.{Rule}
 use Rattle.prt_command.specs.declared.request.Command.{Command}
 use Rattle.prt_command.specs.declared.request.Command.TheVariants.{RouteAdd, RouteChange, RouteReplace, RouteDel, RouteFlush, RuleAdd, RuleDel, RuleFlush}
-use Rattle.prt_version.specs.Change.{IsChecked, apply, chosen_key, has_key, is_full, is_missing, is_there, named_id, put, refusal, rule_of, without_key}
+use Rattle.prt_version.specs.Change.{IsChecked, apply, chosen_key, has_key, has_rule, is_full, is_missing, is_there, named_id, put, refusal, rule_of, without_key}
 use Rattle.prt_version.specs.Sound.{IsSound}
 use Rattle.prt_version.specs.State.{State, opening_rules, opening_state, table_rule}
 use Rattle.prt_version.specs.declared.change.Change.{Change}
 use Rattle.prt_version.specs.declared.change.Change.TheVariants as change
-use Rattle.prt_version.proofs.Distinct.{distinct_filtered, filtered_fit, length_put, one_less, put_distinct, put_ids}
+use Rattle.prt_version.proofs.Distinct.{distinct_filtered, filtered_fit, length_put, one_less, put_distinct, put_ids, put_unlike}
 use Rattle.prt_version.proofs.FirstBest.{each_filtered, each_implies}
 use Rattle.prt_version.proofs.Order.{each_put, filter_keeps_order, put_keeps_order}
 
@@ -51,8 +52,10 @@ with_routes : (state : State) (routes : List Route) → IsSound state → state.
 with_routes state routes sound counts distinct fit = record {
   count = counts;
   order = sound.order;
+  ids_from_one = sound.ids_from_one;
   ids = ids_on state.count state.rules sound.ids;
   distinct_ids = sound.distinct_ids;
+  distinct_rules = sound.distinct_rules;
   distinct_keys = distinct;
   rules_fit = sound.rules_fit;
   routes_fit = fit;
@@ -67,8 +70,10 @@ fewer_rules : (state : State) (p : Rule → Bool) → IsSound state → state.co
 fewer_rules state p sound counts = record {
   count = counts;
   order = filter_keeps_order p state.rules sound.order;
+  ids_from_one = each_filtered (λ rule. 1 ≤ rule.id) p state.rules sound.ids_from_one;
   ids = each_filtered (λ rule. rule.id ≤ state.count + 1 + 3) p state.rules (ids_on state.count state.rules sound.ids);
   distinct_ids = distinct_filtered (λ a b. a.id == b.id) p state.rules sound.distinct_ids;
+  distinct_rules = distinct_filtered is_same_rule p state.rules sound.distinct_rules;
   distinct_keys = sound.distinct_keys;
   rules_fit = filtered_fit p state.rules 1000 sound.rules_fit;
   routes_fit = sound.routes_fit;
@@ -97,14 +102,16 @@ is_there_of false h = absurd cc
 put_route : (state : State) (route : Route) → IsSound state → state.count + 1 ≤ 1000000000000000 → length (without_key (key_of route) state.routes ++ route ∷ []) ≤ 100000 → IsSound (put state (change.Route (Put route)))
 put_route state route sound counts fit = with_routes state (without_key (key_of route) state.routes ++ route ∷ []) sound counts (put_distinct route state.routes sound.distinct_keys) fit
 
-put_new_rule : (state : State) (rule : Rule) → rule.id ≡ state.count + 4 → IsSound state → state.count + 1 ≤ 1000000000000000 → length state.rules + 1 ≤ 1000 → IsSound (put state (change.RulePut rule))
-put_new_rule state rule id sound counts room =
+put_new_rule : (state : State) (rule : Rule) → rule.id ≡ state.count + 4 → has_rule rule state.rules ≡ false → IsSound state → state.count + 1 ≤ 1000000000000000 → length state.rules + 1 ≤ 1000 → IsSound (put state (change.RulePut rule))
+put_new_rule state rule id absent sound counts room =
     let older : Each (λ other. other.id < rule.id) state.rules = each_implies (λ other. other.id ≤ state.count + 3) (λ other. other.id < rule.id) (λ other h. omega arith) state.rules sound.ids in
     record {
       count = counts;
       order = put_keeps_order rule state.rules older sound.order;
+      ids_from_one = each_put (λ other. 1 ≤ other.id) rule state.rules (omega arith) sound.ids_from_one;
       ids = each_put (λ other. other.id ≤ state.count + 1 + 3) rule state.rules (omega arith) (ids_on state.count state.rules sound.ids);
       distinct_ids = put_ids rule state.rules older sound.distinct_ids;
+      distinct_rules = put_unlike rule state.rules absent sound.distinct_rules;
       distinct_keys = sound.distinct_keys;
       rules_fit = omega (arith, length_put rule state.rules);
       routes_fit = sound.routes_fit;
@@ -122,7 +129,7 @@ apply_sound state (RouteDel choice) sound clear =
 apply_sound state (RouteFlush selector) sound clear =
     fewer_routes state (λ route. not (is_selected selector route)) sound (counts_on state (RouteFlush selector) clear)
 apply_sound state (RuleAdd new) sound clear =
-    put_new_rule state (rule_of state new) refl sound (counts_on state (RuleAdd new) clear) (below 1000 (length state.rules) (clear_of state (RuleAdd new) clear).not_full)
+    put_new_rule state (rule_of state new) refl (clear_of state (RuleAdd new) clear).not_there sound (counts_on state (RuleAdd new) clear) (below 1000 (length state.rules) (clear_of state (RuleAdd new) clear).not_full)
 apply_sound state (RuleDel choice) sound clear =
     fewer_rules state (λ rule. not (rule.id == named_id choice state.rules)) sound (counts_on state (RuleDel choice) clear)
 apply_sound state RuleFlush sound clear =
@@ -133,8 +140,10 @@ unfolding IsDistinct
 opening_sound = record {
   count = omega arith;
   order = (refl, (refl, tt));
+  ids_from_one = (omega arith, (omega arith, (omega arith, tt)));
   ids = (omega arith, (omega arith, (omega arith, tt)));
   distinct_ids = ((refl, (refl, tt)), ((refl, tt), (tt, tt)));
+  distinct_rules = ((refl, (refl, tt)), ((refl, tt), (tt, tt)));
   distinct_keys = tt;
   rules_fit = omega arith;
   routes_fit = omega arith;
