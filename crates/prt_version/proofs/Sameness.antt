@@ -64,6 +64,6 @@ test_of_same a b r h = same_from_decides r (is_same_rule a b) h (rules_same a b)
 turned : (a b : Rule) → IsSame a b → IsSame b a
 turned a b h = record { priority = sym h.priority; inverted = sym h.inverted; from = sym h.from; to = sym h.to; iif = sym h.iif; mark = sym h.mark; action = sym h.action }
 
--- whichever of the two comes first
+-- the test says the same, whichever of the two comes first
 pub same_both_ways : (a b : Rule) → is_same_rule a b ≡ is_same_rule b a
 same_both_ways a b = same_from_decides (is_same_rule a b) (is_same_rule b a) (rules_same a b) (Decides-like (is_same_rule b a) (turned b a) (turned a b) (rules_same b a))
