@@ -3,6 +3,7 @@
 
 mod addr;
 mod decimal;
+mod given;
 mod number;
 mod prefix;
 mod refusal;
@@ -11,6 +12,7 @@ mod tests;
 mod word;
 
 pub use addr::{Addr, addr_text, read_addr};
+pub use given::{agrees, agrees_there};
 pub use number::read_number;
 pub use prefix::{Prefix, prefix_text, read_net, read_prefix};
 pub use refusal::{Refusal, StoreCall};
