@@ -1,8 +1,9 @@
-ghost use Rattle.std.specs.Prelude.{◌≡◌, ◌==◌, bytes_eq};
-ghost use Rattle.prt_addr.specs.Given.{agrees, agrees_there};
-ghost use Rattle.prt_route.specs.RouteChoice.{in_range, is_chosen, is_same_addr, is_same_kind, is_selected};
+ghost use Rattle.std.specs.Prelude.{◌≡◌};
+ghost use Rattle.prt_addr.specs.Given.{agrees};
+ghost use Rattle.prt_route.specs.RouteChoice.{in_range, is_chosen, is_same_kind, is_selected};
 
 use crate::{Addr, Dev, Kind, Prefix, Route};
+use prt_addr::{agrees, agrees_there};
 
 /// Which prefixes a command on several routes takes (`ip-route(8)`, `show`).
 #[derive(Clone, Copy, Debug, PartialEq, Eq)]
@@ -67,70 +68,12 @@ pub struct RouteChoice {
     pub scope: Option<u8>,
 }
 
-/// Whether the number is the one that is given, if one is.
-fn agrees_in_number(given: Option<u32>, number: u32) -> bool
-    ensures { result ≡ agrees (λ a b. a == b) given number }
-{
-    match given {
-        Some(given) => given == number,
-        None => true,
-    }
-}
-
-/// The same for the number of a protocol or scope.
-fn agrees_in_byte(given: Option<u8>, number: u8) -> bool
-    ensures { result ≡ agrees (λ a b. a == b) given number }
-{
-    match given {
-        Some(given) => given == number,
-        None => true,
-    }
-}
-
-/// Whether the kinds are the same.
-fn is_same_kind(kind: Kind, other: Kind) -> bool
-    ensures { result ≡ is_same_kind kind other }
-{
-    match (kind, other) {
-        (Kind::Unicast, Kind::Unicast)
-        | (Kind::Blackhole, Kind::Blackhole)
-        | (Kind::Unreachable, Kind::Unreachable)
-        | (Kind::Prohibit, Kind::Prohibit)
-        | (Kind::Throw, Kind::Throw) => true,
-        _ => false,
-    }
-}
-
 /// Whether the kind is the one that is given, if one is.
-fn agrees_in_kind(given: Option<Kind>, kind: Kind) -> bool
-    ensures { result ≡ agrees is_same_kind given kind }
+// A function of its own, since the proof of `RouteChoice::takes` gives up where it has to compare the kinds too.
+fn agrees_in_kind(given: &Option<Kind>, kind: &Kind) -> bool
+    ensures { result ≡ agrees is_same_kind given.now kind.now }
 {
-    match given {
-        Some(given) => is_same_kind(given, kind),
-        None => true,
-    }
-}
-
-/// Whether the address is there and is the one that is given, if one is.
-fn agrees_in_addr(given: Option<Addr>, addr: Option<Addr>) -> bool
-    ensures { result ≡ agrees_there is_same_addr given addr }
-{
-    match (given, addr) {
-        (Some(given), Some(addr)) => given.0 == addr.0,
-        (Some(_), None) => false,
-        (None, _) => true,
-    }
-}
-
-/// Whether the interface is there and is the one that is given, if one is.
-fn agrees_in_dev(given: &Option<Dev>, dev: &Option<Dev>) -> bool
-    ensures { result ≡ agrees_there bytes_eq given.now dev.now }
-{
-    match (given, dev) {
-        (Some(given), Some(dev)) => given.as_bytes() == dev.as_bytes(),
-        (Some(_), None) => false,
-        (None, _) => true,
-    }
+    agrees(given, kind)
 }
 
 impl Selector {
@@ -138,12 +81,12 @@ impl Selector {
     pub fn takes(&self, route: &Route) -> bool
         ensures { result ≡ is_selected self.now route.now }
     {
-        agrees_in_number(self.table, route.table)
+        agrees(&self.table, &route.table)
             && self.range.takes(&route.prefix)
-            && agrees_in_kind(self.kind, route.kind)
-            && agrees_in_byte(self.proto, route.proto)
-            && agrees_in_byte(self.scope, route.scope)
-            && agrees_in_dev(&self.dev, &route.dev)
+            && agrees_in_kind(&self.kind, &route.kind)
+            && agrees(&self.proto, &route.proto)
+            && agrees(&self.scope, &route.scope)
+            && agrees_there(&self.dev, &route.dev)
     }
 }
 
@@ -154,12 +97,12 @@ impl RouteChoice {
     {
         self.table == route.table
             && self.prefix == route.prefix
-            && agrees_in_number(self.metric, route.metric)
-            && agrees_in_kind(self.kind, route.kind)
-            && agrees_in_addr(self.via, route.via)
-            && agrees_in_dev(&self.dev, &route.dev)
-            && agrees_in_addr(self.src, route.src)
-            && agrees_in_byte(self.proto, route.proto)
-            && agrees_in_byte(self.scope, route.scope)
+            && agrees(&self.metric, &route.metric)
+            && agrees_in_kind(&self.kind, &route.kind)
+            && agrees_there(&self.via, &route.via)
+            && agrees_there(&self.dev, &route.dev)
+            && agrees_there(&self.src, &route.src)
+            && agrees(&self.proto, &route.proto)
+            && agrees(&self.scope, &route.scope)
     }
 }

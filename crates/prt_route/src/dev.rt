@@ -15,7 +15,7 @@ const LONGEST: usize = 15;
 /// The name of a network interface, kept in the value itself.
 ///
 /// It has 1 to 15 bytes, among them no `/`, no `:` and no white space, and is neither `.` nor `..`.
-#[derive(Clone, Copy, Debug, PartialEq, Eq)]
+#[derive(Clone, Copy, Debug, Eq)]
 pub struct Dev {
     bytes: [u8; LONGEST],
     len: u8,
@@ -34,6 +34,20 @@ impl Model for Dev {
     ghost inverse = { λ name. record { bytes = name ++ replicate (15 - length name) 0; len = length name } };
 
     ghost inverse_ok = { λ d h i. record { bytes = h.zeros i; len = h.whole i } };
+}
+
+// Not derived: the specs compare the names, and a derived `eq` says how the bytes behind them compare too.
+impl PartialEq for Dev {
+    ghost use Rattle.std.specs.Prelude.{bytes_eq};
+    ghost use Rattle.std.proofs.Common.{rules};
+
+    ghost eq = { bytes_eq };
+
+    ghost laws = { Prim.search rules };
+
+    fn eq(&self, other: &Dev) -> bool {
+        self.as_bytes() == other.as_bytes()
+    }
 }
 
 impl Dev {
