@@ -1,6 +1,6 @@
 use crate::{
-    Addr, Prefix, Refusal, StoreCall, addr_text, prefix_text, read_addr, read_net, read_number,
-    read_prefix,
+    Addr, Prefix, Refusal, StoreCall, addr_text, agrees, agrees_there, prefix_text, read_addr,
+    read_net, read_number, read_prefix,
 };
 
 #[test]
@@ -183,6 +183,17 @@ fn prefixes_within(rt: HostRuntime) {
         (everything, ten, false),
     ] {
         assert_eq!(rt; prefix.within(&other), inside, "{prefix} {other}");
+    }
+}
+
+#[test]
+fn agrees_with_what_is_given(rt: HostRuntime) {
+    for (given, agreed) in [(None, true), (Some(7), true), (Some(8), false)] {
+        assert_eq!(rt; agrees(&given, &7), agreed);
+        assert_eq!(rt; agrees_there(&given, &Some(7)), agreed);
+    }
+    for (given, agreed) in [(None, true), (Some(7), false)] {
+        assert_eq!(rt; agrees_there(&given, &None), agreed);
     }
 }
 
