@@ -66,7 +66,8 @@ impl Prefix {
 
     /// The bits of the prefix, as those of an address.
     pub fn bits(&self) -> u32
-        ensures { result ≡ self.now.bits }
+        ensures value { result ≡ self.now.bits }
+        ensures prefix { IsPrefix self.now }
     {
         self.bits
     }
