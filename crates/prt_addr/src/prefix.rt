@@ -7,7 +7,7 @@ ghost use Rattle.prt_addr.specs.declared.refusal.Refusal.TheVariants.{BadPrefix}
 
 use crate::addr::parse_addr;
 use crate::decimal::read_decimal;
-use crate::word::split_first_part;
+use crate::word::{is, split_first_part};
 use crate::{Addr, Refusal, addr_text};
 use arrayvec::ArrayString;
 use itoa::Buffer;
@@ -126,7 +126,7 @@ pub fn read_net(word: &[u8]) -> Result<Prefix, Refusal>
 fn is_everything(word: &[u8]) -> bool
     ensures { result ≡ is_one_of word.now everything_words }
 {
-    matches!(word, b"default" | b"all" | b"any")
+    is(word, "default") || is(word, "all") || is(word, "any")
 }
 
 /// Reads an address and a length of 0 to 32, whatever the bits behind the length.

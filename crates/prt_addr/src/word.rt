@@ -1,5 +1,12 @@
-ghost use Rattle.std.specs.Prelude.{◌≡◌, ◌∷◌, ◌==◌, option_map, position};
+ghost use Rattle.std.specs.Prelude.{◌≡◌, ◌∷◌, ◌==◌, bytes_eq, option_map, position};
 ghost use Rattle.prt_addr.specs.Word.{parts_at, parts_of_rest};
+
+/// Whether the word is this one.
+pub(crate) fn is(word: &[u8], name: &str) -> bool
+    ensures { result ≡ bytes_eq name.now word.now }
+{
+    name.as_bytes() == word
+}
 
 /// The place of the first byte that is the separator.
 fn separator_place(word: &[u8], separator: u8) -> Option<usize>
@@ -8,7 +15,7 @@ fn separator_place(word: &[u8], separator: u8) -> Option<usize>
     word.iter().position(|byte| *byte == separator)
 }
 
-/// The part of the word before the first separator and, if there is a separator, what stands behind it.
+/// The part of the word before the first separator and, if there is a separator, what stands after it.
 #[tactic(auto, using(crate::proofs::Words::parts_around, crate::proofs::Words::one_part))]
 pub(crate) fn split_first_part(word: &[u8], separator: u8) -> (&[u8], Option<&[u8]>)
     ensures { parts_at separator word.now ≡ result.0.now ∷ parts_of_rest separator (option_map (λ rest. rest.now) result.1) }

@@ -14,6 +14,9 @@ pub use choice::{Range, RouteChoice, Selector};
 pub use dev::{Dev, read_dev};
 pub use edit::RouteEdit;
 pub use kind::Kind;
-pub use names::{protocol_name, read_protocol, read_scope, read_table, scope_name, table_name};
+pub use names::{
+    BOOT_PROTOCOL, DEFAULT_TABLE, GLOBAL_SCOPE, LINK_SCOPE, LOCAL_TABLE, MAIN_TABLE, protocol_name,
+    read_protocol, read_scope, read_table, scope_name, table_name,
+};
 pub use prt_addr::{Addr, Prefix, Refusal};
 pub use route::{Route, RouteKey};

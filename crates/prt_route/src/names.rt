@@ -1,73 +1,121 @@
-ghost use Rattle.std.specs.Prelude.{◌≡◌, option_map};
+//! Tables, protocols and scopes: numbers of which some have names (`ip-route(8)`).
+ghost use Rattle.std.specs.Prelude.{◌≡◌, ◌≤◌, map, option_map, IfOk};
 ghost use Rattle.std.specs.Option.{ok_or};
 ghost use Rattle.prt_addr.specs.declared.refusal.Refusal.TheVariants.{BadNumber, BadTable};
-ghost use Rattle.prt_route.specs.Names.{name_in, number_in, protocol, protocols, scope, scopes, table, tables};
-ghost use Rattle.std.specs.Prelude.{nat_le};
-ghost use Rattle.prt_addr.specs.Number.{number};
-ghost use Rattle.prt_addr.specs.Word.{keep};
+ghost use Rattle.prt_route.specs.Names.{name_in, number_in, protocol, protocols, scope, scopes, spelled_byte, spelled_number, table, tables};
 
 use crate::Refusal;
 use prt_addr::read_number;
+
+/// The table of the host's own addresses.
+pub const LOCAL_TABLE: u32 = 255;
+
+/// The table that a command means where it names none.
+pub const MAIN_TABLE: u32 = 254;
+
+/// The table that the last of the opening rules looks up.
+pub const DEFAULT_TABLE: u32 = 253;
+
+/// The protocol of a route that is added without one.
+pub const BOOT_PROTOCOL: u8 = 3;
+
+/// The scope of a route through a gateway, where none is given.
+pub const GLOBAL_SCOPE: u8 = 0;
+
+/// The scope of a route without a gateway, where none is given.
+pub const LINK_SCOPE: u8 = 253;
+
+/// A name and its number.
+type Named = (&'static str, u32);
+
+const TABLES: [Named; 3] = [
+    ("local", LOCAL_TABLE),
+    ("main", MAIN_TABLE),
+    ("default", DEFAULT_TABLE),
+];
+
+const PROTOCOLS: [Named; 11] = [
+    ("kernel", 2),
+    ("boot", BOOT_PROTOCOL as u32),
+    ("static", 4),
+    ("ra", 9),
+    ("zebra", 11),
+    ("bird", 12),
+    ("dhcp", 16),
+    ("bgp", 186),
+    ("isis", 187),
+    ("ospf", 188),
+    ("rip", 189),
+];
+
+const SCOPES: [Named; 5] = [
+    ("global", GLOBAL_SCOPE as u32),
+    ("site", 200),
+    ("link", LINK_SCOPE as u32),
+    ("host", 254),
+    ("nowhere", 255),
+];
+
+/// The name of a number, where it has one.
+fn name_in(names: &[Named], wanted: u32) -> Option<&'static str>
+    ensures { option_map (λ s. s.now) result ≡ name_in (map (λ row. (row.0.now, row.1)) names.now) wanted }
+{
+    for (name, number) in names {
+        if *number == wanted {
+            return Some(name);
+        }
+    }
+    None
+}
+
+/// The number of a name, where it is one.
+fn number_in(names: &[Named], word: &[u8]) -> Option<u32>
+    ensures { result ≡ number_in (map (λ row. (row.0.now, row.1)) names.now) word.now }
+{
+    for (name, number) in names {
+        if name.as_bytes() == word {
+            return Some(*number);
+        }
+    }
+    None
+}
 
 /// The name of a routing protocol's number, where it has one.
 pub fn protocol_name(number: u8) -> Option<&'static str>
     ensures { option_map (λ s. s.now) result ≡ name_in protocols number }
 {
-    let name = match number {
-        2 => "kernel",
-        3 => "boot",
-        4 => "static",
-        9 => "ra",
-        11 => "zebra",
-        12 => "bird",
-        16 => "dhcp",
-        186 => "bgp",
-        187 => "isis",
-        188 => "ospf",
-        189 => "rip",
-        _ => return None,
-    };
-    Some(name)
+    name_in(&PROTOCOLS, u32::from(number))
 }
 
 /// The name of a scope's number, where it has one.
 pub fn scope_name(number: u8) -> Option<&'static str>
     ensures { option_map (λ s. s.now) result ≡ name_in scopes number }
 {
-    let name = match number {
-        0 => "global",
-        200 => "site",
-        253 => "link",
-        254 => "host",
-        255 => "nowhere",
-        _ => return None,
-    };
-    Some(name)
+    name_in(&SCOPES, u32::from(number))
 }
 
 /// The name of a table's number, where it has one.
 pub fn table_name(number: u32) -> Option<&'static str>
     ensures { option_map (λ s. s.now) result ≡ name_in tables number }
 {
-    let name = match number {
-        255 => "local",
-        254 => "main",
-        253 => "default",
-        _ => return None,
-    };
-    Some(name)
+    name_in(&TABLES, number)
 }
 
-/// The number of a table's name.
-fn named_table(word: &[u8]) -> Option<u32>
-    ensures { result ≡ number_in tables word.now }
+/// The number that a word spells, by one of these names or in digits.
+fn spelled_number(names: &[Named], word: &[u8]) -> Option<u32>
+    ensures { result ≡ spelled_number (map (λ row. (row.0.now, row.1)) names.now) word.now }
 {
-    match word {
-        b"local" => Some(255),
-        b"main" => Some(254),
-        b"default" => Some(253),
-        _ => None,
+    match number_in(names, word) {
+        Some(number) => Some(number),
+        None => read_number(word).ok(),
     }
+}
+
+/// The same up to 255.
+fn spelled_byte(names: &[Named], word: &[u8]) -> Option<u8>
+    ensures { result ≡ spelled_byte (map (λ row. (row.0.now, row.1)) names.now) word.now }
+{
+    u8::try_from(spelled_number(names, word)?).ok()
 }
 
 /// Reads a table: `local`, `main` or `default`, or a number from 1 on.
@@ -76,60 +124,12 @@ fn named_table(word: &[u8]) -> Option<u32>
 ///
 /// `BadTable` where the word spells no table.
 pub fn read_table(word: &[u8]) -> Result<u32, Refusal>
-    ensures { result ≡ ok_or (table word.now) BadTable }
+    ensures value { result ≡ ok_or (table word.now) BadTable }
+    ensures positive { IfOk result (λ table. 1 ≤ table) }
 {
-    match named_table(word) {
-        Some(number) => Ok(number),
-        None => match read_number(word) {
-            Ok(number) if number > 0 => Ok(number),
-            Ok(_) => Err(Refusal::BadTable),
-            Err(_) => Err(Refusal::BadTable),
-        },
-    }
-}
-
-/// The number of a protocol's name.
-fn named_protocol(word: &[u8]) -> Option<u8>
-    ensures { result ≡ number_in protocols word.now }
-{
-    match word {
-        b"kernel" => Some(2),
-        b"boot" => Some(3),
-        b"static" => Some(4),
-        b"ra" => Some(9),
-        b"zebra" => Some(11),
-        b"bird" => Some(12),
-        b"dhcp" => Some(16),
-        b"bgp" => Some(186),
-        b"isis" => Some(187),
-        b"ospf" => Some(188),
-        b"rip" => Some(189),
-        _ => None,
-    }
-}
-
-/// The number of a scope's name.
-fn named_scope(word: &[u8]) -> Option<u8>
-    ensures { result ≡ number_in scopes word.now }
-{
-    match word {
-        b"global" => Some(0),
-        b"site" => Some(200),
-        b"link" => Some(253),
-        b"host" => Some(254),
-        b"nowhere" => Some(255),
-        _ => None,
-    }
-}
-
-/// A number up to 255.
-fn byte_number(word: &[u8]) -> Option<u8>
-    ensures { result ≡ keep (λ n. nat_le n 255) (number word.now) }
-{
-    match read_number(word) {
-        Ok(number) if number <= 255 => Some(number as u8),
-        Ok(_) => None,
-        Err(_) => None,
+    match spelled_number(&TABLES, word) {
+        Some(number) if number > 0 => Ok(number),
+        _ => Err(Refusal::BadTable),
     }
 }
 
@@ -141,9 +141,7 @@ fn byte_number(word: &[u8]) -> Option<u8>
 pub fn read_protocol(word: &[u8]) -> Result<u8, Refusal>
     ensures { result ≡ ok_or (protocol word.now) BadNumber }
 {
-    named_protocol(word)
-        .or(byte_number(word))
-        .ok_or(Refusal::BadNumber)
+    spelled_byte(&PROTOCOLS, word).ok_or(Refusal::BadNumber)
 }
 
 /// Reads a scope: one of the listed names, or a number up to 255.
@@ -154,7 +152,5 @@ pub fn read_protocol(word: &[u8]) -> Result<u8, Refusal>
 pub fn read_scope(word: &[u8]) -> Result<u8, Refusal>
     ensures { result ≡ ok_or (scope word.now) BadNumber }
 {
-    named_scope(word)
-        .or(byte_number(word))
-        .ok_or(Refusal::BadNumber)
+    spelled_byte(&SCOPES, word).ok_or(Refusal::BadNumber)
 }
