@@ -7,8 +7,6 @@ mod given;
 mod number;
 mod prefix;
 mod refusal;
-#[cfg(test)]
-mod tests;
 mod word;
 
 pub use addr::{Addr, addr_text, read_addr};

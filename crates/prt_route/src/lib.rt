@@ -7,8 +7,6 @@ mod edit;
 mod kind;
 mod names;
 mod route;
-#[cfg(test)]
-mod tests;
 
 pub use choice::{Range, RouteChoice, Selector};
 pub use dev::{Dev, read_dev};

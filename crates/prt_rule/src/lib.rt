@@ -6,8 +6,6 @@ mod matching;
 mod order;
 mod packet;
 mod rule;
-#[cfg(test)]
-mod tests;
 
 pub use choice::RuleChoice;
 pub use matching::matches;
