@@ -9,8 +9,6 @@ mod line;
 mod mark;
 mod reader;
 mod request;
-#[cfg(test)]
-mod tests;
 mod verb;
 mod words;
 

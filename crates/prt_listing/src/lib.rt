@@ -9,8 +9,6 @@ mod push;
 mod refusal;
 mod route;
 mod rule;
-#[cfg(test)]
-mod tests;
 
 pub use answer::answer_text;
 pub use prt_version::{Answer, Refusal, Route, Rule};

@@ -8,8 +8,6 @@ pub mod examples;
 mod listing;
 mod rows;
 mod select;
-#[cfg(test)]
-mod tests;
 mod version;
 
 pub use answer::{Answer, Verdict};

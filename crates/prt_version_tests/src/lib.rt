@@ -1,0 +1,11 @@
+//! Tests of the public calls for lines, versions and texts.
+//!
+//! Lines and texts are worked examples of `ip-route(8)` and `ip-rule(8)`.
+#![tactic(auto)]
+
+#[cfg(test)]
+mod lines;
+#[cfg(test)]
+mod script;
+#[cfg(test)]
+mod versions;

@@ -1,0 +1,52 @@
+//! Versions and answers, by lines of the command language.
+
+use prt_command::{Query, Refusal, Request, read_line};
+use prt_listing::{TablePart, answer_text, route_text, rule_text};
+use prt_version::Version;
+use std::alloc::Global;
+use std::test::Fail;
+
+/// The version after the command of a line.
+pub fn next_version(version: &Version, line: &str) -> Result<Version, Refusal> {
+    match read_line(line.as_bytes())? {
+        Some(Request::Command(command)) => match version.check(&command) {
+            Ok(change) => version.next(&change),
+            Err(refusal) => Err(refusal),
+        },
+        _ => Err(Refusal::UnknownVerb),
+    }
+}
+
+/// The version of a new database after the commands of these lines.
+pub fn version_after(alloc: Global, lines: &[&str]) -> Result<Version, Refusal> {
+    let mut version = Version::opening(alloc)?;
+    for line in lines {
+        version = next_version(&version, line)?;
+    }
+    Ok(version)
+}
+
+/// The texts that answer the query of a line, with a line feed after each.
+pub fn answer(alloc: Global, version: &Version, line: &str) -> Result<Vec<u8>, Fail> {
+    let mut out = Vec::new(alloc);
+    match read_line(line.as_bytes())? {
+        Some(Request::Query(Query::RouteShow(selector))) => {
+            for route in &version.routes(&selector)? {
+                route_text(&mut out, route, TablePart::Shown)?;
+                out.push(b'\n')?;
+            }
+        }
+        Some(Request::Query(Query::RuleShow)) => {
+            for rule in version.rules() {
+                rule_text(&mut out, rule)?;
+                out.push(b'\n')?;
+            }
+        }
+        Some(Request::Query(Query::Get(packet))) => answer_text(
+            &mut out,
+            &version.select(&packet),
+        )?,
+        _ => return Err(Fail::from(Refusal::UnknownVerb)),
+    }
+    Ok(out)
+}
