@@ -5,36 +5,56 @@ use prt_route::{
     read_scope, read_table, scope_name, table_name,
 };
 
-#[test]
-fn reads_names(rt: HostRuntime) {
-    assert_eq!(rt; read_dev(b"lo"), Ok(Dev::loopback()));
-    assert_eq!(rt; Dev::loopback().as_bytes(), b"lo".as_slice());
+/// The first of these words that is read as the name of an interface, and is none.
+fn accepted_name() -> Option<&'static str> {
     for word in ["", "..", "a/b", "a:1", "a\tb", "sixteen-bytes-xy"] {
-        assert_eq!(rt; read_dev(word.as_bytes()), Err(Refusal::BadName), "{word}");
+        if read_dev(word.as_bytes()) != Err(Refusal::BadName) {
+            return Some(word);
+        }
     }
+    None
+}
+
+/// The first of these words that is read as another table than it spells.
+fn misread_table() -> Option<&'static str> {
     for (word, table) in [
         ("main", Ok(MAIN_TABLE)),
         ("0x10", Ok(16)),
         ("0", Err(Refusal::BadTable)),
         ("all", Err(Refusal::BadTable)),
     ] {
-        assert_eq!(rt; read_table(word.as_bytes()), table, "{word}");
+        if read_table(word.as_bytes()) != table {
+            return Some(word);
+        }
     }
+    None
+}
+
+/// The first of these words that is read as another protocol or scope than it spells.
+fn misread_number() -> Option<&'static str> {
     for (word, protocol, scope) in [
         ("rip", Ok(189), Err(Refusal::BadNumber)),
         ("link", Err(Refusal::BadNumber), Ok(253)),
         ("255", Ok(255), Ok(255)),
         ("256", Err(Refusal::BadNumber), Err(Refusal::BadNumber)),
     ] {
-        assert_eq!(rt; read_protocol(word.as_bytes()), protocol, "{word}");
-        assert_eq!(rt; read_scope(word.as_bytes()), scope, "{word}");
+        if read_protocol(word.as_bytes()) != protocol || read_scope(word.as_bytes()) != scope {
+            return Some(word);
+        }
     }
-    assert_eq!(rt; (table_name(255), table_name(100)), (Some("local"), None));
-    assert_eq!(rt;
-        (protocol_name(4), scope_name(200)),
-        (Some("static"), Some("site"))
-    );
-    assert_eq!(rt; Kind::Throw.name(), "throw");
+    None
+}
+
+#[test]
+fn reads_names(rt: HostRuntime) {
+    assert_eq!(rt; accepted_name(), None);
+    assert!(rt; read_dev(b"lo") == Ok(Dev::loopback()));
+    assert!(rt; Dev::loopback().as_bytes() == b"lo".as_slice());
+    assert_eq!(rt; misread_table(), None);
+    assert_eq!(rt; misread_number(), None);
+    assert!(rt; table_name(255) == Some("local") && table_name(100).is_none());
+    assert!(rt; protocol_name(4) == Some("static") && scope_name(200) == Some("site"));
+    assert!(rt; Kind::Throw.name() == "throw");
 }
 
 #[test]
@@ -44,7 +64,7 @@ fn chooses_routes(rt: HostRuntime) {
     let short = route(ten_one(8), 1);
     assert!(rt; far.better(&short) && near.better(&far));
     assert!(rt; !short.better(&far) && !far.better(&near) && !far.better(&far));
-    assert_eq!(rt; (far.key().metric, far.key().prefix.len()), (100, 16));
+    assert!(rt; far.key().metric == 100 && far.key().prefix.len() == 16);
     let all = Selector {
         table: None,
         range: Range::All,
@@ -105,7 +125,7 @@ fn chooses_routes(rt: HostRuntime) {
             false,
         ),
     ] {
-        assert_eq!(rt; selector.takes(&far), taken);
+        assert!(rt; selector.takes(&far) == taken);
     }
     let any = RouteChoice {
         table: MAIN_TABLE,
@@ -150,6 +170,6 @@ fn chooses_routes(rt: HostRuntime) {
             false,
         ),
     ] {
-        assert_eq!(rt; choice.takes(&far), taken);
+        assert!(rt; choice.takes(&far) == taken);
     }
 }
