@@ -1,5 +1,6 @@
 pub mod Kind
 pub mod Names
+pub mod Storable
 pub mod Name
 pub mod Dev
 pub mod Route

@@ -1,6 +1,7 @@
 pub mod Rule
 pub mod Same
 pub mod RuleChoice
+pub mod Storable
 pub use Rattle.prt_addr.specs.Addr
 pub use Rattle.prt_addr.specs.Block
 pub use Rattle.prt_addr.specs.Decimal
