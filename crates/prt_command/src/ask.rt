@@ -98,8 +98,8 @@ fn route_by(items: &Items, kind: Kind, prefix: Prefix) -> Result<Route, Refusal>
 fn new_route(items: &Items) -> Result<Route, Refusal>
     ensures { result ≡ new_route items.now }
 {
-    let target = items.destination.ok_or(Refusal::MissingDestination)?;
-    route_by(items, target.kind.unwrap_or(Kind::Unicast), target.prefix)
+    let Target { kind, prefix } = items.destination.ok_or(Refusal::MissingDestination)?;
+    route_by(items, kind.unwrap_or(Kind::Unicast), prefix)
 }
 
 /// The metric, where it is not 0.
