@@ -3,6 +3,7 @@ ghost use Rattle.prt_command.specs.Grammar.{prefix_word};
 ghost use Rattle.prt_command.specs.Items.{has, has_any, no_items};
 ghost use Rattle.prt_command.specs.Values.{kind_of};
 
+use crate::words::is;
 use prt_route::{Addr, Dev, Kind, Prefix, Range};
 use prt_rule::{Action, Mark};
 
@@ -94,13 +95,18 @@ impl Slot {
 pub(crate) fn kind_named(word: &[u8]) -> Option<Kind>
     ensures { result ≡ kind_of word.now }
 {
-    match word {
-        b"unicast" => Some(Kind::Unicast),
-        b"blackhole" => Some(Kind::Blackhole),
-        b"unreachable" => Some(Kind::Unreachable),
-        b"prohibit" => Some(Kind::Prohibit),
-        b"throw" => Some(Kind::Throw),
-        _ => None,
+    if is(word, b"unicast") {
+        Some(Kind::Unicast)
+    } else if is(word, b"blackhole") {
+        Some(Kind::Blackhole)
+    } else if is(word, b"unreachable") {
+        Some(Kind::Unreachable)
+    } else if is(word, b"prohibit") {
+        Some(Kind::Prohibit)
+    } else if is(word, b"throw") {
+        Some(Kind::Throw)
+    } else {
+        None
     }
 }
 
@@ -119,11 +125,14 @@ fn kind_word(word: &[u8]) -> Option<PrefixWord>
 fn range_word(word: &[u8]) -> Option<PrefixWord>
     ensures { result ≡ prefix_word Slot.Range word.now }
 {
-    match word {
-        b"root" => Some(PrefixWord::Root),
-        b"match" => Some(PrefixWord::Match),
-        b"exact" => Some(PrefixWord::Exact),
-        _ => None,
+    if is(word, b"root") {
+        Some(PrefixWord::Root)
+    } else if is(word, b"match") {
+        Some(PrefixWord::Match)
+    } else if is(word, b"exact") {
+        Some(PrefixWord::Exact)
+    } else {
+        None
     }
 }
 

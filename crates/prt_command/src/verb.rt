@@ -3,6 +3,7 @@ ghost use Rattle.prt_command.specs.Grammar.{word_in};
 ghost use Rattle.prt_command.specs.Line.{action_words, route_edit_words, route_get_words, route_list_words, rule_edit_words, selector_words};
 ghost use Rattle.prt_command.specs.Reading.{alone, line_of, object_of, verb_of};
 
+use crate::words::is;
 use crate::{ItemWord, Slot};
 use prt_rule::Action;
 
@@ -34,10 +35,12 @@ impl Object {
     pub(crate) fn named(word: &[u8]) -> Option<Object>
         ensures { result ≡ object_of word.now }
     {
-        match word {
-            b"route" | b"ro" | b"r" => Some(Object::Route),
-            b"rule" | b"ru" => Some(Object::Rule),
-            _ => None,
+        if is(word, b"route") || is(word, b"ro") || is(word, b"r") {
+            Some(Object::Route)
+        } else if is(word, b"rule") || is(word, b"ru") {
+            Some(Object::Rule)
+        } else {
+            None
         }
     }
 
@@ -66,15 +69,22 @@ impl Object {
 fn route_verb(word: &[u8]) -> Option<ObjectVerb>
     ensures { result ≡ verb_of Object.Route word.now }
 {
-    match word {
-        b"add" | b"a" => Some(ObjectVerb::RouteAdd),
-        b"change" | b"chg" => Some(ObjectVerb::RouteChange),
-        b"replace" => Some(ObjectVerb::RouteReplace),
-        b"del" | b"delete" | b"d" => Some(ObjectVerb::RouteDel),
-        b"flush" => Some(ObjectVerb::RouteFlush),
-        b"show" | b"list" | b"lst" | b"ls" => Some(ObjectVerb::RouteShow),
-        b"get" => Some(ObjectVerb::RouteGet),
-        _ => None,
+    if is(word, b"add") || is(word, b"a") {
+        Some(ObjectVerb::RouteAdd)
+    } else if is(word, b"change") || is(word, b"chg") {
+        Some(ObjectVerb::RouteChange)
+    } else if is(word, b"replace") {
+        Some(ObjectVerb::RouteReplace)
+    } else if is(word, b"del") || is(word, b"delete") || is(word, b"d") {
+        Some(ObjectVerb::RouteDel)
+    } else if is(word, b"flush") {
+        Some(ObjectVerb::RouteFlush)
+    } else if is(word, b"show") || is(word, b"list") || is(word, b"lst") || is(word, b"ls") {
+        Some(ObjectVerb::RouteShow)
+    } else if is(word, b"get") {
+        Some(ObjectVerb::RouteGet)
+    } else {
+        None
     }
 }
 
@@ -82,12 +92,16 @@ fn route_verb(word: &[u8]) -> Option<ObjectVerb>
 fn rule_verb(word: &[u8]) -> Option<ObjectVerb>
     ensures { result ≡ verb_of Object.Rule word.now }
 {
-    match word {
-        b"add" | b"a" => Some(ObjectVerb::RuleAdd),
-        b"del" | b"delete" | b"d" => Some(ObjectVerb::RuleDel),
-        b"flush" => Some(ObjectVerb::RuleFlush),
-        b"show" | b"list" | b"lst" | b"ls" => Some(ObjectVerb::RuleShow),
-        _ => None,
+    if is(word, b"add") || is(word, b"a") {
+        Some(ObjectVerb::RuleAdd)
+    } else if is(word, b"del") || is(word, b"delete") || is(word, b"d") {
+        Some(ObjectVerb::RuleDel)
+    } else if is(word, b"flush") {
+        Some(ObjectVerb::RuleFlush)
+    } else if is(word, b"show") || is(word, b"list") || is(word, b"lst") || is(word, b"ls") {
+        Some(ObjectVerb::RuleShow)
+    } else {
+        None
     }
 }
 
@@ -131,15 +145,22 @@ impl ObjectVerb {
 fn route_edit_word(word: &[u8]) -> Option<ItemWord>
     ensures { result ≡ word_in route_edit_words word.now }
 {
-    match word {
-        b"via" => Some(ItemWord::Keyword(Slot::Via)),
-        b"dev" => Some(ItemWord::Keyword(Slot::Dev)),
-        b"table" => Some(ItemWord::Keyword(Slot::Table)),
-        b"proto" | b"protocol" => Some(ItemWord::Keyword(Slot::Proto)),
-        b"scope" => Some(ItemWord::Keyword(Slot::Scope)),
-        b"src" => Some(ItemWord::Keyword(Slot::Src)),
-        b"metric" | b"priority" | b"preference" => Some(ItemWord::Keyword(Slot::Metric)),
-        _ => None,
+    if is(word, b"via") {
+        Some(ItemWord::Keyword(Slot::Via))
+    } else if is(word, b"dev") {
+        Some(ItemWord::Keyword(Slot::Dev))
+    } else if is(word, b"table") {
+        Some(ItemWord::Keyword(Slot::Table))
+    } else if is(word, b"proto") || is(word, b"protocol") {
+        Some(ItemWord::Keyword(Slot::Proto))
+    } else if is(word, b"scope") {
+        Some(ItemWord::Keyword(Slot::Scope))
+    } else if is(word, b"src") {
+        Some(ItemWord::Keyword(Slot::Src))
+    } else if is(word, b"metric") || is(word, b"priority") || is(word, b"preference") {
+        Some(ItemWord::Keyword(Slot::Metric))
+    } else {
+        None
     }
 }
 
@@ -147,13 +168,18 @@ fn route_edit_word(word: &[u8]) -> Option<ItemWord>
 fn route_list_word(word: &[u8]) -> Option<ItemWord>
     ensures { result ≡ word_in route_list_words word.now }
 {
-    match word {
-        b"table" => Some(ItemWord::Keyword(Slot::Tables)),
-        b"type" => Some(ItemWord::Keyword(Slot::OfKind)),
-        b"proto" | b"protocol" => Some(ItemWord::Keyword(Slot::Proto)),
-        b"scope" => Some(ItemWord::Keyword(Slot::Scope)),
-        b"dev" => Some(ItemWord::Keyword(Slot::Dev)),
-        _ => None,
+    if is(word, b"table") {
+        Some(ItemWord::Keyword(Slot::Tables))
+    } else if is(word, b"type") {
+        Some(ItemWord::Keyword(Slot::OfKind))
+    } else if is(word, b"proto") || is(word, b"protocol") {
+        Some(ItemWord::Keyword(Slot::Proto))
+    } else if is(word, b"scope") {
+        Some(ItemWord::Keyword(Slot::Scope))
+    } else if is(word, b"dev") {
+        Some(ItemWord::Keyword(Slot::Dev))
+    } else {
+        None
     }
 }
 
@@ -161,11 +187,14 @@ fn route_list_word(word: &[u8]) -> Option<ItemWord>
 fn route_get_word(word: &[u8]) -> Option<ItemWord>
     ensures { result ≡ word_in route_get_words word.now }
 {
-    match word {
-        b"from" => Some(ItemWord::Keyword(Slot::Source)),
-        b"iif" => Some(ItemWord::Keyword(Slot::Iif)),
-        b"mark" => Some(ItemWord::Keyword(Slot::Mark)),
-        _ => None,
+    if is(word, b"from") {
+        Some(ItemWord::Keyword(Slot::Source))
+    } else if is(word, b"iif") {
+        Some(ItemWord::Keyword(Slot::Iif))
+    } else if is(word, b"mark") {
+        Some(ItemWord::Keyword(Slot::Mark))
+    } else {
+        None
     }
 }
 
@@ -173,14 +202,24 @@ fn route_get_word(word: &[u8]) -> Option<ItemWord>
 fn selector_word(word: &[u8]) -> Option<ItemWord>
     ensures { result ≡ word_in selector_words word.now }
 {
-    match word {
-        b"not" => Some(ItemWord::Not),
-        b"from" => Some(ItemWord::Keyword(Slot::From)),
-        b"to" => Some(ItemWord::Keyword(Slot::To)),
-        b"iif" | b"dev" => Some(ItemWord::Keyword(Slot::Iif)),
-        b"fwmark" => Some(ItemWord::Keyword(Slot::Fwmark)),
-        b"priority" | b"preference" | b"pref" | b"order" => Some(ItemWord::Keyword(Slot::Priority)),
-        _ => None,
+    if is(word, b"not") {
+        Some(ItemWord::Not)
+    } else if is(word, b"from") {
+        Some(ItemWord::Keyword(Slot::From))
+    } else if is(word, b"to") {
+        Some(ItemWord::Keyword(Slot::To))
+    } else if is(word, b"iif") || is(word, b"dev") {
+        Some(ItemWord::Keyword(Slot::Iif))
+    } else if is(word, b"fwmark") {
+        Some(ItemWord::Keyword(Slot::Fwmark))
+    } else if is(word, b"priority")
+        || is(word, b"preference")
+        || is(word, b"pref")
+        || is(word, b"order")
+    {
+        Some(ItemWord::Keyword(Slot::Priority))
+    } else {
+        None
     }
 }
 
@@ -188,12 +227,16 @@ fn selector_word(word: &[u8]) -> Option<ItemWord>
 fn action_word(word: &[u8]) -> Option<ItemWord>
     ensures { result ≡ word_in action_words word.now }
 {
-    match word {
-        b"table" | b"lookup" => Some(ItemWord::Keyword(Slot::Action)),
-        b"blackhole" => Some(ItemWord::Act(Action::Blackhole)),
-        b"unreachable" => Some(ItemWord::Act(Action::Unreachable)),
-        b"prohibit" => Some(ItemWord::Act(Action::Prohibit)),
-        _ => None,
+    if is(word, b"table") || is(word, b"lookup") {
+        Some(ItemWord::Keyword(Slot::Action))
+    } else if is(word, b"blackhole") {
+        Some(ItemWord::Act(Action::Blackhole))
+    } else if is(word, b"unreachable") {
+        Some(ItemWord::Act(Action::Unreachable))
+    } else if is(word, b"prohibit") {
+        Some(ItemWord::Act(Action::Prohibit))
+    } else {
+        None
     }
 }
 
