@@ -1,3 +1,4 @@
+pub mod Lines
 pub mod Items
 pub mod Then
 pub mod Mark

@@ -7,6 +7,7 @@ use Rattle.prt_addr.specs.declared.refusal.Refusal.{Refusal}
 use Rattle.prt_addr.specs.declared.refusal.Refusal.TheVariants.{LineTooLong, NotAscii, UnknownObject, UnknownVerb}
 use Rattle.prt_command.specs.Grammar.{FirstFault, Good, LineKind, items_of}
 use Rattle.prt_command.specs.Items.{Item, no_items, with_all}
+use Rattle.prt_command.specs.Lines.{longest_line}
 use Rattle.prt_command.specs.Line.{bare_line, route_edit_line, route_get_line, route_list_line, rule_edit_line}
 use Rattle.prt_command.specs.Requests.{Asks, refuse_if, route_request, route_del_request, route_flush_request, route_show_request, route_get_request, rule_add_request, rule_del_request}
 use Rattle.prt_command.specs.Then.{◌>>=◌}
@@ -132,6 +133,6 @@ words_request (w ∷ ws) = object_request (skip_word (codes "-4") (skip_word (co
 -- what a line asks for, or its first fault
 abbrev pub reading : List ℕ → Result (Option Request) Refusal
 reading line =
-    refuse_if (nat_lt 1024 (length line)) LineTooLong >>= λ _.
+    refuse_if (nat_lt longest_line (length line)) LineTooLong >>= λ _.
     refuse_if (not (list_all is_text_byte (before_comment line))) NotAscii >>= λ _.
     words_request (words (before_comment line))

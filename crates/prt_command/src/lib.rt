@@ -15,7 +15,7 @@ mod words;
 pub use examples::{accepted_lines, refused_lines};
 pub use item::{ItemWord, Items, PrefixWord, Slot, Target, WhichTables};
 pub use laws::{any_order, first_faults, readings};
-pub use line::{LONGEST_LINE, read_line};
+pub use line::{LONGEST_LINE, LONGEST_UNENDED, MOST_LINES, read_line};
 pub use prt_route::{
     Addr, Dev, Kind, Prefix, Range, Refusal, Route, RouteChoice, RouteKey, Selector,
 };

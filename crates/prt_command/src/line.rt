@@ -10,6 +10,12 @@ use prt_route::Refusal;
 /// The most bytes of a line, without its newline.
 pub const LONGEST_LINE: usize = 1024;
 
+/// The most bytes of a line that is still read to its end; one byte more ends the session.
+pub const LONGEST_UNENDED: usize = 65_536;
+
+/// The most lines of a session or of a replay.
+pub const MOST_LINES: usize = 1_000_000;
+
 /// The first word behind a word that is skipped where it is this one, and else that word; the text behind it.
 fn skip_word<'a>(skipped: &[u8], word: &'a [u8], rest: &'a [u8]) -> Option<(&'a [u8], &'a [u8])>
     ensures { MatchOption result (skip_word skipped.now (word.now ∷ words rest.now) ≡ [])
