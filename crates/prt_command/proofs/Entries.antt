@@ -1,8 +1,9 @@
--- What a word says among those of a line, and an item behind `to`.
-use Rattle.std.proofs.Common.{◌≡◌, Bool, true, false, List, [], ◌∷◌, ◌++◌, Option, Some, None, Result, Ok, Err, IfOk, IfErr, map, option_map, bytes_eq, refl, ◌∙◌, ap}
+-- What a word says among those of a line, and an item after `to`.
+use Rattle.std.proofs.Common.{◌≡◌, Bool, true, false, List, [], ◌∷◌, ◌++◌, Option, Some, None, Ok, Err, map, option_map, bytes_eq, refl, ◌∙◌, ap}
 use Rattle.std.specs.Prelude.{find, if◌then◌else◌}
 use Rattle.prt_addr.specs.Word.{Word, is_one_of}
-use Rattle.prt_command.specs.Grammar.{Entry, LineKind, Scanned, prefix_word, is_to, one_more, behind, item_by, items_of, plain_from, plain_item, and_items, word_in, word_item}
+use Rattle.prt_command.specs.Grammar.{Entry, LineKind, prefix_word, is_to, word_in}
+use Rattle.prt_command.specs.Scan.{Scanned, one_more, what_follows, item_by, items_of, plain_from, plain_item, and_items, word_item}
 use Rattle.prt_command.specs.Items.{has}
 use Rattle.prt_command.specs.Values.{every_kind, kind_of, spelling}
 use Rattle.prt_command.specs.declared.item.Items.{Items}
@@ -53,24 +54,16 @@ pub items_of_plain : (line : LineKind) (given : Items) (w : Word) (ws : List Wor
 items_of_plain line given w ws slot none plain =
     ap (λ o. and_items line given (item_by o line.plain given w ws) ws) none ∙ ap (λ p. and_items line given (plain_item p given w ws) ws) plain
 
--- ---- behind `to`
+-- ---- after `to`
 
 one_word_more : (line : LineKind) (given : Items) (v : Word) (vs : List Word) (scanned : Scanned) → and_items line given (one_more scanned) (v ∷ vs) ≡ and_items line given scanned vs
 one_word_more line given v vs (Ok t) = refl
 one_word_more line given v vs (Err e) = refl
 
 -- `to` says nothing of its own
-pub items_behind_to : (line : LineKind) (slot : Slot) (given : Items) (w v : Word) (ws vs : List Word) → is_to w ≡ true → has slot given ≡ false → ws ≡ v ∷ vs → and_items line given (plain_item (Some slot) given w ws) ws ≡ and_items line given (plain_from slot given v vs) vs
-items_behind_to line slot given w v ws vs to new is =
+pub items_after_to : (line : LineKind) (slot : Slot) (given : Items) (w v : Word) (ws vs : List Word) → is_to w ≡ true → has slot given ≡ false → ws ≡ v ∷ vs → and_items line given (plain_item (Some slot) given w ws) ws ≡ and_items line given (plain_from slot given v vs) vs
+items_after_to line slot given w v ws vs to new is =
     ap (λ us. and_items line given (plain_item (Some slot) given w us) us) is
-    ∙ ap (λ b. and_items line given (if b then behind (has slot given) (plain_from slot given) (v ∷ vs) else plain_from slot given w (v ∷ vs)) (v ∷ vs)) to
-    ∙ ap (λ b. and_items line given (behind b (plain_from slot given) (v ∷ vs)) (v ∷ vs)) new
+    ∙ ap (λ b. and_items line given (if b then what_follows (has slot given) (plain_from slot given) (v ∷ vs) else plain_from slot given w (v ∷ vs)) (v ∷ vs)) to
+    ∙ ap (λ b. and_items line given (what_follows b (plain_from slot given) (v ∷ vs)) (v ∷ vs)) new
     ∙ one_word_more line given v vs (plain_from slot given v vs)
-
-pub on_ok : {T E : Type 0} (r : Result T E) (P Q : T → Type 0) → ((x : T) → P x → Q x) → IfOk r P → IfOk r Q
-on_ok (Ok x) P Q f h = f x h
-on_ok (Err e) P Q f h = tt
-
-pub on_err : {T E : Type 0} (r : Result T E) (P Q : E → Type 0) → ((e : E) → P e → Q e) → IfErr r P → IfErr r Q
-on_err (Ok x) P Q f h = tt
-on_err (Err e) P Q f h = f e h

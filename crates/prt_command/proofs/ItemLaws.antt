@@ -1,18 +1,20 @@
--- One item: what is read is what is spelled.
-use Rattle.std.proofs.Common.{◌≡◌, ℕ, suc, ◌≤◌, List, [], ◌∷◌, ◌++◌, Bool, true, false, Some, None, Option, Result, Ok, Err, refl, length, take, ◌∙◌, ap, sym, subst, arith}
+-- One item: what is read is what is spelled, and its fault is the first.
+use Rattle.std.proofs.Common.{◌≡◌, ℕ, ◌≤◌, List, [], ◌∷◌, ◌++◌, Bool, true, false, Some, None, Option, Result, Ok, Err, refl, length, take, ◌∙◌, ap, sym, subst, arith}
 use Rattle.std.specs.Prelude.{if◌then◌else◌}
 use Rattle.prt_addr.specs.Word.{Word}
 use Rattle.prt_addr.specs.declared.refusal.Refusal.{Refusal}
 use Rattle.prt_addr.specs.declared.refusal.Refusal.TheVariants.{UnknownWord, Repeated}
-use Rattle.prt_command.specs.Grammar.{LineKind, prefix_word, item, word_in, is_to, IsPlain, value_alone, value_behind, IsItem, word_and_value, not_word, act_word, plain_alone, plain_behind_to, Scanned, item_ends, one_more, behind, value_item, lone_item, word_item, plain_by, plain_from, plain_item, item_by, item_or_fault}
-use Rattle.prt_command.specs.Items.{Item, Value, has}
-use Rattle.prt_command.specs.Values.{value_of}
+use Rattle.prt_command.specs.Grammar.{LineKind, prefix_word, word_in, is_to, Place, start, after_to, at_value, IsFollowed, keyword, to_word, before_prefix, before_prefix_after_to, IsValue, bare, bare_after_to, any_word, IsItem, alone, valued, followed, IsFault, unknown_word, second_bare, nothing_after, given_before, alone_before, bad_value, further}
+use Rattle.prt_command.specs.Scan.{Scanned, item_ends, one_more, what_follows, plain_by, plain_from, plain_item, item_by, item_or_fault}
+use Rattle.prt_command.specs.Items.{slot_of, has}
+use Rattle.prt_command.specs.Values.{value}
+use Rattle.prt_command.specs.declared.item.Item.{Item}
 use Rattle.prt_command.specs.declared.item.Items.{Items}
 use Rattle.prt_command.specs.declared.item.ItemWord.{ItemWord}
-use Rattle.prt_command.specs.declared.item.ItemWord.TheVariants.{Keyword, Not, Act}
+use Rattle.prt_command.specs.declared.item.ItemWord.TheVariants.{Keyword, Alone}
 use Rattle.prt_command.specs.declared.item.PrefixWord.{PrefixWord}
 use Rattle.prt_command.specs.declared.item.Slot.{Slot}
-use Rattle.prt_command.specs.declared.item.Slot.TheVariants.{Inverted, Action}
+use Rattle.prt_command.proofs.Values.{slot_kept}
 
 abbrev pub Read : Type 0
 Read = Item × ℕ
@@ -27,109 +29,191 @@ or_read d (Err e) = d
 pub read_inj : (t u : Read) → ok_read t ≡ ok_read u → t ≡ u
 read_inj t u h = ap (or_read t) h
 
--- what the reading of a value gives, by what is done with it
-by_value : (P : Read → Type 0) (slot : Slot) (n : ℕ) (t : Read) (r : Result (Value slot) Refusal) → ((x : Value slot) → r ≡ Ok x → P (item slot x, n)) → (more : Scanned → Scanned) → ((x : Value slot) → more (item_ends slot (Ok x)) ≡ Ok (item slot x, n)) → ((e : Refusal) → more (item_ends slot (Err e)) ≡ Err e) → more (item_ends slot r) ≡ ok_read t → P t
-by_value P slot n t (Ok x) good more ok err h = subst P (read_inj (item slot x, n) t (sym (ok x) ∙ h)) (good x refl)
-by_value P slot n t (Err f) good more ok err h = let k : Err f ≡ ok_read t = sym (err f) ∙ h in absurd cc
+-- ---- what is read at each place
 
--- From the word w on, the words that were read are an item which was not given.
-record IsFrom (given : Items) (slot : Slot) (w : Word) (ws : List Word) (t : Read) : Type 0 where
-  within : t.1 ≤ length ws
-  item : IsPlain slot w (take t.1 ws) t.0
-  fresh : has t.0.slot given ≡ false
+abbrev pub read_at : LineKind → Items → Place → Word → List Word → Scanned
+read_at line given start w ws = item_or_fault line given w ws
+read_at line given (after_to slot) w ws = plain_from slot given w ws
+read_at line given (at_value slot b) w ws = item_ends (value slot b w)
+
+-- the item of a place was not given before
+abbrev pub IsNew : Items → Place → Type 0
+IsNew given start = Unit {0}
+IsNew given (after_to slot) = has slot given ≡ false
+IsNew given (at_value slot b) = has slot given ≡ false
+
+-- an item at a place is that of the place
+abbrev pub IsOf : Place → Slot → Type 0
+IsOf start s = Unit {0}
+IsOf (after_to slot) s = s ≡ slot
+IsOf (at_value slot b) s = s ≡ slot
+
+module _ (line : LineKind) (given : Items) where
+  entry_form : (w : Word) (ws : List Word) (o : Option ItemWord) → word_in line.entries w ≡ o → item_or_fault line given w ws ≡ item_by o line.plain given w ws
+  entry_form w ws o e = ap (λ o. item_by o line.plain given w ws) e
+
+  plain_form : (slot : Slot) (w : Word) (ws : List Word) (to : Bool) → line.plain ≡ Some slot → word_in line.entries w ≡ None → is_to w ≡ to → item_or_fault line given w ws ≡ (if to then what_follows (has slot given) (plain_from slot given) ws else plain_from slot given w ws)
+  plain_form slot w ws to is none t =
+      entry_form w ws None none ∙ ap (λ p. plain_item p given w ws) is
+      ∙ ap (λ b. if b then what_follows (has slot given) (plain_from slot given) ws else plain_from slot given w ws) t
+
+  -- a word that something must follow
+  followed_form : (slot : Slot) (w : Word) (place next : Place) (ws : List Word) → IsFollowed line w slot place next → read_at line given place w ws ≡ what_follows (has slot given) (λ v vs. read_at line given next v vs) ws
+  followed_form slot w place next ws (keyword e) = entry_form w ws (Some (Keyword slot)) e
+  followed_form slot w place next ws (to_word is none to) = plain_form slot w ws true is none to
+  followed_form slot w place next ws (before_prefix b is none to e) = plain_form slot w ws false is none to ∙ ap (λ o. plain_by slot o given w ws) e
+  followed_form slot w place next ws (before_prefix_after_to b e) = ap (λ o. plain_by slot o given w ws) e
+
+  bare_form : (slot : Slot) (w : Word) (ws : List Word) (is_given : Bool) → prefix_word slot w ≡ None → has slot given ≡ is_given → plain_from slot given w ws ≡ (if is_given then Err UnknownWord else item_ends (value slot None w))
+  bare_form slot w ws is_given e g = ap (λ o. plain_by slot o given w ws) e ∙ ap (λ i. if i then Err UnknownWord else item_ends (value slot None w)) g
+
+  value_form : (slot : Slot) (b : Option PrefixWord) (w : Word) (place : Place) (ws : List Word) → IsValue line w slot place b → has slot given ≡ false → read_at line given place w ws ≡ item_ends (value slot b w)
+  value_form slot b w place ws (bare is none to e) g = plain_form slot w ws false is none to ∙ bare_form slot w ws false e g
+  value_form slot b w place ws (bare_after_to e) g = bare_form slot w ws false e g
+  value_form slot b w place ws (any_word b2) g = refl
+
+  second_form : (slot : Slot) (w : Word) (ws : List Word) → IsValue line w slot start None → has slot given ≡ true → item_or_fault line given w ws ≡ Err UnknownWord
+  second_form slot w ws (bare is none to e) g = plain_form slot w ws false is none to ∙ bare_form slot w ws true e g
+
+  lone_form : (w : Word) (ws : List Word) (x : Item) (is_given : Bool) → word_in line.entries w ≡ Some (Alone x) → has (slot_of x) given ≡ is_given → item_or_fault line given w ws ≡ (if is_given then Err Repeated else Ok (x, 0))
+  lone_form w ws x is_given e g = entry_form w ws (Some (Alone x)) e ∙ ap (λ i. if i then Err Repeated else Ok (x, 0)) g
+
+  -- ---- what is spelled is read
+
+  of_next : (slot s : Slot) (w : Word) (place next : Place) → IsFollowed line w slot place next → IsOf next s → s ≡ slot
+  of_next slot s w place next (keyword e) is = is
+  of_next slot s w place next (to_word p none to) is = is
+  of_next slot s w place next (before_prefix b p none to e) is = is
+  of_next slot s w place next (before_prefix_after_to b e) is = is
+
+  of_place : (place : Place) (w : Word) (own : List Word) (x : Item) → IsItem line place w own x → IsOf place (slot_of x)
+  of_place place w own x (alone w2 x2 e) = tt
+  of_place place w own x (valued p w2 slot b x2 (bare is none to e) v) = tt
+  of_place place w own x (valued p w2 slot b x2 (bare_after_to e) v) = slot_kept slot b w2 x2 v
+  of_place place w own x (valued p w2 slot b x2 (any_word b2) v) = slot_kept slot b w2 x2 v
+  of_place place w own x (followed p next w2 v own2 slot x2 (keyword e) i) = tt
+  of_place place w own x (followed p next w2 v own2 slot x2 (to_word is none to) i) = tt
+  of_place place w own x (followed p next w2 v own2 slot x2 (before_prefix b is none to e) i) = tt
+  of_place place w own x (followed p next w2 v own2 slot x2 (before_prefix_after_to b e) i) = of_place next v own2 x2 i
+
+  -- an item that is spelled and was not given is read, whatever stands after it
+  pub read_back : (place : Place) (w : Word) (own rest : List Word) (x : Item) → IsItem line place w own x → has (slot_of x) given ≡ false → read_at line given place w (own ++ rest) ≡ Ok (x, length own)
+  read_back place w own rest x (alone w2 x2 e) g = lone_form w rest x false e g
+  read_back place w own rest x (valued p w2 slot b x2 is e) g = value_form slot b w place rest is (ap (λ s. has s given) (sym (slot_kept slot b w x e)) ∙ g) ∙ ap item_ends e
+  read_back place w own rest x (followed p next w2 v own2 slot x2 f i) g =
+      let new : has slot given ≡ false = ap (λ s. has s given) (sym (of_next slot (slot_of x) w place next f (of_place next v own2 x i))) ∙ g in
+      followed_form slot w place next (v ∷ (own2 ++ rest)) f
+      ∙ ap (λ b. what_follows b (λ v vs. read_at line given next v vs) (v ∷ (own2 ++ rest))) new
+      ∙ ap one_more (read_back next v own2 rest x i g)
+
+  -- a fault is read
+  pub fault_back : (place : Place) (w : Word) (ws : List Word) (e : Refusal) → IsFault line given place w ws e → read_at line given place w ws ≡ Err e
+  fault_back place w ws e (unknown_word w2 ws2 is none) = entry_form w ws None none ∙ ap (λ p. plain_item p given w ws) is
+  fault_back place w ws e (second_bare w2 ws2 slot is g) = second_form slot w ws is g
+  fault_back place w ws e (nothing_after p next w2 slot f) = followed_form slot w place next [] f
+  fault_back place w ws e (given_before p next w2 v vs slot f g) = followed_form slot w place next (v ∷ vs) f ∙ ap (λ b. what_follows b (λ v vs. read_at line given next v vs) (v ∷ vs)) g
+  fault_back place w ws e (alone_before w2 ws2 x is g) = lone_form w ws x true is g
+  fault_back place w ws e (bad_value p w2 ws2 slot b f is g v) = value_form slot b w place ws is g ∙ ap item_ends v
+  fault_back place w ws e (further p next w2 v vs slot f is g more) =
+      followed_form slot w place next (v ∷ vs) is ∙ ap (λ b. what_follows b (λ v vs. read_at line given next v vs) (v ∷ vs)) g ∙ ap one_more (fault_back next v vs e more)
+
+-- ---- what is read is spelled
+
+-- What a word is at a place.
+data View (line : LineKind) (w : Word) : Place → Type 0 where
+  opens : (slot : Slot) (place next : Place) → IsFollowed line w slot place next → View line w place
+  ends : (slot : Slot) (b : Option PrefixWord) (place : Place) → IsValue line w slot place b → View line w place
+  says : (x : Item) → word_in line.entries w ≡ Some (Alone x) → View line w start
+  unknown : line.plain ≡ None → word_in line.entries w ≡ None → View line w start
+
+module _ (line : LineKind) (w : Word) where
+  view_plain : (slot : Slot) → line.plain ≡ Some slot → word_in line.entries w ≡ None → (to : Bool) → is_to w ≡ to → (o : Option PrefixWord) → prefix_word slot w ≡ o → View line w start
+  view_plain slot is none true to o e = opens slot start (after_to slot) (to_word is none to)
+  view_plain slot is none false to (Some b) e = opens slot start (at_value slot (Some b)) (before_prefix b is none to e)
+  view_plain slot is none false to None e = ends slot None start (bare is none to e)
+
+  view_none : word_in line.entries w ≡ None → (o : Option Slot) → line.plain ≡ o → View line w start
+  view_none none None is = unknown is none
+  view_none none (Some slot) is = view_plain slot is none (is_to w) refl (prefix_word slot w) refl
+
+  view_start : (o : Option ItemWord) → word_in line.entries w ≡ o → View line w start
+  view_start (Some (Keyword slot)) e = opens slot start (at_value slot None) (keyword e)
+  view_start (Some (Alone x)) e = says x e
+  view_start None e = view_none e line.plain refl
+
+  view_after_to : (slot : Slot) (o : Option PrefixWord) → prefix_word slot w ≡ o → View line w (after_to slot)
+  view_after_to slot (Some b) e = opens slot (after_to slot) (at_value slot (Some b)) (before_prefix_after_to b e)
+  view_after_to slot None e = ends slot None (after_to slot) (bare_after_to e)
+
+  view : (place : Place) → View line w place
+  view start = view_start (word_in line.entries w) refl
+  view (after_to slot) = view_after_to slot (prefix_word slot w) refl
+  view (at_value slot b) = ends slot b (at_value slot b) (any_word b)
 
 -- The words that were read are an item of the line which was not given.
-pub record IsRead (line : LineKind) (given : Items) (w : Word) (ws : List Word) (t : Read) : Type 0 where
+pub record IsRead (line : LineKind) (given : Items) (place : Place) (w : Word) (ws : List Word) (t : Read) : Type 0 where
   pub within : t.1 ≤ length ws
-  pub item : IsItem line w (take t.1 ws) t.0
-  pub fresh : has t.0.slot given ≡ false
+  pub item : IsItem line place w (take t.1 ws) t.0
+  pub fresh : has (slot_of t.0) given ≡ false
 
-module _ (given : Items) where
-  -- a value behind one word, by whether the item was given
-  value_read : (P : List Word → Read → Type 0) (slot : Slot) (b : Option PrefixWord) (is_given : Bool) → ((v : Word) (vs : List Word) (x : Value slot) → has slot given ≡ false → value_of slot b v ≡ Ok x → P (v ∷ vs) (item slot x, 1)) → has slot given ≡ is_given → (ws : List Word) (t : Read) → behind is_given (λ v vs. item_ends slot (value_of slot b v)) ws ≡ ok_read t → P ws t
-  value_read P slot b is_given good g [] t h = absurd cc
-  value_read P slot b true good g (v ∷ vs) t h = absurd cc
-  value_read P slot b false good g (v ∷ vs) t h = by_value (P (v ∷ vs)) slot 1 t (value_of slot b v) (λ x e. good v vs x g e) one_more (λ x. refl) (λ e. refl) h
+-- what was read is an item, or a fault is the first
+abbrev pub Says : (line : LineKind) (given : Items) (place : Place) (w : Word) (ws : List Word) → Scanned → Type 0
+Says line given place w ws (Ok t) = IsRead line given place w ws t
+Says line given place w ws (Err e) = IsFault line given place w ws e
 
-  bare_read : (slot : Slot) (w : Word) (is_given : Bool) → prefix_word slot w ≡ None → has slot given ≡ is_given → (ws : List Word) (t : Read) → (if is_given then Err UnknownWord else item_ends slot (value_of slot None w)) ≡ ok_read t → IsFrom given slot w ws t
-  bare_read slot w true is g ws t h = absurd cc
-  bare_read slot w false is g ws t h = by_value (IsFrom given slot w ws) slot 0 t (value_of slot None w) (λ x e. record { within = omega arith; item = value_alone x is e; fresh = g }) (λ r. r) (λ x. refl) (λ e. refl) h
+module _ (line : LineKind) (given : Items) where
+  value_says : (slot : Slot) (b : Option PrefixWord) (place : Place) (w : Word) (ws : List Word) → IsValue line w slot place b → has slot given ≡ false → (r : Result Item Refusal) → value slot b w ≡ r → Says line given place w ws (item_ends r)
+  value_says slot b place w ws is g (Ok x) e = record { within = omega arith; item = valued place w slot b x is e; fresh = ap (λ s. has s given) (slot_kept slot b w x e) ∙ g }
+  value_says slot b place w ws is g (Err f) e = bad_value place w ws slot b f is g e
 
-  from_read : (slot : Slot) (w : Word) (o : Option PrefixWord) → prefix_word slot w ≡ o → (ws : List Word) (t : Read) → plain_by slot o given w ws ≡ ok_read t → IsFrom given slot w ws t
-  from_read slot w (Some b) is ws t h = value_read (IsFrom given slot w) slot (Some b) (has slot given) (λ v vs x g e. record { within = omega arith; item = value_behind v b x is e; fresh = g }) refl ws t h
-  from_read slot w None is ws t h = bare_read slot w (has slot given) is refl ws t h
+  value_read : (slot : Slot) (b : Option PrefixWord) (place : Place) (w : Word) (ws : List Word) → IsValue line w slot place b → has slot given ≡ false → Says line given place w ws (read_at line given place w ws)
+  value_read slot b place w ws is g = subst (Says line given place w ws) (sym (value_form line given slot b w place ws is g)) (value_says slot b place w ws is g (value slot b w) refl)
 
-module _ (line : LineKind) (given : Items) (w : Word) where
-  lone_read : (slot : Slot) (x : Value slot) (is_given : Bool) → IsItem line w [] (item slot x) → has slot given ≡ is_given → (ws : List Word) (t : Read) → (if is_given then Err Repeated else item_ends slot (Ok x)) ≡ ok_read t → IsRead line given w ws t
-  lone_read slot x true is g ws t h = absurd cc
-  lone_read slot x false is g ws t h = subst (λ u. IsRead line given w ws u) (read_inj (item slot x, 0) t h) (record { within = omega arith; item = is; fresh = g })
+  bare_read : (slot : Slot) (w : Word) (ws : List Word) → IsValue line w slot start None → (is_given : Bool) → has slot given ≡ is_given → Says line given start w ws (item_or_fault line given w ws)
+  bare_read slot w ws is true g = subst (Says line given start w ws) (sym (second_form line given slot w ws is g)) (second_bare w ws slot is g)
+  bare_read slot w ws is false g = value_read slot None start w ws is g
 
-  word_read : (begun : ItemWord) → word_in line.entries w ≡ Some begun → (ws : List Word) (t : Read) → word_item begun given ws ≡ ok_read t → IsRead line given w ws t
-  word_read (Keyword slot) begins ws t h = value_read given (IsRead line given w) slot None (has slot given) (λ v vs x g e. record { within = omega arith; item = word_and_value v slot x begins e; fresh = g }) refl ws t h
-  word_read Not begins ws t h = lone_read Inverted tt (has Inverted given) (not_word begins) refl ws t h
-  word_read (Act action) begins ws t h = lone_read Action action (has Action given) (act_word action begins) refl ws t h
+  ends_read : (slot : Slot) (b : Option PrefixWord) (place : Place) (w : Word) (ws : List Word) → IsValue line w slot place b → IsNew given place → Says line given place w ws (read_at line given place w ws)
+  ends_read slot b place w ws (bare is none to e) new = bare_read slot w ws (bare is none to e) (has slot given) refl
+  ends_read slot b place w ws (bare_after_to e) new = value_read slot None (after_to slot) w ws (bare_after_to e) new
+  ends_read slot b place w ws (any_word b2) new = value_read slot b2 (at_value slot b2) w ws (any_word b2) new
 
-  module _ (slot : Slot) (none : word_in line.entries w ≡ None) (is : line.plain ≡ Some slot) where
-    to_read : is_to w ≡ true → (v : Word) (vs : List Word) (r : Scanned) → plain_from slot given v vs ≡ r → (t : Read) → one_more r ≡ ok_read t → IsRead line given w (v ∷ vs) t
-    to_read to v vs (Err e) read t h = absurd cc
-    to_read to v vs (Ok u) read t h =
-        let d = from_read given slot v (prefix_word slot v) refl vs u read in
-        subst (λ u. IsRead line given w (v ∷ vs) u) (read_inj (u.0, suc u.1) t h) (record { within = let l = d.within in omega (arith, l); item = plain_behind_to slot v (take u.1 vs) u.0 is none to d.item; fresh = d.fresh })
+  says_read : (w : Word) (ws : List Word) (x : Item) → word_in line.entries w ≡ Some (Alone x) → (is_given : Bool) → has (slot_of x) given ≡ is_given → Says line given start w ws (item_or_fault line given w ws)
+  says_read w ws x e true g = subst (Says line given start w ws) (sym (lone_form line given w ws x true e g)) (alone_before w ws x e g)
+  says_read w ws x e false g = subst (Says line given start w ws) (sym (lone_form line given w ws x false e g)) (record { within = omega arith; item = alone w x e; fresh = g })
 
-    to_word_read : is_to w ≡ true → (is_given : Bool) (ws : List Word) (t : Read) → behind is_given (plain_from slot given) ws ≡ ok_read t → IsRead line given w ws t
-    to_word_read to is_given [] t h = absurd cc
-    to_word_read to true (v ∷ vs) t h = absurd cc
-    to_word_read to false (v ∷ vs) t h = to_read to v vs (plain_from slot given v vs) refl t h
+  new_next : (slot : Slot) (w : Word) (place next : Place) → IsFollowed line w slot place next → has slot given ≡ false → IsNew given next
+  new_next slot w place next (keyword e) g = g
+  new_next slot w place next (to_word p none to) g = g
+  new_next slot w place next (before_prefix b p none to e) g = g
+  new_next slot w place next (before_prefix_after_to b e) g = g
 
-    plain_read : (b : Bool) → is_to w ≡ b → (ws : List Word) (t : Read) → (if b then behind (has slot given) (plain_from slot given) ws else plain_from slot given w ws) ≡ ok_read t → IsRead line given w ws t
-    plain_read true to ws t h = to_word_read to (has slot given) ws t h
-    plain_read false to ws t h =
-        let d = from_read given slot w (prefix_word slot w) refl ws t h in
-        record { within = d.within; item = plain_alone slot (take t.1 ws) t.0 is none to d.item; fresh = d.fresh }
+  -- what is said of the words after a word
+  abbrev Rest : List Word → Type 0
+  Rest [] = Unit {0}
+  Rest (v ∷ vs) = (place : Place) → IsNew given place → Says line given place v vs (read_at line given place v vs)
 
-  by_plain : word_in line.entries w ≡ None → (o : Option Slot) → line.plain ≡ o → (ws : List Word) (t : Read) → plain_item o given w ws ≡ ok_read t → IsRead line given w ws t
-  by_plain none None is ws t h = absurd cc
-  by_plain none (Some slot) is ws t h = plain_read slot none is (is_to w) refl ws t h
+  one_more_says : (slot : Slot) (place next : Place) (w v : Word) (vs : List Word) → IsFollowed line w slot place next → has slot given ≡ false → (r : Scanned) → Says line given next v vs r → Says line given place w (v ∷ vs) (one_more r)
+  one_more_says slot place next w v vs f g (Ok t) d = record { within = let l = d.within in omega (arith, l); item = followed place next w v (take t.1 vs) slot t.0 f d.item; fresh = d.fresh }
+  one_more_says slot place next w v vs f g (Err e) d = further place next w v vs slot e f g d
 
-  by_begun : (o : Option ItemWord) → word_in line.entries w ≡ o → (ws : List Word) (t : Read) → item_by o line.plain given w ws ≡ ok_read t → IsRead line given w ws t
-  by_begun (Some begun) begins ws t h = word_read begun begins ws t h
-  by_begun None begins ws t h = by_plain begins line.plain refl ws t h
+  follows_says : (slot : Slot) (place next : Place) (w : Word) (ws : List Word) → IsFollowed line w slot place next → Rest ws → (is_given : Bool) → has slot given ≡ is_given → Says line given place w ws (what_follows is_given (λ v vs. read_at line given next v vs) ws)
+  follows_says slot place next w [] f rest is_given g = nothing_after place next w slot f
+  follows_says slot place next w (v ∷ vs) f rest true g = given_before place next w v vs slot f g
+  follows_says slot place next w (v ∷ vs) f rest false g = one_more_says slot place next w v vs f g (read_at line given next v vs) (rest next (new_next slot w place next f g))
 
-  -- what is read is an item of the line that was not given
-  pub is_read : (ws : List Word) (t : Read) → item_or_fault line given w ws ≡ ok_read t → IsRead line given w ws t
-  is_read ws t h = by_begun (word_in line.entries w) refl ws t h
+  by_view : (place : Place) (w : Word) (ws : List Word) → IsNew given place → Rest ws → View line w place → Says line given place w ws (read_at line given place w ws)
+  by_view place w ws new rest (opens slot p next f) = subst (Says line given place w ws) (sym (followed_form line given slot w place next ws f)) (follows_says slot place next w ws f rest (has slot given) refl)
+  by_view place w ws new rest (ends slot b p is) = ends_read slot b place w ws is new
+  by_view place w ws new rest (says x e) = says_read w ws x e (has (slot_of x) given) refl
+  by_view place w ws new rest (unknown is none) = subst (Says line given start w ws) (sym (fault_back line given start w ws UnknownWord (unknown_word w ws is none))) (unknown_word w ws is none)
 
-module _ (given : Items) where
-  value_form : (slot : Slot) (b : Option PrefixWord) (v : Word) (rest : List Word) (x : Value slot) → has slot given ≡ false → value_of slot b v ≡ Ok x → value_item slot b given (v ∷ rest) ≡ Ok (item slot x, 1)
-  value_form slot b v rest x g e = ap (λ i. behind i (λ u us. item_ends slot (value_of slot b u)) (v ∷ rest)) g ∙ ap (λ r. one_more (item_ends slot r)) e
+  all_says : (ws : List Word) (place : Place) (w : Word) → IsNew given place → Says line given place w ws (read_at line given place w ws)
+  all_says [] place w new = by_view place w [] new tt (view line w place)
+  all_says (v ∷ vs) place w new = by_view place w (v ∷ vs) new (λ p n. all_says vs p v n) (view line w place)
 
-  lone_form : (slot : Slot) (x : Value slot) → has slot given ≡ false → lone_item slot x given ≡ Ok (item slot x, 0)
-  lone_form slot x g = ap (λ i. if i then Err Repeated else item_ends slot (Ok x)) g
+  pub is_read : (w : Word) (ws : List Word) (t : Read) → item_or_fault line given w ws ≡ ok_read t → IsRead line given start w ws t
+  is_read w ws t h = subst (Says line given start w ws) h (all_says ws start w tt)
 
-  plain_back : (slot : Slot) (w : Word) (own rest : List Word) (x : Item) → IsPlain slot w own x → has x.slot given ≡ false → plain_from slot given w (own ++ rest) ≡ Ok (x, length own)
-  plain_back slot w own rest x (value_alone y is e) g =
-      ap (λ o. plain_by slot o given w rest) is ∙ ap (λ i. if i then Err UnknownWord else item_ends slot (value_of slot None w)) g ∙ ap (item_ends slot) e
-  plain_back slot w own rest x (value_behind v b y is e) g = ap (λ o. plain_by slot o given w (v ∷ rest)) is ∙ value_form slot (Some b) v rest y g e
-
-module _ (line : LineKind) (given : Items) (w : Word) where
-  begun_form : (begun : ItemWord) (ws : List Word) → word_in line.entries w ≡ Some begun → item_or_fault line given w ws ≡ word_item begun given ws
-  begun_form begun ws begins = ap (λ o. item_by o line.plain given w ws) begins
-
-  plain_form : (slot : Slot) (to : Bool) (ws : List Word) → line.plain ≡ Some slot → word_in line.entries w ≡ None → is_to w ≡ to → item_or_fault line given w ws ≡ (if to then behind (has slot given) (plain_from slot given) ws else plain_from slot given w ws)
-  plain_form slot to ws is none t =
-      ap (λ o. item_by o line.plain given w ws) none ∙ ap (λ p. plain_item p given w ws) is ∙ ap (λ b. if b then behind (has slot given) (plain_from slot given) ws else plain_from slot given w ws) t
-
-  slot_kept : (slot : Slot) (v : Word) (own : List Word) (x : Item) → IsPlain slot v own x → x.slot ≡ slot
-  slot_kept slot v own x (value_alone y is e) = refl
-  slot_kept slot v own x (value_behind u b y is e) = refl
-
-  -- an item that is spelled and was not given is read, whatever stands behind it
-  pub is_read_back : (own rest : List Word) (x : Item) → IsItem line w own x → has x.slot given ≡ false → item_or_fault line given w (own ++ rest) ≡ Ok (x, length own)
-  is_read_back own rest x (word_and_value v slot y begins e) g = begun_form (Keyword slot) (v ∷ rest) begins ∙ value_form given slot None v rest y g e
-  is_read_back own rest x (not_word begins) g = begun_form Not rest begins ∙ lone_form given Inverted tt g
-  is_read_back own rest x (act_word action begins) g = begun_form (Act action) rest begins ∙ lone_form given Action action g
-  is_read_back own rest x (plain_alone slot own2 x2 is none to from) g = plain_form slot false (own ++ rest) is none to ∙ plain_back given slot w own rest x from g
-  is_read_back own rest x (plain_behind_to slot v own2 x2 is none to from) g =
-      plain_form slot true (v ∷ (own2 ++ rest)) is none to
-      ∙ ap (λ b. behind b (plain_from slot given) (v ∷ (own2 ++ rest))) (ap (λ (s : Slot). has s given) (sym (slot_kept slot v own2 x from)) ∙ g)
-      ∙ ap one_more (plain_back given slot v own2 rest x from g)
+  pub is_fault : (w : Word) (ws : List Word) (e : Refusal) → item_or_fault line given w ws ≡ Err e → IsFault line given start w ws e
+  is_fault w ws e h = subst (Says line given start w ws) h (all_says ws start w tt)

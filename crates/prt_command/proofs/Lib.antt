@@ -5,3 +5,4 @@ pub mod ItemLaws
 pub mod GrammarLaws
 pub mod ReadingLaws
 pub mod OrderLaws
+pub mod Empty

@@ -1,68 +1,111 @@
--- Two items that are not the same one may be given in either order.
+-- Two items that are not the same one may be given in either order, and so may their words.
 use Rattle.std.proofs.Common.{◌≡◌, List, [], ◌∷◌, ◌++◌, false, refl, ◌∙◌, ap, sym, subst}
-use Rattle.prt_command.specs.Grammar.{EachOnce}
-use Rattle.prt_command.specs.Items.{Item, Value, has, with_value, with_item, with_all}
+use Rattle.std.proofs.Common.{append_assoc}
+use Rattle.prt_addr.specs.Word.{Word}
+use Rattle.prt_command.specs.Grammar.{LineKind, AreItems, none, more, EachOnce}
+use Rattle.prt_command.specs.Items.{slot_of, has, no_items, put, put_all}
+use Rattle.prt_command.specs.Reading.{Meaning, Spells}
+use Rattle.prt_command.specs.declared.item.Item.{Item}
+use Rattle.prt_command.specs.declared.item.Item.TheVariants.{Destination, Via, Dev, Table, Proto, Scope, Src, Metric, Range, Tables, OfKind, Address, Source, Iif, Mark, Inverted, From, To, Fwmark, Priority, Action}
 use Rattle.prt_command.specs.declared.item.Items.{Items}
-use Rattle.prt_command.specs.declared.item.Slot.{Slot}
-use Rattle.prt_command.specs.declared.item.Slot.TheVariants.{Destination, Via, Dev, Table, Proto, Scope, Src, Metric, Range, Tables, OfKind, Address, Source, Iif, Mark, Inverted, From, To, Fwmark, Priority, Action}
+use Rattle.prt_command.specs.declared.request.Request.{Request}
+use Rattle.prt_command.proofs.GrammarLaws.{one_item}
 
--- What two items of different slots do to each other: nothing.
-pub record Apart (s t : Slot) (x : Value s) (y : Value t) (given : Items) : Type 0 where
-  pub same : with_value t y (with_value s x given) ≡ with_value s x (with_value t y given)
-  pub first : has s (with_value t y given) ≡ has s given
-  pub second : has t (with_value s x given) ≡ has t given
+-- What two items do to each other: nothing.
+pub record Apart (a b : Item) (given : Items) : Type 0 where
+  pub same : put b (put a given) ≡ put a (put b given)
+  pub first : has (slot_of a) (put b given) ≡ has (slot_of a) given
+  pub second : has (slot_of b) (put a given) ≡ has (slot_of b) given
 
--- an item that was not given behind another is of another slot
-apart : (s t : Slot) (x : Value s) (y : Value t) (given : Items) → has t (with_value s x given) ≡ false → Apart s t x y given
-apart Destination Destination x y given h = absurd cc
-apart Destination t x y given h = record { same = refl; first = refl; second = refl }
-apart Via Via x y given h = absurd cc
-apart Via t x y given h = record { same = refl; first = refl; second = refl }
-apart Dev Dev x y given h = absurd cc
-apart Dev t x y given h = record { same = refl; first = refl; second = refl }
-apart Table Table x y given h = absurd cc
-apart Table t x y given h = record { same = refl; first = refl; second = refl }
-apart Proto Proto x y given h = absurd cc
-apart Proto t x y given h = record { same = refl; first = refl; second = refl }
-apart Scope Scope x y given h = absurd cc
-apart Scope t x y given h = record { same = refl; first = refl; second = refl }
-apart Src Src x y given h = absurd cc
-apart Src t x y given h = record { same = refl; first = refl; second = refl }
-apart Metric Metric x y given h = absurd cc
-apart Metric t x y given h = record { same = refl; first = refl; second = refl }
-apart Range Range x y given h = absurd cc
-apart Range t x y given h = record { same = refl; first = refl; second = refl }
-apart Tables Tables x y given h = absurd cc
-apart Tables t x y given h = record { same = refl; first = refl; second = refl }
-apart OfKind OfKind x y given h = absurd cc
-apart OfKind t x y given h = record { same = refl; first = refl; second = refl }
-apart Address Address x y given h = absurd cc
-apart Address t x y given h = record { same = refl; first = refl; second = refl }
-apart Source Source x y given h = absurd cc
-apart Source t x y given h = record { same = refl; first = refl; second = refl }
-apart Iif Iif x y given h = absurd cc
-apart Iif t x y given h = record { same = refl; first = refl; second = refl }
-apart Mark Mark x y given h = absurd cc
-apart Mark t x y given h = record { same = refl; first = refl; second = refl }
-apart Inverted Inverted x y given h = absurd cc
-apart Inverted t x y given h = record { same = refl; first = refl; second = refl }
-apart From From x y given h = absurd cc
-apart From t x y given h = record { same = refl; first = refl; second = refl }
-apart To To x y given h = absurd cc
-apart To t x y given h = record { same = refl; first = refl; second = refl }
-apart Fwmark Fwmark x y given h = absurd cc
-apart Fwmark t x y given h = record { same = refl; first = refl; second = refl }
-apart Priority Priority x y given h = absurd cc
-apart Priority t x y given h = record { same = refl; first = refl; second = refl }
-apart Action Action x y given h = absurd cc
-apart Action t x y given h = record { same = refl; first = refl; second = refl }
+-- an item that another didn't give is apart from it
+apart : (a b : Item) (given : Items) → has (slot_of b) (put a given) ≡ false → Apart a b given
+apart (Destination x) (Destination y) given h = absurd cc
+apart (Destination x) b given h = record { same = refl; first = refl; second = refl }
+apart (Via x) (Via y) given h = absurd cc
+apart (Via x) b given h = record { same = refl; first = refl; second = refl }
+apart (Dev x) (Dev y) given h = absurd cc
+apart (Dev x) b given h = record { same = refl; first = refl; second = refl }
+apart (Table x) (Table y) given h = absurd cc
+apart (Table x) b given h = record { same = refl; first = refl; second = refl }
+apart (Proto x) (Proto y) given h = absurd cc
+apart (Proto x) b given h = record { same = refl; first = refl; second = refl }
+apart (Scope x) (Scope y) given h = absurd cc
+apart (Scope x) b given h = record { same = refl; first = refl; second = refl }
+apart (Src x) (Src y) given h = absurd cc
+apart (Src x) b given h = record { same = refl; first = refl; second = refl }
+apart (Metric x) (Metric y) given h = absurd cc
+apart (Metric x) b given h = record { same = refl; first = refl; second = refl }
+apart (Range x) (Range y) given h = absurd cc
+apart (Range x) b given h = record { same = refl; first = refl; second = refl }
+apart (Tables x) (Tables y) given h = absurd cc
+apart (Tables x) b given h = record { same = refl; first = refl; second = refl }
+apart (OfKind x) (OfKind y) given h = absurd cc
+apart (OfKind x) b given h = record { same = refl; first = refl; second = refl }
+apart (Address x) (Address y) given h = absurd cc
+apart (Address x) b given h = record { same = refl; first = refl; second = refl }
+apart (Source x) (Source y) given h = absurd cc
+apart (Source x) b given h = record { same = refl; first = refl; second = refl }
+apart (Iif x) (Iif y) given h = absurd cc
+apart (Iif x) b given h = record { same = refl; first = refl; second = refl }
+apart (Mark x) (Mark y) given h = absurd cc
+apart (Mark x) b given h = record { same = refl; first = refl; second = refl }
+apart Inverted Inverted given h = absurd cc
+apart Inverted b given h = record { same = refl; first = refl; second = refl }
+apart (From x) (From y) given h = absurd cc
+apart (From x) b given h = record { same = refl; first = refl; second = refl }
+apart (To x) (To y) given h = absurd cc
+apart (To x) b given h = record { same = refl; first = refl; second = refl }
+apart (Fwmark x) (Fwmark y) given h = absurd cc
+apart (Fwmark x) b given h = record { same = refl; first = refl; second = refl }
+apart (Priority x) (Priority y) given h = absurd cc
+apart (Priority x) b given h = record { same = refl; first = refl; second = refl }
+apart (Action x) (Action y) given h = absurd cc
+apart (Action x) b given h = record { same = refl; first = refl; second = refl }
 
 pub swapped_once : (given : Items) (front rest : List Item) (a b : Item) → EachOnce given (front ++ (a ∷ b ∷ rest)) → EachOnce given (front ++ (b ∷ a ∷ rest))
 swapped_once given [] rest a b once =
-    let d = apart a.slot b.slot a.value b.value given once.1.0 in
+    let d = apart a b given once.1.0 in
     (sym d.second ∙ once.1.0, (d.first ∙ once.0, subst (λ (g : Items). EachOnce g rest) d.same once.1.1))
-swapped_once given (item ∷ front) rest a b once = (once.0, swapped_once (with_item item given) front rest a b once.1)
+swapped_once given (item ∷ front) rest a b once = (once.0, swapped_once (put item given) front rest a b once.1)
 
-pub swapped_same : (given : Items) (front rest : List Item) (a b : Item) → EachOnce given (front ++ (a ∷ b ∷ rest)) → with_all (front ++ (a ∷ b ∷ rest)) given ≡ with_all (front ++ (b ∷ a ∷ rest)) given
-swapped_same given [] rest a b once = ap (with_all rest) (apart a.slot b.slot a.value b.value given once.1.0).same
-swapped_same given (item ∷ front) rest a b once = swapped_same (with_item item given) front rest a b once.1
+pub swapped_same : (given : Items) (front rest : List Item) (a b : Item) → EachOnce given (front ++ (a ∷ b ∷ rest)) → put_all (front ++ (a ∷ b ∷ rest)) given ≡ put_all (front ++ (b ∷ a ∷ rest)) given
+swapped_same given [] rest a b once = ap (put_all rest) (apart a b given once.1.0).same
+swapped_same given (item ∷ front) rest a b once = swapped_same (put item given) front rest a b once.1
+
+-- ---- words
+
+-- Where the words of a line begin with these items, so do its items.
+record Split (line : LineKind) (zs : List Word) (front all : List Item) : Type 0 where
+  others : List Item
+  is : all ≡ front ++ others
+  spelled : AreItems line zs others
+
+split : (line : LineKind) (ws front zs : List Word) (taken all : List Item) → AreItems line front taken → AreItems line ws all → ws ≡ front ++ zs → Split line zs taken all
+split line ws front zs taken all none b e = record { others = all; is = refl; spelled = subst (λ u. AreItems line u all) e b }
+split line ws front zs taken all (more w1 own1 rest1 item1 others1 i1 a) none e = absurd cc
+split line ws front zs taken all (more w1 own1 rest1 item1 others1 i1 a) (more w2 own2 rest2 item2 others2 i2 b) e =
+    let s = one_item line w1 w2 own1 own2 (rest1 ++ zs) rest2 item1 item2 i1 i2 (e ∙ ap (λ u. w1 ∷ u) (append_assoc own1 rest1 zs)) in
+    let d = split line rest2 rest1 zs others1 others2 a b s.rest in
+    record { others = d.others; is = ap (λ x. x ∷ others2) s.item ∙ ap (λ u. item1 ∷ u) d.is; spelled = d.spelled }
+
+joined : (line : LineKind) (front zs : List Word) (taken others : List Item) → AreItems line front taken → AreItems line zs others → AreItems line (front ++ zs) (taken ++ others)
+joined line front zs taken others none b = b
+joined line front zs taken others (more w own rest item more_items i a) b =
+    subst (λ u. AreItems line (w ∷ u) (item ∷ (more_items ++ others))) (sym (append_assoc own rest zs)) (more w own (rest ++ zs) item (more_items ++ others) i (joined line rest zs more_items others a b))
+
+pub swapped_words : (verb : Meaning) (front a b rest : List Word) (taken : List Item) (x y : Item) (request : Request) → AreItems verb.line front taken → AreItems verb.line a (x ∷ []) → AreItems verb.line b (y ∷ []) → Spells verb (front ++ (a ++ (b ++ rest))) request → Spells verb (front ++ (b ++ (a ++ rest))) request
+swapped_words verb front a b rest taken x y request f ia ib spells =
+    let line = verb.line in
+    let d1 = split line _ front (a ++ (b ++ rest)) taken spells.taken f spells.good.spelled refl in
+    let d2 = split line _ a (b ++ rest) (x ∷ []) d1.others ia d1.spelled refl in
+    let d3 = split line _ b rest (y ∷ []) d2.others ib d2.spelled refl in
+    let is : spells.taken ≡ taken ++ (x ∷ y ∷ d3.others) = d1.is ∙ ap (λ u. taken ++ u) (d2.is ∙ ap (λ u. x ∷ u) d3.is) in
+    let once : EachOnce no_items (taken ++ (x ∷ y ∷ d3.others)) = subst (λ u. EachOnce no_items u) is spells.good.once in
+    record {
+      taken = taken ++ (y ∷ x ∷ d3.others);
+      good = record {
+        spelled = joined line front (b ++ (a ++ rest)) taken (y ∷ x ∷ d3.others) f (joined line b (a ++ rest) (y ∷ []) (x ∷ d3.others) ib (joined line a rest (x ∷ []) d3.others ia d3.spelled));
+        once = swapped_once no_items taken d3.others x y once;
+      };
+      asks = ap verb.asks (sym (swapped_same no_items taken d3.others x y once)) ∙ ap (λ u. verb.asks (put_all u no_items)) (sym is) ∙ spells.asks;
+    }

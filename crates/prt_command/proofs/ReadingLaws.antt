@@ -2,7 +2,7 @@
 use Rattle.std.proofs.Common.{◌≡◌, zero, List, Result, Ok, Err, refl, ◌∙◌, ap, sym, arith}
 use Rattle.prt_addr.specs.Word.{Word}
 use Rattle.prt_addr.specs.declared.refusal.Refusal.{Refusal}
-use Rattle.prt_command.specs.Grammar.{items_of}
+use Rattle.prt_command.specs.Scan.{items_of}
 use Rattle.prt_command.specs.Items.{no_items}
 use Rattle.prt_command.specs.Reading.{Meaning, Spells, HasFault, of_item, of_items, items_request}
 use Rattle.prt_command.specs.Then.{◌>>=◌}

@@ -1,35 +1,44 @@
--- The value of an item, where it is known which item that is.
-use Rattle.std.proofs.Common.{◌≡◌, Option, Some, true, Result, Ok, Err, MatchResult, refl, sym, ap, ◌∙◌, subst}
+-- The value of an item is an item of that name.
+use Rattle.std.proofs.Common.{◌≡◌, Option, Result, Ok, Err, refl, sym, ap, subst}
 use Rattle.prt_addr.specs.Word.{Word}
 use Rattle.prt_addr.specs.declared.refusal.Refusal.{Refusal}
-use Rattle.prt_command.specs.Items.{Value, with_value}
+use Rattle.prt_command.specs.Items.{slot_of}
 use Rattle.prt_command.specs.Then.{map_ok}
-use Rattle.prt_command.specs.Values.{value_of, with_read}
-use Rattle.prt_command.specs.declared.item.Items.{Items}
+use Rattle.prt_command.specs.Values.{value}
+use Rattle.prt_command.specs.declared.item.Item.{Item}
+use Rattle.prt_command.specs.declared.item.Item.TheVariants as item
 use Rattle.prt_command.specs.declared.item.PrefixWord.{PrefixWord}
 use Rattle.prt_command.specs.declared.item.Slot.{Slot}
-use Rattle.prt_command.specs.declared.item.Slot.TheVariants.{Inverted}
+use Rattle.prt_command.specs.declared.item.Slot.TheVariants.{Destination, Via, Dev, Table, Proto, Scope, Src, Metric, Range, Tables, OfKind, Address, Source, Iif, Mark, Inverted, From, To, Fwmark, Priority, Action}
 
-abbrev some_read : {X : Type 0} → Result X Refusal → Result (Option X) Refusal
-some_read r = map_ok Some r
+abbrev or_value : {Y : Type 0} → Y → Result Y Refusal → Y
+or_value d (Ok y) = y
+or_value d (Err e) = d
 
-abbrev ok_place : {X : Type 0} → Option X → Result (Option X) Refusal
-ok_place o = Ok o
+-- what holds of all that f makes holds of what it makes of a value that was read
+pub made : {X Y : Type 0} (P : Y → Type 0) (f : X → Y) (r : Result X Refusal) (y : Y) → map_ok f r ≡ Ok y → ((x : X) → r ≡ Ok x → P (f x)) → P y
+made P f (Ok x) y h all = subst P (ap (or_value (f x)) h) (all x refl)
+made P f (Err e) y h all = absurd cc
 
--- what was put in its place is the value that was read
-put_read : (this : Slot) (old new : Items) (place : Option (Value this)) (read : Result (Value this) Refusal) → ((x : Value this) → place ≡ Some x → new ≡ with_value this x old) → some_read read ≡ ok_place place → map_ok (λ x. with_value this x old) read ≡ Ok new
-put_read this old new place (Ok x) puts h = let e : place ≡ Some x = cc in ap (λ i. Ok i) (sym (puts x e))
-put_read this old new place (Err f) puts h = absurd cc
-
-abbrev Reads : Slot → Option PrefixWord → Word → Items → Items → Result (Unit {0}) Refusal → Type 0
-Reads slot b w old new r = MatchResult r (λ _. with_read slot b w old ≡ Ok new) (λ e. with_read slot b w old ≡ Err e)
-
-put_by : (this : Slot) (b : Option PrefixWord) (w : Word) (old new : Items) (place : Option (Value this)) (read : Result (Value this) Refusal) (r : Result (Unit {0}) Refusal) → read ≡ value_of this b w → ((x : Value this) → place ≡ Some x → new ≡ with_value this x old) → MatchResult r (λ _. some_read read ≡ ok_place place) (λ e. read ≡ Err e) → Reads this b w old new r
-put_by this b w old new place read (Ok u) is puts h = ap (map_ok (λ x. with_value this x old)) (sym is) ∙ put_read this old new place read puts h
-put_by this b w old new place read (Err e) is puts h = ap (map_ok (λ x. with_value this x old)) (sym is ∙ h)
-
-pub put_value : {slot : Slot} (this : Slot) (b : Option PrefixWord) (w : Word) (old : Items) (place : Option (Value this)) (new : Items) (read : Result (Value this) Refusal) (r : Result (Unit {0}) Refusal) → slot ≡ this → read ≡ value_of this b w → ((x : Value this) → place ≡ Some x → new ≡ with_value this x old) → MatchResult r (λ _. some_read read ≡ ok_place place) (λ e. read ≡ Err e) → Reads slot b w old new r
-put_value this b w old place new read r at is puts h = subst (λ (s : Slot). Reads s b w old new r) (sym at) (put_by this b w old new place read r is puts h)
-
-pub inverted_read : {slot : Slot} (b : Option PrefixWord) (w : Word) (old : Items) → slot ≡ Inverted → with_read slot b w old ≡ Ok (record old { inverted = true })
-inverted_read b w old at = subst (λ (s : Slot). with_read s b w old ≡ Ok (record old { inverted = true })) (sym at) refl
+pub slot_kept : (slot : Slot) (b : Option PrefixWord) (w : Word) (x : Item) → value slot b w ≡ Ok x → slot_of x ≡ slot
+slot_kept Destination b w x h = made (λ x. slot_of x ≡ Destination) item.Destination _ x h (λ y e. refl)
+slot_kept Via b w x h = made (λ x. slot_of x ≡ Via) item.Via _ x h (λ y e. refl)
+slot_kept Dev b w x h = made (λ x. slot_of x ≡ Dev) item.Dev _ x h (λ y e. refl)
+slot_kept Table b w x h = made (λ x. slot_of x ≡ Table) item.Table _ x h (λ y e. refl)
+slot_kept Proto b w x h = made (λ x. slot_of x ≡ Proto) item.Proto _ x h (λ y e. refl)
+slot_kept Scope b w x h = made (λ x. slot_of x ≡ Scope) item.Scope _ x h (λ y e. refl)
+slot_kept Src b w x h = made (λ x. slot_of x ≡ Src) item.Src _ x h (λ y e. refl)
+slot_kept Metric b w x h = made (λ x. slot_of x ≡ Metric) item.Metric _ x h (λ y e. refl)
+slot_kept Range b w x h = made (λ x. slot_of x ≡ Range) item.Range _ x h (λ y e. refl)
+slot_kept Tables b w x h = made (λ x. slot_of x ≡ Tables) item.Tables _ x h (λ y e. refl)
+slot_kept OfKind b w x h = made (λ x. slot_of x ≡ OfKind) item.OfKind _ x h (λ y e. refl)
+slot_kept Address b w x h = made (λ x. slot_of x ≡ Address) item.Address _ x h (λ y e. refl)
+slot_kept Source b w x h = made (λ x. slot_of x ≡ Source) item.Source _ x h (λ y e. refl)
+slot_kept Iif b w x h = made (λ x. slot_of x ≡ Iif) item.Iif _ x h (λ y e. refl)
+slot_kept Mark b w x h = made (λ x. slot_of x ≡ Mark) item.Mark _ x h (λ y e. refl)
+slot_kept Inverted b w x h = ap slot_of (sym (ap (or_value item.Inverted) h))
+slot_kept From b w x h = made (λ x. slot_of x ≡ From) item.From _ x h (λ y e. refl)
+slot_kept To b w x h = made (λ x. slot_of x ≡ To) item.To _ x h (λ y e. refl)
+slot_kept Fwmark b w x h = made (λ x. slot_of x ≡ Fwmark) item.Fwmark _ x h (λ y e. refl)
+slot_kept Priority b w x h = made (λ x. slot_of x ≡ Priority) item.Priority _ x h (λ y e. refl)
+slot_kept Action b w x h = made (λ x. slot_of x ≡ Action) item.Action _ x h (λ y e. refl)

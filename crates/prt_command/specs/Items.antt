@@ -1,47 +1,35 @@
--- The items of lines: their values, and a set of them.
-use Rattle.std.specs.Prelude.{ℕ, Bool, true, false, List, [], ◌∷◌, Some, None, is_some}
+-- The items of lines, and a set of them.
+use Rattle.std.specs.Prelude.{Bool, true, false, not, List, [], ◌∷◌, Some, None, is_some}
 use Rattle.std.specs.List.{list_any}
-use Rattle.prt_addr.specs.Block.{Block}
-use Rattle.prt_addr.specs.Word.{Word}
-use Rattle.prt_addr.specs.declared.addr.Addr.{Addr}
-use Rattle.prt_route.specs.declared.choice.Range as ranges
-use Rattle.prt_route.specs.declared.kind.Kind.{Kind}
-use Rattle.prt_rule.specs.declared.rule.Action as rule
-use Rattle.prt_rule.specs.declared.rule.Mark as rule_mark
+use Rattle.prt_command.specs.declared.item.Item.{Item}
+use Rattle.prt_command.specs.declared.item.Item.TheVariants as item
 use Rattle.prt_command.specs.declared.item.Items.{Items}
 use Rattle.prt_command.specs.declared.item.Slot.{Slot}
 use Rattle.prt_command.specs.declared.item.Slot.TheVariants.{Destination, Via, Dev, Table, Proto, Scope, Src, Metric, Range, Tables, OfKind, Address, Source, Iif, Mark, Inverted, From, To, Fwmark, Priority, Action}
-use Rattle.prt_command.specs.declared.item.Target.{Target}
-use Rattle.prt_command.specs.declared.item.WhichTables.{WhichTables}
 
--- what an item says
-abbrev pub Value : Slot → Type 0
-Value Destination = Target
-Value Via = Addr
-Value Dev = Word
-Value Table = ℕ
-Value Proto = ℕ
-Value Scope = ℕ
-Value Src = Addr
-Value Metric = ℕ
-Value Range = ranges.Range
-Value Tables = WhichTables
-Value OfKind = Kind
-Value Address = Addr
-Value Source = Addr
-Value Iif = Word
-Value Mark = ℕ
-Value Inverted = Unit {0}
-Value From = Block
-Value To = Block
-Value Fwmark = rule_mark.Mark
-Value Priority = ℕ
-Value Action = rule.Action
-
--- an item: which one, and its value
-pub record Item : Type 0 where
-  pub slot : Slot
-  pub value : Value slot
+-- which item it is
+abbrev pub slot_of : Item → Slot
+slot_of (item.Destination target) = Destination
+slot_of (item.Via addr) = Via
+slot_of (item.Dev name) = Dev
+slot_of (item.Table table) = Table
+slot_of (item.Proto proto) = Proto
+slot_of (item.Scope scope) = Scope
+slot_of (item.Src addr) = Src
+slot_of (item.Metric metric) = Metric
+slot_of (item.Range range) = Range
+slot_of (item.Tables tables) = Tables
+slot_of (item.OfKind kind) = OfKind
+slot_of (item.Address addr) = Address
+slot_of (item.Source addr) = Source
+slot_of (item.Iif name) = Iif
+slot_of (item.Mark mark) = Mark
+slot_of item.Inverted = Inverted
+slot_of (item.From prefix) = From
+slot_of (item.To prefix) = To
+slot_of (item.Fwmark mark) = Fwmark
+slot_of (item.Priority priority) = Priority
+slot_of (item.Action action) = Action
 
 abbrev pub no_items : Items
 no_items = record {
@@ -92,38 +80,39 @@ has Fwmark items = is_some items.fwmark
 has Priority items = is_some items.priority
 has Action items = is_some items.action
 
--- whether one of these items is among those
-abbrev pub has_any : List Slot → Items → Bool
-has_any slots items = list_any (λ slot. has slot items) slots
+-- every item that there may be
+abbrev pub every_slot : List Slot
+every_slot = Destination ∷ Via ∷ Dev ∷ Table ∷ Proto ∷ Scope ∷ Src ∷ Metric ∷ Range ∷ Tables ∷ OfKind ∷ Address ∷ Source ∷ Iif ∷ Mark ∷ Inverted ∷ From ∷ To ∷ Fwmark ∷ Priority ∷ Action ∷ []
+
+-- whether none is among these
+abbrev pub is_empty : Items → Bool
+is_empty items = not (list_any (λ slot. has slot items) every_slot)
 
 -- these items, with one more
-abbrev pub with_value : (slot : Slot) → Value slot → Items → Items
-with_value Destination target items = record items { destination = Some target }
-with_value Via addr items = record items { via = Some addr }
-with_value Dev name items = record items { dev = Some name }
-with_value Table table items = record items { table = Some table }
-with_value Proto proto items = record items { proto = Some proto }
-with_value Scope scope items = record items { scope = Some scope }
-with_value Src addr items = record items { src = Some addr }
-with_value Metric metric items = record items { metric = Some metric }
-with_value Range range items = record items { range = Some range }
-with_value Tables tables items = record items { tables = Some tables }
-with_value OfKind kind items = record items { of_kind = Some kind }
-with_value Address addr items = record items { address = Some addr }
-with_value Source addr items = record items { source = Some addr }
-with_value Iif name items = record items { iif = Some name }
-with_value Mark mark items = record items { mark = Some mark }
-with_value Inverted _ items = record items { inverted = true }
-with_value From prefix items = record items { from = Some prefix }
-with_value To prefix items = record items { to = Some prefix }
-with_value Fwmark mark items = record items { fwmark = Some mark }
-with_value Priority priority items = record items { priority = Some priority }
-with_value Action action items = record items { action = Some action }
-
-abbrev pub with_item : Item → Items → Items
-with_item item items = with_value item.slot item.value items
+abbrev pub put : Item → Items → Items
+put (item.Destination target) items = record items { destination = Some target }
+put (item.Via addr) items = record items { via = Some addr }
+put (item.Dev name) items = record items { dev = Some name }
+put (item.Table table) items = record items { table = Some table }
+put (item.Proto proto) items = record items { proto = Some proto }
+put (item.Scope scope) items = record items { scope = Some scope }
+put (item.Src addr) items = record items { src = Some addr }
+put (item.Metric metric) items = record items { metric = Some metric }
+put (item.Range range) items = record items { range = Some range }
+put (item.Tables tables) items = record items { tables = Some tables }
+put (item.OfKind kind) items = record items { of_kind = Some kind }
+put (item.Address addr) items = record items { address = Some addr }
+put (item.Source addr) items = record items { source = Some addr }
+put (item.Iif name) items = record items { iif = Some name }
+put (item.Mark mark) items = record items { mark = Some mark }
+put item.Inverted items = record items { inverted = true }
+put (item.From prefix) items = record items { from = Some prefix }
+put (item.To prefix) items = record items { to = Some prefix }
+put (item.Fwmark mark) items = record items { fwmark = Some mark }
+put (item.Priority priority) items = record items { priority = Some priority }
+put (item.Action action) items = record items { action = Some action }
 
 -- these items, with more put in from left to right
-abbrev pub with_all : List Item → Items → Items
-with_all [] items = items
-with_all (item ∷ more) items = with_all more (with_item item items)
+abbrev pub put_all : List Item → Items → Items
+put_all [] items = items
+put_all (item ∷ more) items = put_all more (put item items)

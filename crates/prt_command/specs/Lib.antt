@@ -4,6 +4,7 @@ pub mod Then
 pub mod Mark
 pub mod Values
 pub mod Grammar
+pub mod Scan
 pub mod Line
 pub mod Requests
 pub mod Reading

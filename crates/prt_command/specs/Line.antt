@@ -2,7 +2,8 @@
 use Rattle.std.specs.Prelude.{List, [], ◌∷◌, ◌++◌, Some, None, codes}
 use Rattle.prt_rule.specs.declared.rule.Action.TheVariants as actions
 use Rattle.prt_command.specs.Grammar.{Entry, LineKind}
-use Rattle.prt_command.specs.declared.item.ItemWord.TheVariants.{Keyword, Not, Act}
+use Rattle.prt_command.specs.declared.item.Item.TheVariants as item
+use Rattle.prt_command.specs.declared.item.ItemWord.TheVariants.{Keyword, Alone}
 use Rattle.prt_command.specs.declared.item.Slot.TheVariants.{Destination, Via, Dev, Table, Proto, Scope, Src, Metric, Range, Tables, OfKind, Address, Source, Iif, Mark, From, To, Fwmark, Priority, Action}
 
 -- add, change, replace and del
@@ -37,7 +38,7 @@ route_get_words =
 -- which packets a rule matches, and when it is asked
 abbrev pub selector_words : List Entry
 selector_words =
-    (codes "not" ∷ [], Not)
+    (codes "not" ∷ [], Alone item.Inverted)
     ∷ (codes "from" ∷ [], Keyword From)
     ∷ (codes "to" ∷ [], Keyword To)
     ∷ (codes "iif" ∷ codes "dev" ∷ [], Keyword Iif)
@@ -49,9 +50,9 @@ selector_words =
 abbrev pub action_words : List Entry
 action_words =
     (codes "table" ∷ codes "lookup" ∷ [], Keyword Action)
-    ∷ (codes "blackhole" ∷ [], Act actions.Blackhole)
-    ∷ (codes "unreachable" ∷ [], Act actions.Unreachable)
-    ∷ (codes "prohibit" ∷ [], Act actions.Prohibit)
+    ∷ (codes "blackhole" ∷ [], Alone (item.Action actions.Blackhole))
+    ∷ (codes "unreachable" ∷ [], Alone (item.Action actions.Unreachable))
+    ∷ (codes "prohibit" ∷ [], Alone (item.Action actions.Prohibit))
     ∷ []
 
 -- add and del

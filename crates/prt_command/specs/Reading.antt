@@ -5,12 +5,14 @@ use Rattle.std.specs.Option.{ok_or}
 use Rattle.prt_addr.specs.Word.{Word, is_white, is_one_of}
 use Rattle.prt_addr.specs.declared.refusal.Refusal.{Refusal}
 use Rattle.prt_addr.specs.declared.refusal.Refusal.TheVariants.{LineTooLong, NotAscii, UnknownObject, UnknownVerb}
-use Rattle.prt_command.specs.Grammar.{FirstFault, Good, LineKind, items_of}
-use Rattle.prt_command.specs.Items.{Item, no_items, with_all}
+use Rattle.prt_command.specs.Grammar.{FirstFault, Good, LineKind}
+use Rattle.prt_command.specs.Items.{no_items, put_all}
 use Rattle.prt_command.specs.Lines.{longest_line}
 use Rattle.prt_command.specs.Line.{bare_line, route_edit_line, route_get_line, route_list_line, rule_edit_line}
 use Rattle.prt_command.specs.Requests.{Asks, refuse_if, route_request, route_del_request, route_flush_request, route_show_request, route_get_request, rule_add_request, rule_del_request}
+use Rattle.prt_command.specs.Scan.{items_of}
 use Rattle.prt_command.specs.Then.{◌>>=◌}
+use Rattle.prt_command.specs.declared.item.Item.{Item}
 use Rattle.prt_command.specs.declared.request.Command.TheVariants as commands
 use Rattle.prt_command.specs.declared.request.Query.TheVariants as queries
 use Rattle.prt_command.specs.declared.request.Request.{Request}
@@ -103,12 +105,12 @@ items_request verb ws = items_of verb.line no_items ws >>= verb.asks
 pub record Spells (verb : Meaning) (ws : List Word) (request : Request) : Type 0 where
   pub taken : List Item
   pub good : Good verb.line no_items ws taken
-  pub asks : verb.asks (with_all taken no_items) ≡ Ok request
+  pub asks : verb.asks (put_all taken no_items) ≡ Ok request
 
 -- The first fault: of the item behind the longest run of good items, or, where all words are good, of what the items say together.
 pub data HasFault (verb : Meaning) (ws : List Word) (fault : Refusal) : Type 0 where
   of_item : FirstFault verb.line no_items ws fault → HasFault verb ws fault
-  of_items : (taken : List Item) → Good verb.line no_items ws taken → verb.asks (with_all taken no_items) ≡ Err fault → HasFault verb ws fault
+  of_items : (taken : List Item) → Good verb.line no_items ws taken → verb.asks (put_all taken no_items) ≡ Err fault → HasFault verb ws fault
 
 -- the verb and its items
 abbrev pub verb_request : Object → List Word → Result Request Refusal

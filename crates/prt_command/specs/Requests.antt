@@ -1,5 +1,5 @@
 -- What the items of a line ask for.
-use Rattle.std.specs.Prelude.{ℕ, Bool, true, false, not, ◌&&◌, ◌||◌, nat_lt, if◌then◌else◌, List, [], ◌∷◌, Option, Some, None, is_some, unwrap_or, Result, Ok, Err, codes}
+use Rattle.std.specs.Prelude.{ℕ, Bool, true, false, not, ◌&&◌, ◌||◌, nat_lt, if◌then◌else◌, Option, Some, None, is_some, unwrap_or, Result, Ok, Err, codes}
 use Rattle.std.specs.Option.{ok_or}
 use Rattle.prt_addr.specs.Block.{Block}
 use Rattle.prt_addr.specs.Prefix.{everything}
@@ -17,10 +17,8 @@ use Rattle.prt_rule.specs.declared.choice.RuleChoice.{RuleChoice}
 use Rattle.prt_rule.specs.declared.packet.Packet.{Packet}
 use Rattle.prt_rule.specs.declared.rule.Action.TheVariants.{Lookup}
 use Rattle.prt_command.specs.Then.{◌>>=◌}
-use Rattle.prt_command.specs.Items.{has_any}
+use Rattle.prt_command.specs.Items.{is_empty}
 use Rattle.prt_command.specs.declared.item.Items.{Items}
-use Rattle.prt_command.specs.declared.item.Slot.{Slot}
-use Rattle.prt_command.specs.declared.item.Slot.TheVariants as slots
 use Rattle.prt_command.specs.declared.item.Target.{Target}
 use Rattle.prt_command.specs.declared.item.WhichTables.{WhichTables}
 use Rattle.prt_command.specs.declared.item.WhichTables.TheVariants.{One, All}
@@ -117,14 +115,10 @@ selector_of items = record {
   dev = items.dev;
 }
 
--- all items of show and flush
-abbrev pub route_list_slots : List Slot
-route_list_slots = slots.Range ∷ slots.Tables ∷ slots.OfKind ∷ slots.Proto ∷ slots.Scope ∷ slots.Dev ∷ []
-
 -- at least one item has to be given
 abbrev pub route_flush_request : Asks
 route_flush_request items =
-    refuse_if (not (has_any route_list_slots items)) TooBroad >>= λ _.
+    refuse_if (is_empty items) TooBroad >>= λ _.
     Ok (requests.Command (RouteFlush (selector_of items)))
 
 abbrev pub route_show_request : Asks
@@ -172,12 +166,8 @@ rule_choice items = record {
   action = items.action;
 }
 
--- all items of rule add and del
-abbrev pub rule_slots : List Slot
-rule_slots = slots.Inverted ∷ slots.From ∷ slots.To ∷ slots.Iif ∷ slots.Fwmark ∷ slots.Priority ∷ slots.Action ∷ []
-
 -- at least one item has to be given
 abbrev pub rule_del_request : Asks
 rule_del_request items =
-    refuse_if (not (has_any rule_slots items)) TooBroad >>= λ _.
+    refuse_if (is_empty items) TooBroad >>= λ _.
     Ok (requests.Command (RuleDel (rule_choice items)))

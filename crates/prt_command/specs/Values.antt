@@ -17,10 +17,10 @@ use Rattle.prt_route.specs.declared.kind.Kind.{Kind}
 use Rattle.prt_route.specs.declared.kind.Kind.TheVariants as kinds
 use Rattle.prt_rule.specs.declared.rule.Action as rule
 use Rattle.prt_rule.specs.declared.rule.Action.TheVariants as actions
-use Rattle.prt_command.specs.Items.{Value, with_value}
 use Rattle.prt_command.specs.Mark.{mark}
-use Rattle.prt_command.specs.Then.{◌>>=◌, map_ok}
-use Rattle.prt_command.specs.declared.item.Items.{Items}
+use Rattle.prt_command.specs.Then.{map_ok}
+use Rattle.prt_command.specs.declared.item.Item.{Item}
+use Rattle.prt_command.specs.declared.item.Item.TheVariants as item
 use Rattle.prt_command.specs.declared.item.Slot.{Slot}
 use Rattle.prt_command.specs.declared.item.Slot.TheVariants.{Destination, Via, Dev, Table, Proto, Scope, Src, Metric, Range, Tables, OfKind, Address, Source, Iif, Mark, Inverted, From, To, Fwmark, Priority, Action}
 use Rattle.prt_command.specs.declared.item.PrefixWord.{PrefixWord}
@@ -62,7 +62,7 @@ kind_before other = None
 
 -- a prefix without host bits, and the kind that stands before it if one does
 abbrev pub target : Option PrefixWord → Word → Result Target Refusal
-target b w = prefix w >>= λ prefix. Ok (record { kind = kind_before b; prefix = prefix })
+target b w = map_ok (λ prefix. record { kind = kind_before b; prefix = prefix }) (prefix w)
 
 -- `root`: the prefixes within the block; `match`: those that it is within; `exact` or no word: the block alone
 abbrev pub range_by : Option PrefixWord → Block → ranges.Range
@@ -72,40 +72,36 @@ range_by other block = Exact block
 
 -- a prefix, whose host bits are cleared
 abbrev pub range : Option PrefixWord → Word → Result ranges.Range Refusal
-range b w = ok_or (net w) BadPrefix >>= λ block. Ok (range_by b block)
+range b w = map_ok (range_by b) (ok_or (net w) BadPrefix)
 
 -- `all`, or one table
 abbrev pub which_tables : Word → Result WhichTables Refusal
-which_tables w = if bytes_eq (codes "all") w then Ok All else ok_or (table w) BadTable >>= λ table. Ok (One table)
+which_tables w = if bytes_eq (codes "all") w then Ok All else map_ok One (ok_or (table w) BadTable)
 
 -- a table to look up
 abbrev pub lookup : Word → Result rule.Action Refusal
-lookup w = ok_or (table w) BadTable >>= λ table. Ok (actions.Lookup table)
+lookup w = map_ok actions.Lookup (ok_or (table w) BadTable)
 
--- the value that a word spells, behind the word before its prefix if there is one; `not` has no value
-abbrev pub value_of : (slot : Slot) → Option PrefixWord → Word → Result (Value slot) Refusal
-value_of Destination b w = target b w
-value_of Via b w = ok_or (address w) BadAddress
-value_of Dev b w = ok_or (device w) BadName
-value_of Table b w = ok_or (table w) BadTable
-value_of Proto b w = ok_or (protocol w) BadNumber
-value_of Scope b w = ok_or (scope w) BadNumber
-value_of Src b w = ok_or (address w) BadAddress
-value_of Metric b w = ok_or (number w) BadNumber
-value_of Range b w = range b w
-value_of Tables b w = which_tables w
-value_of OfKind b w = ok_or (kind_of w) UnknownWord
-value_of Address b w = ok_or (address w) BadAddress
-value_of Source b w = ok_or (address w) BadAddress
-value_of Iif b w = ok_or (device w) BadName
-value_of Mark b w = ok_or (number w) BadNumber
-value_of Inverted b w = Ok tt
-value_of From b w = ok_or (net w) BadPrefix
-value_of To b w = ok_or (net w) BadPrefix
-value_of Fwmark b w = mark w
-value_of Priority b w = ok_or (number w) BadNumber
-value_of Action b w = lookup w
-
--- the items with the value of one more, or why there is none
-abbrev pub with_read : (slot : Slot) → Option PrefixWord → Word → Items → Result Items Refusal
-with_read slot b w items = map_ok (λ x. with_value slot x items) (value_of slot b w)
+-- the item that a word spells as its value, after the word before its prefix if there is one; `not` has no value
+abbrev pub value : Slot → Option PrefixWord → Word → Result Item Refusal
+value Destination b w = map_ok item.Destination (target b w)
+value Via b w = map_ok item.Via (ok_or (address w) BadAddress)
+value Dev b w = map_ok item.Dev (ok_or (device w) BadName)
+value Table b w = map_ok item.Table (ok_or (table w) BadTable)
+value Proto b w = map_ok item.Proto (ok_or (protocol w) BadNumber)
+value Scope b w = map_ok item.Scope (ok_or (scope w) BadNumber)
+value Src b w = map_ok item.Src (ok_or (address w) BadAddress)
+value Metric b w = map_ok item.Metric (ok_or (number w) BadNumber)
+value Range b w = map_ok item.Range (range b w)
+value Tables b w = map_ok item.Tables (which_tables w)
+value OfKind b w = map_ok item.OfKind (ok_or (kind_of w) UnknownWord)
+value Address b w = map_ok item.Address (ok_or (address w) BadAddress)
+value Source b w = map_ok item.Source (ok_or (address w) BadAddress)
+value Iif b w = map_ok item.Iif (ok_or (device w) BadName)
+value Mark b w = map_ok item.Mark (ok_or (number w) BadNumber)
+value Inverted b w = Ok item.Inverted
+value From b w = map_ok item.From (ok_or (net w) BadPrefix)
+value To b w = map_ok item.To (ok_or (net w) BadPrefix)
+value Fwmark b w = map_ok item.Fwmark (mark w)
+value Priority b w = map_ok item.Priority (ok_or (number w) BadNumber)
+value Action b w = map_ok item.Action (lookup w)

@@ -5,7 +5,7 @@ ghost use Rattle.prt_command.specs.Requests.{has_next_hop, new_route, packet_of,
 ghost use Rattle.prt_command.specs.Reading.{meaning_of};
 
 use crate::verb::ObjectVerb;
-use crate::{Command, Items, NewRule, Query, Request, Slot, Target, WhichTables};
+use crate::{Command, Items, NewRule, Query, Request, Target, WhichTables};
 use prt_route::{Addr, Dev, Kind, Prefix, Range, Refusal, Route, RouteChoice, Selector};
 use prt_rule::{Action, Packet, RuleChoice};
 
@@ -163,15 +163,7 @@ fn selector_of(items: &Items) -> Selector
 fn route_flush_request(items: &Items) -> Result<Request, Refusal>
     ensures { result ≡ route_flush_request items.now }
 {
-    let slots = [
-        Slot::Range,
-        Slot::Tables,
-        Slot::OfKind,
-        Slot::Proto,
-        Slot::Scope,
-        Slot::Dev,
-    ];
-    if !items.has_any(&slots) {
+    if items.is_empty() {
         return Err(Refusal::TooBroad);
     }
     Ok(Request::Command(Command::RouteFlush(selector_of(items))))
@@ -226,16 +218,7 @@ fn rule_choice(items: &Items) -> RuleChoice
 fn rule_del_request(items: &Items) -> Result<Request, Refusal>
     ensures { result ≡ rule_del_request items.now }
 {
-    let slots = [
-        Slot::Inverted,
-        Slot::From,
-        Slot::To,
-        Slot::Iif,
-        Slot::Fwmark,
-        Slot::Priority,
-        Slot::Action,
-    ];
-    if !items.has_any(&slots) {
+    if items.is_empty() {
         return Err(Refusal::TooBroad);
     }
     Ok(Request::Command(Command::RuleDel(rule_choice(items))))

@@ -1,6 +1,7 @@
-ghost use Rattle.std.specs.Prelude.{◌≡◌};
+ghost use Rattle.std.specs.Prelude.{◌≡◌, ◌↔◌, true};
+ghost use Rattle.std.specs.List.{list_any};
 ghost use Rattle.prt_command.specs.Grammar.{prefix_word};
-ghost use Rattle.prt_command.specs.Items.{has, has_any, no_items};
+ghost use Rattle.prt_command.specs.Items.{has, is_empty, no_items, put, slot_of};
 ghost use Rattle.prt_command.specs.Values.{kind_of};
 
 use crate::words::is;
@@ -54,15 +55,39 @@ pub enum Slot {
     Action,
 }
 
+/// An item of a line.
+#[derive(Clone, Copy, Debug, PartialEq, Eq)]
+pub enum Item {
+    Destination(Target),
+    Via(Addr),
+    Dev(Dev),
+    Table(u32),
+    Proto(u8),
+    Scope(u8),
+    Src(Addr),
+    Metric(u32),
+    Range(Range),
+    Tables(WhichTables),
+    OfKind(Kind),
+    Address(Addr),
+    Source(Addr),
+    Iif(Dev),
+    Mark(u32),
+    Inverted,
+    From(Prefix),
+    To(Prefix),
+    Fwmark(Mark),
+    Priority(u32),
+    Action(Action),
+}
+
 /// What a word begins.
 #[derive(Clone, Copy, Debug, PartialEq, Eq)]
 pub enum ItemWord {
     /// An item whose value is the next word.
     Keyword(Slot),
-    /// That a rule is inverted.
-    Not,
-    /// What a rule does, which is said by the word alone.
-    Act(Action),
+    /// An item that the word says alone.
+    Alone(Item),
 }
 
 /// A word that may stand before the prefix of an item.
@@ -76,6 +101,37 @@ pub enum PrefixWord {
     Match,
     /// `exact`: the one that follows alone.
     Exact,
+}
+
+impl Item {
+    /// Which item it is.
+    pub fn slot(self) -> Slot
+        ensures { result ≡ slot_of self }
+    {
+        match self {
+            Item::Destination(_) => Slot::Destination,
+            Item::Via(_) => Slot::Via,
+            Item::Dev(_) => Slot::Dev,
+            Item::Table(_) => Slot::Table,
+            Item::Proto(_) => Slot::Proto,
+            Item::Scope(_) => Slot::Scope,
+            Item::Src(_) => Slot::Src,
+            Item::Metric(_) => Slot::Metric,
+            Item::Range(_) => Slot::Range,
+            Item::Tables(_) => Slot::Tables,
+            Item::OfKind(_) => Slot::OfKind,
+            Item::Address(_) => Slot::Address,
+            Item::Source(_) => Slot::Source,
+            Item::Iif(_) => Slot::Iif,
+            Item::Mark(_) => Slot::Mark,
+            Item::Inverted => Slot::Inverted,
+            Item::From(_) => Slot::From,
+            Item::To(_) => Slot::To,
+            Item::Fwmark(_) => Slot::Fwmark,
+            Item::Priority(_) => Slot::Priority,
+            Item::Action(_) => Slot::Action,
+        }
+    }
 }
 
 impl Slot {
@@ -236,10 +292,71 @@ impl Items {
             Slot::Action => self.action.is_some(),
         }
     }
+
     /// Whether one of these items was given.
-    pub fn has_any(&self, slots: &[Slot]) -> bool
-        ensures { result ≡ has_any slots.now self.now }
+    fn has_any(&self, slots: &[Slot]) -> bool
+        ensures { result ≡ list_any (λ slot. has slot self.now) slots.now }
     {
         slots.iter().any(|slot| self.has(*slot))
+    }
+
+    /// Whether no item was given.
+    pub fn is_empty(&self) -> bool
+        ensures test { result ≡ is_empty self.now }
+        ensures none { (result ≡ true) ↔ (self.now ≡ no_items) }
+    {
+        let slots = [
+            Slot::Destination,
+            Slot::Via,
+            Slot::Dev,
+            Slot::Table,
+            Slot::Proto,
+            Slot::Scope,
+            Slot::Src,
+            Slot::Metric,
+            Slot::Range,
+            Slot::Tables,
+            Slot::OfKind,
+            Slot::Address,
+            Slot::Source,
+            Slot::Iif,
+            Slot::Mark,
+            Slot::Inverted,
+            Slot::From,
+            Slot::To,
+            Slot::Fwmark,
+            Slot::Priority,
+            Slot::Action,
+        ];
+        !self.has_any(&slots)
+    }
+
+    /// Adds an item, in the place of the one that was given.
+    pub fn put(&mut self, item: Item)
+        ensures { self.new ≡ put item self.old }
+    {
+        match item {
+            Item::Destination(target) => self.destination = Some(target),
+            Item::Via(addr) => self.via = Some(addr),
+            Item::Dev(name) => self.dev = Some(name),
+            Item::Table(table) => self.table = Some(table),
+            Item::Proto(proto) => self.proto = Some(proto),
+            Item::Scope(scope) => self.scope = Some(scope),
+            Item::Src(addr) => self.src = Some(addr),
+            Item::Metric(metric) => self.metric = Some(metric),
+            Item::Range(range) => self.range = Some(range),
+            Item::Tables(tables) => self.tables = Some(tables),
+            Item::OfKind(kind) => self.of_kind = Some(kind),
+            Item::Address(addr) => self.address = Some(addr),
+            Item::Source(addr) => self.source = Some(addr),
+            Item::Iif(name) => self.iif = Some(name),
+            Item::Mark(mark) => self.mark = Some(mark),
+            Item::Inverted => self.inverted = true,
+            Item::From(prefix) => self.from = Some(prefix),
+            Item::To(prefix) => self.to = Some(prefix),
+            Item::Fwmark(mark) => self.fwmark = Some(mark),
+            Item::Priority(priority) => self.priority = Some(priority),
+            Item::Action(action) => self.action = Some(action),
+        }
     }
 }

@@ -1,35 +1,37 @@
 //! The definition of reading in the words of the grammar: laws of the definitions, which no program calls.
-ghost use Rattle.std.specs.Prelude.{◌≡◌, ◌≤◌, ◌↔◌, List, ◌∷◌, ◌++◌, Ok, Err, length};
+ghost use Rattle.std.specs.Prelude.{◌≡◌, ◌≤◌, ◌↔◌, List, [], ◌∷◌, ◌++◌, Ok, Err, length};
 ghost use Rattle.prt_addr.specs.Word.{Word};
 ghost use Rattle.prt_addr.specs.declared.refusal.Refusal.{Refusal};
-ghost use Rattle.prt_command.specs.Grammar.{EachOnce, FirstFault, Good, LineKind, items_of};
-ghost use Rattle.prt_command.specs.Items.{Item, with_all};
+ghost use Rattle.prt_command.specs.Grammar.{AreItems, FirstFault, Good, LineKind};
+ghost use Rattle.prt_command.specs.Items.{put_all};
 ghost use Rattle.prt_command.specs.Reading.{HasFault, Meaning, Spells, items_request};
+ghost use Rattle.prt_command.specs.Scan.{items_of};
+ghost use Rattle.prt_command.specs.declared.item.Item.{Item};
 ghost use Rattle.prt_command.specs.declared.item.Items.{Items};
 ghost use Rattle.prt_command.specs.declared.request.Request.{Request};
 
 /// Words give items exactly where they are whole items, each at most once; otherwise the fault is that of what stands
-/// behind the longest run of good items.
+/// after the longest run of good items.
 pub fn first_faults()
     ensures found { (line : LineKind) (given items : Items) (ws : List Word) → items_of line given ws ≡ Ok items →
-        (taken : List Item) × Good line given ws taken × (items ≡ with_all taken given) }
+        (taken : List Item) × Good line given ws taken × (items ≡ put_all taken given) }
     ensures only { (line : LineKind) (given : Items) (ws : List Word) (taken : List Item) → Good line given ws taken →
-        items_of line given ws ≡ Ok (with_all taken given) }
+        items_of line given ws ≡ Ok (put_all taken given) }
     ensures fault { (line : LineKind) (given : Items) (ws : List Word) (e : Refusal) → items_of line given ws ≡ Err e → FirstFault line given ws e }
     ensures fault_only { (line : LineKind) (given : Items) (ws : List Word) (e : Refusal) → FirstFault line given ws e → items_of line given ws ≡ Err e }
-    ensures longest { (line : LineKind) (given : Items) (ws ahead behind : List Word) (taken : List Item) (e : Refusal) →
-        (first : FirstFault line given ws e) → Good line given ahead taken → ws ≡ ahead ++ behind → length ahead ≤ length first.front }
+    ensures longest { (line : LineKind) (given : Items) (ws ahead after : List Word) (taken : List Item) (e : Refusal) →
+        (first : FirstFault line given ws e) → Good line given ahead taken → ws ≡ ahead ++ after → length ahead ≤ length first.front }
 {}
 
-/// The words behind a verb give the request that they spell, or their first fault, and one of both always.
+/// The words after a verb give the request that they spell, or their first fault, and one of both always.
 pub fn readings()
     ensures request { (verb : Meaning) (ws : List Word) (request : Request) → (items_request verb ws ≡ Ok request) ↔ Spells verb ws request }
     ensures fault { (verb : Meaning) (ws : List Word) (e : Refusal) → (items_request verb ws ≡ Err e) ↔ HasFault verb ws e }
 {}
 
-/// The order of items doesn't matter: two neighbours that change places are as good, and together give the same.
+/// The order of items doesn't matter: where the words of two neighbours change places, the line asks for the same.
 pub fn any_order()
-    ensures good { (given : Items) (front rest : List Item) (a b : Item) → EachOnce given (front ++ (a ∷ b ∷ rest)) → EachOnce given (front ++ (b ∷ a ∷ rest)) }
-    ensures same { (given : Items) (front rest : List Item) (a b : Item) → EachOnce given (front ++ (a ∷ b ∷ rest)) →
-        with_all (front ++ (a ∷ b ∷ rest)) given ≡ with_all (front ++ (b ∷ a ∷ rest)) given }
+    ensures { (verb : Meaning) (front a b rest : List Word) (taken : List Item) (x y : Item) (request : Request) →
+        AreItems verb.line front taken → AreItems verb.line a (x ∷ []) → AreItems verb.line b (y ∷ []) →
+        Spells verb (front ++ (a ++ (b ++ rest))) request → Spells verb (front ++ (b ++ (a ++ rest))) request }
 {}

@@ -9,11 +9,12 @@ mod line;
 mod mark;
 mod reader;
 mod request;
+mod value;
 mod verb;
 mod words;
 
 pub use examples::{accepted_lines, refused_lines};
-pub use item::{ItemWord, Items, PrefixWord, Slot, Target, WhichTables};
+pub use item::{Item, ItemWord, Items, PrefixWord, Slot, Target, WhichTables};
 pub use laws::{any_order, first_faults, readings};
 pub use line::{LONGEST_LINE, LONGEST_UNENDED, MOST_LINES, read_line};
 pub use prt_route::{

@@ -4,7 +4,7 @@ ghost use Rattle.prt_command.specs.Line.{action_words, route_edit_words, route_g
 ghost use Rattle.prt_command.specs.Reading.{alone, line_of, object_of, verb_of};
 
 use crate::words::is;
-use crate::{ItemWord, Slot};
+use crate::{Item, ItemWord, Slot};
 use prt_rule::Action;
 
 /// What a line speaks of.
@@ -203,7 +203,7 @@ fn selector_word(word: &[u8]) -> Option<ItemWord>
     ensures { result ≡ word_in selector_words word.now }
 {
     if is(word, b"not") {
-        Some(ItemWord::Not)
+        Some(ItemWord::Alone(Item::Inverted))
     } else if is(word, b"from") {
         Some(ItemWord::Keyword(Slot::From))
     } else if is(word, b"to") {
@@ -230,11 +230,11 @@ fn action_word(word: &[u8]) -> Option<ItemWord>
     if is(word, b"table") || is(word, b"lookup") {
         Some(ItemWord::Keyword(Slot::Action))
     } else if is(word, b"blackhole") {
-        Some(ItemWord::Act(Action::Blackhole))
+        Some(ItemWord::Alone(Item::Action(Action::Blackhole)))
     } else if is(word, b"unreachable") {
-        Some(ItemWord::Act(Action::Unreachable))
+        Some(ItemWord::Alone(Item::Action(Action::Unreachable)))
     } else if is(word, b"prohibit") {
-        Some(ItemWord::Act(Action::Prohibit))
+        Some(ItemWord::Alone(Item::Action(Action::Prohibit)))
     } else {
         None
     }

@@ -1,5 +1,5 @@
 use Rattle.std.proofs.Common.{◌≡◌, length}
-use Rattle.prt_command.specs.Grammar.{items_of}
+use Rattle.prt_command.specs.Scan.{items_of}
 use Rattle.prt_command.specs.Reading.{line_of, words}
 use Rattle.prt_command.proofs.reader.read_items.Given as goal
 

@@ -1,0 +1,103 @@
+//! The values of items.
+ghost use Rattle.std.specs.Prelude.{◌≡◌};
+ghost use Rattle.std.specs.Option.{ok_or};
+ghost use Rattle.prt_addr.specs.declared.refusal.Refusal.TheVariants.{UnknownWord};
+ghost use Rattle.prt_command.specs.Values.{kind_before, kind_of, lookup, range, target, value, which_tables};
+
+use crate::item::kind_named;
+use crate::mark::read_mark;
+use crate::words::is;
+use crate::{Item, PrefixWord, Slot, Target, WhichTables};
+use prt_addr::{read_addr, read_net, read_number, read_prefix};
+use prt_route::{Kind, Range, Refusal, read_dev, read_protocol, read_scope, read_table};
+use prt_rule::Action;
+
+/// The kind that stands before a destination.
+fn kind_before(before: Option<PrefixWord>) -> Option<Kind>
+    ensures { result ≡ kind_before before }
+{
+    match before {
+        Some(PrefixWord::Kind(kind)) => Some(kind),
+        _ => None,
+    }
+}
+
+/// Reads the prefix of a destination, after the kind that stands before it.
+fn read_target(before: Option<PrefixWord>, word: &[u8]) -> Result<Target, Refusal>
+    ensures { result ≡ target before word.now }
+{
+    let kind = kind_before(before);
+    match read_prefix(word) {
+        Ok(prefix) => Ok(Target { kind, prefix }),
+        Err(refusal) => Err(refusal),
+    }
+}
+
+/// Reads the prefix of a range, after the word that stands before it.
+fn read_range(before: Option<PrefixWord>, word: &[u8]) -> Result<Range, Refusal>
+    ensures { result ≡ range before word.now }
+{
+    let prefix = read_net(word)?;
+    Ok(match before {
+        Some(PrefixWord::Root) => Range::Root(prefix),
+        Some(PrefixWord::Match) => Range::Covering(prefix),
+        _ => Range::Exact(prefix),
+    })
+}
+
+/// Reads `all`, or a table.
+fn read_tables(word: &[u8]) -> Result<WhichTables, Refusal>
+    ensures { result ≡ which_tables word.now }
+{
+    if is(word, b"all") {
+        return Ok(WhichTables::All);
+    }
+    let table = read_table(word)?;
+    Ok(WhichTables::One(table))
+}
+
+/// Reads a kind, after the word `type`.
+fn read_kind(word: &[u8]) -> Result<Kind, Refusal>
+    ensures { result ≡ ok_or (kind_of word.now) UnknownWord }
+{
+    kind_named(word).ok_or(Refusal::UnknownWord)
+}
+
+/// Reads the table that a rule looks up.
+fn read_lookup(word: &[u8]) -> Result<Action, Refusal>
+    ensures { result ≡ lookup word.now }
+{
+    match read_table(word) {
+        Ok(table) => Ok(Action::Lookup(table)),
+        Err(refusal) => Err(refusal),
+    }
+}
+
+/// Reads a word as the value of an item, after the word that stands before its prefix.
+pub(crate) fn value(slot: Slot, before: Option<PrefixWord>, word: &[u8]) -> Result<Item, Refusal>
+    ensures { result ≡ value slot before word.now }
+{
+    match slot {
+        Slot::Destination => Ok(Item::Destination(read_target(before, word)?)),
+        Slot::Via => Ok(Item::Via(read_addr(word)?)),
+        Slot::Dev => Ok(Item::Dev(read_dev(word)?)),
+        Slot::Table => Ok(Item::Table(read_table(word)?)),
+        Slot::Proto => Ok(Item::Proto(read_protocol(word)?)),
+        Slot::Scope => Ok(Item::Scope(read_scope(word)?)),
+        Slot::Src => Ok(Item::Src(read_addr(word)?)),
+        Slot::Metric => Ok(Item::Metric(read_number(word)?)),
+        Slot::Range => Ok(Item::Range(read_range(before, word)?)),
+        Slot::Tables => Ok(Item::Tables(read_tables(word)?)),
+        Slot::OfKind => Ok(Item::OfKind(read_kind(word)?)),
+        Slot::Address => Ok(Item::Address(read_addr(word)?)),
+        Slot::Source => Ok(Item::Source(read_addr(word)?)),
+        Slot::Iif => Ok(Item::Iif(read_dev(word)?)),
+        Slot::Mark => Ok(Item::Mark(read_number(word)?)),
+        Slot::Inverted => Ok(Item::Inverted),
+        Slot::From => Ok(Item::From(read_net(word)?)),
+        Slot::To => Ok(Item::To(read_net(word)?)),
+        Slot::Fwmark => Ok(Item::Fwmark(read_mark(word)?)),
+        Slot::Priority => Ok(Item::Priority(read_number(word)?)),
+        Slot::Action => Ok(Item::Action(read_lookup(word)?)),
+    }
+}
