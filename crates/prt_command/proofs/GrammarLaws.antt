@@ -1,5 +1,5 @@
 -- Items in a row: what is read is what is good, and a fault is the first.
-use Rattle.std.proofs.Common.{◌≡◌, ℕ, zero, suc, ◌+◌, ◌≤◌, List, [], ◌∷◌, ◌++◌, false, Result, Ok, Err, refl, length, take, drop, ◌∙◌, ap, sym, subst, arith, append_assoc, length-append}
+use Rattle.std.proofs.Common.{◌≡◌, ℕ, zero, suc, ◌+◌, ◌≤◌, List, [], ◌∷◌, ◌++◌, false, Ok, Err, refl, length, take, drop, ◌∙◌, ap, sym, subst, arith, append_assoc, length-append}
 use Rattle.std.proofs.lemmas.List.{take-append-drop, append-nil}
 use Rattle.std.proofs.Math.Seq.{drop-append_seam}
 use Rattle.prt_addr.specs.Word.{Word}
@@ -11,18 +11,8 @@ use Rattle.prt_command.specs.declared.item.Item.{Item}
 use Rattle.prt_command.specs.declared.item.Items.{Items}
 use Rattle.prt_command.specs.declared.item.Slot.{Slot}
 use Rattle.prt_command.specs.declared.item.Slot.TheVariants.{Destination, Via, Dev, Table, Proto, Scope, Src, Metric, Range, Tables, OfKind, Address, Source, Iif, Mark, Inverted, From, To, Fwmark, Priority, Action}
-use Rattle.prt_command.proofs.ItemLaws.{Read, ok_read, read_inj, is_read, is_fault, read_back, fault_back}
-
-abbrev pub ok_items : Items → Result Items Refusal
-ok_items items = Ok items
-
-abbrev pub or_items : Items → Result Items Refusal → Items
-or_items d (Ok items) = items
-or_items d (Err e) = d
-
-abbrev pub or_refusal : Refusal → Result Items Refusal → Refusal
-or_refusal d (Ok items) = d
-or_refusal d (Err e) = e
+use Rattle.prt_command.proofs.Results.{ok_result, ok_inj, err_inj}
+use Rattle.prt_command.proofs.ItemLaws.{Read, ok_read, is_read, is_fault, read_back, fault_back}
 
 -- What was read of these words is good.
 pub record Found (line : LineKind) (given : Items) (ws : List Word) (items : Items) : Type 0 where
@@ -30,13 +20,13 @@ pub record Found (line : LineKind) (given : Items) (ws : List Word) (items : Ite
   pub good : Good line given ws taken
   pub is : items ≡ put_all taken given
 
-nothing : (line : LineKind) (given items : Items) → ok_items given ≡ Ok items → Found line given [] items
-nothing line given items h = record { taken = []; good = record { spelled = none; once = tt }; is = sym (ap (or_items given) h) }
+nothing : (line : LineKind) (given items : Items) → ok_result given ≡ Ok items → Found line given [] items
+nothing line given items h = record { taken = []; good = record { spelled = none; once = tt }; is = sym (ok_inj given items h) }
 
 -- an item, and then what the words after it say
-found_step : (line : LineKind) (given items : Items) (w : Word) (ws : List Word) → ((n : ℕ) (k : Items) → items_after line n k ws ≡ Ok items → n ≤ length ws → Found line k (drop n ws) items) → (r : Scanned) → item_or_fault line given w ws ≡ r → and_items line given r ws ≡ Ok items → Found line given (w ∷ ws) items
-found_step line given items w ws rec (Err e) read h = absurd cc
-found_step line given items w ws rec (Ok t) read h =
+good_step : (line : LineKind) (given items : Items) (w : Word) (ws : List Word) → ((n : ℕ) (k : Items) → items_after line n k ws ≡ Ok items → n ≤ length ws → Found line k (drop n ws) items) → (r : Scanned) → item_or_fault line given w ws ≡ r → and_items line given r ws ≡ Ok items → Found line given (w ∷ ws) items
+good_step line given items w ws rec (Err e) read h = absurd cc
+good_step line given items w ws rec (Ok t) read h =
     let i = is_read line given w ws t read in
     let d = rec t.1 (put t.0 given) h i.within in
     subst (λ u. Found line given (w ∷ u) items) (take-append-drop t.1 ws) (record {
@@ -45,16 +35,16 @@ found_step line given items w ws rec (Ok t) read h =
       is = d.is;
     })
 
-pub found : (line : LineKind) (ws : List Word) (n : ℕ) (given items : Items) → items_after line n given ws ≡ Ok items → n ≤ length ws → Found line given (drop n ws) items
-found line [] zero given items h l = nothing line given items h
-found line [] (suc n) given items h l = absurd (omega (arith, l))
-found line (w ∷ ws) zero given items h l = found_step line given items w ws (λ n k. found line ws n k items) (item_or_fault line given w ws) refl h
-found line (w ∷ ws) (suc n) given items h l = found line ws n given items h (omega (arith, l))
+pub good_of_items : (line : LineKind) (ws : List Word) (n : ℕ) (given items : Items) → items_after line n given ws ≡ Ok items → n ≤ length ws → Found line given (drop n ws) items
+good_of_items line [] zero given items h l = nothing line given items h
+good_of_items line [] (suc n) given items h l = absurd (omega (arith, l))
+good_of_items line (w ∷ ws) zero given items h l = good_step line given items w ws (λ n k. good_of_items line ws n k items) (item_or_fault line given w ws) refl h
+good_of_items line (w ∷ ws) (suc n) given items h l = good_of_items line ws n given items h (omega (arith, l))
 
--- the words of an item are skipped
-skipped : (line : LineKind) (given : Items) (own ws : List Word) → items_after line (length own) given (own ++ ws) ≡ items_of line given ws
-skipped line given [] ws = refl
-skipped line given (w ∷ own) ws = skipped line given own ws
+-- the words of an item are own_words_skipped
+own_words_skipped : (line : LineKind) (given : Items) (own ws : List Word) → items_after line (length own) given (own ++ ws) ≡ items_of line given ws
+own_words_skipped line given [] ws = refl
+own_words_skipped line given (w ∷ own) ws = own_words_skipped line given own ws
 
 -- after good words the reading goes on from their items
 pub goes_on : (line : LineKind) (ws xs : List Word) (taken : List Item) (given : Items) → AreItems line ws taken → EachOnce given taken → items_of line given (ws ++ xs) ≡ items_of line (put_all taken given) xs
@@ -62,14 +52,14 @@ goes_on line ws xs taken given none once = refl
 goes_on line ws xs taken given (more w own rest item others i are) once =
     ap (λ u. and_items line given (item_or_fault line given w u) u) (append_assoc own rest xs)
     ∙ ap (λ r. and_items line given r (own ++ (rest ++ xs))) (read_back line given start w own (rest ++ xs) item i once.0)
-    ∙ skipped line (put item given) own (rest ++ xs)
+    ∙ own_words_skipped line (put item given) own (rest ++ xs)
     ∙ goes_on line rest xs others (put item given) are once.1
 
 pub only : (line : LineKind) (given : Items) (ws : List Word) (taken : List Item) → Good line given ws taken → items_of line given ws ≡ Ok (put_all taken given)
 only line given ws taken good = ap (items_of line given) (sym (append-nil ws)) ∙ goes_on line ws [] taken given good.spelled good.once
 
 fault_step : (line : LineKind) (given : Items) (e : Refusal) (w : Word) (ws : List Word) → ((n : ℕ) (k : Items) → items_after line n k ws ≡ Err e → n ≤ length ws → FirstFault line k (drop n ws) e) → (r : Scanned) → item_or_fault line given w ws ≡ r → and_items line given r ws ≡ Err e → FirstFault line given (w ∷ ws) e
-fault_step line given e w ws rec (Err f) read h = record { front = []; taken = []; w = w; rest = ws; splits = refl; good = record { spelled = none; once = tt }; first = subst (λ x. IsFault line given start w ws x) (ap (or_refusal e) h) (is_fault line given w ws f read) }
+fault_step line given e w ws rec (Err f) read h = record { front = []; taken = []; w = w; rest = ws; splits = refl; good = record { spelled = none; once = tt }; first = subst (λ x. IsFault line given start w ws x) (err_inj {X = Items} f e h) (is_fault line given w ws f read) }
 fault_step line given e w ws rec (Ok t) read h =
     let i = is_read line given w ws t read in
     let d = rec t.1 (put t.0 given) h i.within in
@@ -125,7 +115,7 @@ not_longer line given front ahead taken others w rest after e (more w1 own1 rest
     let all : List Word = (own1 ++ rest1) ++ (w ∷ rest) in
     let r1 : item_or_fault line given w1 all ≡ ok_read (item1, length own1) = read_in line given item1 w1 w1 own1 rest1 (w ∷ rest) all i1 once.0 refl in
     let r2 : item_or_fault line given w1 all ≡ ok_read (item2, length own2) = read_in line given item2 w2 w1 own2 rest2 after all i2 once2.0 s in
-    let same = read_inj (item1, length own1) (item2, length own2) (sym r1 ∙ r2) in
+    let same = ok_inj {X = Read} (item1, length own1) (item2, length own2) (sym r1 ∙ r2) in
     let len : length own1 ≡ length own2 = ap (λ (x : Read). x.1) same in
     let item : item1 ≡ item2 = ap (λ (x : Read). x.0) same in
     let s2 : own1 ++ (rest1 ++ (w ∷ rest)) ≡ own2 ++ (rest2 ++ after) = sym (append_assoc own1 rest1 (w ∷ rest)) ∙ ap tail_of s ∙ append_assoc own2 rest2 after in
@@ -174,5 +164,5 @@ one_item line w1 w2 own1 own2 rest1 rest2 item1 item2 i1 i2 e =
     let h : w2 ≡ w1 = ap (head_or w1) e in
     let r1 : item_or_fault line no_items w1 (own1 ++ rest1) ≡ ok_read (item1, length own1) = read_back line no_items start w1 own1 rest1 item1 i1 (none_given (slot_of item1)) in
     let r2 : item_or_fault line no_items w2 (own2 ++ rest2) ≡ ok_read (item2, length own2) = read_back line no_items start w2 own2 rest2 item2 i2 (none_given (slot_of item2)) in
-    let same = read_inj (item2, length own2) (item1, length own1) (sym r2 ∙ ap (λ w. item_or_fault line no_items w (own2 ++ rest2)) h ∙ ap (item_or_fault line no_items w1) t ∙ r1) in
+    let same = ok_inj {X = Read} (item2, length own2) (item1, length own1) (sym r2 ∙ ap (λ w. item_or_fault line no_items w (own2 ++ rest2)) h ∙ ap (item_or_fault line no_items w1) t ∙ r1) in
     record { item = ap (λ (x : Read). x.0) same; rest = same_rest own2 own1 rest2 rest1 t (ap (λ (x : Read). x.1) same) }

@@ -22,13 +22,6 @@ Read = Item × ℕ
 abbrev pub ok_read : Read → Scanned
 ok_read t = Ok t
 
-abbrev pub or_read : Read → Scanned → Read
-or_read d (Ok t) = t
-or_read d (Err e) = d
-
-pub read_inj : (t u : Read) → ok_read t ≡ ok_read u → t ≡ u
-read_inj t u h = ap (or_read t) h
-
 -- ---- what is read at each place
 
 abbrev pub read_at : LineKind → Items → Place → Word → List Word → Scanned

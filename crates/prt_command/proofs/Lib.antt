@@ -1,3 +1,4 @@
+pub mod Results
 pub mod Splitting
 pub mod Entries
 pub mod Values

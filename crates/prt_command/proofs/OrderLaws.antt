@@ -62,15 +62,15 @@ apart (Priority x) b given h = record { same = refl; first = refl; second = refl
 apart (Action x) (Action y) given h = absurd cc
 apart (Action x) b given h = record { same = refl; first = refl; second = refl }
 
-pub swapped_once : (given : Items) (front rest : List Item) (a b : Item) → EachOnce given (front ++ (a ∷ b ∷ rest)) → EachOnce given (front ++ (b ∷ a ∷ rest))
-swapped_once given [] rest a b once =
+pub once_in_any_order : (given : Items) (front rest : List Item) (a b : Item) → EachOnce given (front ++ (a ∷ b ∷ rest)) → EachOnce given (front ++ (b ∷ a ∷ rest))
+once_in_any_order given [] rest a b once =
     let d = apart a b given once.1.0 in
     (sym d.second ∙ once.1.0, (d.first ∙ once.0, subst (λ (g : Items). EachOnce g rest) d.same once.1.1))
-swapped_once given (item ∷ front) rest a b once = (once.0, swapped_once (put item given) front rest a b once.1)
+once_in_any_order given (item ∷ front) rest a b once = (once.0, once_in_any_order (put item given) front rest a b once.1)
 
-pub swapped_same : (given : Items) (front rest : List Item) (a b : Item) → EachOnce given (front ++ (a ∷ b ∷ rest)) → put_all (front ++ (a ∷ b ∷ rest)) given ≡ put_all (front ++ (b ∷ a ∷ rest)) given
-swapped_same given [] rest a b once = ap (put_all rest) (apart a b given once.1.0).same
-swapped_same given (item ∷ front) rest a b once = swapped_same (put item given) front rest a b once.1
+pub same_in_any_order : (given : Items) (front rest : List Item) (a b : Item) → EachOnce given (front ++ (a ∷ b ∷ rest)) → put_all (front ++ (a ∷ b ∷ rest)) given ≡ put_all (front ++ (b ∷ a ∷ rest)) given
+same_in_any_order given [] rest a b once = ap (put_all rest) (apart a b given once.1.0).same
+same_in_any_order given (item ∷ front) rest a b once = same_in_any_order (put item given) front rest a b once.1
 
 -- ---- words
 
@@ -80,32 +80,32 @@ record Split (line : LineKind) (zs : List Word) (front all : List Item) : Type 0
   is : all ≡ front ++ others
   spelled : AreItems line zs others
 
-split : (line : LineKind) (ws front zs : List Word) (taken all : List Item) → AreItems line front taken → AreItems line ws all → ws ≡ front ++ zs → Split line zs taken all
-split line ws front zs taken all none b e = record { others = all; is = refl; spelled = subst (λ u. AreItems line u all) e b }
-split line ws front zs taken all (more w1 own1 rest1 item1 others1 i1 a) none e = absurd cc
-split line ws front zs taken all (more w1 own1 rest1 item1 others1 i1 a) (more w2 own2 rest2 item2 others2 i2 b) e =
+items_split : (line : LineKind) (ws front zs : List Word) (taken all : List Item) → AreItems line front taken → AreItems line ws all → ws ≡ front ++ zs → Split line zs taken all
+items_split line ws front zs taken all none b e = record { others = all; is = refl; spelled = subst (λ u. AreItems line u all) e b }
+items_split line ws front zs taken all (more w1 own1 rest1 item1 others1 i1 a) none e = absurd cc
+items_split line ws front zs taken all (more w1 own1 rest1 item1 others1 i1 a) (more w2 own2 rest2 item2 others2 i2 b) e =
     let s = one_item line w1 w2 own1 own2 (rest1 ++ zs) rest2 item1 item2 i1 i2 (e ∙ ap (λ u. w1 ∷ u) (append_assoc own1 rest1 zs)) in
-    let d = split line rest2 rest1 zs others1 others2 a b s.rest in
+    let d = items_split line rest2 rest1 zs others1 others2 a b s.rest in
     record { others = d.others; is = ap (λ x. x ∷ others2) s.item ∙ ap (λ u. item1 ∷ u) d.is; spelled = d.spelled }
 
-joined : (line : LineKind) (front zs : List Word) (taken others : List Item) → AreItems line front taken → AreItems line zs others → AreItems line (front ++ zs) (taken ++ others)
-joined line front zs taken others none b = b
-joined line front zs taken others (more w own rest item more_items i a) b =
-    subst (λ u. AreItems line (w ∷ u) (item ∷ (more_items ++ others))) (sym (append_assoc own rest zs)) (more w own (rest ++ zs) item (more_items ++ others) i (joined line rest zs more_items others a b))
+items_of_both : (line : LineKind) (front zs : List Word) (taken others : List Item) → AreItems line front taken → AreItems line zs others → AreItems line (front ++ zs) (taken ++ others)
+items_of_both line front zs taken others none b = b
+items_of_both line front zs taken others (more w own rest item more_items i a) b =
+    subst (λ u. AreItems line (w ∷ u) (item ∷ (more_items ++ others))) (sym (append_assoc own rest zs)) (more w own (rest ++ zs) item (more_items ++ others) i (items_of_both line rest zs more_items others a b))
 
-pub swapped_words : (verb : Meaning) (front a b rest : List Word) (taken : List Item) (x y : Item) (request : Request) → AreItems verb.line front taken → AreItems verb.line a (x ∷ []) → AreItems verb.line b (y ∷ []) → Spells verb (front ++ (a ++ (b ++ rest))) request → Spells verb (front ++ (b ++ (a ++ rest))) request
-swapped_words verb front a b rest taken x y request f ia ib spells =
+pub words_in_any_order : (verb : Meaning) (front a b rest : List Word) (taken : List Item) (x y : Item) (request : Request) → AreItems verb.line front taken → AreItems verb.line a (x ∷ []) → AreItems verb.line b (y ∷ []) → Spells verb (front ++ (a ++ (b ++ rest))) request → Spells verb (front ++ (b ++ (a ++ rest))) request
+words_in_any_order verb front a b rest taken x y request f ia ib spells =
     let line = verb.line in
-    let d1 = split line _ front (a ++ (b ++ rest)) taken spells.taken f spells.good.spelled refl in
-    let d2 = split line _ a (b ++ rest) (x ∷ []) d1.others ia d1.spelled refl in
-    let d3 = split line _ b rest (y ∷ []) d2.others ib d2.spelled refl in
+    let d1 = items_split line _ front (a ++ (b ++ rest)) taken spells.taken f spells.good.spelled refl in
+    let d2 = items_split line _ a (b ++ rest) (x ∷ []) d1.others ia d1.spelled refl in
+    let d3 = items_split line _ b rest (y ∷ []) d2.others ib d2.spelled refl in
     let is : spells.taken ≡ taken ++ (x ∷ y ∷ d3.others) = d1.is ∙ ap (λ u. taken ++ u) (d2.is ∙ ap (λ u. x ∷ u) d3.is) in
     let once : EachOnce no_items (taken ++ (x ∷ y ∷ d3.others)) = subst (λ u. EachOnce no_items u) is spells.good.once in
     record {
       taken = taken ++ (y ∷ x ∷ d3.others);
       good = record {
-        spelled = joined line front (b ++ (a ++ rest)) taken (y ∷ x ∷ d3.others) f (joined line b (a ++ rest) (y ∷ []) (x ∷ d3.others) ib (joined line a rest (x ∷ []) d3.others ia d3.spelled));
-        once = swapped_once no_items taken d3.others x y once;
+        spelled = items_of_both line front (b ++ (a ++ rest)) taken (y ∷ x ∷ d3.others) f (items_of_both line b (a ++ rest) (y ∷ []) (x ∷ d3.others) ib (items_of_both line a rest (x ∷ []) d3.others ia d3.spelled));
+        once = once_in_any_order no_items taken d3.others x y once;
       };
-      asks = ap verb.asks (sym (swapped_same no_items taken d3.others x y once)) ∙ ap (λ u. verb.asks (put_all u no_items)) (sym is) ∙ spells.asks;
+      asks = ap verb.asks (sym (same_in_any_order no_items taken d3.others x y once)) ∙ ap (λ u. verb.asks (put_all u no_items)) (sym is) ∙ spells.asks;
     }

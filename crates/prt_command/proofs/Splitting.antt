@@ -78,7 +78,7 @@ word_front b (c ∷ cs) = elim (sides (is_white c)) [
 first_word : (b : ℕ) (bs : List ℕ) → is_white b ≡ false → words (b ∷ bs) ≡ take (position_or_len is_white (b ∷ bs)) (b ∷ bs) ∷ words (drop (position_or_len is_white (b ∷ bs)) (b ∷ bs))
 first_word b bs h = simp (h, one_plus) (word_front b bs)
 
--- what stands behind white space begins with none
+-- what stands after white space begins with none
 begins_black : (t u : List ℕ) (b : ℕ) → drop (position_or_len is_black t) t ≡ b ∷ u → is_white b ≡ false
 begins_black [] u b h = absurd cc
 begins_black (c ∷ cs) u b h = elim (sides (is_white c)) [
@@ -86,14 +86,14 @@ begins_black (c ∷ cs) u b h = elim (sides (is_white c)) [
   | inr w ↦ let e : c ∷ cs ≡ b ∷ u = simp w at h in cc
 ]
 
--- the text behind its white space: its first word, or none
-words_behind : (t u : List ℕ) → u ≡ drop (position_or_len is_black t) t → 0 < length u → words t ≡ take (position_or_len is_white u) u ∷ words (drop (position_or_len is_white u) u)
-words_behind t [] e l = absurd (omega (arith, l))
-words_behind t (b ∷ bs) e l = words-drop_white t ∙ ap words (sym e) ∙ first_word b bs (begins_black t bs b (sym e))
+-- the text after its white space: its first word, or none
+words_after : (t u : List ℕ) → u ≡ drop (position_or_len is_black t) t → 0 < length u → words t ≡ take (position_or_len is_white u) u ∷ words (drop (position_or_len is_white u) u)
+words_after t [] e l = absurd (omega (arith, l))
+words_after t (b ∷ bs) e l = words-drop_white t ∙ ap words (sym e) ∙ first_word b bs (begins_black t bs b (sym e))
 
-no_words_behind : (t u : List ℕ) → u ≡ drop (position_or_len is_black t) t → length u ≡ 0 → words t ≡ []
-no_words_behind t [] e l = words-drop_white t ∙ ap words (sym e)
-no_words_behind t (b ∷ bs) e l = absurd (omega (arith, l))
+no_words_after : (t u : List ℕ) → u ≡ drop (position_or_len is_black t) t → length u ≡ 0 → words t ≡ []
+no_words_after t [] e l = words-drop_white t ∙ ap words (sym e)
+no_words_after t (b ∷ bs) e l = absurd (omega (arith, l))
 
 -- the first word of such a text has a byte
 word_has_bytes : (t u : List ℕ) → u ≡ drop (position_or_len is_black t) t → 0 < length u → 0 < position_or_len is_white u
@@ -126,12 +126,12 @@ from xs n = take (length xs - n) (drop n xs)
 from-drop : (xs : List ℕ) (n : ℕ) → n ≤ length xs → from xs n ≡ drop n xs
 from-drop xs n l = take_all (length xs - n) (drop n xs) (let e = length-drop n xs in omega (arith, e))
 
--- the text behind n bytes, those of its white space
+-- the text after n bytes, those of its white space
 rest_is : (t : List ℕ) (n : ℕ) → n ≡ place is_black t → from t n ≡ drop (position_or_len is_black t) t
 rest_is t n e = from-drop t n (place_within is_black t n e) ∙ ap (λ k. drop k t) (e ∙ place_is is_black t)
 
 pub no_words : (t : List ℕ) (n : ℕ) → n ≡ place is_black t → length (from t n) ≡ 0 → words t ≡ []
-no_words t n e l = no_words_behind t (from t n) (rest_is t n e) l
+no_words t n e l = no_words_after t (from t n) (rest_is t n e) l
 
 pub next_of_words : (t : List ℕ) (n m : ℕ) → n ≡ place is_black t → 0 < length (from t n) → m ≡ place is_white (from t n) → (words t ≡ take m (from t n) ∷ words (from (from t n) m)) × (length (from (from t n) m) < length t)
 next_of_words t n m e l f =
@@ -139,7 +139,7 @@ next_of_words t n m e l f =
     let r : u ≡ drop (position_or_len is_black t) t = rest_is t n e in
     let g : from u m ≡ drop m u = from-drop u m (place_within is_white u m f) in
     let k : m ≡ position_or_len is_white u = f ∙ place_is is_white u in (
-      words_behind t u r l ∙ ap (λ j. take j u ∷ words (drop j u)) (sym k) ∙ ap (λ x. take m u ∷ words x) (sym g),
+      words_after t u r l ∙ ap (λ j. take j u ∷ words (drop j u)) (sym k) ∙ ap (λ x. take m u ∷ words x) (sym g),
       let p = word_has_bytes t u r l in
           let a : length (from u m) ≡ length u - m = ap length g ∙ length-drop m u in
           let d : from t n ≡ drop n t = from-drop t n (place_within is_black t n e) in

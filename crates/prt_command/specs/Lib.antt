@@ -5,7 +5,7 @@ pub mod Mark
 pub mod Values
 pub mod Grammar
 pub mod Scan
-pub mod Line
+pub mod LineKinds
 pub mod Requests
 pub mod Reading
 pub use Rattle.prt_addr.specs.Addr

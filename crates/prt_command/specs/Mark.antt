@@ -15,7 +15,7 @@ is_slash b = b == 47
 abbrev pub part : Word → Result ℕ Refusal
 part w = ok_or (number w) BadNumber
 
--- by the place of the first `/`, behind which the mask stands; without one it has all bits
+-- by the place of the first `/`, after which the mask stands; without one it has all bits
 abbrev pub mark_at : Option ℕ → Word → Result Mark Refusal
 mark_at None w = part w >>= λ mark. Ok (record { mark = mark; mask = 0xffffffff })
 mark_at (Some place) w = part (take place w) >>= λ mark. part (drop (place + 1) w) >>= λ mask. Ok (record { mark = mark; mask = mask })

@@ -8,7 +8,7 @@ use Rattle.prt_addr.specs.declared.refusal.Refusal.TheVariants.{LineTooLong, Not
 use Rattle.prt_command.specs.Grammar.{FirstFault, Good, LineKind}
 use Rattle.prt_command.specs.Items.{no_items, put_all}
 use Rattle.prt_command.specs.Lines.{longest_line}
-use Rattle.prt_command.specs.Line.{bare_line, route_edit_line, route_get_line, route_list_line, rule_edit_line}
+use Rattle.prt_command.specs.LineKinds.{bare_line, route_edit_line, route_get_line, route_list_line, rule_edit_line}
 use Rattle.prt_command.specs.Requests.{Asks, refuse_if, route_request, route_del_request, route_flush_request, route_show_request, route_get_request, rule_add_request, rule_del_request}
 use Rattle.prt_command.specs.Scan.{items_of}
 use Rattle.prt_command.specs.Then.{◌>>=◌}
@@ -78,9 +78,9 @@ verbs_of Route = RouteAdd ∷ RouteChange ∷ RouteReplace ∷ RouteDel ∷ Rout
 verbs_of Rule = RuleAdd ∷ RuleDel ∷ RuleFlush ∷ RuleShow ∷ []
 
 -- the verb that is meant where none follows the object
-abbrev pub alone : Object → ObjectVerb
-alone Route = RouteShow
-alone Rule = RuleShow
+abbrev pub lone_verb : Object → ObjectVerb
+lone_verb Route = RouteShow
+lone_verb Rule = RuleShow
 
 abbrev pub object_words : Object → List Word
 object_words Route = codes "route" ∷ codes "ro" ∷ codes "r" ∷ []
@@ -107,14 +107,14 @@ pub record Spells (verb : Meaning) (ws : List Word) (request : Request) : Type 0
   pub good : Good verb.line no_items ws taken
   pub asks : verb.asks (put_all taken no_items) ≡ Ok request
 
--- The first fault: of the item behind the longest run of good items, or, where all words are good, of what the items say together.
+-- The first fault: of the item after the longest run of good items, or, where all words are good, of what the items say together.
 pub data HasFault (verb : Meaning) (ws : List Word) (fault : Refusal) : Type 0 where
   of_item : FirstFault verb.line no_items ws fault → HasFault verb ws fault
   of_items : (taken : List Item) → Good verb.line no_items ws taken → verb.asks (put_all taken no_items) ≡ Err fault → HasFault verb ws fault
 
 -- the verb and its items
 abbrev pub verb_request : Object → List Word → Result Request Refusal
-verb_request object [] = items_request (meaning_of (alone object)) []
+verb_request object [] = items_request (meaning_of (lone_verb object)) []
 verb_request object (w ∷ ws) = ok_or (verb_of object w) UnknownVerb >>= λ verb. items_request (meaning_of verb) ws
 
 -- the object, its verb and the items

@@ -7,6 +7,7 @@ use Rattle.prt_addr.specs.Word.{keep}
 use Rattle.prt_addr.specs.declared.addr.Addr.{Addr}
 use Rattle.prt_addr.specs.declared.refusal.Refusal.{Refusal}
 use Rattle.prt_addr.specs.declared.refusal.Refusal.TheVariants.{MissingDestination, NoNextHop, NextHopNotAllowed, TooBroad}
+use Rattle.prt_route.specs.Names.{boot_protocol, global_scope, link_scope, main_table}
 use Rattle.prt_route.specs.declared.choice.Range.TheVariants as ranges
 use Rattle.prt_route.specs.declared.choice.RouteChoice.{RouteChoice}
 use Rattle.prt_route.specs.declared.choice.Selector.{Selector}
@@ -37,6 +38,10 @@ refuse_if false refusal = Ok tt
 abbrev pub Asks : Type 0
 Asks = Items → Result Request Refusal
 
+-- at least one item has to be given
+abbrev pub unless_empty : Items → Command → Result Request Refusal
+unless_empty items command = refuse_if (is_empty items) TooBroad >>= λ _. Ok (requests.Command command)
+
 -- ---- a route to be put
 
 abbrev pub is_unicast : Kind → Bool
@@ -47,21 +52,21 @@ is_unicast kind = false
 abbrev pub has_next_hop : Items → Bool
 has_next_hop items = is_some items.via || is_some items.dev
 
--- a unicast route has the scope that is given, else global (0) through a gateway and link (253) without one; a route of another kind has scope global
+-- a unicast route has the scope that is given, else global through a gateway and link without one; a route of another kind has scope global
 abbrev pub scope_of : Kind → Option Addr → Option ℕ → ℕ
-scope_of kind via scope = if is_unicast kind then unwrap_or scope (if is_some via then 0 else 253) else 0
+scope_of kind via scope = if is_unicast kind then unwrap_or scope (if is_some via then global_scope else link_scope) else global_scope
 
--- a route of protocol boot (3), in table main (254) with metric 0 where none are given
+-- a route of protocol boot, in table main with metric 0 where none are given
 abbrev pub route_of : Items → Kind → Block → Route
 route_of items kind prefix = record {
-  table = unwrap_or items.table 254;
+  table = unwrap_or items.table main_table;
   prefix = prefix;
   metric = unwrap_or items.metric 0;
   kind = kind;
   via = items.via;
   dev = items.dev;
   src = items.src;
-  proto = unwrap_or items.proto 3;
+  proto = unwrap_or items.proto boot_protocol;
   scope = scope_of kind items.via items.scope;
 }
 
@@ -82,10 +87,10 @@ route_request command items = new_route items >>= λ route. Ok (requests.Command
 
 -- ---- routes that are there
 
--- the table is main (254) where none is given, and a metric of 0 counts as not given
+-- the table is main where none is given, and a metric of 0 counts as not given
 abbrev pub route_choice : Items → Target → RouteChoice
 route_choice items target = record {
-  table = unwrap_or items.table 254;
+  table = unwrap_or items.table main_table;
   prefix = target.prefix;
   metric = keep (λ metric. nat_lt 0 metric) items.metric;
   kind = target.kind;
@@ -99,9 +104,9 @@ route_choice items target = record {
 abbrev pub route_del_request : Asks
 route_del_request items = ok_or items.destination MissingDestination >>= λ target. Ok (requests.Command (RouteDel (route_choice items target)))
 
--- main (254) where none is given
+-- main where none is given
 abbrev pub selected_table : Option WhichTables → Option ℕ
-selected_table None = Some 254
+selected_table None = Some main_table
 selected_table (Some All) = None
 selected_table (Some (One table)) = Some table
 
@@ -115,11 +120,8 @@ selector_of items = record {
   dev = items.dev;
 }
 
--- at least one item has to be given
 abbrev pub route_flush_request : Asks
-route_flush_request items =
-    refuse_if (is_empty items) TooBroad >>= λ _.
-    Ok (requests.Command (RouteFlush (selector_of items)))
+route_flush_request items = unless_empty items (RouteFlush (selector_of items))
 
 abbrev pub route_show_request : Asks
 route_show_request items = Ok (requests.Query (RouteShow (selector_of items)))
@@ -140,7 +142,7 @@ route_get_request items = ok_or items.address MissingDestination >>= λ dst. Ok 
 
 -- ---- rules
 
--- a rule for all sources and destinations that looks up table main (254), where nothing else is given
+-- a rule for all sources and destinations that looks up table main, where nothing else is given
 abbrev pub rule_of : Items → NewRule
 rule_of items = record {
   priority = items.priority;
@@ -149,7 +151,7 @@ rule_of items = record {
   to = unwrap_or items.to everything;
   iif = items.iif;
   mark = items.fwmark;
-  action = unwrap_or items.action (Lookup 254);
+  action = unwrap_or items.action (Lookup main_table);
 }
 
 abbrev pub rule_add_request : Asks
@@ -166,8 +168,5 @@ rule_choice items = record {
   action = items.action;
 }
 
--- at least one item has to be given
 abbrev pub rule_del_request : Asks
-rule_del_request items =
-    refuse_if (is_empty items) TooBroad >>= λ _.
-    Ok (requests.Command (RuleDel (rule_choice items)))
+rule_del_request items = unless_empty items (RuleDel (rule_choice items))

@@ -1,4 +1,4 @@
--- One reading behind another.
+-- One reading after another.
 use Rattle.std.specs.Prelude.{Result, Ok, Err}
 use Rattle.prt_addr.specs.declared.refusal.Refusal.{Refusal}
 

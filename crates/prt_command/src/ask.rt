@@ -1,28 +1,19 @@
-//! What the items of a line ask for.
+//! What the items of a line ask for together.
 ghost use Rattle.std.specs.Prelude.{◌≡◌, nat_lt};
 ghost use Rattle.prt_addr.specs.Word.{keep};
-ghost use Rattle.prt_command.specs.Requests.{has_next_hop, new_route, packet_of, route_by, route_choice, route_del_request, route_flush_request, route_get_request, route_of, rule_choice, rule_del_request, rule_of, scope_of, selected_table, selector_of};
+ghost use Rattle.prt_command.specs.Requests.{has_next_hop, new_route, packet_of, route_by, route_choice, route_del_request, route_flush_request, route_get_request, route_of, rule_choice, rule_del_request, rule_of, scope_of, selected_table, selector_of, unless_empty};
 ghost use Rattle.prt_command.specs.Reading.{meaning_of};
 
 use crate::verb::ObjectVerb;
 use crate::{Command, Items, NewRule, Query, Request, Target, WhichTables};
-use prt_route::{Addr, Dev, Kind, Prefix, Range, Refusal, Route, RouteChoice, Selector};
+use prt_route::{
+    Addr, BOOT_PROTOCOL, Dev, GLOBAL_SCOPE, Kind, LINK_SCOPE, MAIN_TABLE, Prefix, Range, Refusal,
+    Route, RouteChoice, Selector,
+};
 use prt_rule::{Action, Packet, RuleChoice};
 
-/// The table that a route belongs to, and that a rule looks up, where none is named.
-const MAIN: u32 = 254;
-
-/// The protocol of a route where none is named.
-const BOOT: u8 = 3;
-
-/// The scope of a route through a gateway, and of one that is not unicast.
-const GLOBAL: u8 = 0;
-
-/// The scope of a route to a directly connected network.
-const LINK: u8 = 253;
-
 impl ObjectVerb {
-    /// What the items of a line ask for.
+    /// Asks for what the items of a line say, or answers what they lack.
     pub(crate) fn request(self, items: &Items) -> Result<Request, Refusal>
         ensures { result ≡ (meaning_of self).asks items.now }
     {
@@ -48,41 +39,52 @@ impl ObjectVerb {
     }
 }
 
-/// The scope of a route of this kind, by its gateway and the scope that is given.
+/// Asks for this command, for which at least one item has to be given.
+fn unless_empty(items: &Items, command: Command) -> Result<Request, Refusal>
+    ensures { result ≡ unless_empty items.now command }
+{
+    if items.is_empty() {
+        return Err(Refusal::TooBroad);
+    }
+    Ok(Request::Command(command))
+}
+
+/// Gives the scope of a route of this kind, by its gateway and the scope that is given.
 fn scope_of(kind: Kind, via: Option<Addr>, scope: Option<u8>) -> u8
     ensures { result ≡ scope_of kind via scope }
 {
     match (kind, scope, via) {
         (Kind::Unicast, Some(scope), _) => scope,
-        (Kind::Unicast, None, None) => LINK,
-        _ => GLOBAL,
+        (Kind::Unicast, None, None) => LINK_SCOPE,
+        _ => GLOBAL_SCOPE,
     }
 }
 
+/// Puts together the route of this kind and prefix.
 fn route_of(items: &Items, kind: Kind, prefix: Prefix) -> Route
     ensures { result ≡ route_of items.now kind prefix }
 {
     Route {
-        table: items.table.unwrap_or(MAIN),
+        table: items.table.unwrap_or(MAIN_TABLE),
         prefix,
         metric: items.metric.unwrap_or(0),
         kind,
         via: items.via,
         dev: items.dev,
         src: items.src,
-        proto: items.proto.unwrap_or(BOOT),
+        proto: items.proto.unwrap_or(BOOT_PROTOCOL),
         scope: scope_of(kind, items.via, items.scope),
     }
 }
 
-/// Whether a gateway or an interface was given.
+/// Tells whether a gateway or an interface was given.
 fn has_next_hop(items: &Items) -> bool
     ensures { result ≡ has_next_hop items.now }
 {
     items.via.is_some() || items.dev.is_some()
 }
 
-/// The route of this kind and prefix, which has a next hop where it is unicast, and only then.
+/// Checks that a next hop was given where the route is unicast, and only then, and puts the route together.
 fn route_by(items: &Items, kind: Kind, prefix: Prefix) -> Result<Route, Refusal>
     ensures { result ≡ route_by items.now kind prefix }
 {
@@ -94,7 +96,7 @@ fn route_by(items: &Items, kind: Kind, prefix: Prefix) -> Result<Route, Refusal>
     }
 }
 
-/// The route that the items say.
+/// Puts together the route that the items say: its destination has to be given, and its kind is unicast where none is.
 fn new_route(items: &Items) -> Result<Route, Refusal>
     ensures { result ≡ new_route items.now }
 {
@@ -102,8 +104,8 @@ fn new_route(items: &Items) -> Result<Route, Refusal>
     route_by(items, kind.unwrap_or(Kind::Unicast), prefix)
 }
 
-/// The metric, where it is not 0.
-fn metric_named(metric: Option<u32>) -> Option<u32>
+/// Drops a metric of 0, which counts as none given.
+fn given_metric(metric: Option<u32>) -> Option<u32>
     ensures { result ≡ keep (λ metric. nat_lt 0 metric) metric }
 {
     match metric {
@@ -112,13 +114,14 @@ fn metric_named(metric: Option<u32>) -> Option<u32>
     }
 }
 
+/// Puts together which routes `route del` chooses from.
 fn route_choice(items: &Items, target: Target) -> RouteChoice
     ensures { result ≡ route_choice items.now target }
 {
     RouteChoice {
-        table: items.table.unwrap_or(MAIN),
+        table: items.table.unwrap_or(MAIN_TABLE),
         prefix: target.prefix,
-        metric: metric_named(items.metric),
+        metric: given_metric(items.metric),
         kind: target.kind,
         via: items.via,
         dev: items.dev,
@@ -128,6 +131,7 @@ fn route_choice(items: &Items, target: Target) -> RouteChoice
     }
 }
 
+/// Asks for the deletion of a route, whose destination has to be given.
 fn route_del_request(items: &Items) -> Result<Request, Refusal>
     ensures { result ≡ route_del_request items.now }
 {
@@ -136,17 +140,18 @@ fn route_del_request(items: &Items) -> Result<Request, Refusal>
     Ok(Request::Command(Command::RouteDel(choice)))
 }
 
-/// The number of the table that is selected; None for all.
+/// Gives the number of the table that is selected: main where none is given, None for all.
 fn selected_table(tables: Option<WhichTables>) -> Option<u32>
     ensures { result ≡ selected_table tables }
 {
     match tables {
-        None => Some(MAIN),
+        None => Some(MAIN_TABLE),
         Some(WhichTables::One(table)) => Some(table),
         Some(WhichTables::All) => None,
     }
 }
 
+/// Puts together which routes `route show` and `flush` take.
 fn selector_of(items: &Items) -> Selector
     ensures { result ≡ selector_of items.now }
 {
@@ -160,15 +165,14 @@ fn selector_of(items: &Items) -> Selector
     }
 }
 
+/// Asks for a flush of routes.
 fn route_flush_request(items: &Items) -> Result<Request, Refusal>
     ensures { result ≡ route_flush_request items.now }
 {
-    if items.is_empty() {
-        return Err(Refusal::TooBroad);
-    }
-    Ok(Request::Command(Command::RouteFlush(selector_of(items))))
+    unless_empty(items, Command::RouteFlush(selector_of(items)))
 }
 
+/// Puts together the packet that `route get` asks about.
 fn packet_of(items: &Items, dst: Addr) -> Packet
     ensures { result ≡ packet_of items.now dst }
 {
@@ -180,6 +184,7 @@ fn packet_of(items: &Items, dst: Addr) -> Packet
     }
 }
 
+/// Asks what becomes of a packet, whose address has to be given.
 fn route_get_request(items: &Items) -> Result<Request, Refusal>
     ensures { result ≡ route_get_request items.now }
 {
@@ -187,6 +192,7 @@ fn route_get_request(items: &Items) -> Result<Request, Refusal>
     Ok(Request::Query(Query::Get(packet_of(items, dst))))
 }
 
+/// Puts together the rule that the items say.
 fn rule_of(items: &Items) -> NewRule
     ensures { result ≡ rule_of items.now }
 {
@@ -197,10 +203,11 @@ fn rule_of(items: &Items) -> NewRule
         to: items.to.unwrap_or(Prefix::masked(0, 0)),
         iif: items.iif,
         mark: items.fwmark,
-        action: items.action.unwrap_or(Action::Lookup(MAIN)),
+        action: items.action.unwrap_or(Action::Lookup(MAIN_TABLE)),
     }
 }
 
+/// Puts together which rules `rule del` chooses from.
 fn rule_choice(items: &Items) -> RuleChoice
     ensures { result ≡ rule_choice items.now }
 {
@@ -215,11 +222,9 @@ fn rule_choice(items: &Items) -> RuleChoice
     }
 }
 
+/// Asks for the deletion of a rule.
 fn rule_del_request(items: &Items) -> Result<Request, Refusal>
     ensures { result ≡ rule_del_request items.now }
 {
-    if items.is_empty() {
-        return Err(Refusal::TooBroad);
-    }
-    Ok(Request::Command(Command::RuleDel(rule_choice(items))))
+    unless_empty(items, Command::RuleDel(rule_choice(items)))
 }

@@ -33,11 +33,11 @@ pub fn refused_lines()
     ensures second_destination { reading (codes "route add 10/8 11/8") ≡ Err UnknownWord }
     ensures missing_value { reading (codes "route add 10/8 dev") ≡ Err MissingValue }
     ensures missing_before_repeated { reading (codes "route add 10/8 dev a dev") ≡ Err MissingValue }
-    ensures nothing_behind_to { reading (codes "route add 10/8 to") ≡ Err MissingValue }
-    ensures nothing_behind_kind { reading (codes "route add blackhole") ≡ Err MissingValue }
-    ensures nothing_behind_both { reading (codes "route add to blackhole") ≡ Err MissingValue }
-    ensures nothing_behind_match { reading (codes "route show match") ≡ Err MissingValue }
-    ensures nothing_behind_type { reading (codes "route flush type") ≡ Err MissingValue }
+    ensures nothing_after_to { reading (codes "route add 10/8 to") ≡ Err MissingValue }
+    ensures nothing_after_kind { reading (codes "route add blackhole") ≡ Err MissingValue }
+    ensures nothing_after_both { reading (codes "route add to blackhole") ≡ Err MissingValue }
+    ensures nothing_after_match { reading (codes "route show match") ≡ Err MissingValue }
+    ensures nothing_after_type { reading (codes "route flush type") ≡ Err MissingValue }
     ensures repeated_range { reading (codes "route show 10/8 exact 11/8") ≡ Err Repeated }
     ensures repeated_protocol { reading (codes "route show proto 2 protocol 3") ≡ Err Repeated }
     ensures repeated { reading (codes "route add 10/8 dev a dev b") ≡ Err Repeated }

@@ -8,7 +8,7 @@ use crate::words::is;
 use prt_route::{Addr, Dev, Kind, Prefix, Range};
 use prt_rule::{Action, Mark};
 
-/// Which item of a line.
+/// Which item of a line it is.
 #[derive(Clone, Copy, Debug, PartialEq, Eq)]
 pub enum Slot {
     /// The kind and the destinations of a route.
@@ -55,7 +55,7 @@ pub enum Slot {
     Action,
 }
 
-/// An item of a line.
+/// An item of a line, with its value; what each says stands at [`Slot`].
 #[derive(Clone, Copy, Debug, PartialEq, Eq)]
 pub enum Item {
     Destination(Target),
@@ -81,7 +81,7 @@ pub enum Item {
     Action(Action),
 }
 
-/// What a word begins.
+/// What an item word begins.
 #[derive(Clone, Copy, Debug, PartialEq, Eq)]
 pub enum ItemWord {
     /// An item whose value is the next word.
@@ -104,7 +104,7 @@ pub enum PrefixWord {
 }
 
 impl Item {
-    /// Which item it is.
+    /// Tells which item it is.
     pub fn slot(self) -> Slot
         ensures { result ≡ slot_of self }
     {
@@ -135,7 +135,7 @@ impl Item {
 }
 
 impl Slot {
-    /// What the word says, where a word may stand before the prefix of this item.
+    /// Reads a word that may stand before the prefix of this item.
     pub(crate) fn prefix_word(self, word: &[u8]) -> Option<PrefixWord>
         ensures { result ≡ prefix_word self word.now }
     {
@@ -147,8 +147,8 @@ impl Slot {
     }
 }
 
-/// The kind of a route that the word is.
-pub(crate) fn kind_named(word: &[u8]) -> Option<Kind>
+/// Reads a kind of routes.
+pub(crate) fn kind_of(word: &[u8]) -> Option<Kind>
     ensures { result ≡ kind_of word.now }
 {
     if is(word, b"unicast") {
@@ -166,18 +166,18 @@ pub(crate) fn kind_named(word: &[u8]) -> Option<Kind>
     }
 }
 
-/// The word before a destination.
+/// Reads a word that may stand before a destination.
 #[tactic(auto, using(crate::proofs::Entries::kinds_before))]
 fn kind_word(word: &[u8]) -> Option<PrefixWord>
     ensures { result ≡ prefix_word Slot.Destination word.now }
 {
-    match kind_named(word) {
+    match kind_of(word) {
         Some(kind) => Some(PrefixWord::Kind(kind)),
         None => None,
     }
 }
 
-/// The word before a range.
+/// Reads a word that may stand before a range.
 fn range_word(word: &[u8]) -> Option<PrefixWord>
     ensures { result ≡ prefix_word Slot.Range word.now }
 {
@@ -208,7 +208,7 @@ pub struct Target {
     pub prefix: Prefix,
 }
 
-/// The items that a line has given, each at most once.
+/// The items that a line has given, each at most once; what each says stands at [`Slot`].
 #[derive(Clone, Copy, Debug, PartialEq, Eq)]
 pub struct Items {
     pub destination: Option<Target>,
@@ -235,7 +235,7 @@ pub struct Items {
 }
 
 impl Items {
-    /// No items.
+    /// Begins with no items.
     pub fn new() -> Self
         ensures { result ≡ no_items }
     {
@@ -264,7 +264,7 @@ impl Items {
         }
     }
 
-    /// Whether the item was given.
+    /// Tells whether the item was given.
     pub fn has(&self, slot: Slot) -> bool
         ensures { result ≡ has slot self.now }
     {
@@ -293,14 +293,14 @@ impl Items {
         }
     }
 
-    /// Whether one of these items was given.
+    /// Tells whether one of these items was given.
     fn has_any(&self, slots: &[Slot]) -> bool
         ensures { result ≡ list_any (λ slot. has slot self.now) slots.now }
     {
         slots.iter().any(|slot| self.has(*slot))
     }
 
-    /// Whether no item was given.
+    /// Tells whether no item was given.
     pub fn is_empty(&self) -> bool
         ensures test { result ≡ is_empty self.now }
         ensures none { (result ≡ true) ↔ (self.now ≡ no_items) }
@@ -331,7 +331,7 @@ impl Items {
         !self.has_any(&slots)
     }
 
-    /// Adds an item, in the place of the one that was given.
+    /// Adds an item, in the place of the one that was given if one was.
     pub fn put(&mut self, item: Item)
         ensures { self.new ≡ put item self.old }
     {

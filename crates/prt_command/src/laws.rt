@@ -1,4 +1,4 @@
-//! The definition of reading in the words of the grammar: laws of the definitions, which no program calls.
+//! Laws of the definitions, which no program calls: what the function that reads gives, in the words of the grammar.
 ghost use Rattle.std.specs.Prelude.{◌≡◌, ◌≤◌, ◌↔◌, List, [], ◌∷◌, ◌++◌, Ok, Err, length};
 ghost use Rattle.prt_addr.specs.Word.{Word};
 ghost use Rattle.prt_addr.specs.declared.refusal.Refusal.{Refusal};

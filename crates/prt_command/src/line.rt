@@ -7,16 +7,16 @@ use crate::verb::Object;
 use crate::words::{is, next_word, text_of};
 use prt_route::Refusal;
 
-/// The most bytes of a line, without its newline.
+/// The most bytes of a line, without its newline; one byte more is `LineTooLong`.
 pub const LONGEST_LINE: usize = 1024;
 
-/// The most bytes of a line that is still read to its end; one byte more ends the session.
+/// The most bytes of a line that are read on to its end, without its newline; one byte more ends the session.
 pub const LONGEST_UNENDED: usize = 65_536;
 
-/// The most lines of a session or of a replay.
+/// The most lines of a session or of a replay; a byte after them is `TooManyLines`.
 pub const MOST_LINES: usize = 1_000_000;
 
-/// The first word behind a word that is skipped where it is this one, and else that word; the text behind it.
+/// Skips one optional word: the next word, and the text after it.
 fn skip_word<'a>(skipped: &[u8], word: &'a [u8], rest: &'a [u8]) -> Option<(&'a [u8], &'a [u8])>
     ensures { MatchOption result (skip_word skipped.now (word.now ∷ words rest.now) ≡ [])
         (λ next. skip_word skipped.now (word.now ∷ words rest.now) ≡ next.0.now ∷ words next.1.now) }
@@ -28,28 +28,28 @@ fn skip_word<'a>(skipped: &[u8], word: &'a [u8], rest: &'a [u8]) -> Option<(&'a 
     }
 }
 
-/// What a verb of an object and its items ask for; an object alone is shown.
+/// Reads a verb of the object, and the items after it; an object alone is shown.
 fn read_verb(object: Object, text: &[u8]) -> Result<Request, Refusal>
     ensures { result ≡ verb_request object (words text.now) }
 {
     match next_word(text) {
         Some((word, rest)) => {
-            let verb = object.verb(word).ok_or(Refusal::UnknownVerb)?;
+            let verb = object.verb_of(word).ok_or(Refusal::UnknownVerb)?;
             read_request(verb, rest)
         }
-        None => read_request(object.alone(), text),
+        None => read_request(object.lone_verb(), text),
     }
 }
 
-/// What an object, its verb and the items ask for.
+/// Reads an object, and the verb and the items after it.
 fn read_object(word: &[u8], rest: &[u8]) -> Result<Request, Refusal>
     ensures { result ≡ object_request (word.now ∷ words rest.now) }
 {
-    let object = Object::named(word).ok_or(Refusal::UnknownObject)?;
+    let object = Object::object_of(word).ok_or(Refusal::UnknownObject)?;
     read_verb(object, rest)
 }
 
-/// What words from this one on ask for, behind `ip` and `-4`.
+/// Reads the words of a line from this one on: `ip` and `-4`, which may be left out, an object, a verb and items.
 fn read_words(word: &[u8], rest: &[u8]) -> Result<Request, Refusal>
     ensures { result ≡ object_request (skip_word (codes "-4") (skip_word (codes "ip") (word.now ∷ words rest.now))) }
 {
@@ -58,7 +58,7 @@ fn read_words(word: &[u8], rest: &[u8]) -> Result<Request, Refusal>
     read_object(word, rest)
 }
 
-/// What a text asks for, or None where it has no words.
+/// Reads the text of a line: what it asks for, or None where it has no words.
 fn read_text(text: &[u8]) -> Result<Option<Request>, Refusal>
     ensures { result ≡ words_request (words text.now) }
 {
@@ -71,12 +71,16 @@ fn read_text(text: &[u8]) -> Result<Option<Request>, Refusal>
     }
 }
 
-/// Reads a line of the command language: what it asks for, or None where it is blank or a comment.
+/// Reads a line of the command language, which has the words of ip-route(8) and ip-rule(8): what it asks for, or None
+/// where it is blank or a comment.
+///
+/// The line stands without its newline. A table that it names is 1 or more, and a route that it asks for has a next hop
+/// where it is unicast, and only then.
 ///
 /// # Errors
 ///
-/// The first fault of the line: `LineTooLong`, `NotAscii`, then the first fault by position of word, then what the
-/// items lack.
+/// The first fault of the line, one of the first seventeen refusals: `LineTooLong`, `NotAscii`, then the fault of the
+/// first bad word, from left to right, then what the items lack.
 pub fn read_line(line: &[u8]) -> Result<Option<Request>, Refusal>
     ensures { result ≡ reading line.now }
 {

@@ -5,6 +5,7 @@ use prt_addr::read_number;
 use prt_route::Refusal;
 use prt_rule::Mark;
 
+/// Finds the first `/`.
 fn slash_place(word: &[u8]) -> Option<usize>
     ensures { result ≡ position is_slash word.now }
 {

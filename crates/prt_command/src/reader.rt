@@ -26,8 +26,7 @@ fn value_after(given: bool, rest: &[u8]) -> Result<(&[u8], &[u8]), Refusal>
     }
 }
 
-/// Reads the value after the word of an item, or after a word that stands before its prefix, and adds the item: the
-/// text after the value.
+/// Reads the value after the word of an item, or after a word before its prefix, and adds the item: the text after it.
 fn read_value<'a>(
     items: &mut Items,
     slot: Slot,
@@ -48,7 +47,7 @@ fn read_value<'a>(
     }
 }
 
-/// Reads a value before whose prefix a word may stand, from this word on, and adds the item: the text after the value.
+/// Reads a value before whose prefix a word may stand, from this word on, and adds the item: the text after it.
 fn read_qualified<'a>(
     items: &mut Items,
     slot: Slot,
@@ -72,7 +71,7 @@ fn read_qualified<'a>(
     }
 }
 
-/// Reads the item that needs no word of its own, from this word on, and adds it: the text after the item.
+/// Reads the item that needs no word of its own, from this word on, and adds it: the text after it.
 fn read_plain<'a>(
     items: &mut Items,
     slot: Slot,
@@ -90,7 +89,7 @@ fn read_plain<'a>(
     read_qualified(items, slot, word, rest)
 }
 
-/// Reads the item that a word begins, from the text after the word on, and adds it: the text after the item.
+/// Reads the item that a word begins, and adds it: the text after it.
 fn read_begun<'a>(items: &mut Items, item: ItemWord, rest: &'a [u8]) -> Result<&'a [u8], Refusal>
     ensures items { IfOk result (λ after. (line : LineKind) → and_items line items.old (word_item item items.old (words rest.now)) (words rest.now) ≡ items_of line items.new (words after.now)) }
     ensures shorter { IfOk result (λ after. length after.now ≤ length rest.now) }
@@ -106,7 +105,7 @@ fn read_begun<'a>(items: &mut Items, item: ItemWord, rest: &'a [u8]) -> Result<&
     }
 }
 
-/// Reads the item that begins at this word, and adds it: the text after the item.
+/// Reads the item that begins at this word, and adds it: the text after it.
 fn read_item<'a>(
     verb: ObjectVerb,
     items: &mut Items,
@@ -126,7 +125,7 @@ fn read_item<'a>(
     }
 }
 
-/// Adds the items of a text to those that were given.
+/// Reads the items of a text, and adds them to those that were given.
 ///
 /// # Errors
 ///
@@ -143,7 +142,7 @@ fn read_items(verb: ObjectVerb, items: &mut Items, text: &[u8]) -> Result<(), Re
     Ok(())
 }
 
-/// What the items of a text ask for, or their first fault.
+/// Reads the items after a verb, and asks for what they say.
 pub(crate) fn read_request(verb: ObjectVerb, text: &[u8]) -> Result<Request, Refusal>
     ensures { result ≡ items_request (meaning_of verb) (words text.now) }
 {

@@ -4,7 +4,7 @@ ghost use Rattle.std.specs.Option.{ok_or};
 ghost use Rattle.prt_addr.specs.declared.refusal.Refusal.TheVariants.{UnknownWord};
 ghost use Rattle.prt_command.specs.Values.{kind_before, kind_of, lookup, range, target, value, which_tables};
 
-use crate::item::kind_named;
+use crate::item::kind_of;
 use crate::mark::read_mark;
 use crate::words::is;
 use crate::{Item, PrefixWord, Slot, Target, WhichTables};
@@ -12,7 +12,7 @@ use prt_addr::{read_addr, read_net, read_number, read_prefix};
 use prt_route::{Kind, Range, Refusal, read_dev, read_protocol, read_scope, read_table};
 use prt_rule::Action;
 
-/// The kind that stands before a destination.
+/// Takes the kind out of the word before a destination.
 fn kind_before(before: Option<PrefixWord>) -> Option<Kind>
     ensures { result ≡ kind_before before }
 {
@@ -60,7 +60,7 @@ fn read_tables(word: &[u8]) -> Result<WhichTables, Refusal>
 fn read_kind(word: &[u8]) -> Result<Kind, Refusal>
     ensures { result ≡ ok_or (kind_of word.now) UnknownWord }
 {
-    kind_named(word).ok_or(Refusal::UnknownWord)
+    kind_of(word).ok_or(Refusal::UnknownWord)
 }
 
 /// Reads the table that a rule looks up.
@@ -74,6 +74,11 @@ fn read_lookup(word: &[u8]) -> Result<Action, Refusal>
 }
 
 /// Reads a word as the value of an item, after the word that stands before its prefix.
+///
+/// # Errors
+///
+/// What is wrong with the word: `BadAddress`, `BadPrefix`, `HostBits`, `BadNumber`, `BadTable`, `BadName`, or for a kind
+/// `UnknownWord`.
 pub(crate) fn value(slot: Slot, before: Option<PrefixWord>, word: &[u8]) -> Result<Item, Refusal>
     ensures { result ≡ value slot before word.now }
 {

@@ -1,7 +1,7 @@
 ghost use Rattle.std.specs.Prelude.{◌≡◌};
 ghost use Rattle.prt_command.specs.Grammar.{word_in};
-ghost use Rattle.prt_command.specs.Line.{action_words, route_edit_words, route_get_words, route_list_words, rule_edit_words, selector_words};
-ghost use Rattle.prt_command.specs.Reading.{alone, line_of, object_of, verb_of};
+ghost use Rattle.prt_command.specs.LineKinds.{action_words, route_edit_words, route_get_words, route_list_words, rule_edit_words, selector_words};
+ghost use Rattle.prt_command.specs.Reading.{line_of, lone_verb, object_of, verb_of};
 
 use crate::words::is;
 use crate::{Item, ItemWord, Slot};
@@ -31,8 +31,8 @@ pub enum ObjectVerb {
 }
 
 impl Object {
-    /// The object that a word spells.
-    pub(crate) fn named(word: &[u8]) -> Option<Object>
+    /// Reads an object.
+    pub(crate) fn object_of(word: &[u8]) -> Option<Object>
         ensures { result ≡ object_of word.now }
     {
         if is(word, b"route") || is(word, b"ro") || is(word, b"r") {
@@ -44,8 +44,8 @@ impl Object {
         }
     }
 
-    /// The verb that a word spells behind this object.
-    pub(crate) fn verb(self, word: &[u8]) -> Option<ObjectVerb>
+    /// Reads a verb of this object.
+    pub(crate) fn verb_of(self, word: &[u8]) -> Option<ObjectVerb>
         ensures { result ≡ verb_of self word.now }
     {
         match self {
@@ -54,9 +54,9 @@ impl Object {
         }
     }
 
-    /// The verb that is meant where none follows.
-    pub(crate) fn alone(self) -> ObjectVerb
-        ensures { result ≡ alone self }
+    /// Gives the verb that is meant where none follows.
+    pub(crate) fn lone_verb(self) -> ObjectVerb
+        ensures { result ≡ lone_verb self }
     {
         match self {
             Object::Route => ObjectVerb::RouteShow,
@@ -65,7 +65,7 @@ impl Object {
     }
 }
 
-/// The verb of routes that the word is.
+/// Reads a verb of routes.
 fn route_verb(word: &[u8]) -> Option<ObjectVerb>
     ensures { result ≡ verb_of Object.Route word.now }
 {
@@ -88,7 +88,7 @@ fn route_verb(word: &[u8]) -> Option<ObjectVerb>
     }
 }
 
-/// The verb of rules that the word is.
+/// Reads a verb of rules.
 fn rule_verb(word: &[u8]) -> Option<ObjectVerb>
     ensures { result ≡ verb_of Object.Rule word.now }
 {
@@ -106,7 +106,7 @@ fn rule_verb(word: &[u8]) -> Option<ObjectVerb>
 }
 
 impl ObjectVerb {
-    /// What the word begins as one of the item words of this verb's line.
+    /// Tells what the word begins, as one of the item words of this verb's line.
     pub(crate) fn item_word(self, word: &[u8]) -> Option<ItemWord>
         ensures { result ≡ word_in (line_of self).entries word.now }
     {
@@ -122,7 +122,7 @@ impl ObjectVerb {
         }
     }
 
-    /// The item that needs no word of its own.
+    /// Tells which item of this verb's line needs no word of its own.
     pub(crate) fn plain_slot(self) -> Option<Slot>
         ensures { result ≡ (line_of self).plain }
     {
@@ -141,7 +141,7 @@ impl ObjectVerb {
     }
 }
 
-/// What the word begins on the lines of `route add`, `change`, `replace` and `del`.
+/// Tells what the word begins on the lines of `route add`, `change`, `replace` and `del`.
 fn route_edit_word(word: &[u8]) -> Option<ItemWord>
     ensures { result ≡ word_in route_edit_words word.now }
 {
@@ -164,7 +164,7 @@ fn route_edit_word(word: &[u8]) -> Option<ItemWord>
     }
 }
 
-/// What the word begins on the lines of `route show` and `flush`.
+/// Tells what the word begins on the lines of `route show` and `flush`.
 fn route_list_word(word: &[u8]) -> Option<ItemWord>
     ensures { result ≡ word_in route_list_words word.now }
 {
@@ -183,7 +183,7 @@ fn route_list_word(word: &[u8]) -> Option<ItemWord>
     }
 }
 
-/// What the word begins on the line of `route get`.
+/// Tells what the word begins on the line of `route get`.
 fn route_get_word(word: &[u8]) -> Option<ItemWord>
     ensures { result ≡ word_in route_get_words word.now }
 {
@@ -198,7 +198,7 @@ fn route_get_word(word: &[u8]) -> Option<ItemWord>
     }
 }
 
-/// What the word begins as one of those that say which packets a rule matches, and when it is asked.
+/// Tells what the word begins, as one of those that say which packets a rule matches, and when it is asked.
 fn selector_word(word: &[u8]) -> Option<ItemWord>
     ensures { result ≡ word_in selector_words word.now }
 {
@@ -223,7 +223,7 @@ fn selector_word(word: &[u8]) -> Option<ItemWord>
     }
 }
 
-/// What the word begins as one of those that say what a rule does.
+/// Tells what the word begins, as one of those that say what a rule does.
 fn action_word(word: &[u8]) -> Option<ItemWord>
     ensures { result ≡ word_in action_words word.now }
 {
@@ -240,7 +240,7 @@ fn action_word(word: &[u8]) -> Option<ItemWord>
     }
 }
 
-/// What the word begins on the lines of `rule add` and `del`.
+/// Tells what the word begins on the lines of `rule add` and `del`.
 fn rule_edit_word(word: &[u8]) -> Option<ItemWord>
     ensures { result ≡ word_in rule_edit_words word.now }
 {

@@ -3,28 +3,28 @@ ghost use Rattle.std.specs.List.{list_all};
 ghost use Rattle.prt_addr.specs.Word.{is_white};
 ghost use Rattle.prt_command.specs.Reading.{before_comment, is_text_byte, words};
 
-/// Space, tab or carriage return.
+/// Tells whether the byte is white space: space, tab or carriage return.
 fn is_white(byte: u8) -> bool
     ensures { result ≡ is_white byte }
 {
     byte == b' ' || byte == b'\t' || byte == b'\r'
 }
 
-/// A byte that may stand in front of a comment: white space or a printable ASCII character.
+/// Tells whether the byte may stand before a comment: white space or a printable ASCII character.
 fn is_text(byte: u8) -> bool
     ensures { result ≡ is_text_byte byte }
 {
     byte == b'\t' || byte == b'\r' || (b' '..=b'~').contains(&byte)
 }
 
-/// Whether a text has no byte but white space and printable ASCII characters.
+/// Tells whether a text has no byte but white space and printable ASCII characters.
 fn is_ascii_text(text: &[u8]) -> bool
     ensures { result ≡ list_all is_text_byte text.now }
 {
     text.iter().all(|byte| is_text(*byte))
 }
 
-/// Whether a line is such a text and has no comment.
+/// Tells whether a line is such a text and has no comment.
 ///
 /// The loop has no early end, so that it can look at many bytes at once.
 fn is_plain(line: &[u8]) -> bool
@@ -37,13 +37,14 @@ fn is_plain(line: &[u8]) -> bool
     is_plain
 }
 
+/// Finds the first `#`.
 fn first_hash(line: &[u8]) -> Option<usize>
     ensures { result ≡ position (λ b. b == 35) line.now }
 {
     line.iter().position(|byte| *byte == b'#')
 }
 
-/// What stands before the first `#` of a line, or the whole line.
+/// Cuts a line at its first `#`.
 fn before_comment(line: &[u8]) -> &[u8]
     ensures { result.now ≡ before_comment line.now }
 {
@@ -53,7 +54,8 @@ fn before_comment(line: &[u8]) -> &[u8]
     }
 }
 
-/// The text of a line before its comment; None where that has a byte which is neither white space nor printable ASCII.
+/// Takes the text of a line before its comment; None where that has a byte which is neither white space nor printable
+/// ASCII.
 pub(crate) fn text_of(line: &[u8]) -> Option<&[u8]>
     ensures { MatchOption result (list_all is_text_byte (before_comment line.now) ≡ false)
         (λ text. (text.now ≡ before_comment line.now) × (list_all is_text_byte (before_comment line.now) ≡ true)) }
@@ -69,40 +71,42 @@ pub(crate) fn text_of(line: &[u8]) -> Option<&[u8]>
     }
 }
 
-/// Whether the word is this text.
+/// Tells whether the word is this text.
 pub(crate) fn is(word: &[u8], text: &[u8]) -> bool
     ensures { result ≡ bytes_eq text.now word.now }
 {
     text == word
 }
 
+/// Finds the first byte that is not white space.
 fn first_byte(text: &[u8]) -> Option<usize>
     ensures { result ≡ position (λ b. not (is_white b)) text.now }
 {
     text.iter().position(|byte| !is_white(*byte))
 }
 
+/// Finds the first white space.
 fn first_white(text: &[u8]) -> Option<usize>
     ensures { result ≡ position is_white text.now }
 {
     text.iter().position(|byte| is_white(*byte))
 }
 
-/// How many bytes of white space stand in front.
+/// Counts the bytes of white space in front.
 fn white_len(text: &[u8]) -> usize
     ensures { result ≡ unwrap_or (position (λ b. not (is_white b)) text.now) (length text.now) }
 {
     first_byte(text).unwrap_or(text.len())
 }
 
-/// How many bytes stand before the first white space.
+/// Counts the bytes before the first white space.
 fn word_len(text: &[u8]) -> usize
     ensures { result ≡ unwrap_or (position is_white text.now) (length text.now) }
 {
     first_white(text).unwrap_or(text.len())
 }
 
-/// The first word of a text, and the text behind it.
+/// Takes the first word of a text: the word, and the text after it.
 pub(crate) fn next_word(text: &[u8]) -> Option<(&[u8], &[u8])>
     ensures { MatchOption result (words text.now ≡ [])
         (λ next. (words text.now ≡ next.0.now ∷ words next.1.now) × (length next.1.now < length text.now)) }

@@ -1,10 +1,10 @@
 use Rattle.std.proofs.Common.{zero, arith}
-use Rattle.prt_command.proofs.GrammarLaws.{found, only, fault, fault_only, longest}
+use Rattle.prt_command.proofs.GrammarLaws.{good_of_items, only, fault, fault_only, longest}
 use Rattle.prt_command.proofs.laws.first_faults.Goals as goal
 
 pub returns-clause-found : goal.returns-clause-found
 returns-clause-found c = λ line given items ws h.
-    let d = found line ws zero given items h (omega arith) in
+    let d = good_of_items line ws zero given items h (omega arith) in
     (d.taken, d.good, d.is)
 
 pub returns-clause-only : goal.returns-clause-only

@@ -1,5 +1,5 @@
 use Rattle.std.proofs.Common.{sym, ◌∙◌}
-use Rattle.prt_command.specs.Line.{action_words, selector_words}
+use Rattle.prt_command.specs.LineKinds.{action_words, selector_words}
 use Rattle.prt_command.proofs.Entries.{in_first, in_second}
 use Rattle.prt_command.proofs.verb.rule_edit_word.Goals as goal
 

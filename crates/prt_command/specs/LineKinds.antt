@@ -1,4 +1,4 @@
--- The items of each kind of line.
+-- The items of each kind of line, with the words that spell them.
 use Rattle.std.specs.Prelude.{List, [], ◌∷◌, ◌++◌, Some, None, codes}
 use Rattle.prt_rule.specs.declared.rule.Action.TheVariants as actions
 use Rattle.prt_command.specs.Grammar.{Entry, LineKind}
