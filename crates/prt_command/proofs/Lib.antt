@@ -7,3 +7,5 @@ pub mod GrammarLaws
 pub mod ReadingLaws
 pub mod OrderLaws
 pub mod Empty
+pub mod Faults
+pub mod Stored

@@ -7,6 +7,7 @@ pub mod Grammar
 pub mod Scan
 pub mod LineKinds
 pub mod Requests
+pub mod Storable
 pub mod Reading
 pub use Rattle.prt_addr.specs.Addr
 pub use Rattle.prt_addr.specs.Block

@@ -1,5 +1,7 @@
-ghost use Rattle.std.specs.Prelude.{◌≡◌, ◌∷◌, [], codes, MatchOption};
+ghost use Rattle.std.specs.Prelude.{◌≡◌, ◌≤◌, ◌∷◌, [], codes, IfErr, IfOk, MatchOption};
+ghost use Rattle.prt_addr.specs.Refusal.{code_of};
 ghost use Rattle.prt_command.specs.Reading.{skip_word, object_request, reading, verb_request, words, words_request, before_comment};
+ghost use Rattle.prt_command.specs.Storable.{IsStorableLine};
 
 use crate::Request;
 use crate::reader::read_request;
@@ -82,7 +84,9 @@ fn read_text(text: &[u8]) -> Result<Option<Request>, Refusal>
 /// The first fault of the line, one of the first seventeen refusals: `LineTooLong`, `NotAscii`, then the fault of the
 /// first bad word, from left to right, then what the items lack.
 pub fn read_line(line: &[u8]) -> Result<Option<Request>, Refusal>
-    ensures { result ≡ reading line.now }
+    ensures reading { result ≡ reading line.now }
+    ensures storable { IfOk result IsStorableLine }
+    ensures number { IfErr result (λ refusal. code_of refusal ≤ 17) }
 {
     if line.len() > LONGEST_LINE {
         return Err(Refusal::LineTooLong);
