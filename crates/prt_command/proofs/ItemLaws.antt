@@ -4,7 +4,7 @@ use Rattle.std.specs.Prelude.{if◌then◌else◌}
 use Rattle.prt_addr.specs.Word.{Word}
 use Rattle.prt_addr.specs.declared.refusal.Refusal.{Refusal}
 use Rattle.prt_addr.specs.declared.refusal.Refusal.TheVariants.{UnknownWord, Repeated}
-use Rattle.prt_command.specs.Grammar.{LineKind, prefix_word, word_in, is_to, Place, start, after_to, at_value, IsFollowed, keyword, to_word, before_prefix, before_prefix_after_to, IsValue, bare, bare_after_to, any_word, IsItem, alone, valued, followed, IsFault, unknown_word, second_bare, nothing_after, given_before, alone_before, bad_value, further}
+use Rattle.prt_command.specs.Grammar.{LineKind, prefix_word, word_in, is_to, Place, start, after_to, at_value, IsPlain, no_word, word_after_to, MustBeFollowed, keyword, to_word, before_prefix, IsValue, bare, any_word, IsItem, alone, valued, followed, IsFault, unknown_word, second_bare, nothing_after, given_before, alone_before, bad_value, further}
 use Rattle.prt_command.specs.Scan.{Scanned, item_ends, one_more, what_follows, plain_by, plain_from, plain_item, item_by, item_or_fault}
 use Rattle.prt_command.specs.Items.{slot_of, has}
 use Rattle.prt_command.specs.Values.{value}
@@ -50,44 +50,47 @@ module _ (line : LineKind) (given : Items) where
       entry_form w ws None none ∙ ap (λ p. plain_item p given w ws) is
       ∙ ap (λ b. if b then what_follows (has slot given) (plain_from slot given) ws else plain_from slot given w ws) t
 
+  at_plain : (slot : Slot) (w : Word) (place : Place) (ws : List Word) → IsPlain line w slot place → read_at line given place w ws ≡ plain_from slot given w ws
+  at_plain slot w place ws (no_word is none to) = plain_form slot w ws false is none to
+  at_plain slot w place ws word_after_to = refl
+
   -- a word that something must follow
-  followed_form : (slot : Slot) (w : Word) (place next : Place) (ws : List Word) → IsFollowed line w slot place next → read_at line given place w ws ≡ what_follows (has slot given) (λ v vs. read_at line given next v vs) ws
+  followed_form : (slot : Slot) (w : Word) (place next : Place) (ws : List Word) → MustBeFollowed line w slot place next → read_at line given place w ws ≡ what_follows (has slot given) (λ v vs. read_at line given next v vs) ws
   followed_form slot w place next ws (keyword e) = entry_form w ws (Some (Keyword slot)) e
   followed_form slot w place next ws (to_word is none to) = plain_form slot w ws true is none to
-  followed_form slot w place next ws (before_prefix b is none to e) = plain_form slot w ws false is none to ∙ ap (λ o. plain_by slot o given w ws) e
-  followed_form slot w place next ws (before_prefix_after_to b e) = ap (λ o. plain_by slot o given w ws) e
+  followed_form slot w place next ws (before_prefix p b plain e) = at_plain slot w place ws plain ∙ ap (λ o. plain_by slot o given w ws) e
 
   bare_form : (slot : Slot) (w : Word) (ws : List Word) (is_given : Bool) → prefix_word slot w ≡ None → has slot given ≡ is_given → plain_from slot given w ws ≡ (if is_given then Err UnknownWord else item_ends (value slot None w))
   bare_form slot w ws is_given e g = ap (λ o. plain_by slot o given w ws) e ∙ ap (λ i. if i then Err UnknownWord else item_ends (value slot None w)) g
 
   value_form : (slot : Slot) (b : Option PrefixWord) (w : Word) (place : Place) (ws : List Word) → IsValue line w slot place b → has slot given ≡ false → read_at line given place w ws ≡ item_ends (value slot b w)
-  value_form slot b w place ws (bare is none to e) g = plain_form slot w ws false is none to ∙ bare_form slot w ws false e g
-  value_form slot b w place ws (bare_after_to e) g = bare_form slot w ws false e g
+  value_form slot b w place ws (bare p plain e) g = at_plain slot w place ws plain ∙ bare_form slot w ws false e g
   value_form slot b w place ws (any_word b2) g = refl
 
   second_form : (slot : Slot) (w : Word) (ws : List Word) → IsValue line w slot start None → has slot given ≡ true → item_or_fault line given w ws ≡ Err UnknownWord
-  second_form slot w ws (bare is none to e) g = plain_form slot w ws false is none to ∙ bare_form slot w ws true e g
+  second_form slot w ws (bare p plain e) g = at_plain slot w start ws plain ∙ bare_form slot w ws true e g
 
   lone_form : (w : Word) (ws : List Word) (x : Item) (is_given : Bool) → word_in line.entries w ≡ Some (Alone x) → has (slot_of x) given ≡ is_given → item_or_fault line given w ws ≡ (if is_given then Err Repeated else Ok (x, 0))
   lone_form w ws x is_given e g = entry_form w ws (Some (Alone x)) e ∙ ap (λ i. if i then Err Repeated else Ok (x, 0)) g
 
   -- ---- what is spelled is read
 
-  of_next : (slot s : Slot) (w : Word) (place next : Place) → IsFollowed line w slot place next → IsOf next s → s ≡ slot
+  of_next : (slot s : Slot) (w : Word) (place next : Place) → MustBeFollowed line w slot place next → IsOf next s → s ≡ slot
   of_next slot s w place next (keyword e) is = is
   of_next slot s w place next (to_word p none to) is = is
-  of_next slot s w place next (before_prefix b p none to e) is = is
-  of_next slot s w place next (before_prefix_after_to b e) is = is
+  of_next slot s w place next (before_prefix p b plain e) is = is
+
+  of_plain : (slot s : Slot) (w : Word) (place : Place) → IsPlain line w slot place → s ≡ slot → IsOf place s
+  of_plain slot s w place (no_word p none to) is = tt
+  of_plain slot s w place word_after_to is = is
 
   of_place : (place : Place) (w : Word) (own : List Word) (x : Item) → IsItem line place w own x → IsOf place (slot_of x)
   of_place place w own x (alone w2 x2 e) = tt
-  of_place place w own x (valued p w2 slot b x2 (bare is none to e) v) = tt
-  of_place place w own x (valued p w2 slot b x2 (bare_after_to e) v) = slot_kept slot b w2 x2 v
+  of_place place w own x (valued p w2 slot b x2 (bare p2 plain e) v) = of_plain slot (slot_of x2) w2 p2 plain (slot_kept slot b w2 x2 v)
   of_place place w own x (valued p w2 slot b x2 (any_word b2) v) = slot_kept slot b w2 x2 v
   of_place place w own x (followed p next w2 v own2 slot x2 (keyword e) i) = tt
   of_place place w own x (followed p next w2 v own2 slot x2 (to_word is none to) i) = tt
-  of_place place w own x (followed p next w2 v own2 slot x2 (before_prefix b is none to e) i) = tt
-  of_place place w own x (followed p next w2 v own2 slot x2 (before_prefix_after_to b e) i) = of_place next v own2 x2 i
+  of_place place w own x (followed p next w2 v own2 slot x2 (before_prefix p2 b plain e) i) = of_plain slot (slot_of x2) w2 p2 plain (of_place next v own2 x2 i)
 
   -- an item that is spelled and was not given is read, whatever stands after it
   pub read_back : (place : Place) (w : Word) (own rest : List Word) (x : Item) → IsItem line place w own x → has (slot_of x) given ≡ false → read_at line given place w (own ++ rest) ≡ Ok (x, length own)
@@ -114,7 +117,7 @@ module _ (line : LineKind) (given : Items) where
 
 -- What a word is at a place.
 data View (line : LineKind) (w : Word) : Place → Type 0 where
-  opens : (slot : Slot) (place next : Place) → IsFollowed line w slot place next → View line w place
+  opens : (slot : Slot) (place next : Place) → MustBeFollowed line w slot place next → View line w place
   ends : (slot : Slot) (b : Option PrefixWord) (place : Place) → IsValue line w slot place b → View line w place
   says : (x : Item) → word_in line.entries w ≡ Some (Alone x) → View line w start
   unknown : line.plain ≡ None → word_in line.entries w ≡ None → View line w start
@@ -122,8 +125,8 @@ data View (line : LineKind) (w : Word) : Place → Type 0 where
 module _ (line : LineKind) (w : Word) where
   view_plain : (slot : Slot) → line.plain ≡ Some slot → word_in line.entries w ≡ None → (to : Bool) → is_to w ≡ to → (o : Option PrefixWord) → prefix_word slot w ≡ o → View line w start
   view_plain slot is none true to o e = opens slot start (after_to slot) (to_word is none to)
-  view_plain slot is none false to (Some b) e = opens slot start (at_value slot (Some b)) (before_prefix b is none to e)
-  view_plain slot is none false to None e = ends slot None start (bare is none to e)
+  view_plain slot is none false to (Some b) e = opens slot start (at_value slot (Some b)) (before_prefix start b (no_word is none to) e)
+  view_plain slot is none false to None e = ends slot None start (bare start (no_word is none to) e)
 
   view_none : word_in line.entries w ≡ None → (o : Option Slot) → line.plain ≡ o → View line w start
   view_none none None is = unknown is none
@@ -135,8 +138,8 @@ module _ (line : LineKind) (w : Word) where
   view_start None e = view_none e line.plain refl
 
   view_after_to : (slot : Slot) (o : Option PrefixWord) → prefix_word slot w ≡ o → View line w (after_to slot)
-  view_after_to slot (Some b) e = opens slot (after_to slot) (at_value slot (Some b)) (before_prefix_after_to b e)
-  view_after_to slot None e = ends slot None (after_to slot) (bare_after_to e)
+  view_after_to slot (Some b) e = opens slot (after_to slot) (at_value slot (Some b)) (before_prefix (after_to slot) b word_after_to e)
+  view_after_to slot None e = ends slot None (after_to slot) (bare (after_to slot) word_after_to e)
 
   view : (place : Place) → View line w place
   view start = view_start (word_in line.entries w) refl
@@ -166,31 +169,33 @@ module _ (line : LineKind) (given : Items) where
   bare_read slot w ws is true g = subst (Says line given start w ws) (sym (second_form line given slot w ws is g)) (second_bare w ws slot is g)
   bare_read slot w ws is false g = value_read slot None start w ws is g
 
+  plain_read : (slot : Slot) (place : Place) (w : Word) (ws : List Word) → IsPlain line w slot place → prefix_word slot w ≡ None → IsNew given place → Says line given place w ws (read_at line given place w ws)
+  plain_read slot place w ws (no_word is none to) e new = bare_read slot w ws (bare start (no_word is none to) e) (has slot given) refl
+  plain_read slot place w ws word_after_to e new = value_read slot None (after_to slot) w ws (bare (after_to slot) word_after_to e) new
+
   ends_read : (slot : Slot) (b : Option PrefixWord) (place : Place) (w : Word) (ws : List Word) → IsValue line w slot place b → IsNew given place → Says line given place w ws (read_at line given place w ws)
-  ends_read slot b place w ws (bare is none to e) new = bare_read slot w ws (bare is none to e) (has slot given) refl
-  ends_read slot b place w ws (bare_after_to e) new = value_read slot None (after_to slot) w ws (bare_after_to e) new
+  ends_read slot b place w ws (bare p plain e) new = plain_read slot place w ws plain e new
   ends_read slot b place w ws (any_word b2) new = value_read slot b2 (at_value slot b2) w ws (any_word b2) new
 
   says_read : (w : Word) (ws : List Word) (x : Item) → word_in line.entries w ≡ Some (Alone x) → (is_given : Bool) → has (slot_of x) given ≡ is_given → Says line given start w ws (item_or_fault line given w ws)
   says_read w ws x e true g = subst (Says line given start w ws) (sym (lone_form line given w ws x true e g)) (alone_before w ws x e g)
   says_read w ws x e false g = subst (Says line given start w ws) (sym (lone_form line given w ws x false e g)) (record { within = omega arith; item = alone w x e; fresh = g })
 
-  new_next : (slot : Slot) (w : Word) (place next : Place) → IsFollowed line w slot place next → has slot given ≡ false → IsNew given next
+  new_next : (slot : Slot) (w : Word) (place next : Place) → MustBeFollowed line w slot place next → has slot given ≡ false → IsNew given next
   new_next slot w place next (keyword e) g = g
   new_next slot w place next (to_word p none to) g = g
-  new_next slot w place next (before_prefix b p none to e) g = g
-  new_next slot w place next (before_prefix_after_to b e) g = g
+  new_next slot w place next (before_prefix p b plain e) g = g
 
   -- what is said of the words after a word
   abbrev Rest : List Word → Type 0
   Rest [] = Unit {0}
   Rest (v ∷ vs) = (place : Place) → IsNew given place → Says line given place v vs (read_at line given place v vs)
 
-  one_more_says : (slot : Slot) (place next : Place) (w v : Word) (vs : List Word) → IsFollowed line w slot place next → has slot given ≡ false → (r : Scanned) → Says line given next v vs r → Says line given place w (v ∷ vs) (one_more r)
+  one_more_says : (slot : Slot) (place next : Place) (w v : Word) (vs : List Word) → MustBeFollowed line w slot place next → has slot given ≡ false → (r : Scanned) → Says line given next v vs r → Says line given place w (v ∷ vs) (one_more r)
   one_more_says slot place next w v vs f g (Ok t) d = record { within = let l = d.within in omega (arith, l); item = followed place next w v (take t.1 vs) slot t.0 f d.item; fresh = d.fresh }
   one_more_says slot place next w v vs f g (Err e) d = further place next w v vs slot e f g d
 
-  follows_says : (slot : Slot) (place next : Place) (w : Word) (ws : List Word) → IsFollowed line w slot place next → Rest ws → (is_given : Bool) → has slot given ≡ is_given → Says line given place w ws (what_follows is_given (λ v vs. read_at line given next v vs) ws)
+  follows_says : (slot : Slot) (place next : Place) (w : Word) (ws : List Word) → MustBeFollowed line w slot place next → Rest ws → (is_given : Bool) → has slot given ≡ is_given → Says line given place w ws (what_follows is_given (λ v vs. read_at line given next v vs) ws)
   follows_says slot place next w [] f rest is_given g = nothing_after place next w slot f
   follows_says slot place next w (v ∷ vs) f rest true g = given_before place next w v vs slot f g
   follows_says slot place next w (v ∷ vs) f rest false g = one_more_says slot place next w v vs f g (read_at line given next v vs) (rest next (new_next slot w place next f g))

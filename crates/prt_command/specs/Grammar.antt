@@ -43,34 +43,37 @@ pub data Place : Type 0 where
   after_to : Slot → Place
   at_value : Slot → Option PrefixWord → Place
 
+-- At this place the item needs no word of its own: the word w is no keyword of the line and not `to`, or stands after `to`.
+pub data IsPlain (line : LineKind) (w : Word) (slot : Slot) : Place → Type 0 where
+  no_word : line.plain ≡ Some slot → word_in line.entries w ≡ None → is_to w ≡ false → IsPlain line w slot start
+  word_after_to : IsPlain line w slot (after_to slot)
+
 -- The word w, at the first place, is one of this item that something must follow, which stands at the second place.
-pub data IsFollowed (line : LineKind) (w : Word) (slot : Slot) : Place → Place → Type 0 where
+pub data MustBeFollowed (line : LineKind) (w : Word) (slot : Slot) : Place → Place → Type 0 where
   -- a keyword
-  keyword : word_in line.entries w ≡ Some (Keyword slot) → IsFollowed line w slot start (at_value slot None)
+  keyword : word_in line.entries w ≡ Some (Keyword slot) → MustBeFollowed line w slot start (at_value slot None)
   -- `to`
-  to_word : line.plain ≡ Some slot → word_in line.entries w ≡ None → is_to w ≡ true → IsFollowed line w slot start (after_to slot)
+  to_word : line.plain ≡ Some slot → word_in line.entries w ≡ None → is_to w ≡ true → MustBeFollowed line w slot start (after_to slot)
   -- a kind, `root`, `match` or `exact`
-  before_prefix : (b : PrefixWord) → line.plain ≡ Some slot → word_in line.entries w ≡ None → is_to w ≡ false → prefix_word slot w ≡ Some b → IsFollowed line w slot start (at_value slot (Some b))
-  before_prefix_after_to : (b : PrefixWord) → prefix_word slot w ≡ Some b → IsFollowed line w slot (after_to slot) (at_value slot (Some b))
+  before_prefix : (place : Place) (b : PrefixWord) → IsPlain line w slot place → prefix_word slot w ≡ Some b → MustBeFollowed line w slot place (at_value slot (Some b))
 
 -- The word w, at this place, is taken as the value of this item, after the word b before its prefix if there is one.
 pub data IsValue (line : LineKind) (w : Word) (slot : Slot) : Place → Option PrefixWord → Type 0 where
   -- none of the line's item words
-  bare : line.plain ≡ Some slot → word_in line.entries w ≡ None → is_to w ≡ false → prefix_word slot w ≡ None → IsValue line w slot start None
-  bare_after_to : prefix_word slot w ≡ None → IsValue line w slot (after_to slot) None
-  -- any word, after one that a value must follow
+  bare : (place : Place) → IsPlain line w slot place → prefix_word slot w ≡ None → IsValue line w slot place None
+  -- whatever word it is, after one that a value must follow
   any_word : (b : Option PrefixWord) → IsValue line w slot (at_value slot b) b
 
 -- ---- how an item is spelled
 
--- The word w at this place, with the words own after it, ends an item of the line, and this is what it says.
+-- An item of the line stands from the word w at this place on, with the words own after it, and this is what it says.
 pub data IsItem (line : LineKind) : Place → Word → List Word → Item → Type 0 where
   -- a word that says the item alone
   alone : (w : Word) (x : Item) → word_in line.entries w ≡ Some (Alone x) → IsItem line start w [] x
   -- a value
   valued : (place : Place) (w : Word) (slot : Slot) (b : Option PrefixWord) (x : Item) → IsValue line w slot place b → value slot b w ≡ Ok x → IsItem line place w [] x
   -- a word that something must follow, and what follows
-  followed : (place next : Place) (w v : Word) (own : List Word) (slot : Slot) (x : Item) → IsFollowed line w slot place next → IsItem line next v own x → IsItem line place w (v ∷ own) x
+  followed : (place next : Place) (w v : Word) (own : List Word) (slot : Slot) (x : Item) → MustBeFollowed line w slot place next → IsItem line next v own x → IsItem line place w (v ∷ own) x
 
 -- The words are these items, one after another.
 pub data AreItems (line : LineKind) : List Word → List Item → Type 0 where
@@ -96,15 +99,15 @@ pub data IsFault (line : LineKind) (given : Items) : Place → Word → List Wor
   -- or where that item was given: a second bare prefix or address.
   second_bare : (w : Word) (ws : List Word) (slot : Slot) → IsValue line w slot start None → has slot given ≡ true → IsFault line given start w ws UnknownWord
   -- Nothing after a keyword, `to`, a kind, `root`, `match` or `exact`, whether its item was given or not.
-  nothing_after : (place next : Place) (w : Word) (slot : Slot) → IsFollowed line w slot place next → IsFault line given place w [] MissingValue
+  nothing_after : (place next : Place) (w : Word) (slot : Slot) → MustBeFollowed line w slot place next → IsFault line given place w [] MissingValue
   -- An item that was given: by such a word, which something follows,
-  given_before : (place next : Place) (w v : Word) (ws : List Word) (slot : Slot) → IsFollowed line w slot place next → has slot given ≡ true → IsFault line given place w (v ∷ ws) Repeated
+  given_before : (place next : Place) (w v : Word) (ws : List Word) (slot : Slot) → MustBeFollowed line w slot place next → has slot given ≡ true → IsFault line given place w (v ∷ ws) Repeated
   -- or by a word that says the item alone.
   alone_before : (w : Word) (ws : List Word) (x : Item) → word_in line.entries w ≡ Some (Alone x) → has (slot_of x) given ≡ true → IsFault line given start w ws Repeated
   -- A bad value.
   bad_value : (place : Place) (w : Word) (ws : List Word) (slot : Slot) (b : Option PrefixWord) (fault : Refusal) → IsValue line w slot place b → has slot given ≡ false → value slot b w ≡ Err fault → IsFault line given place w ws fault
   -- The words are looked at from left to right: the fault of what follows, after a word of an item that was not given.
-  further : (place next : Place) (w v : Word) (ws : List Word) (slot : Slot) (fault : Refusal) → IsFollowed line w slot place next → has slot given ≡ false → IsFault line given next v ws fault → IsFault line given place w (v ∷ ws) fault
+  further : (place next : Place) (w v : Word) (ws : List Word) (slot : Slot) (fault : Refusal) → MustBeFollowed line w slot place next → has slot given ≡ false → IsFault line given next v ws fault → IsFault line given place w (v ∷ ws) fault
 
 -- After good words stands an item with this fault; there is one such place alone (the law `first_faults`).
 pub record FirstFault (line : LineKind) (given : Items) (ws : List Word) (fault : Refusal) : Type 0 where
