@@ -3,3 +3,5 @@ pub mod Digits
 pub mod Octets
 pub mod Blocks
 pub mod Hexadecimal
+pub mod Each
+pub mod Orders

@@ -6,3 +6,4 @@ pub mod Addr
 pub mod Block
 pub mod Prefix
 pub mod Number
+pub mod Order

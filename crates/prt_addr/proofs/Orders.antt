@@ -1,0 +1,239 @@
+-- Lists in an order, one more put at its place, and the first by an order.
+use Rattle.std.proofs.Common.{◌≡◌, ℕ, ◌+◌, ◌<◌, ◌≤◌, suc, Bool, true, false, not, ◌||◌, List, [], ◌∷◌, ◌++◌, Option, Some, None, refl, sym, ap, ◌∙◌, subst, arith, length, take, get_or, append_assoc, find, fold, cond}
+use Rattle.std.specs.Cmp.{IsStrictWeakOrder}
+use Rattle.std.specs.Prelude.{filter, nat_lt, unwrap_or}
+use Rattle.std.specs.List.{insert, list_any, position, position_or_len, AllByRecursion as Each, IsDistinct}
+use Rattle.std.proofs.lemmas.Bool.Decides.{nat_tests}
+use Rattle.std.proofs.lemmas.List.{take_more, append-nil}
+use Rattle.std.proofs.lemmas.List.Elements.{filter-append}
+use Rattle.std.proofs.lemmas.List.Folds.{list_any-append}
+use Rattle.std.proofs.lemmas.List.Sums.{prefix_len-le-length}
+use Rattle.prt_addr.specs.Order.{first_by, insert_by, leader, IsRising}
+use Rattle.prt_addr.proofs.Each.{any_none, each_append, each_filtered, each_implies}
+
+-- ---- orders
+
+module _ {X : Type 0} (before : X → X → Bool) (order : IsStrictWeakOrder before) where
+  by_test : (a c : X) (b : Bool) → before a c ≡ b → (before a c ≡ false → b ≡ true) → before a c ≡ true
+  by_test a c true is otherwise = is
+  by_test a c false is otherwise = absurd (let h = otherwise is in cc)
+
+  -- a comes before b, and c does not, so a comes before c
+  pub ahead_of : (a b c : X) → before a b ≡ true → before c b ≡ false → before a c ≡ true
+  ahead_of a b c over under = by_test a c (before a c) refl (λ no. let h : before a b ≡ false = order.chain a c b no under in cc)
+
+  not_itself_by : (a : X) (b : Bool) → before a a ≡ b → before a a ≡ false
+  not_itself_by a true is = order.one_way a a is
+  not_itself_by a false is = is
+
+  pub not_itself : (a : X) → before a a ≡ false
+  not_itself a = not_itself_by a (before a a) refl
+
+  pub through : (a b c : X) → before a b ≡ true → before b c ≡ true → before a c ≡ true
+  through a b c first second = ahead_of a b c first (order.one_way b c second)
+
+-- ---- lists that rise
+
+rising_kept : {X : Type 0} (before : X → X → Bool) (x : X) (xs : List X) (b : Bool) → Each (λ other. before x other ≡ true) xs → IsRising before xs → IsRising before (cond b (x ∷ xs) xs)
+rising_kept before x xs true first others = (first, others)
+rising_kept before x xs false first others = others
+
+-- those that pass a test still rise
+pub rising_filtered : {X : Type 0} (before : X → X → Bool) (p : X → Bool) (xs : List X) → IsRising before xs → IsRising before (filter p xs)
+rising_filtered before p [] rises = tt
+rising_filtered before p (x ∷ xs) rises = rising_kept before x (filter p xs) (p x) (each_filtered (λ other. before x other ≡ true) p xs rises.0) (rising_filtered before p xs rises.1)
+
+-- ---- one more at its place
+
+each_inserted_by : {X : Type 0} (P : X → Type 0) (x y : X) (ys placed : List X) (b : Bool) → P x → P y → Each P ys → Each P placed → Each P (cond b (x ∷ (y ∷ ys)) (y ∷ placed))
+each_inserted_by P x y ys placed true added first others all = (added, (first, others))
+each_inserted_by P x y ys placed false added first others all = (first, all)
+
+-- what holds of one and of each of the others holds of each when it is put among them
+pub each_inserted : {X : Type 0} (P : X → Type 0) (before : X → X → Bool) (x : X) (xs : List X) → P x → Each P xs → Each P (insert_by before x xs)
+each_inserted P before x [] added h = (added, tt)
+each_inserted P before x (y ∷ ys) added h = each_inserted_by P x y ys (insert_by before x ys) (before x y) added h.0 h.1 (each_inserted P before x ys added h.1)
+
+module _ {X : Type 0} (before : X → X → Bool) where
+  inserted_rises_by : IsStrictWeakOrder before → (x y : X) (ys : List X) (b : Bool) → before x y ≡ b → (before x y ≡ false → before y x ≡ true) → IsRising before (y ∷ ys) → IsRising before (insert_by before x ys) → IsRising before (cond b (x ∷ (y ∷ ys)) (y ∷ insert_by before x ys))
+  inserted_rises_by order x y ys true ahead otherwise rises placed =
+      ((ahead, each_implies (λ other. before y other ≡ true) (λ other. before x other ≡ true) (λ other h. through before order x y other ahead h) ys rises.0), rises)
+  inserted_rises_by order x y ys false after otherwise rises placed =
+      (each_inserted (λ other. before y other ≡ true) before x ys (otherwise after) rises.0, placed)
+
+  -- one that comes before or after each of the others
+  pub inserted_rises : IsStrictWeakOrder before → (x : X) (xs : List X) → Each (λ other. before x other ≡ false → before other x ≡ true) xs → IsRising before xs → IsRising before (insert_by before x xs)
+  inserted_rises order x [] otherwise rises = (tt, tt)
+  inserted_rises order x (y ∷ ys) otherwise rises = inserted_rises_by order x y ys (before x y) refl otherwise.0 rises (inserted_rises order x ys otherwise.1 rises.1)
+
+  length_inserted_by : (x y : X) (ys : List X) (b : Bool) → length (insert_by before x ys) ≡ length ys + 1 → length (cond b (x ∷ (y ∷ ys)) (y ∷ insert_by before x ys)) ≡ length (y ∷ ys) + 1
+  length_inserted_by x y ys true h = omega arith
+  length_inserted_by x y ys false h = omega arith
+
+  pub length_inserted : (x : X) (xs : List X) → length (insert_by before x xs) ≡ length xs + 1
+  length_inserted x [] = refl
+  length_inserted x (y ∷ ys) = length_inserted_by x y ys (before x y) (length_inserted x ys)
+
+  one_more : (n : ℕ) → 1 + n ≡ suc n
+  one_more n = omega arith
+
+  at_place_by : (x y : X) (ys : List X) (b : Bool) → before x y ≡ b → insert ys (position_or_len (λ other. before x other) ys) x ≡ insert_by before x ys → insert (y ∷ ys) (position_or_len (λ other. before x other) (y ∷ ys)) x ≡ cond b (x ∷ (y ∷ ys)) (y ∷ insert_by before x ys)
+  at_place_by x y ys true ahead h = simp ahead refl
+  at_place_by x y ys false later h = simp (later, one_more) (ap (λ xs. y ∷ xs) h)
+
+  at_place : (x : X) (xs : List X) → insert xs (position_or_len (λ other. before x other) xs) x ≡ insert_by before x xs
+  at_place x [] = refl
+  at_place x (y ∷ ys) = at_place_by x y ys (before x y) refl (at_place x ys)
+
+  first_or_end : (n m : ℕ) (b : Bool) → nat_lt n m ≡ b → n ≤ m → unwrap_or (cond b (Some n) None) m ≡ n
+  first_or_end n m true e h = refl
+  first_or_end n m false e h = grind (arith, nat_tests)
+
+  place_or_end : (p : X → Bool) (xs : List X) → unwrap_or (position p xs) (length xs) ≡ position_or_len p xs
+  place_or_end p xs = first_or_end (position_or_len p xs) (length xs) (nat_lt (position_or_len p xs) (length xs)) refl (prefix_len-le-length (λ x. not (p x)) xs)
+
+  -- the place of the first that it comes before, or the end
+  pub place_within : (x : X) (xs : List X) → unwrap_or (position (λ other. before x other) xs) (length xs) ≤ length xs
+  place_within x xs = omega (arith, place_or_end (λ other. before x other) xs, prefix_len-le-length (λ other. not (before x other)) xs)
+
+  -- an insert there
+  pub inserted_at : (x : X) (xs : List X) (place : Option ℕ) (at : ℕ) → place ≡ position (λ other. before x other) xs → at ≡ unwrap_or place (length xs) → insert xs at x ≡ insert_by before x xs
+  inserted_at x xs place at found is = ap (λ i. insert xs i x) (is ∙ ap (λ o. unwrap_or o (length xs)) found ∙ place_or_end (λ other. before x other) xs) ∙ at_place x xs
+
+module _ {X : Type 0} (before same : X → X → Bool) where
+  distinct_inserted_by : (x y : X) (ys : List X) (b : Bool) → Each (λ other. same x other ≡ false) (y ∷ ys) → same y x ≡ false → IsDistinct same (y ∷ ys) → IsDistinct same (insert_by before x ys) → IsDistinct same (cond b (x ∷ (y ∷ ys)) (y ∷ insert_by before x ys))
+  unfolding IsDistinct
+  distinct_inserted_by x y ys true unlike turned h placed = (unlike, h)
+  distinct_inserted_by x y ys false unlike turned h placed = (each_inserted (λ other. same y other ≡ false) before x ys turned h.0, placed)
+
+  -- one that is the same as none of the others, whichever of the two is asked
+  pub distinct_inserted : (x : X) (xs : List X) → Each (λ other. same x other ≡ false) xs → Each (λ other. same other x ≡ false) xs → IsDistinct same xs → IsDistinct same (insert_by before x xs)
+  unfolding IsDistinct
+  distinct_inserted x [] unlike turned h = (tt, tt)
+  distinct_inserted x (y ∷ ys) unlike turned h = distinct_inserted_by x y ys (before x y) unlike turned.0 h (distinct_inserted x ys unlike.1 turned.1 h.1)
+
+-- ---- the first
+
+or_true : (b c : Bool) → (b || (true || c)) ≡ true
+or_true true c = refl
+or_true false c = refl
+
+-- the first that passes is k
+finds : {X : Type 0} (p : X → Bool) (front back : List X) (k : X) → Each (λ x. p x ≡ false) front → p k ≡ true → find p (front ++ k ∷ back) ≡ Some k
+finds p [] back k h good = simp good refl
+finds p (x ∷ front) back k h good = simp h.0 (finds p front back k h.1 good)
+
+-- the head, where nothing comes before it
+pub first_is_head : {X : Type 0} (before : X → X → Bool) (x : X) (xs : List X) → before x x ≡ false → Each (λ other. before other x ≡ false) xs → first_by before (x ∷ xs) ≡ Some x
+first_is_head before x xs itself others =
+    finds (λ y. not (list_any (λ other. before other y) (x ∷ xs))) [] xs x tt
+    (ap not (ap (λ b. b || list_any (λ other. before other x) xs) itself ∙ any_none (λ other. before other x) xs others))
+
+module _ {X : Type 0} (before : X → X → Bool) (order : IsStrictWeakOrder before) where
+  abbrev Leads : X → List X → Type 0
+  Leads k xs = Each (λ x. before k x ≡ true) xs
+
+  abbrev Withstands : X → List X → Type 0
+  Withstands k xs = Each (λ x. before x k ≡ false) xs
+
+  -- k stands in the list, comes before those ahead of it there, and no later one comes before it
+  record IsLeader (xs : List X) (k : X) : Type 0 where
+    front : List X
+    back : List X
+    parts : xs ≡ front ++ k ∷ back
+    leads : Leads k front
+    withstands : Withstands k back
+
+  -- one that comes before k comes before all these
+  leads_all : (k x : X) (front back : List X) → before x k ≡ true → Leads k front → Withstands k back → Leads x (front ++ k ∷ back)
+  leads_all k x front back over leads withstands =
+      each_append (λ y. before x y ≡ true) front (k ∷ back)
+      (each_implies (λ y. before k y ≡ true) (λ y. before x y ≡ true) (λ y h. ahead_of before order x k y over (order.one_way k y h)) front leads)
+      (over, each_implies (λ y. before y k ≡ false) (λ y. before x y ≡ true) (λ y h. ahead_of before order x k y over h) back withstands)
+
+  takes_next : (xs : List X) (k x : X) → IsLeader xs k → before x k ≡ true → IsLeader (xs ++ x ∷ []) x
+  takes_next xs k x old over = record {
+    front = xs;
+    back = [];
+    parts = refl;
+    leads = subst (Leads x) (sym old.parts) (leads_all k x old.front old.back over old.leads old.withstands);
+    withstands = tt;
+  }
+
+  keeps_first : (xs : List X) (k x : X) → IsLeader xs k → before x k ≡ false → IsLeader (xs ++ x ∷ []) k
+  keeps_first xs k x old under = record {
+    front = old.front;
+    back = old.back ++ x ∷ [];
+    parts = ap (λ ys. ys ++ x ∷ []) old.parts ∙ append_assoc old.front (k ∷ old.back) (x ∷ []);
+    leads = old.leads;
+    withstands = each_append (λ y. before y k ≡ false) old.back (x ∷ []) old.withstands (under, tt);
+  }
+
+  abbrev LeaderOf : List X → Option X → Type 0
+  LeaderOf xs None = xs ≡ []
+  LeaderOf xs (Some k) = IsLeader xs k
+
+  abbrev next_leader : Option X → X → Option X
+  next_leader first x = Some (leader before first x)
+
+  leads_by : (xs : List X) (k x : X) (b : Bool) → before x k ≡ b → IsLeader xs k → LeaderOf (xs ++ x ∷ []) (Some (cond b x k))
+  leads_by xs k x true over old = takes_next xs k x old over
+  leads_by xs k x false under old = keeps_first xs k x old under
+
+  leader_more : (xs : List X) (first : Option X) (x : X) → LeaderOf xs first → LeaderOf (xs ++ x ∷ []) (Some (leader before first x))
+  leader_more xs None x none = record { front = []; back = []; parts = ap (λ ys. ys ++ x ∷ []) none; leads = tt; withstands = tt }
+  leader_more xs (Some k) x old = leads_by xs k x (before x k) refl old
+
+  leader_all : (done xs : List X) (first : Option X) → LeaderOf done first → LeaderOf (done ++ xs) (fold next_leader first xs)
+  leader_all done [] first h = subst (λ ys. LeaderOf ys first) (sym (append-nil done)) h
+  leader_all done (x ∷ xs) first h =
+      subst (λ ys. LeaderOf ys (fold next_leader (Some (leader before first x)) xs)) (append_assoc done (x ∷ []) xs)
+      (leader_all (done ++ x ∷ []) xs (Some (leader before first x)) (leader_more done first x h))
+
+  abbrev is_first : List X → X → Bool
+  is_first xs x = not (list_any (λ other. before other x) xs)
+
+  -- none comes before k, and k comes before each ahead of it
+  leader_is_first : (front back : List X) (k : X) → Leads k front → Withstands k back → is_first (front ++ k ∷ back) k ≡ true
+  leader_is_first front back k leads withstands =
+      let ahead : list_any (λ x. before x k) front ≡ false = any_none (λ x. before x k) front (each_implies (λ x. before k x ≡ true) (λ x. before x k ≡ false) (λ x h. order.one_way k x h) front leads) in
+      let after : list_any (λ x. before x k) back ≡ false = any_none (λ x. before x k) back withstands in
+      simp (list_any-append, ahead, after, not_itself before order k) refl
+
+  other_is_not : (front back : List X) (k x : X) → before k x ≡ true → is_first (front ++ k ∷ back) x ≡ false
+  other_is_not front back k x over =
+      ap not (list_any-append (λ y. before y x) front (k ∷ back) ∙ ap (λ b. list_any (λ y. before y x) front || (b || list_any (λ y. before y x) back)) over ∙ or_true (list_any (λ y. before y x) front) (list_any (λ y. before y x) back))
+
+  first_is_leader : (xs : List X) (first : Option X) → LeaderOf xs first → first_by before xs ≡ first
+  first_is_leader [] None h = refl
+  first_is_leader (x ∷ xs) None h = absurd cc
+  first_is_leader xs (Some k) found =
+      let whole = found.front ++ k ∷ found.back in
+      ap (λ ys. first_by before ys) found.parts
+      ∙ finds (is_first whole) found.front found.back k
+      (each_implies (λ x. before k x ≡ true) (λ x. is_first whole x ≡ false) (λ x h. other_is_not found.front found.back k x h) found.front found.leads)
+      (leader_is_first found.front found.back k found.leads found.withstands)
+
+  -- of one more at the end
+  pub first_of_more : (xs : List X) (x : X) → first_by before (xs ++ x ∷ []) ≡ Some (leader before (first_by before xs) x)
+  first_of_more xs x =
+      let old : LeaderOf xs (fold next_leader None xs) = leader_all [] xs None refl in
+      first_is_leader (xs ++ x ∷ []) (next_leader (fold next_leader None xs) x) (leader_more xs (fold next_leader None xs) x old)
+      ∙ ap (λ o. Some (leader before o x)) (sym (first_is_leader xs (fold next_leader None xs) old))
+
+  passes_more : (passes : X → Bool) (xs : List X) (i : ℕ) (x : X) → i < length xs → x ≡ get_or xs i x → filter passes (take (i + 1) xs) ≡ filter passes (take i xs) ++ cond (passes x) (x ∷ []) []
+  passes_more passes xs i x inside is =
+      ap (filter passes) (take_more xs i x inside)
+      ∙ ap (λ y. filter passes (take i xs ++ y ∷ [])) (sym is)
+      ∙ filter-append passes (take i xs) (x ∷ [])
+
+  -- the one at i passes: the leader of the two is the first
+  pub first_more : (passes : X → Bool) (xs : List X) (i : ℕ) (x : X) → i < length xs → x ≡ get_or xs i x → passes x ≡ true → first_by before (filter passes (take (i + 1) xs)) ≡ Some (leader before (first_by before (filter passes (take i xs))) x)
+  first_more passes xs i x inside is good =
+      ap (λ ys. first_by before ys) (passes_more passes xs i x inside is ∙ ap (λ b. filter passes (take i xs) ++ cond b (x ∷ []) []) good)
+      ∙ first_of_more (filter passes (take i xs)) x
+
+  -- the one at i does not pass
+  pub first_same : (passes : X → Bool) (xs : List X) (i : ℕ) (x : X) → i < length xs → x ≡ get_or xs i x → passes x ≡ false → first_by before (filter passes (take (i + 1) xs)) ≡ first_by before (filter passes (take i xs))
+  first_same passes xs i x inside is bad =
+      ap (λ ys. first_by before ys) (passes_more passes xs i x inside is ∙ ap (λ b. filter passes (take i xs) ++ cond b (x ∷ []) []) bad ∙ append-nil (filter passes (take i xs)))
