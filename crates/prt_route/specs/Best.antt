@@ -1,6 +1,6 @@
 -- Longest match, then best metric: RFC 1812, section 5.2.4.3.
-use Rattle.std.specs.Prelude.{ℕ, Bool, not, ◌&&◌, ◌==◌, List, filter, find, Option}
-use Rattle.std.specs.List.{list_any}
+use Rattle.std.specs.Prelude.{ℕ, Bool, ◌&&◌, ◌==◌, List, filter, Option}
+use Rattle.prt_addr.specs.Order.{first_by}
 use Rattle.prt_addr.specs.Prefix.{contains}
 use Rattle.prt_addr.specs.declared.addr.Addr.{Addr}
 use Rattle.prt_route.specs.declared.route.Route.{Route}
@@ -13,10 +13,6 @@ is_candidate table addr route = route.table == table && contains route.prefix ad
 abbrev pub candidates : List Route → ℕ → Addr → List Route
 candidates routes table addr = filter (is_candidate table addr) routes
 
--- none of these is better
-abbrev pub is_unbeaten : List Route → Route → Bool
-is_unbeaten others route = not (list_any (λ other. is_better other route) others)
-
--- the candidate that no candidate beats: it is the only one where no two routes have the same key
+-- the candidate that no candidate is better than: it is the only one where no two routes have the same key
 abbrev pub best : List Route → ℕ → Addr → Option Route
-best routes table addr = find (is_unbeaten (candidates routes table addr)) (candidates routes table addr)
+best routes table addr = first_by is_better (candidates routes table addr)

@@ -6,11 +6,13 @@ pub mod Dev
 pub mod Route
 pub mod Best
 pub mod RouteChoice
+pub mod Edit
 pub use Rattle.prt_addr.specs.Addr
 pub use Rattle.prt_addr.specs.Block
 pub use Rattle.prt_addr.specs.Decimal
 pub use Rattle.prt_addr.specs.Given
 pub use Rattle.prt_addr.specs.Number
+pub use Rattle.prt_addr.specs.Order
 pub use Rattle.prt_addr.specs.Prefix
 pub use Rattle.prt_addr.specs.Refusal
 pub use Rattle.prt_addr.specs.Word

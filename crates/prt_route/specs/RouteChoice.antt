@@ -1,9 +1,11 @@
 -- Which routes a command names, by what it gives: ip-route(8).
-use Rattle.std.specs.Prelude.{Bool, true, false, ◌&&◌, ◌==◌, bytes_eq}
+use Rattle.std.specs.Prelude.{Bool, true, false, ◌&&◌, ◌==◌, List, filter, Option, bytes_eq}
 use Rattle.prt_addr.specs.Block.{Block}
 use Rattle.prt_addr.specs.Given.{agrees, agrees_there}
+use Rattle.prt_addr.specs.Order.{first_by}
 use Rattle.prt_addr.specs.Prefix.{is_same_prefix, within}
 use Rattle.prt_addr.specs.declared.addr.Addr.{Addr}
+use Rattle.prt_route.specs.Route.{has_lower_metric}
 use Rattle.prt_route.specs.declared.choice.Range.{Range}
 use Rattle.prt_route.specs.declared.choice.Range.TheVariants.{All, Root, Covering, Exact}
 use Rattle.prt_route.specs.declared.choice.RouteChoice.{RouteChoice}
@@ -52,3 +54,7 @@ is_chosen choice route =
     && agrees_there is_same_addr choice.src route.src
     && agrees (λ a b. a == b) choice.proto route.proto
     && agrees (λ a b. a == b) choice.scope route.scope
+
+-- the one of lowest metric among those that the choice takes
+abbrev pub chosen_route : RouteChoice → List Route → Option Route
+chosen_route choice routes = first_by has_lower_metric (filter (is_chosen choice) routes)
