@@ -1,7 +1,5 @@
-pub mod Distinct
-pub mod FirstBest
-pub mod Order
+pub mod Places
+pub mod RuleOrder
 pub mod Rules
 pub mod Sameness
-pub mod Sorting
 pub mod Successor

@@ -1,17 +1,19 @@
 -- Rules that are asked one after another.
-use Rattle.std.proofs.Common.{◌≡◌, ℕ, ◌+◌, ◌<◌, List, [], ◌∷◌, Option, Some, None, refl, sym, ap, ◌∙◌, length, drop, get_or, drop-cons, add-one, suc, true, false, not, ◌||◌, find, cond}
-use Rattle.std.specs.Prelude.{is_some, option_and_then, unwrap_or}
-use Rattle.std.specs.List.{list_any, AllByRecursion as Each}
+use Rattle.std.proofs.Common.{◌≡◌, ℕ, ◌+◌, ◌<◌, Bool, List, [], ◌∷◌, Option, Some, None, refl, sym, ap, ◌∙◌, length, drop, get_or, drop-cons, add-one, suc, true, false, cond}
+use Rattle.std.specs.Prelude.{filter, is_some, option_and_then, unwrap_or}
+use Rattle.std.specs.List.{AllByRecursion as Each}
+use Rattle.prt_addr.specs.Order.{first_by, IsRising}
+use Rattle.prt_addr.proofs.Each.{each_passing}
+use Rattle.prt_addr.proofs.Orders.{first_is_head, not_itself}
 use Rattle.prt_route.specs.declared.route.Route.{Route}
-use Rattle.prt_rule.specs.Rule.{IsInOrder, is_before}
+use Rattle.prt_rule.specs.Rule.{is_before}
 use Rattle.prt_rule.specs.declared.packet.Packet.{Packet}
 use Rattle.prt_rule.specs.declared.rule.Rule.{Rule}
-use Rattle.prt_version.specs.Select.{deciding, decision, is_first, verdict_of}
+use Rattle.prt_version.specs.Select.{decision, verdict_of}
 use Rattle.prt_version.specs.Steps.{first_verdict}
 use Rattle.prt_version.specs.declared.answer.Verdict.{Verdict}
 use Rattle.prt_version.specs.declared.answer.Verdict.TheVariants.{NoRoute}
-use Rattle.prt_version.proofs.FirstBest.{any_none, each_filtered}
-use Rattle.prt_version.proofs.Order.{all_after, not_before_itself, order_of_rest}
+use Rattle.prt_version.proofs.RuleOrder.{rule_order}
 
 first_rule : (rules : List Rule) (i : ℕ) (rule : Rule) → i < length rules → rule ≡ get_or rules i rule → drop i rules ≡ rule ∷ drop (i + 1) rules
 first_rule rules i rule inside is = rw add-one (drop-cons rules i rule inside ∙ ap (λ r. r ∷ drop (suc i) rules) (sym is))
@@ -35,26 +37,28 @@ passes_on rules i rule routes packet inside is silent =
     ap (λ rest. first_verdict rest routes packet) (first_rule rules i rule inside is) ∙ by rule (drop (i + 1) rules) routes packet None silent
 
 abbrev says : List Route → Packet → List Rule → Verdict
-says routes packet rules = unwrap_or (option_and_then (λ rule. decision rule routes packet) (find (is_first rules) rules)) NoRoute
+says routes packet rules = unwrap_or (option_and_then (λ rule. decision rule routes packet) (first_by is_before rules)) NoRoute
+
+abbrev decides_some : List Route → Packet → Rule → Bool
+decides_some routes packet rule = is_some (decision rule routes packet)
 
 -- the first of these, which no other one is before
 first_says : (rule : Rule) (others : List Rule) (routes : List Route) (packet : Packet) (verdict : Verdict) → Each (λ other. is_before other rule ≡ false) others → decision rule routes packet ≡ Some verdict → says routes packet (rule ∷ others) ≡ verdict
 first_says rule others routes packet verdict after told =
-    let others_not : list_any (λ other. is_before other rule) others ≡ false = any_none (λ other. is_before other rule) others after in
-    let leads : is_first (rule ∷ others) rule ≡ true = ap not (ap (λ b. b || list_any (λ other. is_before other rule) others) (not_before_itself rule) ∙ others_not) in
-    let chosen : find (is_first (rule ∷ others)) (rule ∷ others) ≡ Some rule = ap (λ b. cond b (Some rule) (find (is_first (rule ∷ others)) others)) leads in
-    ap (λ o. unwrap_or (option_and_then (λ rule. decision rule routes packet) o) NoRoute) chosen ∙ ap (λ o. unwrap_or o NoRoute) told
+    ap (λ o. unwrap_or (option_and_then (λ rule. decision rule routes packet) o) NoRoute) (first_is_head is_before rule others (not_itself is_before rule_order rule) after)
+    ∙ ap (λ o. unwrap_or o NoRoute) told
 
-in_order_by : (rule : Rule) (rest : List Rule) (routes : List Route) (packet : Packet) (d : Option Verdict) → decision rule routes packet ≡ d → Each (λ other. is_before other rule ≡ false) rest → verdict_of rest routes packet ≡ first_verdict rest routes packet → verdict_of (rule ∷ rest) routes packet ≡ by_decision rest routes packet d
+in_order_by : (rule : Rule) (rest : List Rule) (routes : List Route) (packet : Packet) (d : Option Verdict) → decision rule routes packet ≡ d → Each (λ other. is_before rule other ≡ true) rest → verdict_of rest routes packet ≡ first_verdict rest routes packet → verdict_of (rule ∷ rest) routes packet ≡ by_decision rest routes packet d
 in_order_by rule rest routes packet (Some verdict) told after others =
-    ap (λ d. says routes packet (cond (is_some d) (rule ∷ deciding rest routes packet) (deciding rest routes packet))) told
-    ∙ first_says rule (deciding rest routes packet) routes packet verdict (each_filtered (λ other. is_before other rule ≡ false) (λ other. is_some (decision other routes packet)) rest after) told
+    ap (λ d. says routes packet (cond (is_some d) (rule ∷ filter (decides_some routes packet) rest) (filter (decides_some routes packet) rest))) told
+    ∙ first_says rule (filter (decides_some routes packet) rest) routes packet verdict
+    (each_passing (λ other. is_before rule other ≡ true) (λ other. is_before other rule ≡ false) (decides_some routes packet) (λ other first decides. rule_order.one_way rule other first) rest after) told
 in_order_by rule rest routes packet None told after others =
-    ap (λ d. says routes packet (cond (is_some d) (rule ∷ deciding rest routes packet) (deciding rest routes packet))) told ∙ others
+    ap (λ d. says routes packet (cond (is_some d) (rule ∷ filter (decides_some routes packet) rest) (filter (decides_some routes packet) rest))) told ∙ others
 
 -- in order, the first that decides is the one that no deciding one is before
-pub in_order : (rules : List Rule) (routes : List Route) (packet : Packet) → IsInOrder rules → verdict_of rules routes packet ≡ first_verdict rules routes packet
-in_order [] routes packet order = refl
-in_order (rule ∷ rest) routes packet order =
-    in_order_by rule rest routes packet (decision rule routes packet) refl (all_after rule rest order) (in_order rest routes packet (order_of_rest rule rest order))
+pub first_decides : (rules : List Rule) (routes : List Route) (packet : Packet) → IsRising is_before rules → verdict_of rules routes packet ≡ first_verdict rules routes packet
+first_decides [] routes packet rises = refl
+first_decides (rule ∷ rest) routes packet rises =
+    in_order_by rule rest routes packet (decision rule routes packet) refl rises.0 (first_decides rest routes packet rises.1)
     ∙ sym (by rule rest routes packet (decision rule routes packet) refl)

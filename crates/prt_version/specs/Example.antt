@@ -16,13 +16,14 @@ use Rattle.prt_rule.specs.declared.packet.Packet.{Packet}
 use Rattle.prt_rule.specs.declared.rule.Action.{Action}
 use Rattle.prt_rule.specs.declared.rule.Action.TheVariants.{Lookup, Blackhole, Unreachable}
 use Rattle.prt_rule.specs.declared.rule.Mark.{Mark}
+use Rattle.prt_rule.specs.declared.rule.Rule.{Rule}
 use Rattle.prt_command.specs.declared.request.Command.{Command}
 use Rattle.prt_command.specs.declared.request.Command.TheVariants.{RouteAdd, RouteChange, RouteDel, RouteReplace, RuleAdd}
 use Rattle.prt_command.specs.declared.request.NewRule.{NewRule}
 use Rattle.prt_version.specs.Change.{apply, fold, refusal}
-use Rattle.prt_version.specs.Listing.{listed}
+use Rattle.prt_version.specs.Listing.{listing}
 use Rattle.prt_version.specs.Select.{select}
-use Rattle.prt_version.specs.State.{State, opening_state}
+use Rattle.prt_version.specs.State.{State, opening_state, table_rule}
 use Rattle.prt_version.specs.declared.answer.Verdict.{Verdict}
 
 -- an address by its four parts
@@ -75,7 +76,7 @@ selector_of table range = record { table = table; range = range; kind = None; pr
 
 -- the listing after these commands on a new database
 abbrev pub listing_after : List Command → Selector → List Route
-listing_after commands selector = listed selector (fold opening_state commands).routes
+listing_after commands selector = listing selector (fold opening_state commands).routes
 
 -- 10/8 through two gateways, and a default route
 abbrev pub metrics : List Command
@@ -148,7 +149,15 @@ nested =
     ∷ RouteAdd (through 5 100 ten_one 0)
     ∷ []
 
--- rules of the priorities from this one down to 1
-abbrev pub rule_adds : ℕ → List Command
-rule_adds zero = []
-rule_adds (suc n) = RuleAdd (rule_for_all (Some (suc n)) (Lookup 7)) ∷ rule_adds n
+-- so many rules, of the priorities from this one on, before these
+abbrev pub lookups : ℕ → ℕ → List Rule → List Rule
+lookups priority zero rules = rules
+lookups priority (suc n) rules = table_rule (priority + 3) priority 7 ∷ lookups (priority + 1) n rules
+
+-- a database with a thousand rules
+abbrev pub full_of_rules : State
+full_of_rules = record { count = 997; rules = table_rule 1 0 255 ∷ lookups 1 997 (table_rule 2 32766 254 ∷ table_rule 3 32767 253 ∷ []); routes = [] }
+
+-- one that has accepted so many commands
+abbrev pub after_count : ℕ → State → State
+after_count count state = record { count = count; rules = state.rules; routes = state.routes }

@@ -1,6 +1,6 @@
 -- What becomes of a packet: ip-rule(8), ip-route(8).
-use Rattle.std.specs.Prelude.{ℕ, Bool, true, false, not, if◌then◌else◌, List, filter, find, Option, Some, None, is_some, option_map, option_and_then, unwrap_or}
-use Rattle.std.specs.List.{list_any}
+use Rattle.std.specs.Prelude.{ℕ, Bool, true, false, not, if◌then◌else◌, List, filter, Option, Some, None, is_some, option_map, option_and_then, unwrap_or}
+use Rattle.prt_addr.specs.Order.{first_by}
 use Rattle.prt_addr.specs.Word.{keep}
 use Rattle.prt_route.specs.Best.{best}
 use Rattle.prt_route.specs.declared.kind.Kind.{Kind}
@@ -19,30 +19,22 @@ abbrev pub is_throw : Kind → Bool
 is_throw Throw = true
 is_throw kind = false
 
--- the best route of a table for the packet, if it is no throw route
-abbrev pub found : ℕ → List Route → Packet → Option Route
-found table routes packet = keep (λ route. not (is_throw route.kind)) (best routes table packet.dst)
+-- what a lookup in a table gives: its best route for the packet, if that is no throw route
+abbrev pub table_lookup : ℕ → List Route → Packet → Option Route
+table_lookup table routes packet = keep (λ route. not (is_throw route.kind)) (best routes table packet.dst)
 
 -- a lookup gives the route that it finds, if it finds one, and any other action is itself the verdict
 abbrev pub verdict_by : Action → ℕ → List Route → Packet → Option Verdict
-verdict_by (Lookup table) priority routes packet = option_map (λ route. verdict.Route priority route) (found table routes packet)
+verdict_by (Lookup table) priority routes packet = option_map (λ route. verdict.Route priority route) (table_lookup table routes packet)
 verdict_by action priority routes packet = Some (verdict.RuleSays priority action)
 
 -- what one rule says of a packet, if it decides
 abbrev pub decision : Rule → List Route → Packet → Option Verdict
 decision rule routes packet = if matches rule packet then verdict_by rule.action rule.priority routes packet else None
 
--- the rules that decide
-abbrev pub deciding : List Rule → List Route → Packet → List Rule
-deciding rules routes packet = filter (λ rule. is_some (decision rule routes packet)) rules
-
--- none of these is before it
-abbrev pub is_first : List Rule → Rule → Bool
-is_first others rule = not (list_any (λ other. is_before other rule) others)
-
--- the deciding rule that no deciding rule is before
+-- the first by priority, then by id, of the rules that decide
 abbrev pub decider : List Rule → List Route → Packet → Option Rule
-decider rules routes packet = find (is_first (deciding rules routes packet)) (deciding rules routes packet)
+decider rules routes packet = first_by is_before (filter (λ rule. is_some (decision rule routes packet)) rules)
 
 -- what that rule says
 abbrev pub verdict_of : List Rule → List Route → Packet → Verdict

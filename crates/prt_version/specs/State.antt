@@ -5,7 +5,7 @@ use Rattle.prt_route.specs.declared.route.Route.{Route}
 use Rattle.prt_rule.specs.declared.rule.Action.TheVariants.{Lookup}
 use Rattle.prt_rule.specs.declared.rule.Rule.{Rule}
 
--- how many commands were ever accepted, the rules in the order in which they are asked, and the routes in the order in which they came
+-- How many commands were ever accepted, the rules in the order in which they are asked, and the routes in the order of listings.
 pub record State : Type 0 where
   pub count : ℕ
   pub rules : List Rule

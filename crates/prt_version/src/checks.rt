@@ -1,141 +1,151 @@
-//! Which commands are refused, and which change an accepted one makes.
-ghost use Rattle.std.specs.Prelude.{◌≡◌, option_map};
-ghost use Rattle.prt_version.specs.Change.{change_of, chosen, chosen_key, is_full, is_missing, is_there, named_id, refusal};
-ghost use Rattle.prt_version.specs.Steps.{has_lower_metric, preferred};
+//! The change that a command asks for, and what one is refused for.
+ghost use Rattle.std.specs.Prelude.{◌≡◌, find, option_map};
+ghost use Rattle.prt_addr.specs.Order.{IsRising};
+ghost use Rattle.prt_route.specs.Edit.{has_key};
+ghost use Rattle.prt_route.specs.Route.{is_listed_before};
+ghost use Rattle.prt_route.specs.RouteChoice.{chosen_route, is_chosen};
+ghost use Rattle.prt_rule.specs.Same.{is_same_rule};
+ghost use Rattle.prt_version.specs.Change.{change_of, has_rule, if_room, named_rule};
 
-use crate::rows::{has_chosen, has_key, has_named, has_rule};
-use crate::{Change, Command, Refusal, Route, Rule, Version};
+use crate::{Change, Command, MOST_ROUTES, MOST_RULES, NewRule, Refusal, Route, Rule, Version};
 use prt_route::{RouteChoice, RouteEdit, RouteKey};
-use prt_rule::RuleChoice;
+use prt_rule::{RuleChoice, same};
 
-/// The most rules that a database holds.
-const MOST_RULES: usize = 1_000;
-
-/// The most routes that a database holds.
-const MOST_ROUTES: usize = 100_000;
-
-/// The most commands that a database ever accepts.
-const MOST_COMMANDS: u64 = 1_000_000_000_000_000;
-
-/// Whether what the command adds is there already.
-fn is_there(version: &Version, command: &Command) -> bool
-    ensures { result ≡ is_there version.now command.now }
+/// Whether one of the routes has the key.
+fn has_key(routes: &[Route], key: RouteKey) -> bool
+    ensures { result ≡ has_key key routes.now }
 {
-    match command {
-        Command::RouteAdd(route) => has_key(version.all_routes(), route.key()),
-        Command::RuleAdd(new) => has_rule(version.rules(), &version.rule_of(new)),
-        _ => false,
+    routes.iter().any(|route| route.key() == key)
+}
+
+/// Whether the rules are equal in all but their ids.
+fn is_same_rule(rule: &Rule, other: &Rule) -> bool
+    ensures { result ≡ is_same_rule rule.now other.now }
+{
+    same(rule, other)
+}
+
+/// Whether one of the rules is equal to this one in all but the id.
+fn has_rule(rules: &[Rule], new: &Rule) -> bool
+    ensures { result ≡ has_rule new.now rules.now }
+{
+    rules.iter().any(|rule| is_same_rule(rule, new))
+}
+
+/// The first route that the choice takes.
+fn first_taken<'a>(routes: &'a [Route], choice: &RouteChoice) -> Option<&'a Route>
+    ensures { option_map (λ r. r.now) result ≡ find (is_chosen choice.now) routes.now }
+{
+    routes.iter().find(|route| choice.takes(route))
+}
+
+/// The route of lowest metric among those that the choice takes: the one that `del` removes (`ip-route(8)`).
+///
+/// The choice takes routes of one prefix in one table, so in the order of listings the first has the lowest metric.
+fn chosen_route<'a>(routes: &'a [Route], choice: &RouteChoice) -> Option<&'a Route>
+    requires { IsRising is_listed_before routes.now }
+    ensures { option_map (λ r. r.now) result ≡ chosen_route choice.now routes.now }
+{
+    first_taken(routes, choice)
+}
+
+/// The first rule that the choice names.
+fn named_rule<'a>(rules: &'a [Rule], choice: &RuleChoice) -> Option<&'a Rule>
+    ensures { option_map (λ r. r.now) result ≡ named_rule choice.now rules.now }
+{
+    rules.iter().find(|rule| choice.agrees(rule))
+}
+
+/// The change, where there is room for one more.
+fn if_room(count: usize, most: usize, change: Change) -> Result<Change, Refusal>
+    ensures { result ≡ if_room count most change }
+{
+    if count < most {
+        Ok(change)
+    } else {
+        Err(Refusal::Full)
     }
 }
 
-/// Whether what the command changes or removes is not there.
-fn is_missing(version: &Version, command: &Command) -> bool
-    ensures { result ≡ is_missing version.now command.now }
-{
-    match command {
-        Command::RouteChange(route) => !has_key(version.all_routes(), route.key()),
-        Command::RouteDel(choice) => !has_chosen(version.all_routes(), choice),
-        Command::RuleDel(choice) => !has_named(version.rules(), choice),
-        _ => false,
-    }
-}
-
-/// Whether there is no room for what the command adds.
-fn is_full(version: &Version, command: &Command) -> bool
-    ensures { result ≡ is_full version.now command.now }
+/// The change of `add` of a route.
+fn route_addition(version: &Version, route: &Route) -> Result<Change, Refusal>
+    ensures { result ≡ change_of version.now (Command.RouteAdd route.now) }
 {
     let routes = version.all_routes();
-    match command {
-        Command::RouteAdd(_) => routes.len() >= MOST_ROUTES,
-        Command::RouteReplace(route) => {
-            !has_key(routes, route.key()) && routes.len() >= MOST_ROUTES
-        }
-        Command::RuleAdd(_) => version.rules().len() >= MOST_RULES,
-        _ => false,
+    if has_key(routes, route.key()) {
+        return Err(Refusal::Exists);
     }
+    let change = Change::Route(RouteEdit::Put(*route));
+    if_room(routes.len(), MOST_ROUTES, change)
 }
 
-/// Why the command is refused, where it is.
-pub(crate) fn refusal(version: &Version, command: &Command) -> Option<Refusal>
-    ensures { result ≡ refusal version.now command.now }
+/// The change of `change` of a route.
+fn route_change(version: &Version, route: &Route) -> Result<Change, Refusal>
+    ensures { result ≡ change_of version.now (Command.RouteChange route.now) }
 {
-    if is_there(version, command) {
-        return Some(Refusal::Exists);
+    if has_key(version.all_routes(), route.key()) {
+        Ok(Change::Route(RouteEdit::Put(*route)))
+    } else {
+        Err(Refusal::NoSuch)
     }
-    if is_missing(version, command) {
-        return Some(Refusal::NoSuch);
-    }
-    if is_full(version, command) {
-        return Some(Refusal::Full);
-    }
-    if version.number() >= MOST_COMMANDS {
-        return Some(Refusal::CountFull);
-    }
-    None
 }
 
-/// The route, unless the metric of the one that is kept is at least as low.
-fn lower_of<'a>(kept: Option<&'a Route>, route: &'a Route) -> &'a Route
-    ensures { result.now ≡ preferred has_lower_metric (option_map (λ r. r.now) kept.entry) route.now }
+/// The change of `replace` of a route.
+fn route_replacement(version: &Version, route: &Route) -> Result<Change, Refusal>
+    ensures { result ≡ change_of version.now (Command.RouteReplace route.now) }
 {
-    match kept {
-        Some(kept) if route.metric >= kept.metric => kept,
-        _ => route,
+    let routes = version.all_routes();
+    let change = Change::Route(RouteEdit::Put(*route));
+    if has_key(routes, route.key()) {
+        return Ok(change);
     }
+    if_room(routes.len(), MOST_ROUTES, change)
 }
 
-/// The route of lowest metric among those that agree: the one that `del` removes (`ip-route(8)`).
-#[tactic(auto, using(crate::proofs::FirstBest::chosen_more, crate::proofs::FirstBest::chosen_same))]
-fn chosen<'a>(routes: &'a [Route], choice: &RouteChoice) -> Option<&'a Route>
-    ensures { option_map (λ r. r.now) result ≡ chosen choice.now routes.now }
+/// The change of `del` of a route.
+fn route_removal(version: &Version, choice: &RouteChoice) -> Result<Change, Refusal>
+    ensures { result ≡ change_of version.now (Command.RouteDel choice.now) }
 {
-    let mut kept: Option<&Route> = None;
-    for route in routes {
-        if choice.takes(route) {
-            kept = Some(lower_of(kept, route));
-        }
+    match chosen_route(version.all_routes(), choice) {
+        Some(route) => Ok(Change::Route(RouteEdit::Remove(route.key()))),
+        None => Err(Refusal::NoSuch),
     }
-    kept
 }
 
-/// The key of the route of lowest metric among those that agree; where none does, the one that the choice names.
-fn chosen_key(routes: &[Route], choice: &RouteChoice) -> RouteKey
-    ensures { result ≡ chosen_key choice.now routes.now }
+/// The change of `add` of a rule.
+fn rule_addition(version: &Version, new: &NewRule) -> Result<Change, Refusal>
+    ensures { result ≡ change_of version.now (Command.RuleAdd new.now) }
 {
-    match chosen(routes, choice) {
-        Some(route) => route.key(),
-        None => RouteKey {
-            table: choice.table,
-            prefix: choice.prefix,
-            metric: choice.metric.unwrap_or(0),
-        },
+    let rules = version.rules();
+    let rule = version.rule_of(new);
+    if has_rule(rules, &rule) {
+        return Err(Refusal::Exists);
     }
+    if_room(rules.len(), MOST_RULES, Change::RulePut(rule))
 }
 
-/// The id of the first rule that agrees; where none does, 0, which no rule has.
-fn named_id(rules: &[Rule], choice: &RuleChoice) -> u64
-    ensures { result ≡ named_id choice.now rules.now }
+/// The change of `del` of a rule.
+fn rule_removal(version: &Version, choice: &RuleChoice) -> Result<Change, Refusal>
+    ensures { result ≡ change_of version.now (Command.RuleDel choice.now) }
 {
-    match rules.iter().find(|rule| choice.agrees(rule)) {
-        Some(rule) => rule.id,
-        None => 0,
+    match named_rule(version.rules(), choice) {
+        Some(rule) => Ok(Change::RuleDrop(rule.id)),
+        None => Err(Refusal::NoSuch),
     }
 }
 
-/// The change that the command makes.
-pub(crate) fn change_of(version: &Version, command: &Command) -> Change
+/// The change that the command asks for, if what is there allows it.
+pub(crate) fn change_of(version: &Version, command: &Command) -> Result<Change, Refusal>
     ensures { result ≡ change_of version.now command.now }
 {
     match command {
-        Command::RouteAdd(route) | Command::RouteChange(route) | Command::RouteReplace(route) => {
-            Change::Route(RouteEdit::Put(*route))
-        }
-        Command::RouteDel(choice) => {
-            Change::Route(RouteEdit::Remove(chosen_key(version.all_routes(), choice)))
-        }
-        Command::RouteFlush(selector) => Change::Route(RouteEdit::Flush(*selector)),
-        Command::RuleAdd(new) => Change::RulePut(version.rule_of(new)),
-        Command::RuleDel(choice) => Change::RuleDrop(named_id(version.rules(), choice)),
-        Command::RuleFlush => Change::RuleFlush,
+        Command::RouteAdd(route) => route_addition(version, route),
+        Command::RouteChange(route) => route_change(version, route),
+        Command::RouteReplace(route) => route_replacement(version, route),
+        Command::RouteDel(choice) => route_removal(version, choice),
+        Command::RouteFlush(selector) => Ok(Change::Route(RouteEdit::Flush(*selector))),
+        Command::RuleAdd(new) => rule_addition(version, new),
+        Command::RuleDel(choice) => rule_removal(version, choice),
+        Command::RuleFlush => Ok(Change::RuleFlush),
     }
 }

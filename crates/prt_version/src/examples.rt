@@ -1,13 +1,13 @@
 //! Verdicts, refusals and listings, computed with the definitions alone.
-ghost use Rattle.std.specs.Prelude.{◌≡◌, ◌++◌, ◌∷◌, [], None, Some, codes, false};
+ghost use Rattle.std.specs.Prelude.{◌≡◌, ◌++◌, ◌∷◌, [], None, Ok, Some, codes, false};
 ghost use Rattle.prt_addr.specs.Prefix.{everything};
-ghost use Rattle.prt_addr.specs.declared.refusal.Refusal.TheVariants.{Exists, Full, NoSuch};
+ghost use Rattle.prt_addr.specs.declared.refusal.Refusal.TheVariants.{CountFull, Exists, Full, NoSuch};
 ghost use Rattle.prt_route.specs.declared.choice.Range.TheVariants.{All, Covering, Exact, Root};
 ghost use Rattle.prt_route.specs.declared.kind.Kind.TheVariants as kinds;
 ghost use Rattle.prt_rule.specs.declared.rule.Action.TheVariants.{Blackhole, Lookup, Unreachable};
 ghost use Rattle.prt_command.specs.declared.request.Command.TheVariants.{RouteChange, RuleAdd, RuleDel, RuleFlush};
-ghost use Rattle.prt_version.specs.Change.{change_of, fold, refusal};
-ghost use Rattle.prt_version.specs.Example.{address, choice_of, delete_ten, failures, listing_after, marked_packet, metrics, nested, not_fwmark_commands, packet_to, prefix, refusals, replaces, route_of, rule_adds, rule_choice, rule_for_all, selector_of, ten, ten_one, ten_one_two, through, throws, two_metrics, verdict_after};
+ghost use Rattle.prt_version.specs.Change.{check, fold, refusal};
+ghost use Rattle.prt_version.specs.Example.{address, after_count, choice_of, delete_ten, failures, full_of_rules, listing_after, marked_packet, metrics, nested, not_fwmark_commands, packet_to, prefix, refusals, replaces, route_of, rule_choice, rule_for_all, selector_of, ten, ten_one, ten_one_two, through, throws, two_metrics, verdict_after};
 ghost use Rattle.prt_version.specs.State.{opening_state, table_rule};
 ghost use Rattle.prt_version.specs.declared.answer.Verdict.TheVariants.{NoRoute, Route, RuleSays};
 ghost use Rattle.prt_version.specs.declared.change.Change.TheVariants.{RulePut};
@@ -43,7 +43,7 @@ pub fn rule_twice()
 
 /// The first rule that is added without a priority.
 pub fn first_automatic_priority()
-    ensures { change_of opening_state (RuleAdd (rule_for_all None (Lookup 7))) ≡ RulePut (record { id = 4; priority = 32765; inverted = false; from = everything; to = everything; iif = None; mark = None; action = Lookup 7 }) }
+    ensures { check opening_state (RuleAdd (rule_for_all None (Lookup 7))) ≡ Ok (RulePut (record { id = 4; priority = 32765; inverted = false; from = everything; to = everything; iif = None; mark = None; action = Lookup 7 })) }
 {}
 
 /// `del` removes the route of lowest metric, and is refused where none is left (`ip-route(8)`).
@@ -55,7 +55,7 @@ pub fn delete_lowest_metric()
 /// A flush leaves the rules of priority 0, and the next rule without a priority gets 0 too (`ip-rule(8)`).
 pub fn rule_flush()
     ensures left { (fold opening_state (RuleFlush ∷ [])).rules ≡ table_rule 1 0 255 ∷ [] }
-    ensures added { change_of (fold opening_state (RuleFlush ∷ [])) (RuleAdd (rule_for_all None (Lookup 7))) ≡ RulePut (table_rule 5 0 7) }
+    ensures added { check (fold opening_state (RuleFlush ∷ [])) (RuleAdd (rule_for_all None (Lookup 7))) ≡ Ok (RulePut (table_rule 5 0 7)) }
     ensures twice { refusals opening_state (RuleFlush ∷ RuleAdd (rule_for_all None (Lookup 7)) ∷ RuleAdd (rule_for_all None (Lookup 7)) ∷ []) ≡ None ∷ None ∷ Some Exists ∷ [] }
 {}
 
@@ -81,6 +81,13 @@ pub fn ranges()
 
 /// The thousand-and-first rule is refused as one too many, and a rule that is there as being there.
 pub fn rule_limit()
-    ensures full { refusal (fold opening_state (rule_adds 997)) (RuleAdd (rule_for_all (Some 998) (Lookup 7))) ≡ Some Full }
-    ensures there { refusal (fold opening_state (rule_adds 997)) (RuleAdd (rule_for_all (Some 500) (Lookup 7))) ≡ Some Exists }
+    ensures full { refusal full_of_rules (RuleAdd (rule_for_all (Some 998) (Lookup 7))) ≡ Some Full }
+    ensures there { refusal full_of_rules (RuleAdd (rule_for_all (Some 500) (Lookup 7))) ≡ Some Exists }
+{}
+
+/// No command is accepted after 1,000,000,000,000,000, and every other reason to refuse one comes first.
+pub fn count_limit()
+    ensures last { refusal (after_count 999999999999999 opening_state) RuleFlush ≡ None }
+    ensures counted { refusal (after_count 1000000000000000 opening_state) RuleFlush ≡ Some CountFull }
+    ensures full { refusal (after_count 1000000000000000 full_of_rules) (RuleAdd (rule_for_all (Some 998) (Lookup 7))) ≡ Some Full }
 {}

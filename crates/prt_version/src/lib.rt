@@ -5,6 +5,7 @@ mod answer;
 mod change;
 mod checks;
 pub mod examples;
+mod limits;
 mod listing;
 mod rows;
 mod select;
@@ -12,5 +13,6 @@ mod version;
 
 pub use answer::{Answer, Verdict};
 pub use change::Change;
+pub use limits::{MOST_COMMANDS, MOST_ROUTES, MOST_RULES};
 pub use prt_command::{Action, Command, NewRule, Packet, Refusal, Route, Rule};
 pub use version::Version;

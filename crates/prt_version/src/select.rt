@@ -1,9 +1,10 @@
 ghost use Rattle.std.specs.Prelude.{◌≡◌, option_map};
+ghost use Rattle.prt_addr.specs.Order.{IsRising, leader};
 ghost use Rattle.prt_route.specs.Best.{best, is_candidate};
 ghost use Rattle.prt_route.specs.Route.{is_better};
-ghost use Rattle.prt_rule.specs.Rule.{IsInOrder};
-ghost use Rattle.prt_version.specs.Select.{decision, found, verdict_of};
-ghost use Rattle.prt_version.specs.Steps.{first_verdict, preferred};
+ghost use Rattle.prt_rule.specs.Rule.{is_before};
+ghost use Rattle.prt_version.specs.Select.{decision, table_lookup, verdict_of};
+ghost use Rattle.prt_version.specs.Steps.{first_verdict};
 
 use crate::{Action, Packet, Route, Rule, Verdict};
 use prt_route::{Addr, Kind};
@@ -16,18 +17,18 @@ fn is_candidate(route: &Route, table: u32, addr: Addr) -> bool
     route.table == table && route.prefix.contains(addr)
 }
 
-/// The route, unless the one that is kept is at least as good.
-fn better_of<'a>(kept: Option<&'a Route>, route: &'a Route) -> &'a Route
-    ensures { result.now ≡ preferred is_better (option_map (λ r. r.now) kept.entry) route.now }
+/// The next route, unless the best so far is at least as good.
+fn better_of<'a>(best: Option<&'a Route>, next: &'a Route) -> &'a Route
+    ensures { result.now ≡ leader is_better (option_map (λ r. r.now) best.entry) next.now }
 {
-    match kept {
-        Some(kept) if !route.better(kept) => kept,
-        _ => route,
+    match best {
+        Some(best) if !next.better(best) => best,
+        _ => next,
     }
 }
 
-/// The best route of a table for an address: the first of those that no other one beats (RFC 1812, section 5.2.4.3).
-#[tactic(auto, using(crate::proofs::FirstBest::best_candidate, crate::proofs::FirstBest::best_other))]
+/// The best route of a table for an address: longest match, then lowest metric (RFC 1812, section 5.2.4.3).
+#[tactic(auto, using(prt_route::proofs::Edits::best_candidate, prt_route::proofs::Edits::best_other))]
 fn best_route<'a>(routes: &'a [Route], table: u32, addr: Addr) -> Option<&'a Route>
     ensures { option_map (λ r. r.now) result ≡ best routes.now table addr }
 {
@@ -41,8 +42,8 @@ fn best_route<'a>(routes: &'a [Route], table: u32, addr: Addr) -> Option<&'a Rou
 }
 
 /// The best route of a table, unless a throw route ends the lookup there (`ip-route(8)`).
-fn found<'a>(routes: &'a [Route], table: u32, packet: &Packet) -> Option<&'a Route>
-    ensures { option_map (λ r. r.now) result ≡ found table routes.now packet.now }
+fn table_lookup<'a>(routes: &'a [Route], table: u32, packet: &Packet) -> Option<&'a Route>
+    ensures { option_map (λ r. r.now) result ≡ table_lookup table routes.now packet.now }
 {
     let route = best_route(routes, table, packet.dst)?;
     if route.kind == Kind::Throw {
@@ -62,7 +63,7 @@ fn decision(rule: &Rule, routes: &[Route], packet: &Packet) -> Option<Verdict>
     let Action::Lookup(table) = rule.action else {
         return Some(Verdict::RuleSays(rule.priority, rule.action));
     };
-    let route = found(routes, table, packet)?;
+    let route = table_lookup(routes, table, packet)?;
     Some(Verdict::Route(rule.priority, *route))
 }
 
@@ -81,7 +82,7 @@ fn first_verdict(rules: &[Rule], routes: &[Route], packet: &Packet) -> Verdict
 
 /// What the rules, in the order in which they are asked, make of a packet.
 pub(crate) fn verdict_of(rules: &[Rule], routes: &[Route], packet: &Packet) -> Verdict
-    requires { IsInOrder rules.now }
+    requires { IsRising is_before rules.now }
     ensures { result ≡ verdict_of rules.now routes.now packet.now }
 {
     first_verdict(rules, routes, packet)

@@ -1,16 +1,20 @@
 ghost use Rattle.std.specs.Prelude.{◌≡◌, IfErr, IfOk, None};
+ghost use Rattle.prt_addr.specs.Order.{IsRising};
 ghost use Rattle.prt_addr.specs.declared.refusal.Refusal.TheVariants.{NoMemory};
 ghost use Rattle.prt_rule.specs.Rule.{IsInOrder};
-ghost use Rattle.prt_version.specs.Change.{IsChecked, change_of, put, refusal, rule_of};
-ghost use Rattle.prt_version.specs.Listing.{listed};
+ghost use Rattle.prt_route.specs.Route.{is_listed_before};
+ghost use Rattle.prt_version.specs.Change.{IsChecked, check, put, rule_of};
+ghost use Rattle.prt_version.specs.Listing.{listing};
 ghost use Rattle.prt_version.specs.Select.{select};
 ghost use Rattle.prt_version.specs.State.{opening_state, table_rule};
 
-use crate::checks::{change_of, refusal};
-use crate::listing::sorted_routes;
-use crate::rows::{edited, flushed_rules, with_rule, without_rule};
+use crate::checks::change_of;
+use crate::listing::listing;
+use crate::rows::{after_edit, flushed_rules, with_rule, without_rule};
 use crate::select::verdict_of;
-use crate::{Action, Answer, Change, Command, NewRule, Packet, Refusal, Route, Rule};
+use crate::{
+    Action, Answer, Change, Command, MOST_COMMANDS, NewRule, Packet, Refusal, Route, Rule,
+};
 use prt_route::{Prefix, Selector};
 use prt_rule::auto_priority;
 use std::alloc::{AllocError, Global};
@@ -84,6 +88,7 @@ impl Version {
     }
 
     /// The rules, in the order in which they are asked.
+    #[tactic(auto, using(crate::proofs::RuleOrder::in_order))]
     pub fn rules(&self) -> &[Rule]
         ensures value { result.now ≡ self.now.rules }
         ensures order { IsInOrder result.now }
@@ -91,9 +96,10 @@ impl Version {
         self.rules.as_slice()
     }
 
-    /// The routes, in the order in which they came.
+    /// The routes, in the order of listings.
     pub(crate) fn all_routes(&self) -> &[Route]
-        ensures { result.now ≡ self.now.routes }
+        ensures value { result.now ≡ self.now.routes }
+        ensures order { IsRising is_listed_before result.now }
     {
         self.routes.as_slice()
     }
@@ -104,16 +110,17 @@ impl Version {
     ///
     /// `NoMemory` alone.
     pub fn routes(&self, selector: &Selector) -> Result<Vec<Route>, Refusal>
-        ensures value { IfOk result (λ rows. rows.items ≡ listed selector.now self.now.routes) }
+        ensures value { IfOk result (λ rows. rows.items ≡ listing selector.now self.now.routes) }
         ensures reason { IfErr result (λ reason. reason ≡ NoMemory) }
     {
-        let Ok(rows) = sorted_routes(*self.routes.allocator(), &self.routes, selector) else {
-            return Err(Refusal::NoMemory);
-        };
-        Ok(rows)
+        match listing(*self.routes.allocator(), &self.routes, selector) {
+            Ok(rows) => Ok(rows),
+            Err(_) => Err(Refusal::NoMemory),
+        }
     }
 
     /// The rule with its id, and the priority that is given or the automatic one.
+    #[tactic(auto, using(crate::proofs::RuleOrder::in_order))]
     pub(crate) fn rule_of(&self, new: &NewRule) -> Rule
         ensures { result ≡ rule_of self.now new.now }
     {
@@ -135,16 +142,19 @@ impl Version {
     ///
     /// `Exists` where the key of a route to add, or a rule equal in all but the id to the one to add, is there; `NoSuch`
     /// where what is to be changed or removed is not (`ip-route(8)`, `ip-rule(8)`); otherwise `Full` where a rule would
-    /// be one more than 1,000, or a route one more than 100,000; otherwise `CountFull` after 1,000,000,000,000,000
-    /// commands.
+    /// be one more than [`MOST_RULES`], or a route one more than [`MOST_ROUTES`]; otherwise `CountFull` after
+    /// [`MOST_COMMANDS`] commands.
+    ///
+    /// [`MOST_ROUTES`]: crate::MOST_ROUTES
+    /// [`MOST_RULES`]: crate::MOST_RULES
     pub fn check(&self, command: &Command) -> Result<Change, Refusal>
-        ensures accepted { IfOk result (λ change. (refusal self.now command.now ≡ None) × (change ≡ change_of self.now command.now)) }
-        ensures refused { IfErr result (λ reason. refusal self.now command.now ≡ Some reason) }
+        ensures value { result ≡ check self.now command.now }
         ensures usable { IfOk result (λ change. IsChecked self.now change) }
     {
-        match refusal(self, command) {
-            Some(reason) => Err(reason),
-            None => Ok(change_of(self, command)),
+        match change_of(self, command) {
+            Ok(change) if self.count < MOST_COMMANDS => Ok(change),
+            Ok(_) => Err(Refusal::CountFull),
+            Err(reason) => Err(reason),
         }
     }
 
@@ -167,7 +177,7 @@ impl Version {
     {
         let alloc = *self.routes.allocator();
         match change {
-            Change::Route(edit) => edited(alloc, &self.routes, edit),
+            Change::Route(edit) => after_edit(alloc, &self.routes, edit),
             Change::RulePut(_) | Change::RuleDrop(_) | Change::RuleFlush => {
                 Vec::from_slice(alloc, &self.routes)
             }
