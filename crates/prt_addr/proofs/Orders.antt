@@ -1,11 +1,11 @@
 -- Lists in an order, one more put at its place, and the first by an order.
-use Rattle.std.proofs.Common.{◌≡◌, ℕ, ◌+◌, ◌<◌, ◌≤◌, suc, Bool, true, false, not, ◌||◌, List, [], ◌∷◌, ◌++◌, Option, Some, None, refl, sym, ap, ◌∙◌, subst, arith, length, take, get_or, append_assoc, find, fold, cond}
+use Rattle.std.proofs.Common.{◌≡◌, ◌⊎◌, inl, inr, ℕ, ◌+◌, ◌<◌, ◌≤◌, suc, Bool, true, false, not, ◌||◌, List, [], ◌∷◌, ◌++◌, Option, Some, None, refl, sym, ap, ◌∙◌, subst, arith, length, take, get_or, append_assoc, find, fold, cond}
 use Rattle.std.specs.Cmp.{IsStrictWeakOrder}
 use Rattle.std.specs.Prelude.{filter, nat_lt, unwrap_or}
-use Rattle.std.specs.List.{insert, list_any, position, position_or_len, AllByRecursion as Each, IsDistinct}
+use Rattle.std.specs.List.{Contains, insert, list_any, position, position_or_len, AllByRecursion as Each, IsDistinct}
 use Rattle.std.proofs.lemmas.Bool.Decides.{nat_tests}
 use Rattle.std.proofs.lemmas.List.{take_more, append-nil}
-use Rattle.std.proofs.lemmas.List.Elements.{filter-append}
+use Rattle.std.proofs.lemmas.List.Elements.{All-contains, All-from_recursion, Contains-get_or, filter-append, recursion_from_All}
 use Rattle.std.proofs.lemmas.List.Folds.{list_any-append}
 use Rattle.std.proofs.lemmas.List.Sums.{prefix_len-le-length}
 use Rattle.prt_addr.specs.Order.{first_by, insert_by, leader, IsRising}
@@ -237,3 +237,49 @@ module _ {X : Type 0} (before : X → X → Bool) (order : IsStrictWeakOrder bef
   pub first_same : (passes : X → Bool) (xs : List X) (i : ℕ) (x : X) → i < length xs → x ≡ get_or xs i x → passes x ≡ false → first_by before (filter passes (take (i + 1) xs)) ≡ first_by before (filter passes (take i xs))
   first_same passes xs i x inside is bad =
       ap (λ ys. first_by before ys) (passes_more passes xs i x inside is ∙ ap (λ b. filter passes (take i xs) ++ cond b (x ∷ []) []) bad ∙ append-nil (filter passes (take i xs)))
+
+-- ---- lists that rise and have the same members
+
+-- what holds of each in one list holds of each in another, where no member of that is missing in it
+each_member : {X : Type 0} (xs ys : List X) → ((x : X) → Contains ys x → Contains xs x) → (P : X → Type 0) → Each P xs → Each P ys
+each_member xs ys within P h = recursion_from_All P ys (λ k d inside. All-contains P xs (get_or ys k d) (All-from_recursion P xs h) (within (get_or ys k d) (Contains-get_or ys k d inside)))
+
+module _ {X : Type 0} (before : X → X → Bool) (order : IsStrictWeakOrder before) where
+  abbrev IsOrFollows : X → X → Type 0
+  IsOrFollows first x = (x ≡ first) ⊎ (before first x ≡ true)
+
+  all_follow : (first : X) (xs : List X) → Each (λ other. before first other ≡ true) xs → Each (IsOrFollows first) (first ∷ xs)
+  all_follow first xs h = (inl refl, each_implies (λ other. before first other ≡ true) (IsOrFollows first) (λ other ahead. inr ahead) xs h)
+
+  same_first : (a b : X) → IsOrFollows a b → IsOrFollows b a → a ≡ b
+  same_first a b (inl e) other = sym e
+  same_first a b (inr h) (inl e) = e
+  same_first a b (inr h) (inr k) = absurd (let n : before b a ≡ false = order.one_way a b h in cc)
+
+  unlike_first : (first x : X) → x ≡ first → before first x ≡ true → true ≡ false
+  unlike_first first x same ahead = let n : before first first ≡ false = not_itself before order first in sym (subst (λ y. before first y ≡ true) same ahead) ∙ n
+
+  after_first : (P : X → Type 0) (first x : X) → (x ≡ first) ⊎ P x → before first x ≡ true → P x
+  after_first P first x (inl e) h = absurd (let n : true ≡ false = unlike_first first x e h in cc)
+  after_first P first x (inr p) h = p
+
+  each_after_first : (P : X → Type 0) (first : X) (xs : List X) → Each (λ x. (x ≡ first) ⊎ P x) xs → Each (λ other. before first other ≡ true) xs → Each P xs
+  each_after_first P first [] h rises = tt
+  each_after_first P first (x ∷ xs) h rises = (after_first P first x h.0 rises.0, each_after_first P first xs h.1 rises.1)
+
+  same_rest : (a b : X) (xs ys : List X) → a ≡ b → Each (λ other. before b other ≡ true) ys → ((P : X → Type 0) → Each P (a ∷ xs) → Each P (b ∷ ys)) → (P : X → Type 0) → Each P xs → Each P ys
+  same_rest a b xs ys same rises within P h =
+      each_after_first P b ys (within (λ x. (x ≡ b) ⊎ P x) (inl same, each_implies P (λ x. (x ≡ b) ⊎ P x) (λ x p. inr p) xs h)).1 rises
+
+  same_lists : (xs ys : List X) → IsRising before xs → IsRising before ys → ((P : X → Type 0) → Each P xs → Each P ys) → ((P : X → Type 0) → Each P ys → Each P xs) → xs ≡ ys
+  same_lists [] [] a_rises b_rises there back = refl
+  same_lists [] (b ∷ ys) a_rises b_rises there back = absurd (let n : true ≡ false = (there (λ x. true ≡ false) tt).0 in cc)
+  same_lists (a ∷ xs) [] a_rises b_rises there back = absurd (let n : true ≡ false = (back (λ x. true ≡ false) tt).0 in cc)
+  same_lists (a ∷ xs) (b ∷ ys) a_rises b_rises there back =
+      let first : a ≡ b = same_first a b (there (IsOrFollows a) (all_follow a xs a_rises.0)).0 (back (IsOrFollows b) (all_follow b ys b_rises.0)).0 in
+      ap (λ x. x ∷ xs) first
+      ∙ ap (λ rest. b ∷ rest) (same_lists xs ys a_rises.1 b_rises.1 (same_rest a b xs ys first b_rises.0 there) (same_rest b a ys xs (sym first) a_rises.0 back))
+
+  -- there is one list that rises and has these members
+  pub same_risings : (xs ys : List X) → IsRising before xs → IsRising before ys → ((x : X) → Contains xs x → Contains ys x) → ((x : X) → Contains ys x → Contains xs x) → xs ≡ ys
+  same_risings xs ys x_rises y_rises there back = same_lists xs ys x_rises y_rises (each_member xs ys back) (each_member ys xs there)
