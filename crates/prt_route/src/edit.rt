@@ -3,7 +3,7 @@ use crate::{Route, RouteKey, Selector};
 /// A change of the list of routes.
 #[derive(Clone, Copy, Debug, PartialEq, Eq)]
 pub enum RouteEdit {
-    /// Put this route behind the others, without the one that has its key.
+    /// Put this route in its place in the order of listings, without the one that has its key.
     Put(Route),
     /// Remove the route with this key.
     Remove(RouteKey),
