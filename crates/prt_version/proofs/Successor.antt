@@ -19,7 +19,7 @@ use Rattle.prt_rule.specs.Same.{is_same_rule}
 use Rattle.prt_rule.specs.declared.rule.Rule.{Rule}
 use Rattle.prt_command.specs.declared.request.Command.{Command}
 use Rattle.prt_command.specs.declared.request.Command.TheVariants.{RouteAdd, RouteChange, RouteReplace, RouteDel, RouteFlush, RuleAdd, RuleDel, RuleFlush}
-use Rattle.prt_version.specs.Change.{IsChecked, change_of, has_rule, if_counted, named_rule, put, rule_of}
+use Rattle.prt_version.specs.Change.{IsChecked, change_of, has_rule, unless_count_full, named_rule, put, rule_of}
 use Rattle.prt_version.specs.Sound.{IsSound}
 use Rattle.prt_version.specs.State.{State, opening_rules, opening_state, table_rule}
 use Rattle.prt_version.specs.declared.change.Change.{Change}
@@ -37,13 +37,13 @@ record IsCounted (count : ℕ) (r : Result Change Refusal) (made : Change) : Typ
   is : r ≡ Ok made
   room : count + 1 ≤ MOST_COMMANDS
 
-counted_by : (count : ℕ) (asked made : Change) (b : Bool) → nat_lt count MOST_COMMANDS ≡ b → cond b (Ok asked) (Err CountFull) ≡ Ok made → IsCounted count (Ok asked) made
-counted_by count asked made true below h = record { is = h; room = room_for MOST_COMMANDS count below }
-counted_by count asked made false below h = absurd cc
+count_room_by : (count : ℕ) (asked made : Change) (b : Bool) → nat_lt count MOST_COMMANDS ≡ b → cond b (Ok asked) (Err CountFull) ≡ Ok made → IsCounted count (Ok asked) made
+count_room_by count asked made true below h = record { is = h; room = room_for MOST_COMMANDS count below }
+count_room_by count asked made false below h = absurd cc
 
-counted : (count : ℕ) (r : Result Change Refusal) (made : Change) → if_counted count r ≡ Ok made → IsCounted count r made
-counted count (Ok asked) made h = counted_by count asked made (nat_lt count MOST_COMMANDS) refl h
-counted count (Err reason) made h = absurd cc
+count_room : (count : ℕ) (r : Result Change Refusal) (made : Change) → unless_count_full count r ≡ Ok made → IsCounted count r made
+count_room count (Ok asked) made h = count_room_by count asked made (nat_lt count MOST_COMMANDS) refl h
+count_room count (Err reason) made h = absurd cc
 
 -- what was asked for is made, and there is room for one more row
 record HasRoom (count most : ℕ) (asked made : Change) : Type 0 where
@@ -59,22 +59,22 @@ record IsAddition (there : Bool) (count most : ℕ) (asked made : Change) : Type
   absent : there ≡ false
   has_room : HasRoom count most asked made
 
-added : (there : Bool) (count most : ℕ) (asked made : Change) → cond there (Err Exists) (cond (nat_lt count most) (Ok asked) (Err Full)) ≡ Ok made → IsAddition there count most asked made
-added true count most asked made h = absurd cc
-added false count most asked made h = record { absent = refl; has_room = room_by count most asked made (nat_lt count most) refl h }
+addition_of : (there : Bool) (count most : ℕ) (asked made : Change) → cond there (Err Exists) (cond (nat_lt count most) (Ok asked) (Err Full)) ≡ Ok made → IsAddition there count most asked made
+addition_of true count most asked made h = absurd cc
+addition_of false count most asked made h = record { absent = refl; has_room = room_by count most asked made (nat_lt count most) refl h }
 
 -- what is to be changed is there
 record IsThere (there : Bool) (asked made : Change) : Type 0 where
   present : there ≡ true
   is : asked ≡ made
 
-changed : (there : Bool) (asked made : Change) → cond there (Ok asked) (Err NoSuch) ≡ Ok made → IsThere there asked made
-changed true asked made h = record { present = refl; is = cc }
-changed false asked made h = absurd cc
+change_there : (there : Bool) (asked made : Change) → cond there (Ok asked) (Err NoSuch) ≡ Ok made → IsThere there asked made
+change_there true asked made h = record { present = refl; is = cc }
+change_there false asked made h = absurd cc
 
-removed : {X : Type 0} (change_by : X → Change) (o : Option X) (made : Change) → ok_or (option_map change_by o) NoSuch ≡ Ok made → (x : X) × (change_by x ≡ made)
-removed change_by None made h = absurd cc
-removed change_by (Some x) made h = (x, cc)
+removal_of : {X : Type 0} (change_by : X → Change) (o : Option X) (made : Change) → ok_or (option_map change_by o) NoSuch ≡ Ok made → (x : X) × (change_by x ≡ made)
+removal_of change_by None made h = absurd cc
+removal_of change_by (Some x) made h = (x, cc)
 
 -- ---- the state after a change
 
@@ -107,9 +107,9 @@ in_place route routes there fit =
     let left : length (without_key (key_of route) routes) < length routes = one_less (λ other. is_same_key (key_of other) (key_of route)) routes there in
     omega (arith, length_inserted is_listed_before route (without_key (key_of route) routes))
 
-replaced : (route : Route) (routes : List Route) (made : Change) (there : Bool) → has_key (key_of route) routes ≡ there → cond there (Ok (change.Route (Put route))) (cond (nat_lt (length routes) MOST_ROUTES) (Ok (change.Route (Put route))) (Err Full)) ≡ Ok made → length routes ≤ MOST_ROUTES → (change.Route (Put route) ≡ made) × (length (after_edit (Put route) routes) ≤ MOST_ROUTES)
-replaced route routes made true there h fit = (cc, in_place route routes there fit)
-replaced route routes made false there h fit =
+replacement_fits : (route : Route) (routes : List Route) (made : Change) (there : Bool) → has_key (key_of route) routes ≡ there → cond there (Ok (change.Route (Put route))) (cond (nat_lt (length routes) MOST_ROUTES) (Ok (change.Route (Put route))) (Err Full)) ≡ Ok made → length routes ≤ MOST_ROUTES → (change.Route (Put route) ≡ made) × (length (after_edit (Put route) routes) ≤ MOST_ROUTES)
+replacement_fits route routes made true there h fit = (cc, in_place route routes there fit)
+replacement_fits route routes made false there h fit =
     let room : HasRoom (length routes) MOST_ROUTES (change.Route (Put route)) made = room_by (length routes) MOST_ROUTES (change.Route (Put route)) made (nat_lt (length routes) MOST_ROUTES) refl h in
     (room.is, one_more route routes room.room)
 
@@ -151,31 +151,31 @@ fit_after p xs most fit = filtered_fit p xs most fit
 
 change_sound : (state : State) (command : Command) (made : Change) → IsSound state → state.count + 1 ≤ MOST_COMMANDS → change_of state command ≡ Ok made → IsSound (put state made)
 change_sound state (RouteAdd route) made sound room h =
-    let a : IsAddition (has_key (key_of route) state.routes) (length state.routes) MOST_ROUTES (change.Route (Put route)) made = added (has_key (key_of route) state.routes) (length state.routes) MOST_ROUTES (change.Route (Put route)) made h in
+    let a : IsAddition (has_key (key_of route) state.routes) (length state.routes) MOST_ROUTES (change.Route (Put route)) made = addition_of (has_key (key_of route) state.routes) (length state.routes) MOST_ROUTES (change.Route (Put route)) made h in
     as_made state (change.Route (Put route)) made a.has_room.is (edit_sound state (Put route) sound room (one_more route state.routes a.has_room.room))
 change_sound state (RouteChange route) made sound room h =
-    let t : IsThere (has_key (key_of route) state.routes) (change.Route (Put route)) made = changed (has_key (key_of route) state.routes) (change.Route (Put route)) made h in
+    let t : IsThere (has_key (key_of route) state.routes) (change.Route (Put route)) made = change_there (has_key (key_of route) state.routes) (change.Route (Put route)) made h in
     as_made state (change.Route (Put route)) made t.is (edit_sound state (Put route) sound room (in_place route state.routes t.present sound.routes_fit))
 change_sound state (RouteReplace route) made sound room h =
-    let r : (change.Route (Put route) ≡ made) × (length (after_edit (Put route) state.routes) ≤ MOST_ROUTES) = replaced route state.routes made (has_key (key_of route) state.routes) refl h sound.routes_fit in
+    let r : (change.Route (Put route) ≡ made) × (length (after_edit (Put route) state.routes) ≤ MOST_ROUTES) = replacement_fits route state.routes made (has_key (key_of route) state.routes) refl h sound.routes_fit in
     as_made state (change.Route (Put route)) made r.0 (edit_sound state (Put route) sound room r.1)
 change_sound state (RouteDel choice) made sound room h =
-    let r : (route : Route) × (change.Route (Remove (key_of route)) ≡ made) = removed (λ route. change.Route (Remove (key_of route))) (chosen_route choice state.routes) made h in
+    let r : (route : Route) × (change.Route (Remove (key_of route)) ≡ made) = removal_of (λ route. change.Route (Remove (key_of route))) (chosen_route choice state.routes) made h in
     as_made state (change.Route (Remove (key_of r.0))) made r.1 (edit_sound state (Remove (key_of r.0)) sound room (fit_after (λ route. not (is_same_key (key_of route) (key_of r.0))) state.routes MOST_ROUTES sound.routes_fit))
 change_sound state (RouteFlush selector) made sound room h =
     as_made state (change.Route (Flush selector)) made (cc) (edit_sound state (Flush selector) sound room (fit_after (λ route. not (is_selected selector route)) state.routes MOST_ROUTES sound.routes_fit))
 change_sound state (RuleAdd new) made sound room h =
-    let a : IsAddition (has_rule (rule_of state new) state.rules) (length state.rules) MOST_RULES (change.RulePut (rule_of state new)) made = added (has_rule (rule_of state new) state.rules) (length state.rules) MOST_RULES (change.RulePut (rule_of state new)) made h in
+    let a : IsAddition (has_rule (rule_of state new) state.rules) (length state.rules) MOST_RULES (change.RulePut (rule_of state new)) made = addition_of (has_rule (rule_of state new) state.rules) (length state.rules) MOST_RULES (change.RulePut (rule_of state new)) made h in
     as_made state (change.RulePut (rule_of state new)) made a.has_room.is (one_more_rule state (rule_of state new) refl a.absent sound room a.has_room.room)
 change_sound state (RuleDel choice) made sound room h =
-    let r : (rule : Rule) × (change.RuleDrop rule.id ≡ made) = removed (λ rule. change.RuleDrop rule.id) (named_rule choice state.rules) made h in
+    let r : (rule : Rule) × (change.RuleDrop rule.id ≡ made) = removal_of (λ rule. change.RuleDrop rule.id) (named_rule choice state.rules) made h in
     as_made state (change.RuleDrop r.0.id) made r.1 (fewer_rules state (λ rule. not (rule.id == r.0.id)) sound room)
 change_sound state RuleFlush made sound room h =
     as_made state change.RuleFlush made (cc) (fewer_rules state (λ rule. rule.priority == 0) sound room)
 
 put_sound : (state : State) (made : Change) → IsSound state → IsChecked state made → IsSound (put state made)
 put_sound state made sound checked =
-    let c : IsCounted state.count (change_of state checked.command) made = counted state.count (change_of state checked.command) made checked.makes in
+    let c : IsCounted state.count (change_of state checked.command) made = count_room state.count (change_of state checked.command) made checked.makes in
     change_sound state checked.command made sound c.room c.is
 
 -- ---- the parts of a version

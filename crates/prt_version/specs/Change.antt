@@ -51,14 +51,14 @@ change_of state (RuleAdd new) = if has_rule (rule_of state new) state.rules then
 change_of state (RuleDel choice) = ok_or (option_map (λ rule. change.RuleDrop rule.id) (named_rule choice state.rules)) NoSuch
 change_of state RuleFlush = Ok change.RuleFlush
 
--- the change, where one more command is accepted
-abbrev pub if_counted : ℕ → Result Change Refusal → Result Change Refusal
-if_counted count (Ok made) = if nat_lt count MOST_COMMANDS then Ok made else Err CountFull
-if_counted count (Err reason) = Err reason
+-- the change, unless no more commands are accepted
+abbrev pub unless_count_full : ℕ → Result Change Refusal → Result Change Refusal
+unless_count_full count (Ok made) = if nat_lt count MOST_COMMANDS then Ok made else Err CountFull
+unless_count_full count (Err reason) = Err reason
 
 -- the change that a command makes of a state, or the first reason not to make it
 abbrev pub check : State → Command → Result Change Refusal
-check state command = if_counted state.count (change_of state command)
+check state command = unless_count_full state.count (change_of state command)
 
 -- why a command is refused, if it is
 abbrev pub refusal : State → Command → Option Refusal

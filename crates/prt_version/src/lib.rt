@@ -5,6 +5,7 @@ mod answer;
 mod change;
 mod checks;
 pub mod examples;
+pub mod laws;
 mod limits;
 mod listing;
 mod rows;
