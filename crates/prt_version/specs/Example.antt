@@ -23,7 +23,7 @@ use Rattle.prt_command.specs.declared.request.NewRule.{NewRule}
 use Rattle.prt_version.specs.Change.{apply, fold, refusal}
 use Rattle.prt_version.specs.Listing.{listing}
 use Rattle.prt_version.specs.Select.{select}
-use Rattle.prt_version.specs.State.{State, opening_rules, opening_state, table_rule}
+use Rattle.prt_version.specs.State.{State, opening_state, table_rule}
 use Rattle.prt_version.specs.declared.answer.Verdict.{Verdict}
 
 -- an address by its four parts
@@ -157,15 +157,6 @@ lookups priority (suc n) rules = table_rule (priority + 3) priority 7 ∷ lookup
 -- a database with a thousand rules
 abbrev pub full_of_rules : State
 full_of_rules = record { count = 997; rules = table_rule 1 0 255 ∷ lookups 1 997 (table_rule 2 32766 254 ∷ table_rule 3 32767 253 ∷ []); routes = [] }
-
--- so many routes for 10/8, of the metrics from this one on
-abbrev pub by_metrics : ℕ → ℕ → List Route
-by_metrics metric zero = []
-by_metrics metric (suc n) = through 1 254 ten metric ∷ by_metrics (metric + 1) n
-
--- a database with so many routes
-abbrev pub with_routes : ℕ → State
-with_routes n = record { count = n; rules = opening_rules; routes = by_metrics 1 n }
 
 -- one that has accepted so many commands
 abbrev pub after_count : ℕ → State → State

@@ -5,9 +5,9 @@ ghost use Rattle.prt_addr.specs.declared.refusal.Refusal.TheVariants.{CountFull,
 ghost use Rattle.prt_route.specs.declared.choice.Range.TheVariants.{All, Covering, Exact, Root};
 ghost use Rattle.prt_route.specs.declared.kind.Kind.TheVariants as kinds;
 ghost use Rattle.prt_rule.specs.declared.rule.Action.TheVariants.{Blackhole, Lookup, Unreachable};
-ghost use Rattle.prt_command.specs.declared.request.Command.TheVariants.{RouteChange, RouteReplace, RuleAdd, RuleDel, RuleFlush};
+ghost use Rattle.prt_command.specs.declared.request.Command.TheVariants.{RouteChange, RuleAdd, RuleDel, RuleFlush};
 ghost use Rattle.prt_version.specs.Change.{check, fold, refusal};
-ghost use Rattle.prt_version.specs.Example.{address, after_count, choice_of, delete_ten, failures, full_of_rules, listing_after, marked_packet, metrics, nested, not_fwmark_commands, packet_to, prefix, refusals, replaces, route_of, rule_choice, rule_for_all, selector_of, ten, ten_one, ten_one_two, through, throws, two_metrics, verdict_after, with_routes};
+ghost use Rattle.prt_version.specs.Example.{address, after_count, choice_of, delete_ten, failures, full_of_rules, listing_after, marked_packet, metrics, nested, not_fwmark_commands, packet_to, prefix, refusals, replaces, route_of, rule_choice, rule_for_all, selector_of, ten, ten_one, ten_one_two, through, throws, two_metrics, verdict_after};
 ghost use Rattle.prt_version.specs.State.{opening_state, table_rule};
 ghost use Rattle.prt_version.specs.declared.answer.Verdict.TheVariants.{NoRoute, Route, RuleSays};
 ghost use Rattle.prt_version.specs.declared.change.Change.TheVariants.{RulePut};
@@ -83,13 +83,6 @@ pub fn ranges()
 pub fn rule_limit()
     ensures full { refusal full_of_rules (RuleAdd (rule_for_all (Some 998) (Lookup 7))) ≡ Some Full }
     ensures there { refusal full_of_rules (RuleAdd (rule_for_all (Some 500) (Lookup 7))) ≡ Some Exists }
-{}
-
-/// The hundred-thousand-and-first route is refused as one too many, and one in the place of another is not.
-pub fn route_limit()
-    ensures last { refusal (with_routes 99999) (RouteReplace (through 1 254 everything 0)) ≡ None }
-    ensures full { refusal (with_routes 100000) (RouteReplace (through 1 254 everything 0)) ≡ Some Full }
-    ensures there { refusal (with_routes 100000) (RouteReplace (through 2 254 ten 1)) ≡ None }
 {}
 
 /// No command is accepted after 1,000,000,000,000,000, and every other reason to refuse one comes first.

@@ -1,8 +1,13 @@
 //! Laws of the definitions, which no program calls.
-ghost use Rattle.std.specs.Prelude.{◌≡◌, ◌↔◌};
+ghost use Rattle.std.specs.Prelude.{◌≡◌, ◌↔◌, None, Some, false, length};
 ghost use Rattle.std.specs.List.{Contains};
+ghost use Rattle.prt_addr.specs.declared.refusal.Refusal.TheVariants.{Full};
+ghost use Rattle.prt_route.specs.Edit.{has_key};
+ghost use Rattle.prt_route.specs.Route.{key_of};
 ghost use Rattle.prt_route.specs.declared.route.Route.{Route};
 ghost use Rattle.prt_rule.specs.declared.rule.Rule.{Rule};
+ghost use Rattle.prt_command.specs.declared.request.Command.TheVariants.{RouteAdd};
+ghost use Rattle.prt_version.specs.Change.{refusal};
 ghost use Rattle.prt_version.specs.Sound.{IsSound};
 ghost use Rattle.prt_version.specs.State.{State};
 
@@ -12,4 +17,12 @@ pub fn one_form()
         ((rule : Rule) → Contains state.rules rule ↔ Contains other.rules rule) →
         ((route : Route) → Contains state.routes route ↔ Contains other.routes route) →
         state ≡ other }
+{}
+
+/// The hundred-thousand-and-first route is refused as one too many, and the one before it is not.
+pub fn route_limit()
+    ensures full { (state : State) (route : Route) → has_key (key_of route) state.routes ≡ false → length state.routes ≡ 100000 →
+        refusal state (RouteAdd route) ≡ Some Full }
+    ensures last { (state : State) (route : Route) → has_key (key_of route) state.routes ≡ false → length state.routes ≡ 99999 →
+        state.count ≡ 99999 → refusal state (RouteAdd route) ≡ None }
 {}
