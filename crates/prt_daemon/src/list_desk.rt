@@ -64,6 +64,3 @@ impl Desk for ListDesk {
         answer_query(out, &self.version, query)
     }
 }
-
-#[cfg(test)]
-mod tests;
