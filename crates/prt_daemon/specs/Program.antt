@@ -1,11 +1,11 @@
 -- What the program does: it runs one session, or it says why it does not.
 use Rattle.std.specs.Prelude.{◌≡◌, ◌⊎◌, ℕ, Bool, true, false, List, Option, Some, None}
 use Rattle.prt_addr.specs.declared.refusal.Refusal.{Refusal}
-use Rattle.prt_daemon.specs.Run.{RunIs}
-use Rattle.prt_daemon.specs.Session.{DeskState, settled}
+use Rattle.prt_session.specs.Run.{RunIs}
+use Rattle.prt_session.specs.Session.{DeskState, settled}
 use Rattle.prt_version.specs.State.{opening_state}
-use Rattle.prt_daemon.specs.declared.script.OnRefusal.{OnRefusal}
-use Rattle.prt_daemon.specs.declared.script.ScriptEnd.{ScriptEnd}
+use Rattle.prt_session.specs.declared.script.OnRefusal.{OnRefusal}
+use Rattle.prt_session.specs.declared.script.ScriptEnd.{ScriptEnd}
 
 -- 3 for a fault, else 1 for a refused line, else 0
 abbrev pub status_by : Option Refusal → Bool → ℕ

@@ -2,11 +2,9 @@ ghost use Rattle.std.specs.Prelude.{◌≡◌, ◌≢◌, ◌⊎◌, IfOk, OnErr
 ghost use Rattle.prt_daemon.specs.Faults.{StatusOf};
 ghost use Rattle.prt_daemon.specs.Program.{RunsBatch, RunsNothing, RunsSome, exit_status};
 
-use crate::list_desk::ListDesk;
-use crate::script::{OnRefusal, ScriptEnd, run_script};
 use clap::error::ErrorKind;
 use clap::{Arg, ArgAction, Command};
-use prt_command::Refusal;
+use prt_session::{ListDesk, OnRefusal, Refusal, ScriptEnd, run_script};
 use std::alloc::{AllocError, Global};
 use std::fs::{self, Files};
 use std::io::{BufReader, Read, Write};

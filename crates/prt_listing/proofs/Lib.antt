@@ -1,3 +1,4 @@
 pub mod Digits
 pub mod Spaced
 pub mod Kept
+pub mod ListingLines

@@ -2,6 +2,7 @@ pub mod Parts
 pub mod RouteText
 pub mod RuleText
 pub mod AnswerText
+pub mod QueryText
 pub mod Keeps
 pub mod Steps
 pub mod Example

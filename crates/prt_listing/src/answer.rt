@@ -24,7 +24,7 @@ fn rule_part(priority: u32) -> Part
 /// # Errors
 ///
 /// Memory is refused; a part of the text may stand behind what `out` had.
-fn push_answer(out: &mut Vec<u8>, answer: &Answer) -> Result<(), AllocError>
+pub(crate) fn push_answer(out: &mut Vec<u8>, answer: &Answer) -> Result<(), AllocError>
     ensures ok { OnOk result (out.new.items ≡ out.old.items ++ answer_text answer.now) }
     ensures err { OnErr result (Keeps out.old.items out.new.items) }
 {

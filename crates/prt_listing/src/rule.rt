@@ -70,7 +70,7 @@ fn rule_parts(rule: &Rule) -> [Option<Part>; 6]
 /// # Errors
 ///
 /// Memory is refused; a part of the text may stand behind what `out` had.
-fn push_rule(out: &mut Vec<u8>, rule: &Rule) -> Result<(), AllocError>
+pub(crate) fn push_rule(out: &mut Vec<u8>, rule: &Rule) -> Result<(), AllocError>
     ensures ok { OnOk result (out.new.items ≡ out.old.items ++ rule_text rule.now) }
     ensures err { OnErr result (Keeps out.old.items out.new.items) }
 {

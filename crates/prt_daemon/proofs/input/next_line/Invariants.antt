@@ -1,5 +1,0 @@
-use Rattle.prt_daemon.proofs.Lines.{LineSoFar}
-use Rattle.prt_daemon.proofs.input.next_line.Given as goal
-
-abbrev pub invariant-loop-length : goal.invariant-loop-length
-invariant-loop-length g l = LineSoFar (g.R.Read.remaining l.initial.reader) (g.R.Read.remaining l.reader) l.line.items l.length

@@ -1,7 +1,0 @@
-use Rattle.std.proofs.Common.{◌≡◌, ◌++◌, map, take}
-use Rattle.prt_daemon.specs.QueryText.{lines_text}
-use Rattle.prt_listing.specs.RuleText.{rule_text}
-use Rattle.prt_daemon.proofs.query.push_rules.Given as goal
-
-abbrev pub invariant-loop-rule : goal.invariant-loop-rule
-invariant-loop-rule l = l.out.items ≡ l.fn.out.items ++ lines_text (map rule_text (take l.rule-index l.rules))

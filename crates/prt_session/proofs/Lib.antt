@@ -1,0 +1,10 @@
+pub mod Ends
+pub mod Known
+pub mod Lines
+pub mod LongLine
+pub mod RefusalText
+pub mod Replies
+pub mod Served
+pub mod SessionSteps
+pub mod Turns
+pub mod Length

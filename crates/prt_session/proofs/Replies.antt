@@ -1,0 +1,46 @@
+-- Replies one after the other: their text, and what a summary says of them.
+use Rattle.std.proofs.Common.{◌≡◌, ℕ, Bool, List, [], ◌∷◌, ◌++◌, Option, refl, sym, ◌∙◌, ap, append_assoc}
+use Rattle.std.specs.Io.KnownBytes.{Appends}
+use Rattle.prt_addr.specs.declared.refusal.Refusal.{Refusal}
+use Rattle.prt_session.proofs.Known.{append_none, appends_nothing}
+use Rattle.prt_session.specs.Run.{refused_after, fault_after, refused_in, fault_in}
+use Rattle.prt_session.specs.Session.{Reply, reply_text, replies_text}
+
+pub text_append : (a b : List Reply) → replies_text (a ++ b) ≡ replies_text a ++ replies_text b
+unfolding replies_text
+text_append [] b = refl
+text_append (reply ∷ a) b = ap (λ text. reply_text reply ++ text) (text_append a b) ∙ sym (append_assoc (reply_text reply) (replies_text a) (replies_text b))
+
+pub refused_append : (a b : List Reply) (had : Bool) → refused_in had (a ++ b) ≡ refused_in (refused_in had a) b
+unfolding refused_in
+refused_append [] b had = refl
+refused_append (reply ∷ a) b had = refused_append a b (refused_after had reply)
+
+pub fault_append : (a b : List Reply) (last : Option Refusal) → fault_in last (a ++ b) ≡ fault_in (fault_in last a) b
+unfolding fault_in
+fault_append [] b last = refl
+fault_append (reply ∷ a) b last = fault_append a b (fault_after last reply)
+
+pub one_text : (reply : Reply) → replies_text (reply ∷ []) ≡ reply_text reply
+unfolding replies_text
+one_text reply = append_none (reply_text reply)
+
+pub one_refused : (had : Bool) (reply : Reply) → refused_in had (reply ∷ []) ≡ refused_after had reply
+unfolding refused_in
+one_refused had reply = refl
+
+pub one_fault : (last : Option Refusal) (reply : Reply) → fault_in last (reply ∷ []) ≡ fault_after last reply
+unfolding fault_in
+one_fault last reply = refl
+
+pub no_text : (writer : Option (List ℕ)) → Appends writer writer (replies_text [])
+unfolding replies_text
+no_text writer = appends_nothing writer
+
+pub no_refused : (had : Bool) → had ≡ refused_in had []
+unfolding refused_in
+no_refused had = refl
+
+pub no_fault : (last : Option Refusal) → last ≡ fault_in last []
+unfolding fault_in
+no_fault last = refl

@@ -1,0 +1,87 @@
+-- What the parts of a run do: one read, one line, one reply.
+use Rattle.std.specs.Prelude.{◌≡◌, ℕ, ◌+◌, ◌≤◌, ◌==◌, ◌≢◌, Bool, true, false, List, [], ◌∷◌, ◌++◌, length, Option, ⊤}
+use Rattle.std.specs.Io.KnownBytes.{Consumes, Appends, IsAtEnd}
+use Rattle.prt_addr.specs.declared.refusal.Refusal.TheVariants.{LineTooLong, ReadFault}
+use Rattle.prt_command.specs.Lines.{limits}
+use Rattle.prt_session.specs.Session.{DeskState, Mishap, Reply, silent, accepted, answered, refused, line_turn, stops_after}
+use Rattle.prt_session.specs.declared.input.ByteRead.{ByteRead}
+use Rattle.prt_session.specs.declared.input.ByteRead.TheVariants as bytes
+use Rattle.prt_session.specs.declared.input.LineRead.{LineRead}
+use Rattle.prt_session.specs.declared.input.Stop.{Stop}
+use Rattle.prt_session.specs.declared.input.Stop.TheVariants as stops
+use Rattle.prt_session.specs.declared.reply.Response.{Response}
+use Rattle.prt_session.specs.declared.reply.Response.TheVariants.{Silent, Accepted, Answered, Refused}
+use Rattle.prt_session.specs.declared.script.OnRefusal.{OnRefusal}
+
+-- one read of one byte, at a reader that has these bytes left before and after
+abbrev pub ByteIs : ByteRead → Option (List ℕ) → Option (List ℕ) → Type 0
+ByteIs (bytes.Byte b) reader0 reader = Consumes reader0 reader (b ∷ [])
+ByteIs bytes.End reader0 reader = Consumes reader0 reader [] × IsAtEnd reader
+ByteIs bytes.Fault reader0 reader = Consumes reader0 reader []
+
+abbrev pub HasNoNewline : List ℕ → Type 0
+HasNoNewline [] = ⊤
+HasNoNewline (b ∷ bs) = (b ≢ 10) × HasNoNewline bs
+
+-- the newline that was read behind a line
+abbrev pub newline_read : Stop → List ℕ
+newline_read stops.Newline = 10 ∷ []
+newline_read stops.End = []
+newline_read stops.Fault = []
+newline_read stops.Endless = []
+
+-- whether reading may stop there after so many bytes of a line
+abbrev pub StopIs : Stop → ℕ → Option (List ℕ) → Type 0
+StopIs stops.Newline count reader = count ≤ limits.unended
+StopIs stops.End count reader = (count ≤ limits.unended) × IsAtEnd reader
+StopIs stops.Fault count reader = count ≤ limits.unended
+StopIs stops.Endless count reader = count ≡ limits.unended + 1
+
+-- A line was read, to where reading stopped; it is kept if it is not too long.
+pub record LineIs (reader0 reader : Option (List ℕ)) (kept : List ℕ) (line : LineRead) : Type 0 where
+  pub content : List ℕ
+  pub bare : HasNoNewline content
+  pub read : Consumes reader0 reader (content ++ newline_read line.stop)
+  pub count : length content ≡ line.length
+  pub keeps : line.length ≤ 1024 → kept ≡ content
+  pub stopped : StopIs line.stop line.length reader
+
+abbrev pub reply_of_response : Response → Reply
+reply_of_response Silent = silent
+reply_of_response (Accepted number) = accepted number
+reply_of_response (Answered text) = answered text.items
+reply_of_response (Refused reason) = refused reason
+
+-- for some mishap, or none, this is the turn of a whole line
+abbrev pub LineGives : DeskState → List ℕ → Reply → DeskState → Type 0
+LineGives desk0 line reply desk =
+    (mishap : Option Mishap) × (reply ≡ (line_turn desk0 line mishap).reply) × (desk ≡ (line_turn desk0 line mishap).desk)
+
+-- the reply to a line that was read to there
+abbrev pub AnswerIs : DeskState → Stop → List ℕ → Reply → DeskState → Type 0
+AnswerIs desk0 stops.Newline line reply desk = LineGives desk0 line reply desk
+AnswerIs desk0 stops.End line reply desk = LineGives desk0 line reply desk
+AnswerIs desk0 stops.Fault line reply desk = (reply ≡ refused ReadFault) × (desk ≡ desk0)
+AnswerIs desk0 stops.Endless line reply desk = (reply ≡ refused LineTooLong) × (desk ≡ desk0)
+
+-- the text was written, or, where it was not, a part of it
+abbrev pub Written : Bool → Option (List ℕ) → Option (List ℕ) → List ℕ → Type 0
+Written true writer0 writer text = Appends writer0 writer text
+Written false writer0 writer text = (part : List ℕ) × (cut_off : List ℕ) × (text ≡ part ++ cut_off) × Appends writer0 writer part
+
+-- the input ended where a line would begin
+abbrev pub is_nothing_by : Stop → ℕ → Bool
+is_nothing_by stops.Newline count = false
+is_nothing_by stops.End count = count == 0
+is_nothing_by stops.Fault count = false
+is_nothing_by stops.Endless count = false
+
+abbrev pub is_nothing : LineRead → Bool
+is_nothing line = is_nothing_by line.stop line.length
+
+-- whether nothing is read after the reply to a line that was read to there
+abbrev pub ends_after : OnRefusal → Stop → Reply → Bool
+ends_after mode stops.Newline reply = stops_after mode reply
+ends_after mode stops.End reply = true
+ends_after mode stops.Fault reply = true
+ends_after mode stops.Endless reply = true
