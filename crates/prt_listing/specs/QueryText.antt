@@ -7,7 +7,7 @@ use Rattle.prt_listing.specs.RouteText.{route_text}
 use Rattle.prt_listing.specs.RuleText.{rule_text}
 use Rattle.prt_listing.specs.declared.route.TablePart.{TablePart}
 use Rattle.prt_listing.specs.declared.route.TablePart.TheVariants.{Shown, LeftOut}
-use Rattle.prt_version.specs.Listing.{listed}
+use Rattle.prt_version.specs.Listing.{listing}
 use Rattle.prt_version.specs.Select.{select}
 use Rattle.prt_version.specs.State.{State}
 
@@ -26,6 +26,6 @@ table_shown (Some table) = LeftOut
 table_shown None = Shown
 
 abbrev pub query_text : State → Query → List ℕ
-query_text state (RouteShow selector) = listing_text (map (λ route. route_text route (table_shown selector.table)) (listed selector state.routes))
+query_text state (RouteShow selector) = listing_text (map (λ route. route_text route (table_shown selector.table)) (listing selector state.routes))
 query_text state RuleShow = listing_text (map rule_text state.rules)
 query_text state (Get packet) = answer_text (record { number = state.count; verdict = select state packet }) ++ codes "\n"
