@@ -1,8 +1,8 @@
 -- What the program does: it runs one session, or it says why it does not.
 use Rattle.std.specs.Prelude.{◌≡◌, ◌⊎◌, ℕ, Bool, true, false, List, Option, Some, None}
 use Rattle.prt_addr.specs.declared.refusal.Refusal.{Refusal}
+use Rattle.prt_session.specs.Desk.{Befalls, DeskState, IsNoMemory, request_turn, settled}
 use Rattle.prt_session.specs.Run.{RunIs}
-use Rattle.prt_session.specs.Session.{DeskState, settled}
 use Rattle.prt_version.specs.State.{opening_state}
 use Rattle.prt_session.specs.declared.script.OnRefusal.{OnRefusal}
 use Rattle.prt_session.specs.declared.script.ScriptEnd.{ScriptEnd}
@@ -21,7 +21,7 @@ pub record RunsBatch (mode : OnRefusal) (reader0 writer0 writer : Option (List �
   pub desk : DeskState
   pub reader : Option (List ℕ)
   pub end : ScriptEnd
-  pub run : RunIs mode (settled opening_state) desk reader0 reader writer0 writer end
+  pub run : RunIs request_turn (Befalls IsNoMemory) mode (settled opening_state) desk reader0 reader writer0 writer end
   pub status_is : status ≡ exit_status end
 
 -- The same in some mode, over the input or over a file.

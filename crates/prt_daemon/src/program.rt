@@ -4,7 +4,7 @@ ghost use Rattle.prt_daemon.specs.Program.{RunsBatch, RunsNothing, RunsSome, exi
 
 use clap::error::ErrorKind;
 use clap::{Arg, ArgAction, Command};
-use prt_session::{ListDesk, OnRefusal, Refusal, ScriptEnd, run_script};
+use prt_session::{ListDesk, OnRefusal, Refusal, ScriptEnd};
 use std::alloc::{AllocError, Global};
 use std::fs::{self, Files};
 use std::io::{BufReader, Read, Write};
@@ -131,7 +131,7 @@ fn run_batch<R: Read + Drop, W: Write>(
         Err(_) => return Err(Fault::Opening(Refusal::NoMemory)),
     };
     let mut desk = ListDesk::opening(alloc)?;
-    let end = run_script(alloc, &mut desk, &mut reader, output, mode);
+    let end = desk.run_script(alloc, &mut reader, output, mode);
     Ok(exit_status(end))
 }
 

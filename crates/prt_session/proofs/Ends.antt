@@ -1,35 +1,37 @@
 -- A line that was read and answered: how the session ends with it, or goes on.
 use Rattle.std.proofs.Common.{◌≡◌, ℕ, ◌-◌, ◌<◌, ◌≤◌, Bool, true, false, List, [], ◌∷◌, ◌++◌, length, Option, None, inl, inr, refl, sym, ◌∙◌, ap, arith, append_assoc}
 use Rattle.std.proofs.lemmas.Bool.Decides.{nat_tests}
+use Rattle.std.proofs.lemmas.List.{map-append}
 use Rattle.std.specs.Io.KnownBytes.{Consumes, Appends, IsAtEnd}
-use Rattle.prt_addr.specs.declared.refusal.Refusal.TheVariants.{ReadFault, TooManyLines}
-use Rattle.prt_session.proofs.Known.{append_none, left_of, consumes_more, appends_more, gives_rest, gives_behind, gives_all}
-use Rattle.prt_session.proofs.Replies.{text_append, refused_append, fault_append, one_text, one_refused, one_fault}
-use Rattle.prt_session.proofs.Served.{Moment, after_replies, GoesOn, Served, Closes, ClosesAlone}
-use Rattle.prt_session.proofs.SessionSteps.{too_many, goes_on_after, stops_behind, ends_endless, ends_in_fault, ends_unended}
-use Rattle.prt_session.specs.Run.{refused_in, fault_in, refused_after, fault_after}
+use Rattle.prt_addr.specs.declared.refusal.Refusal.TheVariants.{LineTooLong, ReadFault, TooManyLines}
 use Rattle.prt_command.specs.Lines.{limits, lines_of}
-use Rattle.prt_session.specs.Session.{DeskState, Mishap, end_of_input, read_fault, Outcome, Reply, refused, session_lines, line_turn, reply_text, replies_text, stops_after}
+use Rattle.prt_session.proofs.Known.{append_none, left_of, consumes_more, appends_more, gives_rest, gives_behind, gives_all}
+use Rattle.prt_session.proofs.Paths.{mishaps_of, path_append}
+use Rattle.prt_session.proofs.Replies.{after_exchanges, text_append, refused_append, fault_append, one_text, one_refused, one_fault}
+use Rattle.prt_session.proofs.Served.{Moment, GoesOn, Served, Closes, ClosesAlone}
+use Rattle.prt_session.proofs.SessionSteps.{too_many, goes_on_after, stops_there, ends_endless, ends_in_fault, ends_unended}
+use Rattle.prt_session.specs.Reply.{reply_text, replies_text}
+use Rattle.prt_session.specs.Run.{refused_in, fault_in, refused_after, fault_after}
+use Rattle.prt_session.specs.Session.{TurnsOf, Mishaps, LineMay, Exchange, end_of_input, read_fault, Session, exchange_of, session_lines, line_turn, stops_after, replies, replies_of}
 use Rattle.prt_session.specs.Steps.{HasNoNewline, LineIs, AnswerIs, StopIs, newline_read, is_nothing, is_nothing_by, ends_after}
 use Rattle.prt_session.specs.declared.input.LineRead.{LineRead}
 use Rattle.prt_session.specs.declared.input.Stop.{Stop}
 use Rattle.prt_session.specs.declared.input.Stop.TheVariants as stops
+use Rattle.prt_session.specs.declared.reply.Reply.{Reply}
+use Rattle.prt_session.specs.declared.reply.Reply.TheVariants.{Refused}
 use Rattle.prt_session.specs.declared.script.OnRefusal.{OnRefusal}
 use Rattle.prt_session.specs.declared.script.ScriptEnd.{ScriptEnd}
 
-abbrev pub replies_of : Outcome → List Reply
-replies_of outcome = outcome.replies
-
 -- From now to later a line was read to there, and answered.
-pub record LineAnswered (now later : Moment) (stop : Stop) (content : List ℕ) (reply : Reply) : Type 0 where
+pub record LineAnswered {D M : Type 0} (turn : TurnsOf D M) (may : Mishaps D M) (now later : Moment D) (stop : Stop) (content : List ℕ) (reply : Reply) : Type 0 where
   pub bare : HasNoNewline content
   pub read : Consumes now.reader later.reader (content ++ newline_read stop)
   pub stopped : StopIs stop (length content) later.reader
   pub something : is_nothing_by stop (length content) ≡ false
-  pub answer : AnswerIs now.desk stop content reply later.desk
+  pub answer : AnswerIs turn may now.desk stop content reply later.desk
 
-pub answered_line : (now later : Moment) (kept : List ℕ) (line : LineRead) (reply : Reply) (is : LineIs now.reader later.reader kept line) → is_nothing line ≡ false → AnswerIs now.desk line.stop is.content reply later.desk → LineAnswered now later line.stop is.content reply
-answered_line now later kept line reply is something answer = record { bare = is.bare; read = is.read; stopped = rw is.count is.stopped; something = rw is.count something; answer = answer }
+pub answered_line : {D M : Type 0} (turn : TurnsOf D M) (may : Mishaps D M) (now later : Moment D) (kept : List ℕ) (line : LineRead) (reply : Reply) (is : LineIs now.reader later.reader kept line) → is_nothing line ≡ false → AnswerIs turn may now.desk line.stop is.content reply later.desk → LineAnswered turn may now later line.stop is.content reply
+answered_line turn may now later kept line reply is something answer = record { bare = is.bare; read = is.read; stopped = rw is.count is.stopped; something = rw is.count something; answer = answer }
 
 empty_list : (xs : List ℕ) → length xs ≡ 0 → xs ≡ []
 empty_list [] h = refl
@@ -51,33 +53,86 @@ nothing_read reader0 reader kept line is e = nothing_read_by reader0 reader is.c
 fault_is_no_end : (behind : List ℕ) → read_fault ≡ end_of_input → behind ≡ []
 fault_is_no_end behind e = absurd (cc)
 
-module _ (mode : OnRefusal) (left : ℕ) (some_left : 0 < left) (now later : Moment) (reply : Reply) where
-  whole_alone : (content : List ℕ) (mishap : Option Mishap) (stops_it : Bool) → LineAnswered now later stops.Newline content reply → reply ≡ (line_turn now.desk content mishap).reply → later.desk ≡ (line_turn now.desk content mishap).desk → stops_after mode (line_turn now.desk content mishap).reply ≡ stops_it → ClosesAlone mode left now later reply
+module _ {D M : Type 0} (turn : TurnsOf D M) (may : Mishaps D M) (mode : OnRefusal) (left : ℕ) (some_left : 0 < left) (now later : Moment D) (reply : Reply) where
+  whole_alone : (content : List ℕ) (mishap : Option M) (stops_it : Bool) → LineAnswered turn may now later stops.Newline content reply → LineMay may now.desk content mishap → reply ≡ (line_turn turn now.desk content mishap).reply → later.desk ≡ (line_turn turn now.desk content mishap).desk → stops_after mode (line_turn turn now.desk content mishap).reply ≡ stops_it → ClosesAlone turn may mode left now later reply
   unfolding session_lines lines_of
-  whole_alone content mishap true line e k st = record { more = content ++ (10 ∷ []); ending = end_of_input; mishaps = mishap ∷ []; law = rw (e, k) (stops_behind limits mode end_of_input left now.desk some_left content [] mishap [] line.bare line.stopped st); is_due = inr ([], rw e (ap replies_of (stops_behind limits mode read_fault left now.desk some_left content [] mishap [] line.bare line.stopped st))); read = line.read }
-  whole_alone content mishap false line e k st = record { more = content ++ (10 ∷ []); ending = end_of_input; mishaps = mishap ∷ []; law = rw (e, k) (goes_on_after limits mode end_of_input left now.desk some_left content [] mishap [] line.bare line.stopped st); is_due = inr ((session_lines limits mode read_fault (left - 1) (lines_of []) [] (line_turn now.desk content mishap).desk).replies, rw e (ap replies_of (goes_on_after limits mode read_fault left now.desk some_left content [] mishap [] line.bare line.stopped st))); read = line.read }
+  whole_alone content mishap true line befell e k st = record {
+    more = content ++ (10 ∷ []);
+    ending = end_of_input;
+    exchanges = exchange_of turn now.desk content mishap ∷ [];
+    last = [];
+    law = rw k (stops_there turn limits mode end_of_input left now.desk some_left content [] mishap [] line.bare line.stopped st);
+    are = ap (λ r. r ∷ []) (sym e);
+    path = (befell, refl, k);
+    is_due = inr ([], rw e (ap (λ (s : Session D M). replies s) (stops_there turn limits mode read_fault left now.desk some_left content [] mishap [] line.bare line.stopped st)));
+    read = line.read;
+  }
+  whole_alone content mishap false line befell e k st = record {
+    more = content ++ (10 ∷ []);
+    ending = end_of_input;
+    exchanges = exchange_of turn now.desk content mishap ∷ [];
+    last = [];
+    law = rw k (goes_on_after turn limits mode end_of_input left now.desk some_left content [] mishap [] line.bare line.stopped st);
+    are = ap (λ r. r ∷ []) (sym e);
+    path = (befell, refl, k);
+    is_due = inr (Refused ReadFault ∷ [], rw e (ap (λ (s : Session D M). replies s) (goes_on_after turn limits mode read_fault left now.desk some_left content [] mishap [] line.bare line.stopped st)));
+    read = line.read;
+  }
 
-  -- the last line, with nothing behind it
-  pub closes_alone : (stop : Stop) (content : List ℕ) → LineAnswered now later stop content reply → ClosesAlone mode left now later reply
+  -- the last line, with nothing after it
+  pub closes_alone : (stop : Stop) (content : List ℕ) → LineAnswered turn may now later stop content reply → ClosesAlone turn may mode left now later reply
   unfolding session_lines lines_of
-  closes_alone stops.Newline content line = whole_alone content line.answer.0 (stops_after mode (line_turn now.desk content line.answer.0).reply) line line.answer.1 line.answer.2 refl
+  closes_alone stops.Newline content line = whole_alone content line.answer.0 (stops_after mode (line_turn turn now.desk content line.answer.0).reply) line line.answer.1 line.answer.2 line.answer.3 refl
   closes_alone stops.End [] line = let h = line.something in absurd (cc)
-  closes_alone stops.End (b ∷ bs) line = record { more = (b ∷ bs) ++ []; ending = end_of_input; mishaps = line.answer.0 ∷ []; law = rw (append_none bs, line.answer.1, line.answer.2) (ends_unended limits mode end_of_input left now.desk some_left b bs line.answer.0 [] line.bare line.stopped.0); is_due = inl line.stopped.1; read = line.read }
-  closes_alone stops.Fault [] line = record { more = []; ending = read_fault; mishaps = []; law = rw (line.answer.0, line.answer.1); is_due = inr ([], rw line.answer.0); read = line.read }
-  closes_alone stops.Fault (b ∷ bs) line = record { more = (b ∷ bs) ++ []; ending = read_fault; mishaps = []; law = rw (append_none bs, line.answer.0, line.answer.1) (ends_in_fault limits mode read_fault left now.desk some_left b bs [] line.bare line.stopped); is_due = inr ([], rw (append_none bs, line.answer.0) (ap replies_of (ends_in_fault limits mode read_fault left now.desk some_left b bs [] line.bare line.stopped))); read = line.read }
+  closes_alone stops.End (b ∷ bs) line = record {
+    more = (b ∷ bs) ++ [];
+    ending = end_of_input;
+    exchanges = exchange_of turn now.desk (b ∷ bs) line.answer.0 ∷ [];
+    last = [];
+    law = rw (append_none bs, line.answer.3) (ends_unended turn limits mode end_of_input left now.desk some_left b bs line.answer.0 [] line.bare line.stopped.0);
+    are = ap (λ r. r ∷ []) (sym line.answer.2);
+    path = (line.answer.1, refl, line.answer.3);
+    is_due = inl line.stopped.1;
+    read = line.read;
+  }
+  closes_alone stops.Fault [] line = record { more = []; ending = read_fault; exchanges = []; last = Refused ReadFault ∷ []; law = rw line.answer.1; are = ap (λ r. r ∷ []) (sym line.answer.0); path = line.answer.1; is_due = inr ([], rw line.answer.0); read = line.read }
+  closes_alone stops.Fault (b ∷ bs) line = record {
+    more = (b ∷ bs) ++ [];
+    ending = read_fault;
+    exchanges = [];
+    last = Refused ReadFault ∷ [];
+    law = rw (append_none bs, line.answer.1) (ends_in_fault turn limits mode read_fault left now.desk some_left b bs [] line.bare line.stopped);
+    are = ap (λ r. r ∷ []) (sym line.answer.0);
+    path = line.answer.1;
+    is_due = inr ([], rw (append_none bs, line.answer.0) (ap (λ (s : Session D M). replies s) (ends_in_fault turn limits mode read_fault left now.desk some_left b bs [] line.bare line.stopped)));
+    read = line.read;
+  }
   closes_alone stops.Endless [] line = let h = line.stopped in absurd (omega arith)
-  closes_alone stops.Endless (b ∷ bs) line = record { more = (b ∷ bs) ++ []; ending = end_of_input; mishaps = []; law = rw (line.answer.0, line.answer.1) (ends_endless limits mode end_of_input left now.desk some_left b bs [] [] line.bare line.stopped); is_due = inr ([], rw line.answer.0 (ap replies_of (ends_endless limits mode read_fault left now.desk some_left b bs [] [] line.bare line.stopped))); read = line.read }
+  closes_alone stops.Endless (b ∷ bs) line = record {
+    more = (b ∷ bs) ++ [];
+    ending = end_of_input;
+    exchanges = [];
+    last = Refused LineTooLong ∷ [];
+    law = rw line.answer.1 (ends_endless turn limits mode end_of_input left now.desk some_left b bs [] [] line.bare line.stopped);
+    are = ap (λ r. r ∷ []) (sym line.answer.0);
+    path = line.answer.1;
+    is_due = inr ([], rw line.answer.0 (ap (λ (s : Session D M). replies s) (ends_endless turn limits mode read_fault left now.desk some_left b bs [] [] line.bare line.stopped)));
+    read = line.read;
+  }
 
-  -- the last line, and what stands behind it
-  pub closes : (stop : Stop) (content : List ℕ) → LineAnswered now later stop content reply → ends_after mode stop reply ≡ true → Closes mode left now later (reply ∷ [])
+  -- the last line, and what stands after it
+  pub closes : (stop : Stop) (content : List ℕ) → LineAnswered turn may now later stop content reply → ends_after mode stop reply ≡ true → Closes turn may mode left now later (reply ∷ [])
   unfolding session_lines lines_of
   closes stops.Newline content line over = record {
     more = (content ++ (10 ∷ [])) ++ left_of later.reader;
     ending = end_of_input;
-    mishaps = line.answer.0 ∷ [];
+    exchanges = exchange_of turn now.desk content line.answer.0 ∷ [];
+    last = [];
     unread = left_of later.reader;
     behind = [];
-    law = rw (append_assoc content (10 ∷ []) (left_of later.reader), line.answer.1, line.answer.2) (stops_behind limits mode end_of_input left now.desk some_left content (left_of later.reader) line.answer.0 [] line.bare line.stopped (ap (stops_after mode) (sym line.answer.1) ∙ over));
+    law = rw (append_assoc content (10 ∷ []) (left_of later.reader), line.answer.3) (stops_there turn limits mode end_of_input left now.desk some_left content (left_of later.reader) line.answer.0 [] line.bare line.stopped (ap (stops_after mode) (sym line.answer.2) ∙ over));
+    are = ap (λ r. r ∷ []) (sym line.answer.2);
+    path = (line.answer.1, refl, line.answer.3);
     gives = gives_rest now.reader later.reader (content ++ (10 ∷ [])) line.read;
     whole = λ _. refl;
   }
@@ -85,21 +140,27 @@ module _ (mode : OnRefusal) (left : ℕ) (some_left : 0 < left) (now later : Mom
   closes stops.End (b ∷ bs) line over = record {
     more = (b ∷ bs) ++ [];
     ending = end_of_input;
-    mishaps = line.answer.0 ∷ [];
+    exchanges = exchange_of turn now.desk (b ∷ bs) line.answer.0 ∷ [];
+    last = [];
     unread = [];
     behind = [];
-    law = rw (append_none bs, line.answer.1, line.answer.2) (ends_unended limits mode end_of_input left now.desk some_left b bs line.answer.0 [] line.bare line.stopped.0);
+    law = rw (append_none bs, line.answer.3) (ends_unended turn limits mode end_of_input left now.desk some_left b bs line.answer.0 [] line.bare line.stopped.0);
+    are = ap (λ r. r ∷ []) (sym line.answer.2);
+    path = (line.answer.1, refl, line.answer.3);
     gives = gives_all now.reader later.reader ((b ∷ bs) ++ []) line.read line.stopped.1;
     whole = λ _. refl;
   }
-  closes stops.Fault [] line over = record { more = []; ending = read_fault; mishaps = []; unread = []; behind = left_of later.reader; law = rw (line.answer.0, line.answer.1); gives = gives_behind now.reader later.reader [] line.read; whole = fault_is_no_end (left_of later.reader) }
+  closes stops.Fault [] line over = record { more = []; ending = read_fault; exchanges = []; last = Refused ReadFault ∷ []; unread = []; behind = left_of later.reader; law = rw line.answer.1; are = ap (λ r. r ∷ []) (sym line.answer.0); path = line.answer.1; gives = gives_behind now.reader later.reader [] line.read; whole = fault_is_no_end (left_of later.reader) }
   closes stops.Fault (b ∷ bs) line over = record {
     more = (b ∷ bs) ++ [];
     ending = read_fault;
-    mishaps = [];
+    exchanges = [];
+    last = Refused ReadFault ∷ [];
     unread = [];
     behind = left_of later.reader;
-    law = rw (append_none bs, line.answer.0, line.answer.1) (ends_in_fault limits mode read_fault left now.desk some_left b bs [] line.bare line.stopped);
+    law = rw (append_none bs, line.answer.1) (ends_in_fault turn limits mode read_fault left now.desk some_left b bs [] line.bare line.stopped);
+    are = ap (λ r. r ∷ []) (sym line.answer.0);
+    path = line.answer.1;
     gives = gives_behind now.reader later.reader ((b ∷ bs) ++ []) line.read;
     whole = fault_is_no_end (left_of later.reader);
   }
@@ -107,59 +168,72 @@ module _ (mode : OnRefusal) (left : ℕ) (some_left : 0 < left) (now later : Mom
   closes stops.Endless (b ∷ bs) line over = record {
     more = ((b ∷ bs) ++ []) ++ left_of later.reader;
     ending = end_of_input;
-    mishaps = [];
+    exchanges = [];
+    last = Refused LineTooLong ∷ [];
     unread = left_of later.reader;
     behind = [];
-    law = rw (append_none bs, line.answer.0, line.answer.1) (ends_endless limits mode end_of_input left now.desk some_left b bs (left_of later.reader) [] line.bare line.stopped);
+    law = rw (append_none bs, line.answer.1) (ends_endless turn limits mode end_of_input left now.desk some_left b bs (left_of later.reader) [] line.bare line.stopped);
+    are = ap (λ r. r ∷ []) (sym line.answer.0);
+    path = line.answer.1;
     gives = gives_rest now.reader later.reader ((b ∷ bs) ++ []) line.read;
     whole = λ _. refl;
   }
 
--- ---- behind the last line
+-- ---- after the last line
 
--- one more byte is read where no line is left
-pub too_many_alone : (mode : OnRefusal) (now later : Moment) (b : ℕ) → now.desk ≡ later.desk → Consumes now.reader later.reader (b ∷ []) → ClosesAlone mode 0 now later (refused TooManyLines)
-too_many_alone mode now later b same read = record { more = b ∷ []; ending = end_of_input; mishaps = []; law = rw (← same) (too_many limits mode end_of_input now.desk [] b [] (lines_of (b ∷ [])) refl); is_due = inr ([], ap replies_of (too_many limits mode read_fault now.desk [] b [] (lines_of (b ∷ [])) refl)); read = read }
+module _ {D M : Type 0} (turn : TurnsOf D M) (may : Mishaps D M) (mode : OnRefusal) (now later : Moment D) (same : later.desk ≡ now.desk) where
+  -- one more byte is read where no line is left
+  pub too_many_alone : (b : ℕ) → Consumes now.reader later.reader (b ∷ []) → ClosesAlone turn may mode 0 now later (Refused TooManyLines)
+  too_many_alone b read = record { more = b ∷ []; ending = end_of_input; exchanges = []; last = Refused TooManyLines ∷ []; law = rw same (too_many turn limits mode end_of_input now.desk [] b [] (lines_of (b ∷ [])) refl); are = refl; path = same; is_due = inr ([], ap (λ (s : Session D M). replies s) (too_many turn limits mode read_fault now.desk [] b [] (lines_of (b ∷ [])) refl)); read = read }
 
-pub too_many_closes : (mode : OnRefusal) (now later : Moment) (b : ℕ) → now.desk ≡ later.desk → Consumes now.reader later.reader (b ∷ []) → Closes mode 0 now later (refused TooManyLines ∷ [])
-too_many_closes mode now later b same read = record { more = (b ∷ []) ++ left_of later.reader; ending = end_of_input; mishaps = []; unread = left_of later.reader; behind = []; law = rw (← same) (too_many limits mode end_of_input now.desk [] b (left_of later.reader) (lines_of (b ∷ left_of later.reader)) refl); gives = gives_rest now.reader later.reader (b ∷ []) read; whole = λ _. refl }
+  pub too_many_closes : (b : ℕ) → Consumes now.reader later.reader (b ∷ []) → Closes turn may mode 0 now later (Refused TooManyLines ∷ [])
+  too_many_closes b read = record { more = (b ∷ []) ++ left_of later.reader; ending = end_of_input; exchanges = []; last = Refused TooManyLines ∷ []; unread = left_of later.reader; behind = []; law = rw same (too_many turn limits mode end_of_input now.desk [] b (left_of later.reader) (lines_of (b ∷ left_of later.reader)) refl); are = refl; path = same; gives = gives_rest now.reader later.reader (b ∷ []) read; whole = λ _. refl }
 
--- the reader fails where a line would begin
-pub fault_alone : (mode : OnRefusal) (left : ℕ) (now later : Moment) → now.desk ≡ later.desk → Consumes now.reader later.reader [] → ClosesAlone mode left now later (refused ReadFault)
-unfolding session_lines lines_of
-fault_alone mode left now later same read = record { more = []; ending = read_fault; mishaps = []; law = rw same; is_due = inr ([], refl); read = read }
+  -- the reader fails where a line would begin
+  pub fault_alone : (left : ℕ) → Consumes now.reader later.reader [] → ClosesAlone turn may mode left now later (Refused ReadFault)
+  unfolding session_lines lines_of
+  fault_alone left read = record { more = []; ending = read_fault; exchanges = []; last = Refused ReadFault ∷ []; law = rw same; are = refl; path = same; is_due = inr ([], refl); read = read }
 
-pub fault_closes : (mode : OnRefusal) (left : ℕ) (now later : Moment) → now.desk ≡ later.desk → Consumes now.reader later.reader [] → Closes mode left now later (refused ReadFault ∷ [])
-unfolding session_lines lines_of
-fault_closes mode left now later same read = record { more = []; ending = read_fault; mishaps = []; unread = []; behind = left_of later.reader; law = rw same; gives = gives_behind now.reader later.reader [] read; whole = fault_is_no_end (left_of later.reader) }
+  pub fault_closes : (left : ℕ) → Consumes now.reader later.reader [] → Closes turn may mode left now later (Refused ReadFault ∷ [])
+  unfolding session_lines lines_of
+  fault_closes left read = record { more = []; ending = read_fault; exchanges = []; last = Refused ReadFault ∷ []; unread = []; behind = left_of later.reader; law = rw same; are = refl; path = same; gives = gives_behind now.reader later.reader [] read; whole = fault_is_no_end (left_of later.reader) }
 
 -- ---- a line after which the session goes on
 
-goes_on_more : (mode : OnRefusal) (left : ℕ) (desk0 desk desk' : DeskState) (bytes : List ℕ) (mishaps : List (Option Mishap)) (replies : List Reply) (reply : Reply) (content : List ℕ) (mishap : Option Mishap) → 0 < left → GoesOn mode desk0 desk bytes mishaps replies left → HasNoNewline content → length content ≤ limits.unended → reply ≡ (line_turn desk content mishap).reply → desk' ≡ (line_turn desk content mishap).desk → stops_after mode reply ≡ false →
-    GoesOn mode desk0 desk' (bytes ++ (content ++ (10 ∷ []))) (mishaps ++ (mishap ∷ [])) (replies ++ (reply ∷ [])) (left - 1)
-goes_on_more mode left desk0 desk desk' bytes mishaps replies reply content mishap some_left g bare short e k st = record {
+goes_on_more : {D M : Type 0} (turn : TurnsOf D M) (mode : OnRefusal) (left : ℕ) (desk0 desk desk' : D) (bytes : List ℕ) (exchanges : List (Exchange M)) (content : List ℕ) (mishap : Option M) → 0 < left → GoesOn turn mode desk0 desk bytes exchanges left → HasNoNewline content → length content ≤ limits.unended → desk' ≡ (line_turn turn desk content mishap).desk → stops_after mode (line_turn turn desk content mishap).reply ≡ false →
+    GoesOn turn mode desk0 desk' (bytes ++ (content ++ (10 ∷ []))) (exchanges ++ (exchange_of turn desk content mishap ∷ [])) (left - 1)
+goes_on_more {D} {M} turn mode left desk0 desk desk' bytes exchanges content mishap some_left g bare short k st = record {
   law = λ ending rest later.
+      let x : Exchange M = exchange_of turn desk content mishap in
       let p : (bytes ++ (content ++ (10 ∷ []))) ++ rest ≡ bytes ++ (content ++ (10 ∷ rest)) = append_assoc bytes (content ++ (10 ∷ [])) rest ∙ ap (λ xs. bytes ++ xs) (append_assoc content (10 ∷ []) rest) in
-      let q : (mishaps ++ (mishap ∷ [])) ++ later ≡ mishaps ++ (mishap ∷ later) = append_assoc mishaps (mishap ∷ []) later in
-      let o : Outcome = session_lines limits mode ending (left - 1) (lines_of rest) later desk' in
-      let one : session_lines limits mode ending left (lines_of (content ++ (10 ∷ rest))) (mishap ∷ later) desk ≡ after_replies (reply ∷ []) o = rw (e, k) (goes_on_after limits mode ending left desk some_left content rest mishap later bare short (ap (stops_after mode) (sym e) ∙ st)) in
-      let joined : after_replies replies (after_replies (reply ∷ []) o) ≡ after_replies (replies ++ (reply ∷ [])) o = ap (λ (xs : List Reply). record o { replies = xs }) (sym (append_assoc replies (reply ∷ []) o.replies)) in
-      rw (p, q) (g.law ending (content ++ (10 ∷ rest)) (mishap ∷ later) ∙ ap (after_replies replies) one ∙ joined);
+      let q : mishaps_of (exchanges ++ (x ∷ [])) ++ later ≡ mishaps_of exchanges ++ (mishap ∷ later) = ap (λ ms. ms ++ later) (map-append (λ (y : Exchange M). y.mishap) exchanges (x ∷ [])) ∙ append_assoc (mishaps_of exchanges) (mishap ∷ []) later in
+      let o : Session D M = session_lines turn limits mode ending (left - 1) (lines_of rest) later desk' in
+      let one : session_lines turn limits mode ending left (lines_of (content ++ (10 ∷ rest))) (mishap ∷ later) desk ≡ after_exchanges (x ∷ []) o = rw k (goes_on_after turn limits mode ending left desk some_left content rest mishap later bare short st) in
+      let joined : after_exchanges exchanges (after_exchanges (x ∷ []) o) ≡ after_exchanges (exchanges ++ (x ∷ [])) o = ap (λ (xs : List (Exchange M)). record o { exchanges = xs }) (sym (append_assoc exchanges (x ∷ []) o.exchanges)) in
+      rw (p, q) (g.law ending (content ++ (10 ∷ rest)) (mishap ∷ later) ∙ ap (after_exchanges exchanges) one ∙ joined);
 }
 
+-- one more reply
+replies_more : {M : Type 0} (exchanges : List (Exchange M)) (x : Exchange M) (reply : Reply) → reply ≡ x.reply → replies_of (exchanges ++ (x ∷ [])) ≡ replies_of exchanges ++ (reply ∷ [])
+replies_more {M} exchanges x reply e = map-append (λ (y : Exchange M). y.reply) exchanges (x ∷ []) ∙ ap (λ r. replies_of exchanges ++ (r ∷ [])) (sym e)
+
 -- one more line is served
-pub line_served : (mode : OnRefusal) (left : ℕ) (start now later : Moment) (end end' : ScriptEnd) (reply : Reply) (stop : Stop) (content : List ℕ) → 0 < left → Served mode start now left end → LineAnswered now later stop content reply → ends_after mode stop reply ≡ false → Appends now.writer later.writer (reply_text reply) →
-    end'.refused ≡ refused_after end.refused reply → end'.fault ≡ fault_after end.fault reply → Served mode start later (left - 1) end'
-line_served mode left start now later end end' reply stops.End content some_left s line over wrote refused_is fault_is = absurd (cc)
-line_served mode left start now later end end' reply stops.Fault content some_left s line over wrote refused_is fault_is = absurd (cc)
-line_served mode left start now later end end' reply stops.Endless content some_left s line over wrote refused_is fault_is = absurd (cc)
-line_served mode left start now later end end' reply stops.Newline content some_left s line over wrote refused_is fault_is = record {
-  bytes = s.bytes ++ (content ++ (10 ∷ []));
-  mishaps = s.mishaps ++ (line.answer.0 ∷ []);
-  replies = s.replies ++ (reply ∷ []);
-  read = consumes_more start.reader now.reader later.reader s.bytes (content ++ (10 ∷ [])) s.read line.read;
-  wrote = rw (text_append s.replies (reply ∷ []), one_text reply) (appends_more start.writer now.writer later.writer (replies_text s.replies) (reply_text reply) s.wrote wrote);
-  goes_on = goes_on_more mode left start.desk now.desk later.desk s.bytes s.mishaps s.replies reply content line.answer.0 some_left s.goes_on line.bare line.stopped line.answer.1 line.answer.2 over;
-  refused_is = refused_is ∙ ap (λ had. refused_after had reply) s.refused_is ∙ sym (one_refused (refused_in false s.replies) reply) ∙ sym (refused_append s.replies (reply ∷ []) false);
-  fault_is = fault_is ∙ ap (λ last. fault_after last reply) s.fault_is ∙ sym (one_fault (fault_in None s.replies) reply) ∙ sym (fault_append s.replies (reply ∷ []) None);
-}
+pub line_served : {D M : Type 0} (turn : TurnsOf D M) (may : Mishaps D M) (mode : OnRefusal) (left : ℕ) (start now later : Moment D) (end end' : ScriptEnd) (reply : Reply) (stop : Stop) (content : List ℕ) → 0 < left → Served turn may mode start now left end → LineAnswered turn may now later stop content reply → ends_after mode stop reply ≡ false → Appends now.writer later.writer (reply_text reply) →
+    end'.refused ≡ refused_after end.refused reply → end'.fault ≡ fault_after end.fault reply → Served turn may mode start later (left - 1) end'
+line_served turn may mode left start now later end end' reply stops.End content some_left s line over wrote refused_is fault_is = absurd (cc)
+line_served turn may mode left start now later end end' reply stops.Fault content some_left s line over wrote refused_is fault_is = absurd (cc)
+line_served turn may mode left start now later end end' reply stops.Endless content some_left s line over wrote refused_is fault_is = absurd (cc)
+line_served {D} {M} turn may mode left start now later end end' reply stops.Newline content some_left s line over wrote refused_is fault_is =
+    let x : Exchange M = exchange_of turn now.desk content line.answer.0 in
+    let told = replies_of s.exchanges in
+    let all = replies_more s.exchanges x reply line.answer.2 in
+    record {
+      bytes = s.bytes ++ (content ++ (10 ∷ []));
+      exchanges = s.exchanges ++ (x ∷ []);
+      read = consumes_more start.reader now.reader later.reader s.bytes (content ++ (10 ∷ [])) s.read line.read;
+      wrote = rw all (rw (text_append told (reply ∷ []), one_text reply) (appends_more start.writer now.writer later.writer (replies_text told) (reply_text reply) s.wrote wrote));
+      goes_on = goes_on_more turn mode left start.desk now.desk later.desk s.bytes s.exchanges content line.answer.0 some_left s.goes_on line.bare line.stopped line.answer.3 (ap (stops_after mode) (sym line.answer.2) ∙ over);
+      path = path_append turn may start.desk now.desk later.desk s.exchanges (x ∷ []) s.path (line.answer.1, refl, line.answer.3);
+      refused_is = rw all (refused_is ∙ ap (λ had. refused_after had reply) s.refused_is ∙ sym (one_refused (refused_in false told) reply) ∙ sym (refused_append told (reply ∷ []) false));
+      fault_is = rw all (fault_is ∙ ap (λ last. fault_after last reply) s.fault_is ∙ sym (one_fault (fault_in None told) reply) ∙ sym (fault_append told (reply ∷ []) None));
+    }

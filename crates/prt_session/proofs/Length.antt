@@ -5,7 +5,7 @@ use Rattle.std.proofs.lemmas.Bool.Decides.{nat_tests}
 use Rattle.std.specs.Prelude.{⊤, if◌then◌else◌}
 use Rattle.prt_session.proofs.Lines.{bytes_of_lines}
 use Rattle.prt_command.specs.Lines.{Limits, Line, limits, lines_of, onto_line, bytes_of, line_bytes}
-use Rattle.prt_session.specs.Session.{DeskState, Mishap, Input, Ending, session, session_lines, is_fault, first_mishap, later_mishaps, line_turn, stops_after}
+use Rattle.prt_session.specs.Session.{TurnsOf, Input, Ending, session, session_lines, is_fault, first_mishap, later_mishaps, line_turn, stops_after}
 use Rattle.prt_session.specs.declared.script.OnRefusal.{OnRefusal}
 
 -- each line but the last has its newline
@@ -70,30 +70,30 @@ one_less n = omega arith
 one_more_line : (n m : ℕ) → suc n * m ≡ m + n * m
 one_more_line n m = omega arith
 
-module _ (limit : Limits) (mode : OnRefusal) (ending : Ending) where
-  pub taken : (left : ℕ) (lines : List Line) (mishaps : List (Option Mishap)) (desk : DeskState) → AreWhole lines → length (bytes_of lines) ≤ length (session_lines limit mode ending left lines mishaps desk).unread + (left * (limit.unended + 1) + 1)
+module _ {D M : Type 0} (turn : TurnsOf D M) (limit : Limits) (mode : OnRefusal) (ending : Ending) where
+  pub taken : (left : ℕ) (lines : List Line) (mishaps : List (Option M)) (desk : D) → AreWhole lines → length (bytes_of lines) ≤ length (session_lines turn limit mode ending left lines mishaps desk).unread + (left * (limit.unended + 1) + 1)
   unfolding session_lines
   taken left [] mishaps desk whole = omega arith
   taken zero (line ∷ lines) mishaps desk whole = let n = length-drop 1 (bytes_of (line ∷ lines)) in omega (arith, n)
   taken (suc n) (line ∷ lines) mishaps desk whole =
       let m = one_more_line n (limit.unended + 1) in
       let b = bytes_short line lines in
-      let turn = line_turn desk line.content (first_mishap mishaps) in
+      let after = line_turn turn desk line.content (first_mishap mishaps) in
       elim (sides (nat_lt limit.unended (length line.content))) [
         | inl long ↦ let d = length-drop (limit.unended + 1) (bytes_of (line ∷ lines)) in rw (not_zero n, long) (omega (arith, m, d))
         | inr short ↦ let s : length line.content ≤ limit.unended = ltb-false _ _ short in
             elim (sides (not line.ended && is_fault ending)) [
               | inl cut ↦ let u = unended_alone line lines whole (not_true line.ended (both_of (not line.ended) (is_fault ending) cut)) in rw (not_zero n, short, cut) (omega (arith, m, b, s, u))
-              | inr on ↦ elim (sides (stops_after mode turn.reply)) [
+              | inr on ↦ elim (sides (stops_after mode after.reply)) [
                 | inl stop ↦ rw (not_zero n, short, on, stop) (omega (arith, m, b, s))
-                | inr go ↦ let rec = taken n lines (later_mishaps mishaps) turn.desk (tail_whole line lines whole) in rw (not_zero n, short, on, go, one_less n) (omega (arith, m, b, s, rec))
+                | inr go ↦ let rec = taken n lines (later_mishaps mishaps) after.desk (tail_whole line lines whole) in rw (not_zero n, short, on, go, one_less n) (omega (arith, m, b, s, rec))
               ]
             ]
       ]
 
-pub session_taken : (desk : DeskState) (input : Input) (mode : OnRefusal) (mishaps : List (Option Mishap)) → length input.bytes ≤ length (session desk input mode mishaps).unread + (1000000 * 65537 + 1)
+pub session_taken : {D M : Type 0} (turn : TurnsOf D M) (desk : D) (input : Input) (mode : OnRefusal) (mishaps : List (Option M)) → length input.bytes ≤ length (session turn desk input mode mishaps).unread + (1000000 * 65537 + 1)
 unfolding session
-session_taken desk input mode mishaps =
-    let n = taken limits mode input.ending 1000000 (lines_of input.bytes) mishaps desk (lines_whole input.bytes) in
+session_taken turn desk input mode mishaps =
+    let n = taken turn limits mode input.ending 1000000 (lines_of input.bytes) mishaps desk (lines_whole input.bytes) in
     let e = ap length (bytes_of_lines input.bytes) in
     omega (arith, n, e)

@@ -1,10 +1,11 @@
 pub mod Ends
 pub mod Known
+pub mod Length
 pub mod Lines
 pub mod LongLine
+pub mod Paths
 pub mod RefusalText
 pub mod Replies
 pub mod Served
 pub mod SessionSteps
 pub mod Turns
-pub mod Length

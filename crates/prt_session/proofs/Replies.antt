@@ -1,10 +1,19 @@
 -- Replies one after the other: their text, and what a summary says of them.
 use Rattle.std.proofs.Common.{◌≡◌, ℕ, Bool, List, [], ◌∷◌, ◌++◌, Option, refl, sym, ◌∙◌, ap, append_assoc}
+use Rattle.std.proofs.lemmas.List.{map-append}
 use Rattle.std.specs.Io.KnownBytes.{Appends}
 use Rattle.prt_addr.specs.declared.refusal.Refusal.{Refusal}
 use Rattle.prt_session.proofs.Known.{append_none, appends_nothing}
+use Rattle.prt_session.specs.Reply.{reply_text, replies_text}
 use Rattle.prt_session.specs.Run.{refused_after, fault_after, refused_in, fault_in}
-use Rattle.prt_session.specs.Session.{Reply, reply_text, replies_text}
+use Rattle.prt_session.specs.Session.{Exchange, Session, replies, replies_of}
+use Rattle.prt_session.specs.declared.reply.Reply.{Reply}
+
+abbrev pub after_exchanges : {D M : Type 0} → List (Exchange M) → Session D M → Session D M
+after_exchanges {D} {M} xs session = record { exchanges = xs ++ session.exchanges; last = session.last; desk = session.desk; unread = session.unread }
+
+pub replies_after : {D M : Type 0} (xs : List (Exchange M)) (session : Session D M) → replies (after_exchanges xs session) ≡ replies_of xs ++ replies session
+replies_after {D} {M} xs session = ap (λ rs. rs ++ session.last) (map-append (λ (x : Exchange M). x.reply) xs session.exchanges) ∙ append_assoc (replies_of xs) (replies_of session.exchanges) session.last
 
 pub text_append : (a b : List Reply) → replies_text (a ++ b) ≡ replies_text a ++ replies_text b
 unfolding replies_text

@@ -1,4 +1,7 @@
+pub mod Reply
 pub mod Session
+pub mod Desk
+pub mod Stands
 pub mod Run
 pub mod Steps
 pub mod Example

@@ -3,14 +3,15 @@ use Rattle.std.specs.Prelude.{◌≡◌, ℕ, ◌+◌, ◌≤◌, ◌==◌, ◌�
 use Rattle.std.specs.Io.KnownBytes.{Consumes, Appends, IsAtEnd}
 use Rattle.prt_addr.specs.declared.refusal.Refusal.TheVariants.{LineTooLong, ReadFault}
 use Rattle.prt_command.specs.Lines.{limits}
-use Rattle.prt_session.specs.Session.{DeskState, Mishap, Reply, silent, accepted, answered, refused, line_turn, stops_after}
+use Rattle.prt_command.specs.declared.request.Request.{Request}
+use Rattle.prt_session.specs.Session.{TurnsOf, Mishaps, LineMay, line_turn, stops_after}
 use Rattle.prt_session.specs.declared.input.ByteRead.{ByteRead}
 use Rattle.prt_session.specs.declared.input.ByteRead.TheVariants as bytes
 use Rattle.prt_session.specs.declared.input.LineRead.{LineRead}
 use Rattle.prt_session.specs.declared.input.Stop.{Stop}
 use Rattle.prt_session.specs.declared.input.Stop.TheVariants as stops
-use Rattle.prt_session.specs.declared.reply.Response.{Response}
-use Rattle.prt_session.specs.declared.reply.Response.TheVariants.{Silent, Accepted, Answered, Refused}
+use Rattle.prt_session.specs.declared.reply.Reply.{Reply}
+use Rattle.prt_session.specs.declared.reply.Reply.TheVariants.{Refused}
 use Rattle.prt_session.specs.declared.script.OnRefusal.{OnRefusal}
 
 -- one read of one byte, at a reader that has these bytes left before and after
@@ -23,7 +24,7 @@ abbrev pub HasNoNewline : List ℕ → Type 0
 HasNoNewline [] = ⊤
 HasNoNewline (b ∷ bs) = (b ≢ 10) × HasNoNewline bs
 
--- the newline that was read behind a line
+-- the newline that was read after a line
 abbrev pub newline_read : Stop → List ℕ
 newline_read stops.Newline = 10 ∷ []
 newline_read stops.End = []
@@ -46,23 +47,22 @@ pub record LineIs (reader0 reader : Option (List ℕ)) (kept : List ℕ) (line :
   pub keeps : line.length ≤ 1024 → kept ≡ content
   pub stopped : StopIs line.stop line.length reader
 
-abbrev pub reply_of_response : Response → Reply
-reply_of_response Silent = silent
-reply_of_response (Accepted number) = accepted number
-reply_of_response (Answered text) = answered text.items
-reply_of_response (Refused reason) = refused reason
+-- for nothing that befalls it, or what may befall it, this is the turn of a request
+abbrev pub Gives : {D M : Type 0} → TurnsOf D M → Mishaps D M → D → Request → Reply → D → Type 0
+Gives {D} {M} turn may desk0 request reply desk =
+    (mishap : Option M) × may desk0 request mishap × (reply ≡ (turn desk0 request mishap).reply) × (desk ≡ (turn desk0 request mishap).desk)
 
--- for some mishap, or none, this is the turn of a whole line
-abbrev pub LineGives : DeskState → List ℕ → Reply → DeskState → Type 0
-LineGives desk0 line reply desk =
-    (mishap : Option Mishap) × (reply ≡ (line_turn desk0 line mishap).reply) × (desk ≡ (line_turn desk0 line mishap).desk)
+-- the same of a whole line
+abbrev pub LineGives : {D M : Type 0} → TurnsOf D M → Mishaps D M → D → List ℕ → Reply → D → Type 0
+LineGives {D} {M} turn may desk0 line reply desk =
+    (mishap : Option M) × LineMay may desk0 line mishap × (reply ≡ (line_turn turn desk0 line mishap).reply) × (desk ≡ (line_turn turn desk0 line mishap).desk)
 
 -- the reply to a line that was read to there
-abbrev pub AnswerIs : DeskState → Stop → List ℕ → Reply → DeskState → Type 0
-AnswerIs desk0 stops.Newline line reply desk = LineGives desk0 line reply desk
-AnswerIs desk0 stops.End line reply desk = LineGives desk0 line reply desk
-AnswerIs desk0 stops.Fault line reply desk = (reply ≡ refused ReadFault) × (desk ≡ desk0)
-AnswerIs desk0 stops.Endless line reply desk = (reply ≡ refused LineTooLong) × (desk ≡ desk0)
+abbrev pub AnswerIs : {D M : Type 0} → TurnsOf D M → Mishaps D M → D → Stop → List ℕ → Reply → D → Type 0
+AnswerIs {D} {M} turn may desk0 stops.Newline line reply desk = LineGives turn may desk0 line reply desk
+AnswerIs {D} {M} turn may desk0 stops.End line reply desk = LineGives turn may desk0 line reply desk
+AnswerIs {D} {M} turn may desk0 stops.Fault line reply desk = (reply ≡ Refused ReadFault) × (desk ≡ desk0)
+AnswerIs {D} {M} turn may desk0 stops.Endless line reply desk = (reply ≡ Refused LineTooLong) × (desk ≡ desk0)
 
 -- the text was written, or, where it was not, a part of it
 abbrev pub Written : Bool → Option (List ℕ) → Option (List ℕ) → List ℕ → Type 0

@@ -1,18 +1,24 @@
-ghost use Rattle.std.specs.Prelude.{◌≡◌, ◌++◌, IfErr, OnErr, OnOk};
-ghost use Rattle.prt_session.specs.Run.{CommandGives};
-ghost use Rattle.prt_session.specs.Session.{DeskState};
-ghost use Rattle.prt_listing.specs.QueryText.{query_text};
+ghost use Rattle.std.specs.Prelude.{◌++◌, IfErr, OnErr, OnOk};
 
 use prt_command::{Command, Query, Refusal};
 
 /// Where commands go, and who answers queries.
 pub trait Desk {
-    /// The state that queries are answered from, the state that is stored, and whether the desk is closed.
-    ghost meaning: { Self → DeskState };
+    ghost use Rattle.std.specs.Prelude.{◌≡◌};
+    ghost use Rattle.prt_listing.specs.QueryText.{query_text};
+    ghost use Rattle.prt_session.specs.Desk.{CommandGives, DeskState, Mishap, no_memory};
+    ghost use Rattle.prt_session.specs.Stands.{Explained, Stands};
+
+    /// The states that the desk may stand for: more than one where it can't be known which is stored.
+    ghost stands: { Self → DeskState → Type 0 };
+
+    /// What may befall a request.
+    ghost may: { Mishap → Type 0 };
 
     /// Checks, stores and publishes a command; the number of commands ever accepted.
     fn command(&mut self, command: &Command) -> Result<u64, Refusal>
-        ensures { CommandGives (meaning self.old) command.now result (meaning self.new) };
+        ensures turn { Explained stands self.old self.new (λ before after. CommandGives may before command.now result after) }
+        ensures left { Stands stands self.old → Stands stands self.new };
 
     /// Appends the lines of the answer to `out`.
     ///
@@ -20,8 +26,9 @@ pub trait Desk {
     ///
     /// `NoMemory`, which leaves `out` as it was.
     fn answer(&mut self, query: &Query, out: &mut Vec<u8>) -> Result<(), Refusal>
-        ensures same { meaning self.new ≡ meaning self.old }
-        ensures ok { OnOk result (out.new.items ≡ out.old.items ++ query_text (meaning self.old).published query.now) }
-        ensures err { IfErr result (λ e. e ≡ Refusal.NoMemory) }
+        ensures turn { Explained stands self.old self.new (λ before after. (after ≡ before)
+            × OnOk result (out.new.items ≡ out.old.items ++ query_text before.published query.now)) }
+        ensures left { Stands stands self.old → Stands stands self.new }
+        ensures err { IfErr result (λ e. (e ≡ Refusal.NoMemory) × may no_memory) }
         ensures unchanged { OnErr result (out.new.items ≡ out.old.items) };
 }

@@ -1,7 +1,8 @@
 //! Scripts with their replies, computed with the definitions alone.
 ghost use Rattle.std.specs.Prelude.{◌≡◌, ◌∷◌, [], ◌++◌, None, Some, codes, length, replicate, true};
 ghost use Rattle.prt_session.specs.Example.{replies_to, session_on};
-ghost use Rattle.prt_session.specs.Session.{commit_kept, end_of_input, no_memory, publication_fails, read_fault};
+ghost use Rattle.prt_session.specs.Desk.{commit_kept, no_memory, publication_fails};
+ghost use Rattle.prt_session.specs.Session.{end_of_input, read_fault};
 ghost use Rattle.prt_session.specs.declared.script.OnRefusal.TheVariants.{GoOn, Stop};
 
 /// A default route, and the route for an address.

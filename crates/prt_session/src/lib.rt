@@ -3,16 +3,23 @@
 
 mod desk;
 pub mod examples;
+mod executor;
 mod input;
 mod laws;
 mod list_desk;
+mod observer;
 mod reply;
 mod script;
+mod session;
 #[cfg(test)]
 mod tests;
 
 pub use desk::Desk;
+pub use executor::Executor;
 pub use laws::session_ends;
 pub use list_desk::ListDesk;
+pub use observer::{Observer, Unobserved};
 pub use prt_command::{Command, LONGEST_LINE, LONGEST_UNENDED, MOST_LINES, Query, Refusal};
+pub use reply::{Reply, Text};
 pub use script::{OnRefusal, ScriptEnd, run_script};
+pub use session::run_session;

@@ -1,15 +1,17 @@
 ghost use Rattle.std.specs.Prelude.{◌≡◌, ◌⊎◌, None, Some, IfErr, IfOk};
 ghost use Rattle.prt_addr.specs.declared.refusal.Refusal.TheVariants.{NoMemory};
-ghost use Rattle.prt_session.specs.Run.{CommandGives};
-ghost use Rattle.prt_session.specs.Session.{settled};
+ghost use Rattle.prt_session.specs.Desk.{Befalls, CommandGives, IsNoMemory, request_turn, settled};
+ghost use Rattle.prt_session.specs.Run.{RunIs};
 ghost use Rattle.prt_version.specs.Change.{refusal};
 ghost use Rattle.prt_version.specs.State.{opening_state};
 
 use crate::desk::Desk;
+use crate::script::{OnRefusal, ScriptEnd, run_script};
 use prt_command::{Command, Query, Refusal};
 use prt_listing::query_text;
 use prt_version::Version;
 use std::alloc::Global;
+use std::io::{Read, Write};
 use std::marker::Model;
 
 /// A desk over one version of the tables, which it keeps in memory alone.
@@ -39,14 +41,33 @@ impl ListDesk {
         let version = Version::opening(alloc)?;
         Ok(ListDesk { version })
     }
+
+    /// Runs a script over this desk, as `run_script` does: nothing but memory can fail it.
+    pub fn run_script<R: Read, W: Write>(
+        &mut self,
+        alloc: Global,
+        reader: &mut R,
+        writer: &mut W,
+        mode: OnRefusal,
+    ) -> ScriptEnd
+        ensures { RunIs request_turn (Befalls IsNoMemory) mode (settled self.old) (settled self.new) (R.remaining reader.old) (R.remaining reader.new)
+            (W.contents writer.old) (W.contents writer.new) result }
+    {
+        run_script(alloc, self, reader, writer, mode)
+    }
 }
 
 impl Desk for ListDesk {
-    ghost meaning = { settled };
+    ghost use Rattle.std.specs.Prelude.{◌≡◌};
+    ghost use Rattle.prt_session.specs.Desk.{IsNoMemory, settled};
+
+    ghost stands = { λ desk state. state ≡ settled desk };
+
+    ghost may = { IsNoMemory };
 
     /// An `Err` is what the command is refused for or, where it is refused for nothing, want of memory.
     fn command(&mut self, command: &Command) -> Result<u64, Refusal>
-        ensures turn { CommandGives (settled self.old) command.now result (settled self.new) }
+        ensures turn { CommandGives IsNoMemory (settled self.old) command.now result (settled self.new) }
         ensures reason { IfErr result (λ e. (refusal self.old command.now ≡ Some e) ⊎ ((refusal self.old command.now ≡ None) × (e ≡ NoMemory))) }
     {
         let change = match self.version.check(command) {

@@ -1,19 +1,54 @@
 ghost use Rattle.std.specs.Prelude.{◌≡◌, ◌≢◌, ◌++◌, codes, decimal, false};
 ghost use Rattle.prt_addr.specs.Refusal.{refusal_text};
-ghost use Rattle.prt_session.specs.Session.{reply_text, silent};
-ghost use Rattle.prt_session.specs.Steps.{Written, reply_of_response};
+ghost use Rattle.prt_session.specs.Reply.{reply_text};
+ghost use Rattle.prt_session.specs.Steps.{Written};
 
 use arrayvec::ArrayString;
 use itoa::Buffer;
 use prt_command::Refusal;
 use std::io::Write;
+use std::marker::Model;
+
+/// Lines of text, each with its newline.
+#[derive(Drop)]
+pub struct Text {
+    bytes: Vec<u8>,
+}
+
+impl Model for Text {
+    ghost use Rattle.std.specs.Prelude.{ℕ, List};
+
+    ghost Value = { List ℕ };
+
+    ghost view = { λ text. text.bytes.items };
+}
+
+impl Text {
+    /// The text of these bytes.
+    pub fn new(bytes: Vec<u8>) -> Text
+        ensures { result ≡ bytes.items }
+    {
+        Text { bytes }
+    }
+
+    /// Its bytes.
+    pub fn as_slice(&self) -> &[u8]
+        ensures { result.now ≡ self.now }
+    {
+        self.bytes.as_slice()
+    }
+}
 
 /// What is replied to a line.
 #[derive(Drop)]
-pub(crate) enum Response {
+pub enum Reply {
+    /// Nothing, to a line that asks for nothing.
     Silent,
+    /// The number of an accepted command.
     Accepted(u64),
-    Answered(Vec<u8>),
+    /// The lines of an answer.
+    Answered(Text),
+    /// Why a line is refused.
     Refused(Refusal),
 }
 
@@ -59,15 +94,15 @@ fn write_bytes<W: Write>(writer: &mut W, bytes: &[u8]) -> bool
     writer.flush().is_ok()
 }
 
-/// Writes a response; whether all of it went well.
-pub(crate) fn write_response<W: Write>(writer: &mut W, response: &Response) -> bool
-    ensures written { Written result (W.contents writer.old) (W.contents writer.new) (reply_text (reply_of_response response.now)) }
-    ensures told { result ≡ false → reply_of_response response.now ≢ silent }
+/// Writes a reply; whether all of it went well.
+pub(crate) fn write_reply<W: Write>(writer: &mut W, reply: &Reply) -> bool
+    ensures written { Written result (W.contents writer.old) (W.contents writer.new) (reply_text reply.now) }
+    ensures told { result ≡ false → reply.now ≢ Reply.Silent }
 {
-    match response {
-        Response::Silent => true,
-        Response::Accepted(number) => write_bytes(writer, accepted_line(*number).as_bytes()),
-        Response::Answered(text) => write_bytes(writer, text.as_slice()),
-        Response::Refused(refusal) => write_bytes(writer, refused_line(*refusal).as_bytes()),
+    match reply {
+        Reply::Silent => true,
+        Reply::Accepted(number) => write_bytes(writer, accepted_line(*number).as_bytes()),
+        Reply::Answered(text) => write_bytes(writer, text.as_slice()),
+        Reply::Refused(refusal) => write_bytes(writer, refused_line(*refusal).as_bytes()),
     }
 }

@@ -1,13 +1,14 @@
-ghost use Rattle.std.specs.Prelude.{◌≡◌, ◌≤◌, ℕ, List, Some, length};
+ghost use Rattle.std.specs.Prelude.{◌≡◌, Some};
+ghost use Rattle.prt_session.specs.Desk.{Befalls, request_turn};
 ghost use Rattle.prt_session.specs.Run.{RunIs, fault_after, refused_after};
-ghost use Rattle.prt_session.specs.Session.{stops_after};
-ghost use Rattle.prt_session.specs.Steps.{AnswerIs, LineGives, ends_after, is_nothing, reply_of_response};
+ghost use Rattle.prt_session.specs.Stands.{Explained, Stands};
 
 use crate::desk::Desk;
-use crate::input::{ByteRead, LineRead, Stop, next_byte, next_line};
-use crate::reply::{Response, write_response};
-use arrayvec::ArrayVec;
-use prt_command::{LONGEST_LINE, MOST_LINES, Refusal, Request, read_line};
+use crate::executor::Executor;
+use crate::observer::Unobserved;
+use crate::reply::{Reply, Text};
+use crate::session::run_session;
+use prt_command::{Refusal, Request};
 use std::alloc::Global;
 use std::io::{Read, Write};
 
@@ -31,18 +32,18 @@ pub struct ScriptEnd {
 
 impl ScriptEnd {
     /// No reply yet.
-    const OPENING: ScriptEnd = ScriptEnd {
+    pub(crate) const OPENING: ScriptEnd = ScriptEnd {
         refused: false,
         fault: None,
     };
 
-    /// With one more response.
-    fn noting(self, response: &Response) -> ScriptEnd
-        ensures refused { result.refused ≡ refused_after self.refused (reply_of_response response.now) }
-        ensures fault { result.fault ≡ fault_after self.fault (reply_of_response response.now) }
+    /// With one more reply.
+    pub(crate) fn with_reply(self, reply: &Reply) -> ScriptEnd
+        ensures refused { result.refused ≡ refused_after self.refused reply.now }
+        ensures fault { result.fault ≡ fault_after self.fault reply.now }
     {
-        match response {
-            Response::Refused(refusal) => match refusal {
+        match reply {
+            Reply::Refused(refusal) => match refusal {
                 Refusal::StoreFailed(_)
                 | Refusal::NotPublished
                 | Refusal::ReadFault
@@ -60,7 +61,7 @@ impl ScriptEnd {
     }
 
     /// With a fault of the writer.
-    fn cut_off(self) -> ScriptEnd
+    pub(crate) fn with_write_fault(self) -> ScriptEnd
         ensures refused { result.refused ≡ self.refused }
         ensures fault { result.fault ≡ Some Refusal.WriteFault }
     {
@@ -71,87 +72,45 @@ impl ScriptEnd {
     }
 }
 
-/// Does what a line asks for.
-#[tactic(auto, unfolding(crate::specs::Session::line_turn))]
-fn execute<D: Desk>(alloc: Global, desk: &mut D, line: &[u8]) -> Response
-    ensures { LineGives (D.meaning desk.old) line.now (reply_of_response result) (D.meaning desk.new) }
-{
-    match read_line(line) {
-        Err(refusal) => Response::Refused(refusal),
-        Ok(None) => Response::Silent,
-        Ok(Some(Request::Command(command))) => match desk.command(&command) {
-            Ok(number) => Response::Accepted(number),
-            Err(refusal) => Response::Refused(refusal),
-        },
-        Ok(Some(Request::Query(query))) => {
-            let mut text = Vec::new(alloc);
-            match desk.answer(&query, &mut text) {
-                Ok(()) => Response::Answered(text),
-                Err(refusal) => Response::Refused(refusal),
+/// A desk executes requests in memory from an allocator.
+impl<D: Desk> Executor<Global> for D {
+    ghost use Rattle.std.specs.Prelude.{⊤};
+    ghost use Rattle.prt_session.specs.Desk.{Befalls, DeskState, Mishap, request_turn};
+
+    ghost Desk = { DeskState };
+
+    ghost Mishap = { Mishap };
+
+    ghost turn = { request_turn };
+
+    ghost may = { Befalls D.may };
+
+    ghost stands = { D.stands };
+
+    ghost fits = { λ _. ⊤ };
+
+    fn execute(&mut self, alloc: &Global, request: &Request) -> Reply {
+        match request {
+            Request::Command(command) => match self.command(command) {
+                Ok(number) => Reply::Accepted(number),
+                Err(refusal) => Reply::Refused(refusal),
+            },
+            Request::Query(query) => {
+                let mut text = Vec::new(*alloc);
+                match self.answer(query, &mut text) {
+                    Ok(()) => Reply::Answered(Text::new(text)),
+                    Err(refusal) => Reply::Refused(refusal),
+                }
             }
         }
     }
 }
 
-/// The response to a whole line of so many bytes, which `line` has if they are not too many.
-fn respond_to_whole<D: Desk>(alloc: Global, desk: &mut D, count: usize, line: &[u8]) -> Response
-    ensures { (content : List ℕ) → length content ≡ count → (count ≤ LONGEST_LINE → line.now ≡ content) →
-        LineGives (D.meaning desk.old) content (reply_of_response result) (D.meaning desk.new) }
-{
-    if count > LONGEST_LINE {
-        return Response::Refused(Refusal::LineTooLong);
-    }
-    execute(alloc, desk, line)
-}
-
-/// The response to what was read of a line.
-fn respond<D: Desk>(alloc: Global, desk: &mut D, read: LineRead, line: &[u8]) -> Response
-    ensures { (content : List ℕ) → length content ≡ read.length → (read.length ≤ LONGEST_LINE → line.now ≡ content) →
-        AnswerIs (D.meaning desk.old) read.stop content (reply_of_response result) (D.meaning desk.new) }
-{
-    match read.stop {
-        Stop::Fault => Response::Refused(Refusal::ReadFault),
-        Stop::Endless => Response::Refused(Refusal::LineTooLong),
-        Stop::Newline => respond_to_whole(alloc, desk, read.length, line),
-        Stop::End => respond_to_whole(alloc, desk, read.length, line),
-    }
-}
-
-/// Whether the input ended where a line would begin.
-fn is_no_line(read: LineRead) -> bool
-    ensures { result ≡ is_nothing read }
-{
-    match read.stop {
-        Stop::End => read.length == 0,
-        _ => false,
-    }
-}
-
-/// Whether the session ends with this response to a line that has its newline.
-#[tactic(auto, unfolding(crate::specs::Session::stops_after))]
-fn is_stopping(mode: OnRefusal, response: &Response) -> bool
-    ensures { result ≡ stops_after mode (reply_of_response response.now) }
-{
-    match mode {
-        OnRefusal::Stop => matches!(response, Response::Refused(_)),
-        OnRefusal::GoOn => false,
-    }
-}
-
-/// Whether nothing is read after this response.
-fn is_last(mode: OnRefusal, read: LineRead, response: &Response) -> bool
-    ensures { result ≡ ends_after mode read.stop (reply_of_response response.now) }
-{
-    match read.stop {
-        Stop::Newline => is_stopping(mode, response),
-        _ => true,
-    }
-}
-
 /// Runs a script: does what each line asks for, and replies to it before the next is read.
 ///
-/// The session ends with the input, after a refused line under `OnRefusal::Stop`, at a fault of the reader or the writer, of any kind, and behind
-/// the first line or byte too many. Only an answer takes memory; where there is none, its query alone is refused.
+/// The session ends with the input, after a refused line under `OnRefusal::Stop`, at a fault of the reader or the
+/// writer, of any kind, and after the first line or byte too many. Only an answer takes memory; where there is none,
+/// its query alone is refused.
 pub fn run_script<D: Desk, R: Read, W: Write>(
     alloc: Global,
     desk: &mut D,
@@ -159,34 +118,9 @@ pub fn run_script<D: Desk, R: Read, W: Write>(
     writer: &mut W,
     mode: OnRefusal,
 ) -> ScriptEnd
-    ensures { RunIs mode (D.meaning desk.old) (D.meaning desk.new) (R.remaining reader.old) (R.remaining reader.new)
-        (W.contents writer.old) (W.contents writer.new) result }
+    ensures run { Explained D.stands desk.old desk.new (λ before after. RunIs request_turn (Befalls D.may) mode before after
+        (R.remaining reader.old) (R.remaining reader.new) (W.contents writer.old) (W.contents writer.new) result) }
+    ensures left { Stands D.stands desk.old → Stands D.stands desk.new }
 {
-    let mut line = ArrayVec::<u8, LONGEST_LINE>::new();
-    let mut end = ScriptEnd::OPENING;
-    for count in 0..MOST_LINES {
-        let read = next_line(reader, &mut line);
-        if is_no_line(read) {
-            return end;
-        }
-        let response = respond(alloc, desk, read, line.as_slice());
-        end = end.noting(&response);
-        if !write_response(writer, &response) {
-            return end.cut_off();
-        }
-        if is_last(mode, read, &response) {
-            return end;
-        }
-    }
-    let refusal = match next_byte(reader) {
-        ByteRead::End => return end,
-        ByteRead::Byte(_) => Refusal::TooManyLines,
-        ByteRead::Fault => Refusal::ReadFault,
-    };
-    let response = Response::Refused(refusal);
-    end = end.noting(&response);
-    if !write_response(writer, &response) {
-        return end.cut_off();
-    }
-    end
+    run_session(&alloc, desk, reader, writer, mode, &mut Unobserved)
 }

@@ -39,12 +39,37 @@ impl Read for Interrupted {
     }
 }
 
+/// The last lines that it was told of.
+#[derive(Drop)]
+struct LastLines {
+    begun: u64,
+    ended: u64,
+    refused: u64,
+}
+
+impl Observer for LastLines {
+    fn before(&mut self, line: u64) {
+        self.begun = line;
+    }
+
+    fn after(&mut self, line: u64, reply: &Reply) {
+        self.ended = line;
+        if matches!(reply, Reply::Refused(_)) {
+            self.refused = line;
+        }
+    }
+}
+
 #[test]
 fn read_faults(rt: HostRuntime) -> Result<(), Fail> {
     let alloc = rt.alloc();
-    for (before, want) in [
-        (b"\n\n\n".as_slice(), b"error 32 ReadFault\n".as_slice()),
-        (b"route get 1\nrou", b"answer 0 none\nerror 32 ReadFault\n"),
+    for (before, line, want) in [
+        (b"\n\n\n".as_slice(), 4, b"error 32 ReadFault\n".as_slice()),
+        (
+            b"route get 1\nrou".as_slice(),
+            2,
+            b"answer 0 none\nerror 32 ReadFault\n".as_slice(),
+        ),
     ] {
         let mut desk = ListDesk::opening(alloc)?;
         let mut reader = Interrupted {
@@ -53,10 +78,23 @@ fn read_faults(rt: HostRuntime) -> Result<(), Fail> {
             is_due: true,
         };
         let mut out = Vec::new(alloc);
-        let end = run_script(alloc, &mut desk, &mut reader, &mut out, OnRefusal::GoOn);
+        let mut lines = LastLines {
+            begun: 0,
+            ended: 0,
+            refused: 0,
+        };
+        let end = run_session(
+            &alloc,
+            &mut desk,
+            &mut reader,
+            &mut out,
+            OnRefusal::GoOn,
+            &mut lines,
+        );
         assert!(rt; out.as_slice() == want);
         assert!(rt; end.fault == Some(Refusal::ReadFault) && !end.refused);
         assert!(rt; reader.after.len() == 9);
+        assert!(rt; lines.begun == line && lines.ended == line && lines.refused == line);
     }
     Ok(())
 }
@@ -141,7 +179,7 @@ fn write_faults(rt: HostRuntime) -> Result<(), Fail> {
             taken: Vec::new(alloc),
             trouble,
         };
-        let end = run_script(alloc, &mut desk, &mut reader, &mut writer, OnRefusal::GoOn);
+        let end = desk.run_script(alloc, &mut reader, &mut writer, OnRefusal::GoOn);
         assert!(rt; writer.taken.as_slice() == want);
         assert!(rt; end.fault == fault);
     }

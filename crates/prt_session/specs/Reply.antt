@@ -1,0 +1,19 @@
+-- Replies, and their bytes.
+use Rattle.std.specs.Prelude.{ℕ, Bool, true, false, List, [], ◌∷◌, ◌++◌, codes, decimal}
+use Rattle.prt_addr.specs.Refusal.{refusal_text}
+use Rattle.prt_session.specs.declared.reply.Reply.{Reply}
+use Rattle.prt_session.specs.declared.reply.Reply.TheVariants.{Silent, Accepted, Answered, Refused}
+
+abbrev pub is_refused : Reply → Bool
+is_refused (Refused reason) = true
+is_refused reply = false
+
+abbrev pub reply_text : Reply → List ℕ
+reply_text Silent = []
+reply_text (Accepted number) = codes "ok " ++ decimal number ++ codes "\n"
+reply_text (Answered text) = text
+reply_text (Refused reason) = refusal_text reason ++ codes "\n"
+
+unfoldable pub replies_text : List Reply → List ℕ
+replies_text [] = []
+replies_text (reply ∷ replies) = reply_text reply ++ replies_text replies

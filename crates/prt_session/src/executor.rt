@@ -1,0 +1,39 @@
+use crate::reply::Reply;
+use prt_command::Request;
+
+/// Executes the requests of a session, in a context.
+///
+/// What it may stand for, and what may befall a request, are types of its own: a desk stands for the states of its
+/// tables, and who shares them with others for what it knows of them.
+pub trait Executor<C> {
+    ghost use Rattle.std.specs.Prelude.{Option};
+    ghost use Rattle.prt_command.specs.declared.request.Request.{Request};
+    ghost use Rattle.prt_session.specs.Session.{Turn};
+    ghost use Rattle.prt_session.specs.Stands.{Explained, Stands};
+    ghost use Rattle.prt_session.specs.Steps.{Gives};
+
+    /// What it may stand for.
+    ghost Desk: { Type 0 };
+
+    /// What may befall a request.
+    ghost Mishap: { Type 0 };
+
+    /// The reply to a request, and what it stands for after it.
+    ghost turn: { Desk → Request → Option Mishap → Turn Desk };
+
+    /// Which of the mishaps may befall a request there.
+    ghost may: { Desk → Request → Option Mishap → Type 0 };
+
+    /// Whether it may stand for this.
+    ghost stands: { Self → Desk → Type 0 };
+
+    /// Whether it belongs to the context.
+    ghost fits: { Self → Type 0 };
+
+    /// Executes a request.
+    fn execute(&mut self, context: &C, request: &Request) -> Reply
+        requires { fits self.old }
+        ensures fits { fits self.new }
+        ensures turn { Explained stands self.old self.new (λ before after. Gives turn may before request.now result after) }
+        ensures left { Stands stands self.old → Stands stands self.new };
+}

@@ -1,0 +1,20 @@
+use crate::reply::Reply;
+
+/// Is told of each line of a session, and changes nothing of it.
+pub trait Observer {
+    /// Comes before a line is executed. Lines are numbered from 1.
+    fn before(&mut self, line: u64);
+
+    /// Comes once the line was replied to, or once that failed.
+    fn after(&mut self, line: u64, reply: &Reply);
+}
+
+/// Nobody looks on.
+#[derive(Clone, Copy)]
+pub struct Unobserved;
+
+impl Observer for Unobserved {
+    fn before(&mut self, _line: u64) {}
+
+    fn after(&mut self, _line: u64, _reply: &Reply) {}
+}

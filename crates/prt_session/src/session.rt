@@ -1,0 +1,147 @@
+//! The loop over the lines of a session.
+ghost use Rattle.std.specs.Prelude.{◌≡◌, ◌≤◌, ℕ, List, length};
+ghost use Rattle.prt_session.specs.Run.{RunIs};
+ghost use Rattle.prt_session.specs.Session.{stops_after};
+ghost use Rattle.prt_session.specs.Stands.{Explained, Stands};
+ghost use Rattle.prt_session.specs.Steps.{AnswerIs, LineGives, ends_after, is_nothing};
+
+use crate::executor::Executor;
+use crate::input::{ByteRead, LineRead, Stop, next_byte, next_line};
+use crate::observer::Observer;
+use crate::reply::{Reply, write_reply};
+use crate::script::{OnRefusal, ScriptEnd};
+use arrayvec::ArrayVec;
+use prt_command::{LONGEST_LINE, MOST_LINES, Refusal, read_line};
+use std::io::{Read, Write};
+
+/// Does what a line asks for.
+#[tactic(auto, unfolding(crate::specs::Session::line_turn, crate::specs::Session::LineMay))]
+fn execute_line<C, E: Executor<C>>(context: &C, executor: &mut E, line: &[u8]) -> Reply
+    requires { E.fits executor.old }
+    ensures fits { E.fits executor.new }
+    ensures turn { Explained E.stands executor.old executor.new (λ before after. LineGives E.turn E.may before line.now result after) }
+    ensures left { Stands E.stands executor.old → Stands E.stands executor.new }
+{
+    match read_line(line) {
+        Err(refusal) => Reply::Refused(refusal),
+        Ok(None) => Reply::Silent,
+        Ok(Some(request)) => executor.execute(context, &request),
+    }
+}
+
+/// Replies to a whole line of so many bytes, which `line` has if they are not too many.
+fn reply_to_whole<C, E: Executor<C>>(
+    context: &C,
+    executor: &mut E,
+    count: usize,
+    line: &[u8],
+) -> Reply
+    requires { E.fits executor.old }
+    ensures fits { E.fits executor.new }
+    ensures turn { (content : List ℕ) → length content ≡ count → (count ≤ LONGEST_LINE → line.now ≡ content) →
+        Explained E.stands executor.old executor.new (λ before after. LineGives E.turn E.may before content result after) }
+    ensures left { Stands E.stands executor.old → Stands E.stands executor.new }
+{
+    if count > LONGEST_LINE {
+        return Reply::Refused(Refusal::LineTooLong);
+    }
+    execute_line(context, executor, line)
+}
+
+/// Replies to what was read of a line.
+fn reply_to<C, E: Executor<C>>(context: &C, executor: &mut E, read: LineRead, line: &[u8]) -> Reply
+    requires { E.fits executor.old }
+    ensures fits { E.fits executor.new }
+    ensures turn { (content : List ℕ) → length content ≡ read.length → (read.length ≤ LONGEST_LINE → line.now ≡ content) →
+        Explained E.stands executor.old executor.new (λ before after. AnswerIs E.turn E.may before read.stop content result after) }
+    ensures left { Stands E.stands executor.old → Stands E.stands executor.new }
+{
+    match read.stop {
+        Stop::Fault => Reply::Refused(Refusal::ReadFault),
+        Stop::Endless => Reply::Refused(Refusal::LineTooLong),
+        Stop::Newline => reply_to_whole(context, executor, read.length, line),
+        Stop::End => reply_to_whole(context, executor, read.length, line),
+    }
+}
+
+/// Whether the input ended where a line would begin.
+fn is_no_line(read: LineRead) -> bool
+    ensures { result ≡ is_nothing read }
+{
+    match read.stop {
+        Stop::End => read.length == 0,
+        _ => false,
+    }
+}
+
+/// Whether the session ends with this reply to a line that has its newline.
+#[tactic(auto, unfolding(crate::specs::Session::stops_after))]
+fn is_stopping(mode: OnRefusal, reply: &Reply) -> bool
+    ensures { result ≡ stops_after mode reply.now }
+{
+    match mode {
+        OnRefusal::Stop => matches!(reply, Reply::Refused(_)),
+        OnRefusal::GoOn => false,
+    }
+}
+
+/// Whether nothing is read after this reply.
+fn is_last(mode: OnRefusal, read: LineRead, reply: &Reply) -> bool
+    ensures { result ≡ ends_after mode read.stop reply.now }
+{
+    match read.stop {
+        Stop::Newline => is_stopping(mode, reply),
+        _ => true,
+    }
+}
+
+/// Runs a session: does what each line asks for, and replies to it before the next is read.
+///
+/// The session ends with the input, after a refused line under `OnRefusal::Stop`, at a fault of the reader or the
+/// writer, of any kind, and after the first line or byte too many. The observer is called before and after each line.
+pub fn run_session<C, E: Executor<C>, R: Read, W: Write, O: Observer>(
+    context: &C,
+    executor: &mut E,
+    reader: &mut R,
+    writer: &mut W,
+    mode: OnRefusal,
+    observer: &mut O,
+) -> ScriptEnd
+    requires { E.fits executor.old }
+    ensures fits { E.fits executor.new }
+    ensures run { Explained E.stands executor.old executor.new (λ before after. RunIs E.turn E.may mode before after
+        (R.remaining reader.old) (R.remaining reader.new) (W.contents writer.old) (W.contents writer.new) result) }
+    ensures left { Stands E.stands executor.old → Stands E.stands executor.new }
+{
+    let mut line = ArrayVec::<u8, LONGEST_LINE>::new();
+    let mut end = ScriptEnd::OPENING;
+    for count in 0..MOST_LINES {
+        let read = next_line(reader, &mut line);
+        if is_no_line(read) {
+            return end;
+        }
+        let number = count as u64 + 1;
+        observer.before(number);
+        let reply = reply_to(context, executor, read, line.as_slice());
+        end = end.with_reply(&reply);
+        let is_written = write_reply(writer, &reply);
+        observer.after(number, &reply);
+        if !is_written {
+            return end.with_write_fault();
+        }
+        if is_last(mode, read, &reply) {
+            return end;
+        }
+    }
+    let refusal = match next_byte(reader) {
+        ByteRead::End => return end,
+        ByteRead::Byte(_) => Refusal::TooManyLines,
+        ByteRead::Fault => Refusal::ReadFault,
+    };
+    let reply = Reply::Refused(refusal);
+    end = end.with_reply(&reply);
+    if !write_reply(writer, &reply) {
+        return end.with_write_fault();
+    }
+    end
+}
