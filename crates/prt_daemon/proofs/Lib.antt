@@ -1,1 +1,5 @@
 pub mod Reports
+pub mod BatchWords
+pub mod ParsedWords
+pub mod WordClasses
+pub mod WordsRead

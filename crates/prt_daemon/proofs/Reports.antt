@@ -1,11 +1,12 @@
 -- A fault that was reported.
-use Rattle.std.proofs.Common.{◌≡◌, ◌≢◌, inl, inr, ℕ, List, Option, ◌∙◌, arith}
-use Rattle.prt_daemon.specs.Faults.{StatusOf}
+use Rattle.std.proofs.Common.{◌≡◌, ◌≢◌, inl, inr, ℕ, List, Option, ◌∙◌}
+use Rattle.prt_daemon.specs.Faults.{fault_status, IsFault}
+use Rattle.prt_daemon.specs.Invocation.{Invocation}
 use Rattle.prt_daemon.specs.Program.{RunsNothing}
 use Rattle.prt_daemon.specs.declared.program.Fault.{Fault}
 use Rattle.prt_daemon.specs.declared.program.Fault.TheVariants.{Words, Opening}
 
-pub reported : (fault : Fault) (status : ℕ) (writer0 writer1 writer : Option (List ℕ)) → StatusOf fault status → writer1 ≡ writer0 → (status ≢ 0 → writer ≡ writer1) → RunsNothing writer0 writer status
-reported (Words error) status writer0 writer1 writer (inl help) same kept = inl help
-reported (Words error) status writer0 writer1 writer (inr bad) same kept = inr (inl bad, kept (λ zero. absurd (omega (arith, bad, zero))) ∙ same)
-reported (Opening reason) status writer0 writer1 writer fault same kept = inr (inr fault, kept (λ zero. absurd (omega (arith, fault, zero))) ∙ same)
+pub reported : (asked : Invocation) (fault : Fault) (status : ℕ) (writer0 writer1 writer : Option (List ℕ)) → IsFault asked fault → status ≡ fault_status fault
+    → writer1 ≡ writer0 → (status ≢ 0 → writer ≡ writer1) → RunsNothing asked writer0 writer status
+reported asked (Words error) status writer0 writer1 writer may is same kept = (inl (rw is may), λ other. kept other ∙ same)
+reported asked (Opening reason) status writer0 writer1 writer may is same kept = (inr is, λ other. kept other ∙ same)

@@ -1,2 +1,4 @@
+pub mod CommandLine
+pub mod Invocation
 pub mod Program
 pub mod Faults

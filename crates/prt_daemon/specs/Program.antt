@@ -1,6 +1,8 @@
--- What the program does: it runs one session, or it says why it does not.
-use Rattle.std.specs.Prelude.{◌≡◌, ◌⊎◌, ℕ, Bool, true, false, List, Option, Some, None}
+-- What the program does: it runs the session that its words ask for, or it says why it does not.
+use Rattle.std.specs.Prelude.{◌≡◌, ◌≢◌, ◌⊎◌, ℕ, Bool, true, false, List, Option, Some, None}
 use Rattle.prt_addr.specs.declared.refusal.Refusal.{Refusal}
+use Rattle.prt_daemon.specs.Faults.{IsStatusOf}
+use Rattle.prt_daemon.specs.Invocation.{Invocation, Word, script}
 use Rattle.prt_session.specs.Desk.{Befalls, DeskState, IsNoMemory, request_turn, settled}
 use Rattle.prt_session.specs.Run.{RunIs}
 use Rattle.prt_version.specs.State.{opening_state}
@@ -24,12 +26,16 @@ pub record RunsBatch (mode : OnRefusal) (reader0 writer0 writer : Option (List �
   pub run : RunIs request_turn (Befalls IsNoMemory) mode (settled opening_state) desk reader0 reader writer0 writer end
   pub status_is : status ≡ exit_status end
 
--- The same in some mode, over the input or over a file.
-pub record RunsSome (writer0 writer : Option (List ℕ)) (status : ℕ) : Type 0 where
-  pub mode : OnRefusal
-  pub reader0 : Option (List ℕ)
-  pub batch : RunsBatch mode reader0 writer0 writer status
+-- A script was run: that of the input; or that of an open file, of which nothing is known, and the input was left alone.
+abbrev pub RunsScript : {File : Type 0} → (File → Option (List ℕ)) → OnRefusal → Option Word → (input0 input writer0 writer : Option (List ℕ)) → ℕ → Type 0
+RunsScript bytes mode None input0 input writer0 writer status = RunsBatch mode input0 writer0 writer status
+RunsScript {File} bytes mode (Some path) input0 input writer0 writer status = (input ≡ input0) × (file : File) × RunsBatch mode (bytes file) writer0 writer status
 
--- No session was run: what the writer had is there alone, unless help was asked for.
-abbrev pub RunsNothing : Option (List ℕ) → Option (List ℕ) → ℕ → Type 0
-RunsNothing writer0 writer status = (status ≡ 0) ⊎ (((status ≡ 2) ⊎ (status ≡ 3)) × (writer ≡ writer0))
+-- what the words ask for was run
+abbrev pub Runs : {File : Type 0} → (File → Option (List ℕ)) → Invocation → (input0 input writer0 writer : Option (List ℕ)) → ℕ → Type 0
+Runs bytes (script mode file) input0 input writer0 writer status = RunsScript bytes mode file input0 input writer0 writer status
+Runs bytes asked input0 input writer0 writer status = ⊥
+
+-- No session was run: the words ask for none, or there was a fault of opening. What the writer had is there alone, unless help was asked for.
+abbrev pub RunsNothing : Invocation → Option (List ℕ) → Option (List ℕ) → ℕ → Type 0
+RunsNothing asked writer0 writer status = (IsStatusOf asked status ⊎ (status ≡ 3)) × (status ≢ 0 → writer ≡ writer0)

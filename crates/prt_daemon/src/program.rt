@@ -1,9 +1,14 @@
-ghost use Rattle.std.specs.Prelude.{◌≡◌, ◌≢◌, ◌⊎◌, IfOk, OnErr};
-ghost use Rattle.prt_daemon.specs.Faults.{StatusOf};
-ghost use Rattle.prt_daemon.specs.Program.{RunsBatch, RunsNothing, RunsSome, exit_status};
+ghost use Rattle.std.specs.Prelude.{◌≡◌, ◌≢◌, ◌⊎◌, IfErr, IfOk, OnErr, Some, codes, option_and_then, option_map};
+ghost use Rattle.clap.specs.Words.{app_of, subcommand_rows_of};
+ghost use Rattle.prt_addr.specs.declared.refusal.Refusal.TheVariants.{NoMemory};
+ghost use Rattle.prt_daemon.specs.CommandLine.{command_line, force_flag, named_file};
+ghost use Rattle.prt_daemon.specs.Faults.{IsFault, FaultOf, IsWordsFault, fault_status};
+ghost use Rattle.prt_daemon.specs.declared.program.Fault.TheVariants.{Opening};
+ghost use Rattle.prt_daemon.specs.Invocation.{arguments, file_of, invocation, script};
+ghost use Rattle.prt_daemon.specs.Program.{Runs, RunsBatch, RunsNothing, exit_status};
 
 use clap::error::ErrorKind;
-use clap::{Arg, ArgAction, Command};
+use clap::{Arg, ArgAction, ArgMatches, Command};
 use prt_session::{ListDesk, OnRefusal, Refusal, ScriptEnd};
 use std::alloc::{AllocError, Global};
 use std::fs::{self, Files};
@@ -37,12 +42,16 @@ pub enum Fault {
 }
 
 impl From<AllocError> for Fault {
+    ghost from_gives = { λ _ fault. fault ≡ Opening NoMemory };
+
     fn from(_: AllocError) -> Fault {
         Fault::Opening(Refusal::NoMemory)
     }
 }
 
 impl From<clap::Error> for Fault {
+    ghost from_gives = { λ error fault. FaultOf error fault };
+
     fn from(error: clap::Error) -> Fault {
         match error.kind() {
             ErrorKind::OutOfMemory => Fault::Opening(Refusal::NoMemory),
@@ -52,6 +61,8 @@ impl From<clap::Error> for Fault {
 }
 
 impl From<Refusal> for Fault {
+    ghost from_gives = { λ refusal fault. fault ≡ Opening refusal };
+
     fn from(refusal: Refusal) -> Fault {
         Fault::Opening(refusal)
     }
@@ -66,7 +77,9 @@ struct Batch<'a> {
 }
 
 /// The words that the program knows.
-fn command_line<'a>(alloc: Global) -> Result<Command<'a>, AllocError> {
+fn command_line<'a>(alloc: Global) -> Result<Command<'a>, AllocError>
+    ensures { IfOk result (λ command. app_of command ≡ command_line) }
+{
     let force = Arg::new(alloc, "force")
         .long("force")
         .action(ArgAction::SetTrue)
@@ -86,22 +99,49 @@ fn command_line<'a>(alloc: Global) -> Result<Command<'a>, AllocError> {
         .subcommand(batch)
 }
 
-/// Reads what the words ask for.
-fn read_words<'a>(alloc: Global, words: &'a [String]) -> Result<Batch<'a>, Fault> {
-    let matches = command_line(alloc)?.try_get_matches_from(words)?;
-    let (file, force) = match matches.subcommand() {
-        Some((_, batch)) => (batch.get_str("file"), batch.get_flag("force")),
-        None => (None, false),
+/// The path of an operand; none for `-`, which is standard input.
+fn file_of(operand: &str) -> Option<&str>
+    ensures { option_map (λ path. path.now) result ≡ file_of operand.entry.now }
+{
+    if operand == STANDARD_INPUT {
+        None
+    } else {
+        Some(operand)
+    }
+}
+
+/// The script that the matches of `batch` name.
+fn batch_of<'a>(matches: &ArgMatches<'a>) -> Batch<'a>
+    ensures file { option_map (λ path. path.now) result.file
+        ≡ option_and_then file_of (named_file (subcommand_rows_of matches.now)) }
+    ensures goes_on { force_flag (subcommand_rows_of matches.now) ≡ Some (codes "true") → result.mode ≡ OnRefusal.GoOn }
+    ensures stops { force_flag (subcommand_rows_of matches.now) ≡ Some (codes "false") → result.mode ≡ OnRefusal.Stop }
+{
+    let Some((_, batch)) = matches.subcommand() else {
+        return Batch {
+            file: None,
+            mode: OnRefusal::Stop,
+        };
     };
-    let mode = if force {
+    let mode = if batch.get_flag("force") {
         OnRefusal::GoOn
     } else {
         OnRefusal::Stop
     };
-    Ok(Batch {
-        file: file.filter(|path| **path != *STANDARD_INPUT),
+    Batch {
+        file: batch.get_str("file").and_then(file_of),
         mode,
-    })
+    }
+}
+
+/// Reads what the words ask for.
+fn read_words<'a>(alloc: Global, words: &'a [String]) -> Result<Batch<'a>, Fault>
+    ensures script { IfOk result (λ batch.
+        invocation (arguments words.entry.now) ≡ script batch.mode (option_map (λ path. path.now) batch.file)) }
+    ensures fault { IfErr result (IsWordsFault (invocation (arguments words.entry.now))) }
+{
+    let matches = command_line(alloc)?.try_get_matches_from(words)?;
+    Ok(batch_of(&matches))
 }
 
 /// The exit status of a session.
@@ -123,6 +163,7 @@ fn run_batch<R: Read + Drop, W: Write>(
     mode: OnRefusal,
 ) -> Result<u8, Fault>
     ensures run { IfOk result (RunsBatch mode (R.remaining input) (W.contents output.old) (W.contents output.new)) }
+    ensures fault { IfErr result (λ fault. fault ≡ Opening NoMemory) }
     ensures unwritten { OnErr result (W.contents output.new ≡ W.contents output.old) }
 {
     // A session takes its bytes one by one; the buffer takes them from the input in blocks.
@@ -143,7 +184,9 @@ fn run<F: Files, R: Read, W: Write>(
     input: &mut R,
     output: &mut W,
 ) -> Result<u8, Fault>
-    ensures run { IfOk result (RunsSome (W.contents output.old) (W.contents output.new)) }
+    ensures run { IfOk result (Runs F.File.remaining (invocation (arguments words.now))
+        (R.remaining input.old) (R.remaining input.new) (W.contents output.old) (W.contents output.new)) }
+    ensures fault { IfErr result (IsFault (invocation (arguments words.now))) }
     ensures unwritten { OnErr result (W.contents output.new ≡ W.contents output.old) }
 {
     let batch = read_words(alloc, words)?;
@@ -163,7 +206,7 @@ fn run<F: Files, R: Read, W: Write>(
 ///
 /// Help goes to `output`, all else to `errors`. A fault of writing there changes nothing.
 pub fn report<W: Write, E: Write>(fault: &Fault, output: &mut W, errors: &mut E) -> u8
-    ensures status { StatusOf fault.now result }
+    ensures status { result ≡ fault_status fault.now }
     ensures unwritten { result ≢ DONE → W.contents output.new ≡ W.contents output.old }
 {
     match fault {
@@ -195,8 +238,9 @@ pub fn program<F: Files, R: Read, W: Write, E: Write>(
     output: &mut W,
     errors: &mut E,
 ) -> u8
-    ensures { RunsSome (W.contents output.old) (W.contents output.new) result
-        ⊎ RunsNothing (W.contents output.old) (W.contents output.new) result }
+    ensures { Runs F.File.remaining (invocation (arguments words.now))
+        (R.remaining input.old) (R.remaining input.new) (W.contents output.old) (W.contents output.new) result
+        ⊎ RunsNothing (invocation (arguments words.now)) (W.contents output.old) (W.contents output.new) result }
 {
     match run(files, alloc, words, input, output) {
         Ok(status) => status,
