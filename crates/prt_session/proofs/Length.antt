@@ -23,7 +23,8 @@ onto_whole b [] whole = tt
 onto_whole b (line ∷ []) whole = tt
 onto_whole b (line ∷ next ∷ lines) whole = (whole.0, whole.1)
 
-sides : (b : Bool) → (b ≡ true) ⊎ (b ≡ false)
+-- a test holds or not
+pub sides : (b : Bool) → (b ≡ true) ⊎ (b ≡ false)
 sides true = inl refl
 sides false = inr refl
 

@@ -9,3 +9,4 @@ pub mod Replies
 pub mod Served
 pub mod SessionSteps
 pub mod Turns
+pub mod ListReplies

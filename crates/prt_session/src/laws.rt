@@ -1,11 +1,22 @@
 //! Laws of the definition of a session, which no program calls.
 ghost use Rattle.std.specs.Prelude.{◌+◌, ◌*◌, ◌≤◌, List, Option, length};
-ghost use Rattle.prt_session.specs.Desk.{DeskState, Mishap, request_turn};
-ghost use Rattle.prt_session.specs.Session.{Input, session};
+ghost use Rattle.std.specs.List.{All};
+ghost use Rattle.prt_session.specs.Desk.{Befalls, DeskState, IsNoMemory, Mishap, request_turn, settled};
+ghost use Rattle.prt_session.specs.Refusals.{IsListReply};
+ghost use Rattle.prt_session.specs.Session.{Input, Path, replies, session};
 ghost use Rattle.prt_session.specs.declared.script.OnRefusal.{OnRefusal};
+ghost use Rattle.prt_version.specs.State.{State};
 
 /// A session ends: it takes at most 1,000,000 lines of 65,537 bytes each, and one byte more.
 pub fn session_ends()
     ensures { (desk : DeskState) (input : Input) (mode : OnRefusal) (mishaps : List (Option Mishap)) →
         length input.bytes ≤ length (session request_turn desk input mode mishaps).unread + (1000000 * 65537 + 1) }
+{}
+
+/// A run over lists refuses for what a line says, for want of memory, and for the input: never for room, a store or a
+/// publication.
+pub fn list_replies()
+    ensures { (state : State) (desk : DeskState) (input : Input) (mode : OnRefusal) (mishaps : List (Option Mishap)) →
+        Path request_turn (Befalls IsNoMemory) (settled state) (session request_turn (settled state) input mode mishaps).exchanges desk →
+        All IsListReply (replies (session request_turn (settled state) input mode mishaps)) }
 {}

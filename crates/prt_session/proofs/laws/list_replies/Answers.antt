@@ -1,0 +1,5 @@
+use Rattle.prt_session.proofs.ListReplies.{list_replies}
+use Rattle.prt_session.proofs.laws.list_replies.Goals as goal
+
+pub returns : goal.returns
+returns c = list_replies

@@ -1,0 +1,28 @@
+-- What a run over lists refuses for.
+use Rattle.std.specs.Prelude.{◌≡◌, List, ℕ, Some, Err, ⊤}
+use Rattle.prt_addr.specs.declared.refusal.Refusal.{Refusal}
+use Rattle.prt_addr.specs.declared.refusal.Refusal.TheVariants.{LineTooLong, NoMemory, ReadFault, TooManyLines}
+use Rattle.prt_command.specs.Reading.{reading}
+use Rattle.prt_command.specs.declared.request.Command.{Command}
+use Rattle.prt_session.specs.declared.reply.Reply.{Reply}
+use Rattle.prt_session.specs.declared.reply.Reply.TheVariants.{Refused}
+use Rattle.prt_version.specs.Change.{refusal}
+use Rattle.prt_version.specs.State.{State}
+
+-- Why nothing but what a line says, memory and the input can be refused over lists.
+pub data IsListRefusal (reason : Refusal) : Type 0 where
+  -- the line asks for nothing that there is
+  of_line : (line : List ℕ) → reading line ≡ Err reason → IsListRefusal reason
+  -- the command is refused in some state
+  of_command : (state : State) (command : Command) → refusal state command ≡ Some reason → IsListRefusal reason
+  of_memory : reason ≡ NoMemory → IsListRefusal reason
+  -- the reader failed
+  of_reader : reason ≡ ReadFault → IsListRefusal reason
+  -- a line, or the input, is too long
+  of_line_length : reason ≡ LineTooLong → IsListRefusal reason
+  of_line_count : reason ≡ TooManyLines → IsListRefusal reason
+
+-- a reply that is no refusal, or one of these
+abbrev pub IsListReply : Reply → Type 0
+IsListReply (Refused reason) = IsListRefusal reason
+IsListReply reply = ⊤
