@@ -47,24 +47,24 @@ abbrev pub Reads : Invocation → Walk → List Text → Type 0
 Reads asked at words = Agrees asked (faults at words) (first_of (codes "file") (rows_at_end at words)) (one_of (codes "force") (rows_at_end at words))
 
 -- a word that is taken
-taken : (asked : Invocation) (at next : Walk) (word : Text) (words : List Text)
+word_taken : (asked : Invocation) (at next : Walk) (word : Text) (words : List Text)
     → turn_fault batch [] at word ≡ [] → walked batch_rules [] at word ≡ next → Reads asked next words → Reads asked at (word ∷ words)
 unfolding walk_fault
-taken asked at next word words turn goes reads =
+word_taken asked at next word words turn goes reads =
     subst (λ kinds. Agrees asked (or_else (or_else kinds (walk_fault batch [] (walked batch_rules [] at word) words)) (faults_after (walked batch_rules [] at word) words)) (first_of (codes "file") (rows_at_end (walked batch_rules [] at word) words)) (one_of (codes "force") (rows_at_end (walked batch_rules [] at word) words)))
     (sym turn) (subst (λ (w : Walk). Reads asked w words) (sym goes) reads)
 
--- a word that is refused
-refused_by : (at : Walk) (word : Text) (words : List Text) (k : ErrorKind) (kinds : Kinds) → turn_fault batch [] at word ≡ k ∷ kinds → faults at (word ∷ words) ≡ k ∷ kinds
+-- a word that is refused, and one that is a mistake
+word_refused : (at : Walk) (word : Text) (words : List Text) (k : ErrorKind) (kinds : Kinds) → turn_fault batch [] at word ≡ k ∷ kinds → faults at (word ∷ words) ≡ k ∷ kinds
 unfolding walk_fault
-refused_by at word words k kinds turn = ap (λ ks. or_else (or_else ks (walk_fault batch [] (walked batch_rules [] at word) words)) (faults_after (walked batch_rules [] at word) words)) turn
+word_refused at word words k kinds turn = ap (λ ks. or_else (or_else ks (walk_fault batch [] (walked batch_rules [] at word) words)) (faults_after (walked batch_rules [] at word) words)) turn
 
-mistaken : (at : Walk) (word : Text) (words : List Text) → IsMistake (turn_fault batch [] at word) → Reads usage_error at (word ∷ words)
-mistaken at word words bad = go (turn_fault batch [] at word) refl bad
+word_mistaken : (at : Walk) (word : Text) (words : List Text) → IsMistake (turn_fault batch [] at word) → Reads usage_error at (word ∷ words)
+word_mistaken at word words bad = go (turn_fault batch [] at word) refl bad
   where
     go : (kinds : Kinds) → turn_fault batch [] at word ≡ kinds → IsMistake kinds → IsMistake (faults at (word ∷ words))
     go [] e none = absurd none
-    go (k ∷ kinds) e all = subst IsMistake (sym (refused_by at word words k kinds e)) all
+    go (k ∷ kinds) e all = subst IsMistake (sym (word_refused at word words k kinds e)) all
 
 force_no_help : is_help (codes "--force") ≡ false
 unfolding clap_on_literals
@@ -158,17 +158,17 @@ after_word : (os fs : List Word) (rows : List Row) (pending : Option (Text × Li
 unfolding walked
 after_word os fs rows pending position place word words (class.delimiter is) =
     subst (λ w. Reads (from os fs (w ∷ words)) (walk_at rows pending position false) (w ∷ words)) (sym is)
-    (taken _ (walk_at rows pending position false) (walk_at rows pending position true) (codes "--") words refl refl (place.values words))
+    (word_taken _ (walk_at rows pending position false) (walk_at rows pending position true) (codes "--") words refl refl (place.values words))
 after_word os fs rows pending position place word words (class.force is) =
     subst (λ w. Reads (from os fs (w ∷ words)) (walk_at rows pending position false) (w ∷ words)) (sym is)
     (subst (λ i. Reads i (walk_at rows pending position false) (force_word ∷ words)) (sym (after_option os fs force_word words refl force_no_help force_option)) (place.forces words))
 after_word os fs rows pending position place word words (class.help h) =
     subst (λ i. Reads i (walk_at rows pending position false) (word ∷ words)) (sym (after_help os fs word words h.no_delimiter h.help place.right))
-    (refused_by (walk_at rows pending position false) word words kind.DisplayHelp [] (h.turn rows pending position place.settled_here))
+    (word_refused (walk_at rows pending position false) word words kind.DisplayHelp [] (h.turn rows pending position place.settled_here))
 after_word os fs rows pending position place word words (class.unknown u) =
     subst (λ i. Reads i (walk_at rows pending position false) (word ∷ words))
     (sym (after_option os fs word words u.no_delimiter u.no_help u.option ∙ hopeless (os ++ word ∷ []) fs (place.no_other word u.no_force) words))
-    (mistaken (walk_at rows pending position false) word words (u.turn rows pending position))
+    (word_mistaken (walk_at rows pending position false) word words (u.turn rows pending position))
 after_word os fs rows pending position place word words (class.operand o) =
     subst (λ i. Reads i (walk_at rows pending position false) (word ∷ words)) (sym (after_operand os fs word words o.no_delimiter o.no_help o.no_option))
     (place.operand_next word words o)
@@ -195,7 +195,7 @@ full : (os : List Word) (file : Word) (rows : List Row) (pending : Option (Text 
     → (words : List Word) → Reads (script_by os (file ∷ words)) (walk_at rows pending 2 true) words
 full os file rows pending alone more [] = alone
 full os file rows pending alone more (word ∷ words) =
-    subst (λ i. Reads i (walk_at rows pending 2 true) (word ∷ words)) (sym (more word words)) (mistaken (walk_at rows pending 2 true) word words refl)
+    subst (λ i. Reads i (walk_at rows pending 2 true) (word ∷ words)) (sym (more word words)) (word_mistaken (walk_at rows pending 2 true) word words refl)
 
 -- a second operand, before `--`
 second_operand : (os : List Word) (file : Word) (rows : List Row) (pending : Option (Text × List Text))
@@ -203,7 +203,7 @@ second_operand : (os : List Word) (file : Word) (rows : List Row) (pending : Opt
     → (word : Word) (words : List Word) → Operand word → Reads (from os (file ∷ word ∷ []) words) (walk_at rows pending 2 false) (word ∷ words)
 second_operand os file rows pending bad word words o =
     subst (λ i. Reads i (walk_at rows pending 2 false) (word ∷ words)) (sym (hopeless os (file ∷ word ∷ []) (bad word) words))
-    (mistaken (walk_at rows pending 2 false) word words (subst IsMistake (sym (o.turn rows pending 2)) refl))
+    (word_mistaken (walk_at rows pending 2 false) word words (subst IsMistake (sym (o.turn rows pending 2)) refl))
 
 -- a second `--force`
 second_force : (fs : List Word) (rows : List Row) (pending : Option (Text × List Text)) (position : ℕ)
@@ -211,7 +211,7 @@ second_force : (fs : List Word) (rows : List Row) (pending : Option (Text × Lis
     → (words : List Word) → Reads (from (force_word ∷ force_word ∷ []) fs words) (walk_at rows pending position false) (force_word ∷ words)
 second_force fs rows pending position turn words =
     subst (λ i. Reads i (walk_at rows pending position false) (force_word ∷ words)) (sym (hopeless (force_word ∷ force_word ∷ []) fs (λ more rest. refl) words))
-    (subst IsMistake (sym (refused_by (walk_at rows pending position false) force_word words kind.ArgumentConflict [] turn)) refl)
+    (subst IsMistake (sym (word_refused (walk_at rows pending position false) force_word words kind.ArgumentConflict [] turn)) refl)
 
 -- a first option that is not `--force`
 no_other_first : (fs : List Word) (word : Word) → bytes_eq word force_word ≡ false → (more rest : List Word) → script_by (([] ++ word ∷ []) ++ more) (fs ++ rest) ≡ usage_error
@@ -266,7 +266,7 @@ file_alone file = record {
   no_other = no_other_first (file ∷ []);
   at_end = (refl, refl, refl);
   values = full [] file [] (pending_file file) (refl, refl, refl) (λ word rest. refl);
-  forces = λ words. taken (from (force_word ∷ []) (file ∷ []) words) (walk_at [] (pending_file file) 2 false) (walk_at (file_row file ∷ force_row ∷ []) None 2 false) force_word words refl refl
+  forces = λ words. word_taken (from (force_word ∷ []) (file ∷ []) words) (walk_at [] (pending_file file) 2 false) (walk_at (file_row file ∷ force_row ∷ []) None 2 false) force_word words refl refl
       (from_place (force_word ∷ []) (file ∷ []) (file_row file ∷ force_row ∷ []) None 2 (file_and_force file) words);
   operand_next = second_operand [] file [] (pending_file file) (two_files file);
 }
@@ -280,7 +280,7 @@ first_value : (os : List Word) (rows : List Row)
 unfolding walked
 first_value os rows none one more [] = none
 first_value os rows none one more (file ∷ words) =
-    taken (script_by os (file ∷ words)) (walk_at rows None 1 true) (walk_at rows (pending_file file) 2 true) file words refl refl (full os file rows (pending_file file) (one file) (more file) words)
+    word_taken (script_by os (file ∷ words)) (walk_at rows None 1 true) (walk_at rows (pending_file file) 2 true) file words refl refl (full os file rows (pending_file file) (one file) (more file) words)
 
 -- `--force` alone
 force_alone : Place (force_word ∷ []) [] (force_row ∷ []) None 1
@@ -292,7 +292,7 @@ force_alone = record {
   at_end = (refl, refl, refl);
   values = first_value (force_word ∷ []) (force_row ∷ []) (refl, refl, refl) (λ file. (refl, refl, refl)) (λ file word rest. refl);
   forces = second_force [] (force_row ∷ []) None 1 refl;
-  operand_next = λ word words o. taken (from (force_word ∷ []) (word ∷ []) words) (walk_at (force_row ∷ []) None 1 false) (walk_at (force_row ∷ []) (pending_file word) 2 false) word words
+  operand_next = λ word words o. word_taken (from (force_word ∷ []) (word ∷ []) words) (walk_at (force_row ∷ []) None 1 false) (walk_at (force_row ∷ []) (pending_file word) 2 false) word words
       (o.turn (force_row ∷ []) None 1) (o.next (force_row ∷ []) None 1)
       (from_place (force_word ∷ []) (word ∷ []) (force_row ∷ []) (pending_file word) 2 (force_and_file word) words);
 }
@@ -306,9 +306,9 @@ start = record {
   no_other = no_other_first [];
   at_end = (refl, refl, refl);
   values = first_value [] [] (refl, refl, refl) (λ file. (refl, refl, refl)) (λ file word rest. refl);
-  forces = λ words. taken (from (force_word ∷ []) [] words) (walk_at [] None 1 false) (walk_at (force_row ∷ []) None 1 false) force_word words refl refl
+  forces = λ words. word_taken (from (force_word ∷ []) [] words) (walk_at [] None 1 false) (walk_at (force_row ∷ []) None 1 false) force_word words refl refl
       (from_place (force_word ∷ []) [] (force_row ∷ []) None 1 force_alone words);
-  operand_next = λ word words o. taken (from [] (word ∷ []) words) (walk_at [] None 1 false) (walk_at [] (pending_file word) 2 false) word words
+  operand_next = λ word words o. word_taken (from [] (word ∷ []) words) (walk_at [] None 1 false) (walk_at [] (pending_file word) 2 false) word words
       (o.turn [] None 1) (o.next [] None 1)
       (from_place [] (word ∷ []) [] (pending_file word) 2 (file_alone word) words);
 }

@@ -148,18 +148,18 @@ agrees_on_batch program words =
     (subst (λ found. Agrees (batch_invocation words) (level_fault batch [] nothing_held words false []) (named_file found) (force_flag found))
     (sym (subcommand_of_batch program words)) (batch_reads words))
 
-refused_first : (program word : Text) (words : List Text) (kinds : Kinds) → first_turn word ≡ kinds
+first_refused : (program word : Text) (words : List Text) (kinds : Kinds) → first_turn word ≡ kinds
     → fault_of command_line (program ∷ word ∷ words) ≡ or_else (or_else kinds (walk_fault top names (walked top.rules names start word) words)) (kinds_after (walk_over (walked top.rules names start word) words))
 unfolding walk_fault
-refused_first program word words kinds turn =
+first_refused program word words kinds turn =
     ap (λ ks. or_else (or_else ks (walk_fault top names (walked top.rules names start word) words)) (kinds_after (walk_over (walked top.rules names start word) words))) turn
 
-mistaken_first : (program word : Text) (words : List Text) → IsMistake (first_turn word) → IsMistake (fault_of command_line (program ∷ word ∷ words))
-mistaken_first program word words bad = go (first_turn word) refl bad
+first_mistaken : (program word : Text) (words : List Text) → IsMistake (first_turn word) → IsMistake (fault_of command_line (program ∷ word ∷ words))
+first_mistaken program word words bad = go (first_turn word) refl bad
   where
     go : (kinds : Kinds) → first_turn word ≡ kinds → IsMistake kinds → IsMistake (fault_of command_line (program ∷ word ∷ words))
     go [] e none = absurd none
-    go (k ∷ kinds) e all = subst IsMistake (sym (refused_first program word words (k ∷ kinds) e)) all
+    go (k ∷ kinds) e all = subst IsMistake (sym (first_refused program word words (k ∷ kinds) e)) all
 
 -- `--` leaves no option, and there is no operand
 after_delimiter : (program : Text) (words : List Text) → IsMistake (fault_of command_line (program ∷ codes "--" ∷ words))
@@ -179,9 +179,9 @@ unfolding chars
 agrees_on_first program word words (delimiter is) no_batch no_help =
     subst (λ w. AgreesOn (invocation (w ∷ words)) (program ∷ w ∷ words)) (sym is) (after_delimiter program words)
 agrees_on_first program word words (asks h turn) no_batch no_help =
-    subst (λ i. AgreesOn i (program ∷ word ∷ words)) (sym (asks_help word words no_batch no_help h)) (refused_first program word words (kind.DisplayHelp ∷ []) turn)
+    subst (λ i. AgreesOn i (program ∷ word ∷ words)) (sym (asks_help word words no_batch no_help h)) (first_refused program word words (kind.DisplayHelp ∷ []) turn)
 agrees_on_first program word words (mistake h turn) no_batch no_help =
-    subst (λ i. AgreesOn i (program ∷ word ∷ words)) (sym (asks_nothing word words no_batch no_help h)) (mistaken_first program word words turn)
+    subst (λ i. AgreesOn i (program ∷ word ∷ words)) (sym (asks_nothing word words no_batch no_help h)) (first_mistaken program word words turn)
 
 flipped : (a b : Text) → bytes_eq a b ≡ false → bytes_eq b a ≡ false
 flipped a b e = differs b a (λ same. absurd (true≢false (sym (bytes_eq-refl a) ∙ ap (bytes_eq a) (sym same) ∙ e)))
@@ -195,7 +195,7 @@ unfolding walked walk_fault
 agrees_on_words program word words true is_topic b h =
     subst (λ w. AgreesOn (invocation (w ∷ words)) (program ∷ w ∷ words)) (sym (same_bytes word (codes "batch") b)) (agrees_on_batch program words)
 agrees_on_words program word words false true b h =
-    subst (λ w. AgreesOn (invocation (w ∷ words)) (program ∷ w ∷ words)) (sym (same_bytes word (codes "help") h)) (refused_first program (codes "help") words (kind.DisplayHelp ∷ kind.InvalidSubcommand ∷ []) refl)
+    subst (λ w. AgreesOn (invocation (w ∷ words)) (program ∷ w ∷ words)) (sym (same_bytes word (codes "help") h)) (first_refused program (codes "help") words (kind.DisplayHelp ∷ kind.InvalidSubcommand ∷ []) refl)
 agrees_on_words program word words false false b h =
     agrees_on_first program word words (first_of_word word (flipped word (codes "batch") b) (flipped word (codes "help") h)) b h
 

@@ -1,8 +1,8 @@
--- A fault that was reported.
-use Rattle.std.proofs.Common.{◌≡◌, ◌≢◌, inl, inr, ℕ, List, Option, ◌∙◌}
+-- A fault that was reported, and an input that was left alone.
+use Rattle.std.proofs.Common.{◌≡◌, ◌≢◌, ◌∙◌, ℕ, inl, inr, refl, List, Option, Some, None}
 use Rattle.prt_daemon.specs.Faults.{fault_status, IsFault}
-use Rattle.prt_daemon.specs.Invocation.{Invocation}
-use Rattle.prt_daemon.specs.Program.{RunsNothing}
+use Rattle.prt_daemon.specs.Invocation.{Invocation, script}
+use Rattle.prt_daemon.specs.Program.{LeavesInput, RunsNothing}
 use Rattle.prt_daemon.specs.declared.program.Fault.{Fault}
 use Rattle.prt_daemon.specs.declared.program.Fault.TheVariants.{Words, Opening}
 
@@ -10,3 +10,8 @@ pub reported : (asked : Invocation) (fault : Fault) (status : ℕ) (writer0 writ
     → writer1 ≡ writer0 → (status ≢ 0 → writer ≡ writer1) → RunsNothing asked writer0 writer status
 reported asked (Words error) status writer0 writer1 writer may is same kept = (inl (rw is may), λ other. kept other ∙ same)
 reported asked (Opening reason) status writer0 writer1 writer may is same kept = (inr is, λ other. kept other ∙ same)
+
+pub unread : (asked : Invocation) (input : Option (List ℕ)) → LeavesInput asked input input
+unread (script mode None) input = tt
+unread (script mode (Some path)) input = refl
+unread _ input = refl

@@ -26,16 +26,21 @@ pub record RunsBatch (mode : OnRefusal) (reader0 writer0 writer : Option (List �
   pub run : RunIs request_turn (Befalls IsNoMemory) mode (settled opening_state) desk reader0 reader writer0 writer end
   pub status_is : status ≡ exit_status end
 
--- A script was run: that of the input; or that of an open file, of which nothing is known, and the input was left alone.
-abbrev pub RunsScript : {File : Type 0} → (File → Option (List ℕ)) → OnRefusal → Option Word → (input0 input writer0 writer : Option (List ℕ)) → ℕ → Type 0
-RunsScript bytes mode None input0 input writer0 writer status = RunsBatch mode input0 writer0 writer status
-RunsScript {File} bytes mode (Some path) input0 input writer0 writer status = (input ≡ input0) × (file : File) × RunsBatch mode (bytes file) writer0 writer status
+-- A script was run: that of the input, or that of an open file, of which nothing is known.
+abbrev pub RunsScript : {File : Type 0} → (File → Option (List ℕ)) → OnRefusal → Option Word → (input writer0 writer : Option (List ℕ)) → ℕ → Type 0
+RunsScript bytes mode None input writer0 writer status = RunsBatch mode input writer0 writer status
+RunsScript {File} bytes mode (Some path) input writer0 writer status = (file : File) × RunsBatch mode (bytes file) writer0 writer status
 
 -- what the words ask for was run
-abbrev pub Runs : {File : Type 0} → (File → Option (List ℕ)) → Invocation → (input0 input writer0 writer : Option (List ℕ)) → ℕ → Type 0
-Runs bytes (script mode file) input0 input writer0 writer status = RunsScript bytes mode file input0 input writer0 writer status
-Runs bytes asked input0 input writer0 writer status = ⊥
+abbrev pub Runs : {File : Type 0} → (File → Option (List ℕ)) → Invocation → (input writer0 writer : Option (List ℕ)) → ℕ → Type 0
+Runs bytes (script mode file) input writer0 writer status = RunsScript bytes mode file input writer0 writer status
+Runs bytes asked input writer0 writer status = ⊥
 
 -- No session was run: the words ask for none, or there was a fault of opening. What the writer had is there alone, unless help was asked for.
 abbrev pub RunsNothing : Invocation → Option (List ℕ) → Option (List ℕ) → ℕ → Type 0
 RunsNothing asked writer0 writer status = (IsStatusOf asked status ⊎ (status ≡ 3)) × (status ≢ 0 → writer ≡ writer0)
+
+-- the input is read for a script from it alone
+abbrev pub LeavesInput : Invocation → Option (List ℕ) → Option (List ℕ) → Type 0
+LeavesInput (script mode None) input0 input = Unit {0}
+LeavesInput asked input0 input = input ≡ input0

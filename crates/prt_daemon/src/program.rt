@@ -5,7 +5,7 @@ ghost use Rattle.prt_daemon.specs.CommandLine.{command_line, force_flag, named_f
 ghost use Rattle.prt_daemon.specs.Faults.{IsFault, FaultOf, IsWordsFault, fault_status};
 ghost use Rattle.prt_daemon.specs.declared.program.Fault.TheVariants.{Opening};
 ghost use Rattle.prt_daemon.specs.Invocation.{arguments, file_of, invocation, script};
-ghost use Rattle.prt_daemon.specs.Program.{Runs, RunsBatch, RunsNothing, exit_status};
+ghost use Rattle.prt_daemon.specs.Program.{LeavesInput, Runs, RunsBatch, RunsNothing, exit_status};
 
 use clap::error::ErrorKind;
 use clap::{Arg, ArgAction, ArgMatches, Command};
@@ -185,7 +185,8 @@ fn run<F: Files, R: Read, W: Write>(
     output: &mut W,
 ) -> Result<u8, Fault>
     ensures run { IfOk result (Runs F.File.remaining (invocation (arguments words.now))
-        (R.remaining input.old) (R.remaining input.new) (W.contents output.old) (W.contents output.new)) }
+        (R.remaining input.old) (W.contents output.old) (W.contents output.new)) }
+    ensures unread { LeavesInput (invocation (arguments words.now)) (R.remaining input.old) (R.remaining input.new) }
     ensures fault { IfErr result (IsFault (invocation (arguments words.now))) }
     ensures unwritten { OnErr result (W.contents output.new ≡ W.contents output.old) }
 {
@@ -238,9 +239,10 @@ pub fn program<F: Files, R: Read, W: Write, E: Write>(
     output: &mut W,
     errors: &mut E,
 ) -> u8
-    ensures { Runs F.File.remaining (invocation (arguments words.now))
-        (R.remaining input.old) (R.remaining input.new) (W.contents output.old) (W.contents output.new) result
+    ensures run { Runs F.File.remaining (invocation (arguments words.now))
+        (R.remaining input.old) (W.contents output.old) (W.contents output.new) result
         ⊎ RunsNothing (invocation (arguments words.now)) (W.contents output.old) (W.contents output.new) result }
+    ensures unread { LeavesInput (invocation (arguments words.now)) (R.remaining input.old) (R.remaining input.new) }
 {
     match run(files, alloc, words, input, output) {
         Ok(status) => status,
