@@ -1,5 +1,5 @@
 -- Which routes a command names, by what it gives: ip-route(8).
-use Rattle.std.specs.Prelude.{Bool, true, false, ◌&&◌, ◌==◌, List, filter, Option, bytes_eq}
+use Rattle.std.specs.Prelude.{ℕ, Bool, true, false, ◌&&◌, ◌||◌, ◌==◌, List, filter, Option, Some, None, bytes_eq}
 use Rattle.prt_addr.specs.Block.{Block}
 use Rattle.prt_addr.specs.Given.{agrees, agrees_there}
 use Rattle.prt_addr.specs.Order.{first_by}
@@ -42,12 +42,17 @@ is_selected selector route =
     && agrees (λ a b. a == b) selector.scope route.scope
     && agrees_there bytes_eq selector.dev route.dev
 
+-- the metric is the one that is given; 0 counts as not given
+abbrev pub takes_metric : Option ℕ → ℕ → Bool
+takes_metric None metric = true
+takes_metric (Some given) metric = given == 0 || given == metric
+
 -- the route is of the table and has the prefix, and agrees with all else that is given
 abbrev pub is_chosen : RouteChoice → Route → Bool
 is_chosen choice route =
     choice.table == route.table
     && is_same_prefix choice.prefix route.prefix
-    && agrees (λ a b. a == b) choice.metric route.metric
+    && takes_metric choice.metric route.metric
     && agrees is_same_kind choice.kind route.kind
     && agrees_there is_same_addr choice.via route.via
     && agrees_there bytes_eq choice.dev route.dev

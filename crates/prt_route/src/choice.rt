@@ -1,6 +1,6 @@
 ghost use Rattle.std.specs.Prelude.{◌≡◌};
 ghost use Rattle.prt_addr.specs.Given.{agrees};
-ghost use Rattle.prt_route.specs.RouteChoice.{in_range, is_chosen, is_same_kind, is_selected};
+ghost use Rattle.prt_route.specs.RouteChoice.{in_range, is_chosen, is_same_kind, is_selected, takes_metric};
 
 use crate::{Addr, Dev, Kind, Prefix, Route};
 use prt_addr::{agrees, agrees_there};
@@ -53,7 +53,7 @@ pub struct RouteChoice {
     /// The number of the table, from 1 on.
     pub table: u32,
     pub prefix: Prefix,
-    /// The metric, where one other than 0 is given.
+    /// The metric; 0 counts as not given.
     pub metric: Option<u32>,
     pub kind: Option<Kind>,
     /// The gateway.
@@ -74,6 +74,16 @@ fn agrees_in_kind(given: &Option<Kind>, kind: &Kind) -> bool
     ensures { result ≡ agrees is_same_kind given.now kind.now }
 {
     agrees(given, kind)
+}
+
+/// Whether the metric is the one that is given; 0 counts as not given.
+fn takes_metric(given: Option<u32>, metric: u32) -> bool
+    ensures { result ≡ takes_metric given metric }
+{
+    match given {
+        Some(given) => given == 0 || given == metric,
+        None => true,
+    }
 }
 
 impl Selector {
@@ -97,7 +107,7 @@ impl RouteChoice {
     {
         self.table == route.table
             && self.prefix == route.prefix
-            && agrees(&self.metric, &route.metric)
+            && takes_metric(self.metric, route.metric)
             && agrees_in_kind(&self.kind, &route.kind)
             && agrees_there(&self.via, &route.via)
             && agrees_there(&self.dev, &route.dev)

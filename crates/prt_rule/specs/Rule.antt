@@ -24,16 +24,6 @@ selects rule packet = contains rule.from packet.src && contains rule.to packet.d
 abbrev pub matches : Rule → Packet → Bool
 matches rule packet = if rule.inverted then not (selects rule packet) else selects rule packet
 
--- all but the id is equal
-pub record IsSame (rule other : Rule) : Type 0 where
-  pub priority : rule.priority ≡ other.priority
-  pub inverted : rule.inverted ≡ other.inverted
-  pub from : rule.from ≡ other.from
-  pub to : rule.to ≡ other.to
-  pub iif : rule.iif ≡ other.iif
-  pub mark : rule.mark ≡ other.mark
-  pub action : rule.action ≡ other.action
-
 -- the rule is asked before the other: by priority, then by id
 abbrev pub is_before : Rule → Rule → Bool
 is_before rule other = nat_lt rule.priority other.priority || (rule.priority == other.priority && nat_lt rule.id other.id)

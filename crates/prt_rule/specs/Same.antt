@@ -1,5 +1,6 @@
 -- Two rules are equal in all but their ids.
-use Rattle.std.specs.Prelude.{Bool, true, false, not, ◌&&◌, ◌==◌, if◌then◌else◌, Option, Some, None, bytes_eq}
+use Rattle.std.specs.Prelude.{Bool, true, false, not, ◌&&◌, ◌==◌, if◌then◌else◌, bytes_eq}
+use Rattle.std.specs.Option.{option_eq}
 use Rattle.prt_addr.specs.Prefix.{is_same_prefix}
 use Rattle.prt_rule.specs.declared.rule.Action.{Action}
 use Rattle.prt_rule.specs.declared.rule.Action.TheVariants.{Lookup, Blackhole, Unreachable, Prohibit}
@@ -8,13 +9,6 @@ use Rattle.prt_rule.specs.declared.rule.Rule.{Rule}
 
 abbrev pub is_same_flag : Bool → Bool → Bool
 is_same_flag a b = if a then b else not b
-
--- both are there and the test says so, or neither is there
-abbrev pub is_same_option : {X : Type 0} → (X → X → Bool) → Option X → Option X → Bool
-is_same_option test None None = true
-is_same_option test None (Some y) = false
-is_same_option test (Some x) None = false
-is_same_option test (Some x) (Some y) = test x y
 
 abbrev pub is_same_mark : Mark → Mark → Bool
 is_same_mark a b = a.mark == b.mark && a.mask == b.mask
@@ -26,8 +20,9 @@ is_same_action Unreachable Unreachable = true
 is_same_action Prohibit Prohibit = true
 is_same_action _ _ = false
 
+-- the same sources, destinations, interface and mark
 abbrev pub is_same_selector : Rule → Rule → Bool
-is_same_selector a b = is_same_prefix a.from b.from && is_same_prefix a.to b.to && is_same_option bytes_eq a.iif b.iif && is_same_option is_same_mark a.mark b.mark
+is_same_selector a b = is_same_prefix a.from b.from && is_same_prefix a.to b.to && option_eq bytes_eq a.iif b.iif && option_eq is_same_mark a.mark b.mark
 
 -- all but the id
 abbrev pub is_same_rule : Rule → Rule → Bool

@@ -1,27 +1,7 @@
-ghost use Rattle.std.specs.Prelude.{◌≡◌, ◌↔◌, IsTrue};
-ghost use Rattle.prt_rule.specs.Rule.{IsInOrder, IsSame, auto_priority, is_before};
+ghost use Rattle.std.specs.Prelude.{◌≡◌};
+ghost use Rattle.prt_rule.specs.Rule.{IsInOrder, auto_priority, is_before};
 
-use crate::{Dev, Rule};
-
-/// Whether the rules are equal in all but their ids.
-pub fn same(rule: &Rule, other: &Rule) -> bool
-    ensures { IsTrue result ↔ IsSame rule.now other.now }
-{
-    rule.priority == other.priority
-        && rule.inverted == other.inverted
-        && rule.from == other.from
-        && rule.to == other.to
-        && same_interface(rule.iif, other.iif)
-        && rule.mark == other.mark
-        && rule.action == other.action
-}
-
-/// Whether the interfaces have the same name, or none is named.
-fn same_interface(iif: Option<Dev>, other: Option<Dev>) -> bool
-    ensures { IsTrue result ↔ iif ≡ other }
-{
-    iif == other
-}
+use crate::Rule;
 
 /// Whether the rule is asked before the other: by priority, and among equal priorities by id.
 pub fn is_before(rule: &Rule, other: &Rule) -> bool

@@ -150,6 +150,13 @@ fn chooses_routes(rt: HostRuntime) {
         ),
         (
             RouteChoice {
+                metric: Some(0),
+                ..any
+            },
+            true,
+        ),
+        (
+            RouteChoice {
                 metric: Some(50),
                 ..any
             },
