@@ -13,7 +13,7 @@ use Rattle.prt_addr.proofs.Orders.{first_is_head, first_more, first_same, insert
 use Rattle.prt_route.specs.Best.{best, is_candidate}
 use Rattle.prt_route.specs.Edit.{after_edit, without_key}
 use Rattle.prt_route.specs.Route.{has_lower_metric, is_better, is_listed_before, is_same_key, key_of}
-use Rattle.prt_route.specs.RouteChoice.{chosen_route, is_chosen, is_same_addr, is_same_kind, is_selected}
+use Rattle.prt_route.specs.RouteChoice.{chosen_route, is_chosen, is_same_addr, is_same_kind, is_selected, takes_metric}
 use Rattle.prt_route.specs.declared.choice.RouteChoice.{RouteChoice}
 use Rattle.prt_route.specs.declared.edit.RouteEdit.{RouteEdit}
 use Rattle.prt_route.specs.declared.edit.RouteEdit.TheVariants.{Put, Remove, Flush}
@@ -67,7 +67,7 @@ first_two false b c d e f g h i all = absurd cc
 -- a choice takes routes of one table and prefix alone
 place_of_taken : (choice : RouteChoice) (route : Route) → is_chosen choice route ≡ true → ((choice.table == route.table) ≡ true) × (is_same_prefix choice.prefix route.prefix ≡ true)
 place_of_taken choice route taken =
-    first_two (choice.table == route.table) (is_same_prefix choice.prefix route.prefix) (agrees (λ a b. a == b) choice.metric route.metric) (agrees is_same_kind choice.kind route.kind) (agrees_there is_same_addr choice.via route.via) (agrees_there bytes_eq choice.dev route.dev) (agrees_there is_same_addr choice.src route.src) (agrees (λ a b. a == b) choice.proto route.proto) (agrees (λ a b. a == b) choice.scope route.scope) taken
+    first_two (choice.table == route.table) (is_same_prefix choice.prefix route.prefix) (takes_metric choice.metric route.metric) (agrees is_same_kind choice.kind route.kind) (agrees_there is_same_addr choice.via route.via) (agrees_there bytes_eq choice.dev route.dev) (agrees_there is_same_addr choice.src route.src) (agrees (λ a b. a == b) choice.proto route.proto) (agrees (λ a b. a == b) choice.scope route.scope) taken
 
 later_metric : (choice : RouteChoice) (route other : Route) → is_chosen choice route ≡ true → is_listed_before route other ≡ true → is_chosen choice other ≡ true → has_lower_metric other route ≡ false
 later_metric choice route other taken first other_taken =
