@@ -1,4 +1,4 @@
--- The block that a word spells, from its first part and what stands behind the separator.
+-- The block that a word spells, from its first part and what stands after the separator.
 use Rattle.std.proofs.Common.{◌≡◌, ℕ, ◌+◌, ◌*◌, Bool, true, false, cond, List, [], ◌∷◌, Option, Some, None, refl, sym, ap, ◌∙◌, arith, length, option_and_then, option_map, nat_le, nat_lt, ◌==◌, ◌||◌, inl, inr}
 use Rattle.std.specs.List.{onto_first, join_with_byte}
 use Rattle.std.proofs.lemmas.Option.{none-some, cond_some}
@@ -14,12 +14,12 @@ use Rattle.prt_addr.specs.declared.addr.Addr.{Addr}
 block_of_parts : (w : Word) → is_one_of w everything_words ≡ false → block w ≡ block_of (parts_at 47 w)
 block_of_parts w named = simp named refl
 
--- with no length behind it an address is not enough
+-- with no length after it an address is not enough
 no_length : (bits len : Word) (o : Option Addr) → decimal_within 2 32 len ≡ None → option_and_then (λ addr. option_map (λ n. block_from (addr, n)) (decimal_within 2 32 len)) o ≡ None
 no_length bits len None bad = refl
 no_length bits len (Some addr) bad = ap (option_map (λ n. block_from (addr, n))) bad
 
--- whatever stands behind the separator, if it is no length
+-- whatever stands after the separator, if it is no length
 bad_rest : (bits len : Word) (parts : List Word) → parts_at 47 len ≡ parts → decimal_within 2 32 len ≡ None → block_of (bits ∷ parts) ≡ None
 bad_rest bits len [] split bad = absurd (omega (arith, ap length split, length-slice_split (λ b. b == 47) len))
 bad_rest bits len (part ∷ []) split bad =
@@ -27,10 +27,10 @@ bad_rest bits len (part ∷ []) split bad =
     ap (λ part. block_of (bits ∷ part ∷ [])) same ∙ no_length bits len (address bits) bad
 bad_rest bits len (part ∷ more ∷ others) split bad = refl
 
--- what stands behind the separator is no length
+-- what stands after the separator is no length
 pub bad_length : (w bits len : Word) (rest : Option Word) → is_one_of w everything_words ≡ false → parts_at 47 w ≡ bits ∷ parts_of_rest 47 rest → rest ≡ Some len → decimal_within 2 32 len ≡ None → block w ≡ None
-bad_length w bits len rest named parts behind bad =
-    block_of_parts w named ∙ ap block_of parts ∙ ap (λ rest. block_of (bits ∷ parts_of_rest 47 rest)) behind ∙ bad_rest bits len (parts_at 47 len) refl bad
+bad_length w bits len rest named parts after bad =
+    block_of_parts w named ∙ ap block_of parts ∙ ap (λ rest. block_of (bits ∷ parts_of_rest 47 rest)) after ∙ bad_rest bits len (parts_at 47 len) refl bad
 
 -- what a number within its limit says
 kept_number : (long unfit : Bool) (number : Option ℕ) (limit n : ℕ) → cond long None (at_most limit (cond unfit None number)) ≡ Some n → number ≡ Some n
@@ -58,9 +58,9 @@ digits_only (b ∷ w) n m e = one_digit_part b w n m (digit_of b) refl (λ n. di
 
 -- an address and a length
 pub both : (w bits len : Word) (rest : Option Word) (addr : Addr) (n : ℕ) → is_one_of w everything_words ≡ false → parts_at 47 w ≡ bits ∷ parts_of_rest 47 rest → rest ≡ Some len → address bits ≡ Some addr → decimal_within 2 32 len ≡ Some n → block w ≡ Some (block_from (addr, n))
-both w bits len rest addr n named parts behind reads number =
+both w bits len rest addr n named parts after reads number =
     let digits = kept_number (nat_lt 2 (length len)) (length len == 0 || has_leading_zero len) (followed_by 0 len) 32 n number in
     let one : parts_at 47 len ≡ len ∷ [] = digits_only len 0 n digits in
-    block_of_parts w named ∙ ap block_of parts ∙ ap (λ rest. block_of (bits ∷ parts_of_rest 47 rest)) behind ∙ ap (λ parts. block_of (bits ∷ parts)) one
+    block_of_parts w named ∙ ap block_of parts ∙ ap (λ rest. block_of (bits ∷ parts_of_rest 47 rest)) after ∙ ap (λ parts. block_of (bits ∷ parts)) one
     ∙ ap (option_and_then (λ addr. option_map (λ n. block_from (addr, n)) (decimal_within 2 32 len))) reads
     ∙ ap (option_map (λ n. block_from (addr, n))) number

@@ -7,7 +7,7 @@ use Rattle.std.proofs.lemmas.Option.{none-some, same_Some}
 use Rattle.prt_addr.specs.Word.{Word}
 use Rattle.prt_addr.specs.Decimal.{digit_of, followed_by, at_most}
 
--- the same behind one digit
+-- the same after one digit
 grows_by : (w : Word) (n m : ℕ) → (digit : Option ℕ) → ((n m : ℕ) → followed_by n w ≡ Some m → n ≤ m) → option_and_then (λ d. followed_by (10 * n + d) w) digit ≡ Some m → n ≤ m
 grows_by w n m None rest e = absurd (none-some m e)
 grows_by w n m (Some d) rest e = omega (arith, rest (10 * n + d) m e)

@@ -24,17 +24,17 @@ pub record IsReadTo (w : Word) (rest : Option Word) (octets : List ℕ) (i : ℕ
 not_kept : (octets : List ℕ) → 4 < length octets → at_most_four (Some octets) ≡ None
 not_kept octets long = let test : nat_le (length octets) 4 ≡ false = grind (arith, long) in simp test refl
 
--- one octet behind four
+-- one octet after four
 left_over : (so_far : List ℕ) (o : ℕ) → length so_far ≡ 4 → (others : Option (List ℕ)) → at_most_four (onto so_far (before o others)) ≡ None
 left_over so_far o four None = refl
 left_over so_far o four (Some others) = not_kept (so_far ++ o ∷ others) (omega (arith, four, length-append so_far (o ∷ others)))
 
--- one part behind four
+-- one part after four
 left_by : (so_far : List ℕ) → length so_far ≡ 4 → (first : Option ℕ) (others : List (Option ℕ)) → at_most_four (onto so_far (all_of (first ∷ others))) ≡ None
 left_by so_far four None others = refl
 left_by so_far four (Some o) others = left_over so_far o four (all_of others)
 
--- one part or more behind four
+-- one part or more after four
 left_parts : (so_far : List ℕ) → length so_far ≡ 4 → (parts : List Word) → 0 < length parts → at_most_four (onto so_far (all_of (map octet parts))) ≡ None
 left_parts so_far four [] some = absurd (omega (arith, some))
 left_parts so_far four (part ∷ parts) some = left_by so_far four (octet part) (map octet parts)

@@ -20,6 +20,6 @@ hex_value w = if length w == 0 then None else followed_by_hex 0 w
 abbrev pub begins_hex : Word → Bool
 begins_hex w = nat_lt 1 (length w) && slice_index w 0 == 48 && (slice_index w 1 == 120 || slice_index w 1 == 88)
 
--- the number up to 2^32 - 1 that a word spells, in hexadecimal digits behind `0x` or `0X` and otherwise in decimal ones
+-- the number up to 2^32 - 1 that a word spells, in hexadecimal digits after `0x` or `0X` and otherwise in decimal ones
 abbrev pub number : Word → Option ℕ
 number w = at_most 4294967295 (if begins_hex w then hex_value (drop 2 w) else decimal_value w)

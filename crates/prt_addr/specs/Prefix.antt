@@ -19,7 +19,7 @@ within block other = contains other (record { 0 = block.bits }) && nat_le other.
 abbrev pub is_same_prefix : Block → Block → Bool
 is_same_prefix a b = a.bits == b.bits && a.len == b.len
 
--- the same bits without those behind the length
+-- the same bits without those after the length
 abbrev pub masked : Block → Block
 masked block = record { bits = block.bits - host_bits block; len = block.len }
 

@@ -27,7 +27,7 @@ pub fn read_addr(word: &[u8]) -> Result<Addr, Refusal>
     parse_addr(word).ok_or(Refusal::BadAddress)
 }
 
-/// The address that a word spells, if it spells one.
+/// Reads an address, where the word spells one.
 pub(crate) fn parse_addr(word: &[u8]) -> Option<Addr>
     ensures { result ≡ address word.now }
 {
@@ -35,7 +35,7 @@ pub(crate) fn parse_addr(word: &[u8]) -> Option<Addr>
     Some(Addr(u32::from_be_bytes(octets)))
 }
 
-/// The octets that one to four decimal parts spell; missing parts are 0.
+/// Reads the octets of one to four decimal parts; missing parts are 0.
 fn read_octets(word: &[u8]) -> Option<[u8; 4]>
     ensures { option_map address_of result ≡ address word.now }
 {

@@ -6,7 +6,7 @@ ghost use Rattle.prt_addr.specs.declared.refusal.Refusal.TheVariants.{BadNumber}
 
 use crate::{Refusal, decimal};
 
-/// Reads a number of 0 to 2^32 - 1, in decimal digits, or in hexadecimal ones of either case behind `0x` or `0X`.
+/// Reads a number of 0 to 2^32 - 1, in decimal digits, or in hexadecimal ones of either case after `0x` or `0X`.
 ///
 /// A decimal number of two digits or more does not begin with 0. Hexadecimal digits may.
 ///
@@ -23,7 +23,7 @@ pub fn read_number(word: &[u8]) -> Result<u32, Refusal>
     number.ok_or(Refusal::BadNumber)
 }
 
-/// The number that one or more hexadecimal digits spell, where it is at most 2^32 - 1.
+/// Reads one or more hexadecimal digits, where their number is at most 2^32 - 1.
 fn read_hex(digits: &[u8]) -> Option<u32>
     ensures { result ≡ at_most 4294967295 (hex_value digits.now) }
 {

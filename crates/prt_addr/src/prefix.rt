@@ -16,7 +16,7 @@ use std::marker::Model;
 
 /// An IPv4 prefix: the addresses that begin with its first `len` bits.
 ///
-/// The bits behind the length, its host bits, are 0.
+/// The bits after the length, its host bits, are 0.
 #[derive(Clone, Copy, Debug, PartialEq, Eq)]
 pub struct Prefix {
     bits: u32,
@@ -33,7 +33,7 @@ impl Model for Prefix {
     ghost inverse = { λ block. record { bits = block.bits; len = block.len } };
 }
 
-/// The bits behind a length of at most 32.
+/// The bits after a length of at most 32.
 fn host_bits(bits: u32, len: u8) -> u32
     requires { len ≤ 32 }
     ensures { result ≡ host_bits (record { bits = bits; len = len }) }
@@ -102,7 +102,7 @@ impl Prefix {
 ///
 /// # Errors
 ///
-/// `BadPrefix` where the word spells no prefix, and otherwise `HostBits` where a bit behind the length is set.
+/// `BadPrefix` where the word spells no prefix, and otherwise `HostBits` where a bit after the length is set.
 pub fn read_prefix(word: &[u8]) -> Result<Prefix, Refusal>
     ensures { result ≡ prefix word.now }
 {
@@ -110,7 +110,7 @@ pub fn read_prefix(word: &[u8]) -> Result<Prefix, Refusal>
     Prefix::new(addr.0, len).ok_or(Refusal::HostBits)
 }
 
-/// Reads a prefix as `read_prefix` does, but clears the bits behind the length.
+/// Reads a prefix as `read_prefix` does, but clears the bits after the length.
 ///
 /// # Errors
 ///
@@ -129,7 +129,7 @@ fn is_everything(word: &[u8]) -> bool
     is(word, "default") || is(word, "all") || is(word, "any")
 }
 
-/// Reads an address and a length of 0 to 32, whatever the bits behind the length.
+/// Reads an address and a length of 0 to 32, whatever the bits after the length.
 fn read_block(word: &[u8]) -> Option<(Addr, u8)>
     ensures value { option_map block_from result ≡ block word.now }
     ensures short { IfSome result (λ x. x.1 ≤ 32) }

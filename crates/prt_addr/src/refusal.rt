@@ -28,7 +28,7 @@ pub enum Refusal {
     UnknownVerb,
     /// The word is not allowed at this place.
     UnknownWord,
-    /// Nothing follows a word behind which something must follow.
+    /// Nothing follows a word that needs something after it.
     MissingValue,
     /// The item is given twice.
     Repeated,
@@ -36,7 +36,7 @@ pub enum Refusal {
     BadAddress,
     /// The word is no prefix.
     BadPrefix,
-    /// The destination of a route has bits behind its length.
+    /// The destination of a route has bits after its length.
     HostBits,
     /// The word is neither a number in range nor a name of the list.
     BadNumber,

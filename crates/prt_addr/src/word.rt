@@ -15,7 +15,7 @@ fn separator_place(word: &[u8], separator: u8) -> Option<usize>
     word.iter().position(|byte| *byte == separator)
 }
 
-/// The part of the word before the first separator and, if there is a separator, what stands after it.
+/// Splits the word at the first separator: the part before it and, where there is one, what stands after it.
 #[tactic(auto, using(crate::proofs::Words::parts_around, crate::proofs::Words::one_part))]
 pub(crate) fn split_first_part(word: &[u8], separator: u8) -> (&[u8], Option<&[u8]>)
     ensures { parts_at separator word.now ≡ result.0.now ∷ parts_of_rest separator (option_map (λ rest. rest.now) result.1) }

@@ -11,7 +11,7 @@ is_barred b = b == 47 || b == 58 || is_white b
 abbrev pub is_name : Word → Bool
 is_name w = nat_le 1 (length w) && nat_le (length w) 15 && not (list_any is_barred w) && not (is_one_of w (codes "." ∷ codes ".." ∷ []))
 
--- the first len bytes are a name, and zeros stand behind them
+-- the first len bytes are a name, and zeros stand after them
 pub record IsPadded (len : ℕ) (bytes : List ℕ) : Type 0 where
   pub whole : length (take len bytes) ≡ len
   pub zeros : take len bytes ++ replicate (15 - length (take len bytes)) 0 ≡ bytes

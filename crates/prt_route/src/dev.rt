@@ -36,7 +36,7 @@ impl Model for Dev {
     ghost inverse_ok = { λ d h i. record { bytes = h.zeros i; len = h.whole i } };
 }
 
-// Not derived: the specs compare the names, and a derived `eq` says how the bytes behind them compare too.
+// Not derived: the specs compare the names, and a derived `eq` also says how the zeros after them compare.
 impl PartialEq for Dev {
     ghost use Rattle.std.specs.Prelude.{bytes_eq};
     ghost use Rattle.std.proofs.Common.{rules};

@@ -56,7 +56,7 @@ const SCOPES: [Named; 5] = [
     ("nowhere", 255),
 ];
 
-/// The name of a number, where it has one.
+/// Looks up the name of a number.
 fn name_in(names: &[Named], wanted: u32) -> Option<&'static str>
     ensures { option_map (λ s. s.now) result ≡ name_in (map (λ row. (row.0.now, row.1)) names.now) wanted }
 {
@@ -68,7 +68,7 @@ fn name_in(names: &[Named], wanted: u32) -> Option<&'static str>
     None
 }
 
-/// The number of a name, where it is one.
+/// Looks up the number of a name.
 fn number_in(names: &[Named], word: &[u8]) -> Option<u32>
     ensures { result ≡ number_in (map (λ row. (row.0.now, row.1)) names.now) word.now }
 {
@@ -101,7 +101,7 @@ pub fn table_name(number: u32) -> Option<&'static str>
     name_in(&TABLES, number)
 }
 
-/// The number that a word spells, by one of these names or in digits.
+/// Reads a number, by one of these names or in digits.
 fn spelled_number(names: &[Named], word: &[u8]) -> Option<u32>
     ensures { result ≡ spelled_number (map (λ row. (row.0.now, row.1)) names.now) word.now }
 {
@@ -111,7 +111,7 @@ fn spelled_number(names: &[Named], word: &[u8]) -> Option<u32>
     }
 }
 
-/// The same up to 255.
+/// Reads a number of at most 255, by one of these names or in digits.
 fn spelled_byte(names: &[Named], word: &[u8]) -> Option<u8>
     ensures { result ≡ spelled_byte (map (λ row. (row.0.now, row.1)) names.now) word.now }
 {

@@ -28,7 +28,7 @@ matches rule packet = if rule.inverted then not (selects rule packet) else selec
 abbrev pub is_before : Rule → Rule → Bool
 is_before rule other = nat_lt rule.priority other.priority || (rule.priority == other.priority && nat_lt rule.id other.id)
 
--- each rule is asked before the one behind it
+-- each rule is asked before the one after it
 abbrev pub IsInOrder : List Rule → Type 0
 IsInOrder [] = Unit {0}
 IsInOrder (rule ∷ []) = Unit {0}
