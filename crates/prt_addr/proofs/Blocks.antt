@@ -47,19 +47,19 @@ not_separator b d is = elim (cases_eq b 47) [
 ]
 
 -- a digit before digits
-one_digit_part : (b : ℕ) (w : Word) (n m : ℕ) (digit : Option ℕ) → digit_of b ≡ digit → ((n : ℕ) → followed_by n w ≡ Some m → parts_at 47 w ≡ w ∷ []) → option_and_then (λ d. followed_by (10 * n + d) w) digit ≡ Some m → parts_at 47 (b ∷ w) ≡ (b ∷ w) ∷ []
+one_digit_part : (b : ℕ) (w : Word) (n m : ℕ) (digit : Option ℕ) → digit_of b ≡ digit → ((n : ℕ) → followed_by 10 digit_of n w ≡ Some m → parts_at 47 w ≡ w ∷ []) → option_and_then (λ d. followed_by 10 digit_of (n * 10 + d) w) digit ≡ Some m → parts_at 47 (b ∷ w) ≡ (b ∷ w) ∷ []
 one_digit_part b w n m None is rest e = absurd (none-some m e)
-one_digit_part b w n m (Some d) is rest e = slice_split-cons_no (λ b. b == 47) b w (not_separator b d is) ∙ ap (onto_first b) (rest (10 * n + d) e)
+one_digit_part b w n m (Some d) is rest e = slice_split-cons_no (λ b. b == 47) b w (not_separator b d is) ∙ ap (onto_first b) (rest (n * 10 + d) e)
 
 -- digits have no separator among them
-digits_only : (w : Word) (n m : ℕ) → followed_by n w ≡ Some m → parts_at 47 w ≡ w ∷ []
+digits_only : (w : Word) (n m : ℕ) → followed_by 10 digit_of n w ≡ Some m → parts_at 47 w ≡ w ∷ []
 digits_only [] n m e = refl
 digits_only (b ∷ w) n m e = one_digit_part b w n m (digit_of b) refl (λ n. digits_only w n m) e
 
 -- an address and a length
 pub both : (w bits len : Word) (rest : Option Word) (addr : Addr) (n : ℕ) → is_one_of w everything_words ≡ false → parts_at 47 w ≡ bits ∷ parts_of_rest 47 rest → rest ≡ Some len → address bits ≡ Some addr → decimal_within 2 32 len ≡ Some n → block w ≡ Some (block_from (addr, n))
 both w bits len rest addr n named parts after reads number =
-    let digits = kept_number (nat_lt 2 (length len)) (length len == 0 || has_leading_zero len) (followed_by 0 len) 32 n number in
+    let digits = kept_number (nat_lt 2 (length len)) (length len == 0 || has_leading_zero len) (followed_by 10 digit_of 0 len) 32 n number in
     let one : parts_at 47 len ≡ len ∷ [] = digits_only len 0 n digits in
     block_of_parts w named ∙ ap block_of parts ∙ ap (λ rest. block_of (bits ∷ parts_of_rest 47 rest)) after ∙ ap (λ parts. block_of (bits ∷ parts)) one
     ∙ ap (option_and_then (λ addr. option_map (λ n. block_from (addr, n)) (decimal_within 2 32 len))) reads

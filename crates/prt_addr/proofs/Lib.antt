@@ -2,6 +2,5 @@ pub mod Words
 pub mod Digits
 pub mod Octets
 pub mod Blocks
-pub mod Hexadecimal
 pub mod Each
 pub mod Orders

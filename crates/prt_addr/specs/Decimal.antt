@@ -6,10 +6,10 @@ use Rattle.prt_addr.specs.Word.{Word, keep}
 abbrev pub digit_of : ℕ → Option ℕ
 digit_of b = if nat_le 48 b && nat_le b 57 then Some (b - 48) else None
 
--- the number n followed by these digits
-abbrev pub followed_by : ℕ → Word → Option ℕ
-followed_by n [] = Some n
-followed_by n (b ∷ bs) = option_and_then (λ digit. followed_by (10 * n + digit) bs) (digit_of b)
+-- the number n followed by these digits of a base
+abbrev pub followed_by : (base : ℕ) → (ℕ → Option ℕ) → ℕ → Word → Option ℕ
+followed_by base value_of n [] = Some n
+followed_by base value_of n (b ∷ bs) = option_and_then (λ digit. followed_by base value_of (n * base + digit) bs) (value_of b)
 
 -- two bytes or more, of which the first is `0`
 abbrev pub has_leading_zero : Word → Bool
@@ -17,7 +17,7 @@ has_leading_zero w = nat_lt 1 (length w) && slice_index w 0 == 48
 
 -- the number that one or more digits spell; two or more don't begin with 0
 abbrev pub decimal_value : Word → Option ℕ
-decimal_value w = if length w == 0 || has_leading_zero w then None else followed_by 0 w
+decimal_value w = if length w == 0 || has_leading_zero w then None else followed_by 10 digit_of 0 w
 
 -- the number, if it is at most the limit
 abbrev pub at_most : ℕ → Option ℕ → Option ℕ

@@ -1,20 +1,15 @@
 -- Numbers in decimal or hexadecimal digits.
-use Rattle.std.specs.Prelude.{ℕ, ◌+◌, ◌-◌, ◌*◌, Bool, ◌&&◌, ◌||◌, ◌==◌, nat_lt, nat_le, if◌then◌else◌, [], ◌∷◌, length, drop, slice_index, Option, Some, None, option_and_then}
+use Rattle.std.specs.Prelude.{ℕ, ◌+◌, ◌-◌, Bool, ◌&&◌, ◌||◌, ◌==◌, nat_lt, nat_le, if◌then◌else◌, length, drop, slice_index, Option, Some, None}
 use Rattle.prt_addr.specs.Word.{Word}
-use Rattle.prt_addr.specs.Decimal.{decimal_value, at_most}
+use Rattle.prt_addr.specs.Decimal.{decimal_value, at_most, followed_by}
 
 -- `0` to `9`, `a` to `f` and `A` to `F`
 abbrev pub hex_digit_of : ℕ → Option ℕ
 hex_digit_of b = if nat_le 48 b && nat_le b 57 then Some (b - 48) else if nat_le 97 b && nat_le b 102 then Some (b - 97 + 10) else if nat_le 65 b && nat_le b 70 then Some (b - 65 + 10) else None
 
--- the number n followed by these hexadecimal digits
-abbrev pub followed_by_hex : ℕ → Word → Option ℕ
-followed_by_hex n [] = Some n
-followed_by_hex n (b ∷ bs) = option_and_then (λ digit. followed_by_hex (16 * n + digit) bs) (hex_digit_of b)
-
 -- the number that one or more hexadecimal digits spell, which may begin with 0
 abbrev pub hex_value : Word → Option ℕ
-hex_value w = if length w == 0 then None else followed_by_hex 0 w
+hex_value w = if length w == 0 then None else followed_by 16 hex_digit_of 0 w
 
 -- the word begins with `0x` or `0X`
 abbrev pub begins_hex : Word → Bool
