@@ -17,7 +17,7 @@ rows-more f rows i row within is =
     ∙ map-append f (take i rows) (get_or rows i row ∷ [])
     ∙ ap (λ x. map f (take i rows) ++ f x ∷ []) (sym is)
 
--- behind the lines of the rows so far, the line of the next row
+-- after the lines of the rows so far, the line of the next row
 pub listed_more : {X : Type 0} (f : X → List ℕ) (rows : List X) (i : ℕ) (row : X) (before old new : List ℕ) → i < length rows → row ≡ get_or rows i row → old ≡ before ++ lines_text (map f (take i rows)) → new ≡ old ++ (f row ++ codes "\n") → new ≡ before ++ lines_text (map f (take (i + 1) rows))
 listed_more f rows i row before old new within is held pushed =
     pushed

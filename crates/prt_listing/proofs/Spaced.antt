@@ -36,7 +36,7 @@ gap-more : (others : List (List ℕ)) (text : List ℕ) → gap (others ++ text 
 gap-more [] text = refl
 gap-more (one ∷ others) text = refl
 
--- a list holds these parts behind what it held, and the gap is the one before a further part
+-- a list holds these parts after what it held, and the gap is the one before a further part
 pub record IsPushed (before after between : List ℕ) (parts : List (Option (List ℕ))) : Type 0 where
   pub items : after ≡ before ++ spaced parts
   pub gap : between ≡ gap (texts parts)

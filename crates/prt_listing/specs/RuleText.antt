@@ -27,7 +27,7 @@ action_text Blackhole = codes "blackhole"
 action_text Unreachable = codes "unreachable"
 action_text Prohibit = codes "prohibit"
 
--- those behind the priority, in the order in which they are shown
+-- those after the priority, in the order in which they are shown
 abbrev pub rule_parts : Rule → List (Option (List ℕ))
 rule_parts rule =
     not_part rule.inverted

@@ -12,7 +12,7 @@ use prt_addr::Refusal;
 use prt_version::{Answer, Verdict};
 use std::alloc::AllocError;
 
-/// The rule of this priority.
+/// Names the rule of this priority.
 fn rule_part(priority: u32) -> Part
     ensures { part_text result ≡ rule_part priority }
 {
@@ -23,7 +23,7 @@ fn rule_part(priority: u32) -> Part
 ///
 /// # Errors
 ///
-/// Memory is refused; a part of the text may stand behind what `out` had.
+/// Memory is refused; a part of the text may stand after what `out` had.
 pub(crate) fn push_answer(out: &mut Vec<u8>, answer: &Answer) -> Result<(), AllocError>
     ensures ok { OnOk result (out.new.items ≡ out.old.items ++ answer_text answer.now) }
     ensures err { OnErr result (Keeps out.old.items out.new.items) }

@@ -22,11 +22,11 @@ pub(crate) enum Value {
 pub(crate) enum Part {
     /// A value by itself.
     Alone(Value),
-    /// A value behind the word that says what it is.
+    /// A value after the word that says what it is.
     Named(&'static str, Value),
 }
 
-/// The name of a number or, where it has none, the number.
+/// Gives the name of a number or, where it has none, the number.
 pub(crate) fn name_or_number(name: Option<&'static str>, number: u32) -> Value
     ensures { value_text result ≡ unwrap_or (option_map (λ s. s.now) name.entry) (decimal number) }
 {
@@ -36,21 +36,21 @@ pub(crate) fn name_or_number(name: Option<&'static str>, number: u32) -> Value
     }
 }
 
-/// The name of a table or, where it has none, its number.
+/// Gives the name of a table or, where it has none, its number.
 pub(crate) fn table_value(table: u32) -> Value
     ensures { value_text result ≡ table_text table }
 {
     name_or_number(table_name(table), table)
 }
 
-/// Whether the prefix holds every address.
+/// Tells whether the prefix holds every address.
 pub(crate) fn is_everything(prefix: &Prefix) -> bool
     ensures { result ≡ is_everything prefix.now }
 {
     prefix.bits() == 0 && prefix.len() == 0
 }
 
-/// The prefix, or this word for that of every address.
+/// Gives the prefix, or this word for that of every address.
 pub(crate) fn prefix_or(word: &'static str, prefix: &Prefix) -> Value
     ensures { value_text result ≡ prefix_or word.now prefix.now }
 {
@@ -61,14 +61,14 @@ pub(crate) fn prefix_or(word: &'static str, prefix: &Prefix) -> Value
     }
 }
 
-/// A word and an address, if there is an address.
+/// Gives a word and an address, if there is an address.
 pub(crate) fn addr_part(word: &'static str, addr: Option<Addr>) -> Option<Part>
     ensures { part_of result ≡ part word.now (option_map addr_text addr) }
 {
     addr.map(|addr| Part::Named(word, Value::Addr(addr)))
 }
 
-/// A word and the name of an interface, if there is one.
+/// Gives a word and the name of an interface, if there is one.
 pub(crate) fn dev_part(word: &'static str, dev: Option<Dev>) -> Option<Part>
     ensures { part_of result ≡ part word.now dev }
 {

@@ -15,7 +15,7 @@ use std::alloc::AllocError;
 ///
 /// # Errors
 ///
-/// Memory is refused; a part of the text may stand behind what `out` had.
+/// Memory is refused; a part of the text may stand after what `out` had.
 pub(crate) fn push_text(out: &mut Vec<u8>, text: &str) -> Result<(), AllocError>
     ensures ok { OnOk result (out.new.items ≡ out.old.items ++ text.now) }
     ensures err { OnErr result (Keeps out.old.items out.new.items) }
@@ -27,7 +27,7 @@ pub(crate) fn push_text(out: &mut Vec<u8>, text: &str) -> Result<(), AllocError>
 ///
 /// # Errors
 ///
-/// Memory is refused; a part of the text may stand behind what `out` had.
+/// Memory is refused; a part of the text may stand after what `out` had.
 pub(crate) fn push_number(out: &mut Vec<u8>, number: u64) -> Result<(), AllocError>
     ensures ok { OnOk result (out.new.items ≡ out.old.items ++ decimal number) }
     ensures err { OnErr result (Keeps out.old.items out.new.items) }
@@ -93,7 +93,7 @@ fn push_part(out: &mut Vec<u8>, part: &Part) -> Result<(), AllocError>
 ///
 /// # Errors
 ///
-/// Memory is refused; a part of the text may stand behind what `out` had.
+/// Memory is refused; a part of the text may stand after what `out` had.
 pub(crate) fn push_parts(out: &mut Vec<u8>, parts: &[Option<Part>]) -> Result<(), AllocError>
     ensures ok { OnOk result (out.new.items ≡ out.old.items ++ spaced (map part_of parts.now)) }
     ensures err { OnErr result (Keeps out.old.items out.new.items) }

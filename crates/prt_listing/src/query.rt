@@ -64,7 +64,7 @@ fn push_routes(out: &mut Vec<u8>, routes: &[Route], table: TablePart) -> Result<
     Ok(())
 }
 
-/// Whether a listing of the selector's routes names their tables.
+/// Tells whether a listing of the selector's routes names their tables.
 fn table_shown(selector: &Selector) -> TablePart
     ensures { result ≡ table_shown selector.now.table }
 {

@@ -31,7 +31,7 @@ pub enum TablePart {
     LeftOut,
 }
 
-/// The kind, but for unicast.
+/// Gives the kind, but for unicast.
 fn kind_part(kind: Kind) -> Option<Part>
     ensures { part_of result ≡ kind_part kind }
 {
@@ -41,7 +41,7 @@ fn kind_part(kind: Kind) -> Option<Part>
     }
 }
 
-/// The table, unless it goes without saying.
+/// Gives the table, unless it goes without saying.
 fn table_part(shown: TablePart, table: u32) -> Option<Part>
     ensures { part_of result ≡ table_part shown table }
 {
@@ -53,7 +53,7 @@ fn table_part(shown: TablePart, table: u32) -> Option<Part>
     }
 }
 
-/// The protocol, unless it goes without saying.
+/// Gives the protocol, unless it goes without saying.
 fn protocol_part(proto: u8) -> Option<Part>
     ensures { part_of result ≡ protocol_part proto }
 {
@@ -64,7 +64,7 @@ fn protocol_part(proto: u8) -> Option<Part>
     Some(Part::Named("proto", value))
 }
 
-/// The scope, unless it goes without saying.
+/// Gives the scope, unless it goes without saying.
 fn scope_part(scope: u8) -> Option<Part>
     ensures { part_of result ≡ scope_part scope }
 {
@@ -75,7 +75,7 @@ fn scope_part(scope: u8) -> Option<Part>
     Some(Part::Named("scope", value))
 }
 
-/// The metric, unless it goes without saying.
+/// Gives the metric, unless it goes without saying.
 fn metric_part(metric: u32) -> Option<Part>
     ensures { part_of result ≡ metric_part metric }
 {
@@ -85,7 +85,7 @@ fn metric_part(metric: u32) -> Option<Part>
     Some(Part::Named("metric", Value::Number(u64::from(metric))))
 }
 
-/// The parts of a route in their order.
+/// Gives the parts of a route in their order.
 fn route_parts(route: &Route, table: TablePart) -> [Option<Part>; 9]
     ensures { map part_of result ≡ route_parts route.now table }
 {
@@ -106,7 +106,7 @@ fn route_parts(route: &Route, table: TablePart) -> [Option<Part>; 9]
 ///
 /// # Errors
 ///
-/// Memory is refused; a part of the text may stand behind what `out` had.
+/// Memory is refused; a part of the text may stand after what `out` had.
 pub(crate) fn push_route(
     out: &mut Vec<u8>,
     route: &Route,

@@ -10,7 +10,7 @@ use prt_addr::{Prefix, Refusal};
 use prt_rule::{Action, Mark, Rule};
 use std::alloc::AllocError;
 
-/// The word of an inverted rule.
+/// Gives the word of an inverted rule.
 fn not_part(inverted: bool) -> Option<Part>
     ensures { part_of result ≡ not_part inverted }
 {
@@ -21,7 +21,7 @@ fn not_part(inverted: bool) -> Option<Part>
     }
 }
 
-/// The destinations, unless they are all.
+/// Gives the destinations, unless they are all.
 fn to_part(to: &Prefix) -> Option<Part>
     ensures { part_of result ≡ to_part to.now }
 {
@@ -32,14 +32,14 @@ fn to_part(to: &Prefix) -> Option<Part>
     }
 }
 
-/// The mark, if one is given.
+/// Gives the mark, if there is one.
 fn mark_part(mark: Option<Mark>) -> Option<Part>
     ensures { part_of result ≡ mark_part mark }
 {
     mark.map(|mark| Part::Named("fwmark", Value::Mark(mark)))
 }
 
-/// What an action does.
+/// Says what an action does.
 pub(crate) fn action_part(action: Action) -> Part
     ensures { part_text result ≡ action_text action }
 {
@@ -51,7 +51,7 @@ pub(crate) fn action_part(action: Action) -> Part
     }
 }
 
-/// The parts of a rule behind its priority, in their order.
+/// Gives the parts of a rule after its priority, in their order.
 fn rule_parts(rule: &Rule) -> [Option<Part>; 6]
     ensures { map part_of result ≡ rule_parts rule.now }
 {
@@ -69,7 +69,7 @@ fn rule_parts(rule: &Rule) -> [Option<Part>; 6]
 ///
 /// # Errors
 ///
-/// Memory is refused; a part of the text may stand behind what `out` had.
+/// Memory is refused; a part of the text may stand after what `out` had.
 pub(crate) fn push_rule(out: &mut Vec<u8>, rule: &Rule) -> Result<(), AllocError>
     ensures ok { OnOk result (out.new.items ≡ out.old.items ++ rule_text rule.now) }
     ensures err { OnErr result (Keeps out.old.items out.new.items) }

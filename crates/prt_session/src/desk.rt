@@ -15,7 +15,11 @@ pub trait Desk {
     /// What may befall a request.
     ghost may: { Mishap → Type 0 };
 
-    /// Checks, stores and publishes a command; the number of commands ever accepted.
+    /// Checks, stores and publishes a command; gives the number of commands ever accepted.
+    ///
+    /// # Errors
+    ///
+    /// Why the command is refused; after a failed commit or publication the desk is closed, and else as it was.
     fn command(&mut self, command: &Command) -> Result<u64, Refusal>
         ensures turn { Explained stands self.old self.new (λ before after. CommandGives may before command.now result after) }
         ensures left { Stands stands self.old → Stands stands self.new };

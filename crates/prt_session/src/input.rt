@@ -26,13 +26,13 @@ pub(crate) fn next_byte<R: Read>(reader: &mut R) -> ByteRead
 /// Where the reading of a line stopped.
 #[derive(Clone, Copy)]
 pub(crate) enum Stop {
-    /// Behind the newline.
+    /// After the newline.
     Newline,
     /// At the end of the input.
     End,
     /// Where the reader failed.
     Fault,
-    /// Behind the first byte too many of a line without a newline.
+    /// After the first byte too many of a line without a newline.
     Endless,
 }
 
@@ -48,7 +48,7 @@ pub(crate) fn next_line<R: Read>(reader: &mut R, line: &mut ArrayVec<u8, LONGEST
     ensures { LineIs (R.remaining reader.old) (R.remaining reader.new) line.new.items result }
 {
     line.clear();
-    // Byte by byte, since nothing behind the newline may be taken from the reader.
+    // Byte by byte, since nothing after the newline may be taken from the reader.
     for length in 0..LONGEST_UNENDED + 1 {
         let stop = match next_byte(reader) {
             ByteRead::Byte(b'\n') => Stop::Newline,

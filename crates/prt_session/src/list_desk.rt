@@ -29,7 +29,7 @@ impl Model for ListDesk {
 }
 
 impl ListDesk {
-    /// A desk over the opening rules and no routes, which has accepted no command.
+    /// Makes a desk over the opening rules and no routes, which has accepted no command.
     ///
     /// # Errors
     ///

@@ -24,14 +24,14 @@ impl Model for Text {
 }
 
 impl Text {
-    /// The text of these bytes.
+    /// Makes a text of these bytes.
     pub fn new(bytes: Vec<u8>) -> Text
         ensures { result ≡ bytes.items }
     {
         Text { bytes }
     }
 
-    /// Its bytes.
+    /// Gives its bytes.
     pub fn as_slice(&self) -> &[u8]
         ensures { result.now ≡ self.now }
     {
@@ -52,7 +52,7 @@ pub enum Reply {
     Refused(Refusal),
 }
 
-/// `ok N`, and a newline.
+/// Makes the line `ok N`.
 fn accepted_line(number: u64) -> ArrayString<32>
     ensures { result.bytes ≡ codes "ok " ++ decimal number ++ codes "\n" }
 {
@@ -64,7 +64,7 @@ fn accepted_line(number: u64) -> ArrayString<32>
     line
 }
 
-/// `error C NAME`, and a newline.
+/// Makes the line `error C NAME`.
 #[tactic(auto, using(crate::proofs::RefusalText::code_short, crate::proofs::RefusalText::name_short))]
 fn refused_line(refusal: Refusal) -> ArrayString<32>
     ensures { result.bytes ≡ refusal_text refusal ++ codes "\n" }
@@ -79,7 +79,7 @@ fn refused_line(refusal: Refusal) -> ArrayString<32>
     line
 }
 
-/// Writes these bytes and flushes; whether all of it went well.
+/// Writes these bytes and flushes; tells whether all of it went well.
 fn write_bytes<W: Write>(writer: &mut W, bytes: &[u8]) -> bool
     ensures { Written result (W.contents writer.old) (W.contents writer.new) bytes.now }
 {
@@ -94,7 +94,7 @@ fn write_bytes<W: Write>(writer: &mut W, bytes: &[u8]) -> bool
     writer.flush().is_ok()
 }
 
-/// Writes a reply; whether all of it went well.
+/// Writes a reply; tells whether all of it went well.
 pub(crate) fn write_reply<W: Write>(writer: &mut W, reply: &Reply) -> bool
     ensures written { Written result (W.contents writer.old) (W.contents writer.new) (reply_text reply.now) }
     ensures told { result ≡ false → reply.now ≢ Reply.Silent }

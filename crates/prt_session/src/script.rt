@@ -37,7 +37,7 @@ impl ScriptEnd {
         fault: None,
     };
 
-    /// With one more reply.
+    /// Takes in one more reply.
     pub(crate) fn with_reply(self, reply: &Reply) -> ScriptEnd
         ensures refused { result.refused ≡ refused_after self.refused reply.now }
         ensures fault { result.fault ≡ fault_after self.fault reply.now }
@@ -60,7 +60,7 @@ impl ScriptEnd {
         }
     }
 
-    /// With a fault of the writer.
+    /// Takes in a fault of the writer.
     pub(crate) fn with_write_fault(self) -> ScriptEnd
         ensures refused { result.refused ≡ self.refused }
         ensures fault { result.fault ≡ Some Refusal.WriteFault }

@@ -64,7 +64,7 @@ fn reply_to<C, E: Executor<C>>(context: &C, executor: &mut E, read: LineRead, li
     }
 }
 
-/// Whether the input ended where a line would begin.
+/// Tells whether the input ended where a line would begin.
 fn is_no_line(read: LineRead) -> bool
     ensures { result ≡ is_nothing read }
 {
@@ -74,7 +74,7 @@ fn is_no_line(read: LineRead) -> bool
     }
 }
 
-/// Whether the session ends with this reply to a line that has its newline.
+/// Tells whether the session ends with this reply to a line that has its newline.
 #[tactic(auto, unfolding(crate::specs::Session::stops_after))]
 fn is_stopping(mode: OnRefusal, reply: &Reply) -> bool
     ensures { result ≡ stops_after mode reply.now }
@@ -85,7 +85,7 @@ fn is_stopping(mode: OnRefusal, reply: &Reply) -> bool
     }
 }
 
-/// Whether nothing is read after this reply.
+/// Tells whether nothing is read after this reply.
 fn is_last(mode: OnRefusal, read: LineRead, reply: &Reply) -> bool
     ensures { result ≡ ends_after mode read.stop reply.now }
 {
