@@ -6,6 +6,7 @@ pub use Rattle.prt_addr.specs.Addr
 pub use Rattle.prt_addr.specs.Block
 pub use Rattle.prt_addr.specs.Decimal
 pub use Rattle.prt_addr.specs.Given
+pub use Rattle.prt_addr.specs.Order
 pub use Rattle.prt_addr.specs.Prefix
 pub use Rattle.prt_addr.specs.Refusal
 pub use Rattle.prt_addr.specs.Word

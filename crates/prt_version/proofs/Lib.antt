@@ -1,5 +1,4 @@
 pub mod Places
 pub mod RuleOrder
 pub mod Rules
-pub mod Sameness
 pub mod Successor

@@ -1,5 +1,5 @@
 -- Rules in the order in which they are asked.
-use Rattle.std.proofs.Common.{◌≡◌, ◌<◌, true, false, List, [], ◌∷◌, ◌∙◌, arith}
+use Rattle.std.proofs.Common.{◌≡◌, ◌<◌, true, false, List, ◌∙◌, arith}
 use Rattle.std.specs.Cmp.{IsStrictWeakOrder}
 use Rattle.std.specs.Prelude.{◌==◌}
 use Rattle.std.specs.List.{AllByRecursion as Each, IsDistinct}
@@ -7,20 +7,14 @@ use Rattle.std.proofs.lemmas.Bool.Decides.{nat_tests}
 use Rattle.prt_addr.specs.Order.{insert_by, IsRising}
 use Rattle.prt_addr.proofs.Each.{each_fails, each_implies}
 use Rattle.prt_addr.proofs.Orders.{distinct_inserted, inserted_rises}
-use Rattle.prt_rule.specs.Rule.{IsInOrder, is_before}
+use Rattle.prt_rule.specs.Rule.{is_before}
 use Rattle.prt_rule.specs.Same.{is_same_rule}
 use Rattle.prt_rule.specs.declared.rule.Rule.{Rule}
 use Rattle.prt_version.specs.Change.{has_rule}
-use Rattle.prt_version.proofs.Sameness.{same_both_ways}
+use Rattle.prt_rule.proofs.SameRules.{same_both_ways}
 
 pub rule_order : IsStrictWeakOrder is_before
 rule_order = record { one_way = λ a b first. grind (arith, nat_tests); chain = λ a b c first second. grind (arith, nat_tests) }
-
--- each before all those after it is each before the next one
-pub in_order : (rules : List Rule) → IsRising is_before rules → IsInOrder rules
-in_order [] rises = tt
-in_order (rule ∷ []) rises = tt
-in_order (rule ∷ next ∷ rules) rises = (rises.0.0, in_order (next ∷ rules) rises.1)
 
 -- of two rules the one with the lower id, unless the other is before it
 other_way : (new rule : Rule) → rule.id < new.id → is_before new rule ≡ false → is_before rule new ≡ true

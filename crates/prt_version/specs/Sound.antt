@@ -3,7 +3,7 @@ use Rattle.std.specs.Prelude.{◌+◌, ◌≤◌, ◌==◌, length}
 use Rattle.std.specs.List.{AllByRecursion as Each, IsDistinct}
 use Rattle.prt_addr.specs.Order.{IsRising}
 use Rattle.prt_route.specs.Route.{is_listed_before}
-use Rattle.prt_rule.specs.Rule.{is_before}
+use Rattle.prt_rule.specs.Rule.{IsInOrder}
 use Rattle.prt_rule.specs.Same.{is_same_rule}
 use Rattle.prt_version.specs.State.{State}
 use Rattle.prt_version.specs.declared.limits.TheConstants.{MOST_COMMANDS, MOST_ROUTES, MOST_RULES}
@@ -12,7 +12,7 @@ pub record IsSound (state : State) : Type 0 where
   -- no more commands were accepted than ever are
   pub count_fits : state.count ≤ MOST_COMMANDS
   -- the rules rise by priority, then by id: each is asked before those after it
-  pub rules_rise : IsRising is_before state.rules
+  pub rules_rise : IsInOrder state.rules
   -- each rule's id is 1 or more: a new database's three rules have 1 to 3
   pub ids_from_one : Each (λ rule. 1 ≤ rule.id) state.rules
   -- each rule's id is count + 3 or less: a rule that command n put has n + 3

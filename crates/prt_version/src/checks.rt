@@ -4,7 +4,6 @@ ghost use Rattle.prt_addr.specs.Order.{IsRising};
 ghost use Rattle.prt_route.specs.Edit.{has_key};
 ghost use Rattle.prt_route.specs.Route.{is_listed_before};
 ghost use Rattle.prt_route.specs.RouteChoice.{chosen_route, is_chosen};
-ghost use Rattle.prt_rule.specs.Same.{is_same_rule};
 ghost use Rattle.prt_version.specs.Change.{change_of, has_rule, if_room, named_rule};
 
 use crate::{Change, Command, MOST_ROUTES, MOST_RULES, NewRule, Refusal, Route, Rule, Version};
@@ -18,18 +17,11 @@ fn has_key(routes: &[Route], key: RouteKey) -> bool
     routes.iter().any(|route| route.key() == key)
 }
 
-/// Whether the rules are equal in all but their ids.
-fn is_same_rule(rule: &Rule, other: &Rule) -> bool
-    ensures { result ≡ is_same_rule rule.now other.now }
-{
-    same(rule, other)
-}
-
 /// Whether one of the rules is equal to this one in all but the id.
 fn has_rule(rules: &[Rule], new: &Rule) -> bool
     ensures { result ≡ has_rule new.now rules.now }
 {
-    rules.iter().any(|rule| is_same_rule(rule, new))
+    rules.iter().any(|rule| same(rule, new))
 }
 
 /// The first route that the choice takes.

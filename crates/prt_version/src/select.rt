@@ -1,8 +1,8 @@
 ghost use Rattle.std.specs.Prelude.{◌≡◌, option_map};
-ghost use Rattle.prt_addr.specs.Order.{IsRising, leader};
+ghost use Rattle.prt_addr.specs.Order.{leader};
 ghost use Rattle.prt_route.specs.Best.{best, is_candidate};
 ghost use Rattle.prt_route.specs.Route.{is_better};
-ghost use Rattle.prt_rule.specs.Rule.{is_before};
+ghost use Rattle.prt_rule.specs.Rule.{IsInOrder};
 ghost use Rattle.prt_version.specs.Select.{decision, table_lookup, verdict_of};
 ghost use Rattle.prt_version.specs.Steps.{first_verdict};
 
@@ -82,7 +82,7 @@ fn first_verdict(rules: &[Rule], routes: &[Route], packet: &Packet) -> Verdict
 
 /// What the rules, in the order in which they are asked, make of a packet.
 pub(crate) fn verdict_of(rules: &[Rule], routes: &[Route], packet: &Packet) -> Verdict
-    requires { IsRising is_before rules.now }
+    requires { IsInOrder rules.now }
     ensures { result ≡ verdict_of rules.now routes.now packet.now }
 {
     first_verdict(rules, routes, packet)

@@ -88,7 +88,6 @@ impl Version {
     }
 
     /// The rules, in the order in which they are asked.
-    #[tactic(auto, using(crate::proofs::RuleOrder::in_order))]
     pub fn rules(&self) -> &[Rule]
         ensures value { result.now ≡ self.now.rules }
         ensures order { IsInOrder result.now }
@@ -120,7 +119,6 @@ impl Version {
     }
 
     /// The rule with its id, and the priority that is given or the automatic one.
-    #[tactic(auto, using(crate::proofs::RuleOrder::in_order))]
     pub(crate) fn rule_of(&self, new: &NewRule) -> Rule
         ensures { result ≡ rule_of self.now new.now }
     {
