@@ -9,7 +9,7 @@ use prt_route::{Addr, Dev, Kind, Prefix, Range};
 use prt_rule::{Action, Mark};
 
 /// Which item of a line it is.
-#[derive(Clone, Copy, Debug, PartialEq, Eq)]
+#[derive(Clone, Copy)]
 pub enum Slot {
     /// The kind and the destinations of a route.
     Destination,
@@ -56,7 +56,7 @@ pub enum Slot {
 }
 
 /// An item of a line, with its value; what each says stands at [`Slot`].
-#[derive(Clone, Copy, Debug, PartialEq, Eq)]
+#[derive(Clone, Copy)]
 pub enum Item {
     Destination(Target),
     Via(Addr),
@@ -82,7 +82,7 @@ pub enum Item {
 }
 
 /// What an item word begins.
-#[derive(Clone, Copy, Debug, PartialEq, Eq)]
+#[derive(Clone, Copy)]
 pub enum ItemWord {
     /// An item whose value is the next word.
     Keyword(Slot),
@@ -91,7 +91,7 @@ pub enum ItemWord {
 }
 
 /// A word that may stand before the prefix of an item.
-#[derive(Clone, Copy, Debug, PartialEq, Eq)]
+#[derive(Clone, Copy)]
 pub enum PrefixWord {
     /// The kind of a route, before its destination.
     Kind(Kind),
@@ -193,7 +193,7 @@ fn range_word(word: &[u8]) -> Option<PrefixWord>
 }
 
 /// The tables that a listing or a flush is about.
-#[derive(Clone, Copy, Debug, PartialEq, Eq)]
+#[derive(Clone, Copy)]
 pub enum WhichTables {
     /// The one with this number.
     One(u32),
@@ -201,7 +201,7 @@ pub enum WhichTables {
 }
 
 /// The destination of a line on routes.
-#[derive(Clone, Copy, Debug, PartialEq, Eq)]
+#[derive(Clone, Copy)]
 pub struct Target {
     /// The kind of the route, where one is named.
     pub kind: Option<Kind>,
@@ -209,7 +209,7 @@ pub struct Target {
 }
 
 /// The items that a line has given, each at most once; what each says stands at [`Slot`].
-#[derive(Clone, Copy, Debug, PartialEq, Eq)]
+#[derive(Clone, Copy)]
 pub struct Items {
     pub destination: Option<Target>,
     pub via: Option<Addr>,

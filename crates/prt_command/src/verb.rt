@@ -8,14 +8,14 @@ use crate::{Item, ItemWord, Slot};
 use prt_rule::Action;
 
 /// What a line speaks of.
-#[derive(Clone, Copy, Debug, PartialEq, Eq)]
+#[derive(Clone, Copy)]
 pub enum Object {
     Route,
     Rule,
 }
 
 /// What a line does with its object.
-#[derive(Clone, Copy, Debug, PartialEq, Eq)]
+#[derive(Clone, Copy)]
 pub enum ObjectVerb {
     RouteAdd,
     RouteChange,
