@@ -66,10 +66,7 @@ fn read_text(text: &[u8]) -> Result<Option<Request>, Refusal>
 {
     match next_word(text) {
         None => Ok(None),
-        Some((word, rest)) => match read_words(word, rest) {
-            Ok(request) => Ok(Some(request)),
-            Err(refusal) => Err(refusal),
-        },
+        Some((word, rest)) => Ok(Some(read_words(word, rest)?)),
     }
 }
 

@@ -90,7 +90,11 @@ fn read_plain<'a>(
 }
 
 /// Reads the item that a word begins, and adds it: the text after it.
-fn read_begun<'a>(items: &mut Items, item: ItemWord, rest: &'a [u8]) -> Result<&'a [u8], Refusal>
+fn read_word_item<'a>(
+    items: &mut Items,
+    item: ItemWord,
+    rest: &'a [u8],
+) -> Result<&'a [u8], Refusal>
     ensures items { IfOk result (λ after. (line : LineKind) → and_items line items.old (word_item item items.old (words rest.now)) (words rest.now) ≡ items_of line items.new (words after.now)) }
     ensures shorter { IfOk result (λ after. length after.now ≤ length rest.now) }
     ensures fault { IfErr result (λ e. word_item item items.old (words rest.now) ≡ Err e) }
@@ -117,7 +121,7 @@ fn read_item<'a>(
     ensures fault { IfErr result (λ e. items_of (line_of verb) items.old (word.now ∷ words rest.now) ≡ Err e) }
 {
     match verb.item_word(word) {
-        Some(item) => read_begun(items, item, rest),
+        Some(item) => read_word_item(items, item, rest),
         None => match verb.plain_slot() {
             Some(slot) => read_plain(items, slot, word, rest),
             None => Err(Refusal::UnknownWord),

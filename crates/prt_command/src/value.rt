@@ -26,11 +26,9 @@ fn kind_before(before: Option<PrefixWord>) -> Option<Kind>
 fn read_target(before: Option<PrefixWord>, word: &[u8]) -> Result<Target, Refusal>
     ensures { result ≡ target before word.now }
 {
+    let prefix = read_prefix(word)?;
     let kind = kind_before(before);
-    match read_prefix(word) {
-        Ok(prefix) => Ok(Target { kind, prefix }),
-        Err(refusal) => Err(refusal),
-    }
+    Ok(Target { kind, prefix })
 }
 
 /// Reads the prefix of a range, after the word that stands before it.
@@ -52,8 +50,7 @@ fn read_tables(word: &[u8]) -> Result<WhichTables, Refusal>
     if is(word, b"all") {
         return Ok(WhichTables::All);
     }
-    let table = read_table(word)?;
-    Ok(WhichTables::One(table))
+    Ok(WhichTables::One(read_table(word)?))
 }
 
 /// Reads a kind, after the word `type`.
@@ -67,10 +64,7 @@ fn read_kind(word: &[u8]) -> Result<Kind, Refusal>
 fn read_lookup(word: &[u8]) -> Result<Action, Refusal>
     ensures { result ≡ lookup word.now }
 {
-    match read_table(word) {
-        Ok(table) => Ok(Action::Lookup(table)),
-        Err(refusal) => Err(refusal),
-    }
+    Ok(Action::Lookup(read_table(word)?))
 }
 
 /// Reads a word as the value of an item, after the word that stands before its prefix.

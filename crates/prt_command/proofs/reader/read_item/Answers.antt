@@ -8,7 +8,7 @@ pub returns-in-Some-clause-items : goal.returns-in-Some-clause-items
 returns-in-Some-clause-items c =
     let line = line_of c.args.verb in
     let begun = items_of_word line c.args.items.now c.args.word.now (words c.args.rest.now) c.in-Some.item (sym c.in-Some.ensures) in
-    IfOk-weaker c.read_begun.result _ _ (λ after h. begun ∙ h line) c.read_begun.ensures.items
+    IfOk-weaker c.read_word_item.result _ _ (λ after h. begun ∙ h line) c.read_word_item.ensures.items
 
 pub returns-in-Some-plain_slot-clause-items : goal.returns-in-Some-plain_slot-clause-items
 returns-in-Some-plain_slot-clause-items c =
