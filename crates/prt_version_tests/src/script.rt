@@ -17,10 +17,10 @@ pub fn next_version(version: &Version, line: &str) -> Result<Version, Refusal> {
     }
 }
 
-/// The version of a new database after the commands of these lines.
-pub fn version_after(alloc: Global, lines: &[&str]) -> Result<Version, Refusal> {
+/// The version of a new database after the commands of a script's lines.
+pub fn version_after(alloc: Global, script: &str) -> Result<Version, Refusal> {
     let mut version = Version::opening(alloc)?;
-    for line in lines {
+    for line in script.lines() {
         version = next_version(&version, line)?;
     }
     Ok(version)
