@@ -1,5 +1,5 @@
 -- What the words after the program's name ask for: `batch [--force] [FILE]`, or help.
--- Options and operands are told apart as POSIX.1 does (Base Definitions, section 12.2, guidelines 4, 10 and 13).
+-- Options and operands are told apart as POSIX.1 does (Base Definitions, section 12.2, guidelines 4, 10 and 13), but options may follow operands.
 use Rattle.std.specs.Prelude.{ℕ, ◌==◌, ◌&&◌, ◌||◌, Bool, true, false, not, List, [], ◌∷◌, ◌++◌, Option, Some, None, is_some, if◌then◌else◌, filter, map, drop, codes, slice_get, chars, bytes_eq, String, string_bytes}
 use Rattle.std.specs.List.{list_any, before_first, after_first}
 use Rattle.std.specs.Option.{option_map_or}
@@ -22,6 +22,7 @@ abbrev pub option_letter : Word → Option ℕ
 option_letter [] = None
 option_letter (byte ∷ rest) = if byte == 45 then slice_get (chars rest) 0 else None
 
+-- a hyphen and more: `-` alone is an operand
 abbrev pub is_option : Word → Bool
 is_option word = is_some (option_letter word)
 
@@ -39,11 +40,13 @@ operands words = filter (λ word. not (is_option word)) (before_first is_delimit
 abbrev pub file_of : Word → Option Word
 file_of word = if bytes_eq word (codes "-") then None else Some word
 
+-- at most one operand
 abbrev pub script_over : OnRefusal → List Word → Invocation
 script_over mode [] = script mode None
 script_over mode (word ∷ []) = script mode (file_of word)
 script_over mode _ = usage_error
 
+-- no option, or `--force` once
 abbrev pub script_by : List Word → List Word → Invocation
 script_by [] files = script_over Stop files
 script_by (option ∷ []) files = if bytes_eq option (codes "--force") then script_over GoOn files else usage_error
@@ -60,7 +63,7 @@ is_script _ = false
 abbrev pub is_help : Word → Bool
 is_help word = bytes_eq word (codes "--help") || option_map_or (λ letter. letter == 104) (option_letter word) false
 
--- an option asks for help, and the words before it are right
+-- an option asks for help, and the words before it alone would run a script
 abbrev pub asks_for_help : List Word → Bool
 asks_for_help words = list_any is_help (before_first is_delimiter words) && is_script (script_of (before_first is_help words))
 

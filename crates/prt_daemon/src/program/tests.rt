@@ -1,14 +1,35 @@
 use super::program;
-use std::alloc::{AllocError, Global};
+use std::alloc::AllocError;
 use std::io;
 use std::io::Read;
 use std::test::Fail;
 
-fn words_of(alloc: Global, words: &[&str]) -> Result<Vec<String>, AllocError> {
-    words
+/// The exit status of the program, and what it wrote.
+#[derive(Drop)]
+struct Ending {
+    status: u8,
+    output: Vec<u8>,
+    errors: Vec<u8>,
+}
+
+fn ending_of<R: Read>(
+    rt: &HostRuntime,
+    words: &[&str],
+    input: &mut R,
+) -> Result<Ending, AllocError> {
+    let alloc = rt.alloc();
+    let words: Vec<String> = words
         .iter()
         .map(|word| String::from_str(alloc, word))
-        .try_collect(alloc)
+        .try_collect(alloc)?;
+    let mut output = Vec::new(alloc);
+    let mut errors = Vec::new(alloc);
+    let status = program(rt, alloc, words.as_slice(), input, &mut output, &mut errors);
+    Ok(Ending {
+        status,
+        output,
+        errors,
+    })
 }
 
 /// A reader of `rule show` without its newline that fails once after it, and then ends.
@@ -38,44 +59,22 @@ impl Read for Reset {
 
 #[test]
 fn stream_faults(rt: HostRuntime) -> Result<(), Fail> {
-    let alloc = rt.alloc();
-    let words = words_of(alloc, &["prt", "batch", "--force"])?;
     let mut input = Reset {
         rest: b"rule show",
         is_due: true,
     };
-    let mut output = Vec::new(alloc);
-    let mut errors = Vec::new(alloc);
-    let status = program(
-        &rt,
-        alloc,
-        words.as_slice(),
-        &mut input,
-        &mut output,
-        &mut errors,
-    );
-    assert!(rt; output.as_slice() == b"error 32 ReadFault\n".as_slice());
-    assert!(rt; errors.is_empty());
-    assert_eq!(rt; status, 3);
+    let ending = ending_of(&rt, &["prt", "batch", "--force"], &mut input)?;
+    assert!(rt; ending.output.as_slice() == b"error 32 ReadFault\n".as_slice());
+    assert!(rt; ending.errors.is_empty());
+    assert_eq!(rt; ending.status, 3);
     Ok(())
 }
 
 #[test]
 fn helps_on_a_command(rt: HostRuntime) -> Result<(), Fail> {
-    let alloc = rt.alloc();
-    let words = words_of(alloc, &["prt", "help", "batch"])?;
-    let mut input: &[u8] = b"route get 1\n";
-    let mut output = Vec::new(alloc);
-    let mut errors = Vec::new(alloc);
-    let status = program(
-        &rt,
-        alloc,
-        words.as_slice(),
-        &mut input,
-        &mut output,
-        &mut errors,
-    );
-    assert!(rt; output.starts_with(b"Runs a script".as_slice()) && errors.is_empty());
-    assert_eq!(rt; status, 0);
+    let mut input: &[u8] = b"";
+    let ending = ending_of(&rt, &["prt", "help", "batch"], &mut input)?;
+    assert!(rt; ending.output.starts_with(b"Runs a script".as_slice()));
+    assert!(rt; ending.status == 0 && ending.errors.is_empty());
     Ok(())
 }
