@@ -3,7 +3,7 @@
 
 mod program;
 
-pub use program::{Fault, program, report};
+pub use program::{Fault, program, report, words_fault};
 pub use prt_session::{
     Desk, LONGEST_UNENDED, ListDesk, MOST_LINES, OnRefusal, Refusal, ScriptEnd, run_script,
 };
@@ -23,8 +23,8 @@ fn main(rt: HostRuntime) -> ExitCode {
             &mut rt.stdout(),
             &mut rt.stderr(),
         ),
-        Err(_) => report(
-            &Fault::Opening(Refusal::NoMemory),
+        Err(error) => report(
+            &words_fault(alloc, &error),
             &mut rt.stdout(),
             &mut rt.stderr(),
         ),

@@ -1,10 +1,10 @@
 ghost use Rattle.std.specs.Prelude.{◌≡◌, ◌≢◌, ◌⊎◌, IfErr, IfOk, OnErr, Some, codes, option_and_then, option_map};
-ghost use Rattle.clap.specs.Words.{app_of, subcommand_rows_of};
+ghost use Rattle.clap.specs.Words.{app_of, kind_of, subcommand_rows_of};
 ghost use Rattle.prt_addr.specs.declared.refusal.Refusal.TheVariants.{NoMemory};
 ghost use Rattle.prt_daemon.specs.CommandLine.{command_line, force_flag, named_file};
 ghost use Rattle.prt_daemon.specs.Faults.{IsFault, FaultOf, IsWordsFault, fault_status};
 ghost use Rattle.prt_daemon.specs.declared.program.Fault.TheVariants.{Opening};
-ghost use Rattle.prt_daemon.specs.Invocation.{arguments, file_of, invocation, script};
+ghost use Rattle.prt_daemon.specs.Invocation.{arguments, file_of, invocation, script, usage_error};
 ghost use Rattle.prt_daemon.specs.Program.{LeavesInput, Runs, RunsBatch, RunsNothing, exit_status};
 
 use clap::error::ErrorKind;
@@ -12,7 +12,7 @@ use clap::{Arg, ArgAction, ArgMatches, Command};
 use prt_session::{ListDesk, OnRefusal, Refusal, ScriptEnd};
 use std::alloc::{AllocError, Global};
 use std::fs::{self, Files};
-use std::io::{BufReader, Read, Write};
+use std::io::{self, BufReader, Read, Write};
 use thiserror::Error;
 
 /// The exit status where no line was refused, and after help.
@@ -29,6 +29,9 @@ const FAULT: u8 = 3;
 
 /// The word for standard input in the place of a file.
 const STANDARD_INPUT: &str = "-";
+
+/// Says of a word that it is no text.
+const NOT_TEXT: &str = "invalid UTF-8 was detected in one or more arguments";
 
 /// Why the program runs no session.
 #[derive(Debug, Drop, Error)]
@@ -97,6 +100,26 @@ fn command_line<'a>(alloc: Global) -> Result<Command<'a>, AllocError>
         .subcommand_required(true)
         .arg_required_else_help(true)
         .subcommand(batch)
+}
+
+/// The error of a word that is no text, in the form of those of a parse.
+fn not_text(alloc: Global) -> Result<clap::Error, AllocError>
+    ensures { IfOk result (λ error. kind_of error ≡ ErrorKind.InvalidValue) }
+{
+    command_line(alloc)?.error(ErrorKind::InvalidValue, NOT_TEXT)
+}
+
+/// Why there are no words to read: `error` came in place of them, since one is no text or memory was refused.
+pub fn words_fault(alloc: Global, error: &io::Error) -> Fault
+    ensures { IsWordsFault usage_error result }
+{
+    if error.kind() == io::ErrorKind::OutOfMemory {
+        return Fault::Opening(Refusal::NoMemory);
+    }
+    match not_text(alloc) {
+        Ok(error) => Fault::Words(error),
+        Err(_) => Fault::Opening(Refusal::NoMemory),
+    }
 }
 
 /// The path of an operand; none for `-`, which is standard input.

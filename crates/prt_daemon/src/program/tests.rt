@@ -1,4 +1,4 @@
-use super::program;
+use super::{program, report, words_fault};
 use std::alloc::AllocError;
 use std::io;
 use std::io::Read;
@@ -76,5 +76,16 @@ fn helps_on_a_command(rt: HostRuntime) -> Result<(), Fail> {
     let ending = ending_of(&rt, &["prt", "help", "batch"], &mut input)?;
     assert!(rt; ending.output.starts_with(b"Runs a script".as_slice()));
     assert!(rt; ending.status == 0 && ending.errors.is_empty());
+    Ok(())
+}
+
+#[test]
+fn refuses_words_that_are_no_text(rt: HostRuntime) -> Result<(), Fail> {
+    let alloc = rt.alloc();
+    let fault = words_fault(alloc, &io::Error::from(io::ErrorKind::InvalidData));
+    let mut output = Vec::new(alloc);
+    let mut errors = Vec::new(alloc);
+    assert_eq!(rt; report(&fault, &mut output, &mut errors), 2);
+    assert!(rt; errors.starts_with(b"error: invalid UTF-8".as_slice()));
     Ok(())
 }
