@@ -1,0 +1,7 @@
+use Rattle.prt_trie.proofs.Rows.{leaf}
+use Rattle.prt_trie.proofs.node.leaf.Goals as goal
+
+pub returns-clause-best : goal.returns-clause-best
+returns-clause-best c a b d =
+    leaf c.args.rows.now d c.args.start c.args.end c.args.first c.args.len c.last_of.result c.first_place.result a b c.requires.rows c.requires.start c.requires.end c.requires.fits c.requires.inside c.requires.own
+    c.last_of.ensures c.first_place.ensures

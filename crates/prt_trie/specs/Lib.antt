@@ -1,0 +1,5 @@
+pub mod Table
+pub mod Block
+pub mod Place
+pub mod Found
+pub mod Index
