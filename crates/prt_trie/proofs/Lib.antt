@@ -1,4 +1,11 @@
 pub mod Order
+pub mod Filters
+pub mod Inserts
+pub mod Wholes
+pub mod Edits
+pub mod Maxima
+pub mod Matches
+pub mod Listings
 pub mod Blocks
 pub mod Bests
 pub mod Rows

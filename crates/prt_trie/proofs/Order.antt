@@ -124,7 +124,7 @@ in_order rows i j d table le lt =
     subst P (sym e) (omega arith, λ s. omega arith))
     (cases_lt i j)
 
-one_table_of : (table : ℕ) (rows : List Route) → IsOfTable table rows → IsOfOneTable rows
+pub one_table_of : (table : ℕ) (rows : List Route) → IsOfTable table rows → IsOfOneTable rows
 one_table_of table [] all k d lt = absurd (omega arith)
 one_table_of table (row ∷ rows) all k d lt = all k d lt ∙ sym (all zero row (omega arith))
 

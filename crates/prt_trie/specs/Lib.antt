@@ -3,3 +3,4 @@ pub mod Block
 pub mod Place
 pub mod Found
 pub mod Index
+pub mod Pieces

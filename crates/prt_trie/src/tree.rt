@@ -35,7 +35,7 @@ impl Model for Tree {
 }
 
 /// The metric of the row.
-fn metric_of(row: &Route) -> u32
+pub(crate) fn metric_of(row: &Route) -> u32
     ensures value { result ≡ row.now.metric }
     ensures fits { result < 2 ^ 32 }
 {
@@ -58,9 +58,9 @@ pub(crate) fn sorted_rows(alloc: Global, given: &[Route]) -> Result<Vec<Route>, 
     requires distinct { IsDistinct has_same_key given.now }
     requires one_table { IsOfOneTable given.now }
     ensures same { IfOk result (λ rows. IsPermutation given.now rows.items) }
-    ensures rising { IfOk result (λ rows. IsRising rows.items) }
-    ensures one_table { IfOk result (λ rows. IsOfOneTable rows.items) }
+    ensures table { IfOk result (λ rows. IsTable rows.items) }
 {
+    read_all(given);
     let mut rows = Vec::from_slice(alloc, given)?;
     rows.sort_unstable_by_key(|row| {
         (row.table, row.prefix.bits(), row.prefix.len(), row.metric)
