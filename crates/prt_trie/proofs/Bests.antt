@@ -2,7 +2,7 @@
 use Rattle.std.proofs.Common.{◌≡◌, ◌⊎◌, ℕ, ◌<◌, ◌≤◌, Bool, true, cond, ltb, arith, inl, inr, ⊎_elim, refl, sym, ap, subst, ◌∙◌}
 use Rattle.std.proofs.lemmas.Bool.{cases_lt}
 use Rattle.std.proofs.lemmas.Bool.Decides.{nat_tests}
-use Rattle.prt_trie.specs.Found.{IsHeaviest}
+use Rattle.prt_trie.specs.Walk.{IsHeaviest}
 
 pub best_of_none : (test : ℕ → Bool) (w : ℕ → ℕ) (start end b : ℕ) → ((k : ℕ) → start ≤ k → k < end → test k ≡ true → ⊥) → IsHeaviest test w start end b b
 best_of_none test w start end b none =

@@ -8,7 +8,7 @@ use Rattle.std.proofs.lemmas.List.Sorted.{All-permutation, IsPermutation-append_
 use Rattle.std.proofs.lemmas.Map.Keys.{IsDistinct-IsPermutation}
 use Rattle.prt_route.specs.Route.{is_listed_before}
 use Rattle.prt_route.specs.declared.route.Route.{Route}
-use Rattle.prt_trie.specs.Pieces.{joined}
+use Rattle.prt_trie.specs.Pieces.{rows_of_pieces}
 use Rattle.prt_trie.specs.Table.{has_same_key, IsRising}
 use Rattle.prt_trie.proofs.Inserts.{insert_all_moves}
 use Rattle.prt_trie.proofs.Order.{each_implies, key_both_ways, not_before_itself, once, sorted_rises}
@@ -49,22 +49,23 @@ same_lists (a ∷ xs) (b ∷ ys) a_rises b_rises there back =
 other_key : (a b : Route) → is_listed_before a b ≡ true → has_same_key a b ≡ false
 other_key a b h = grind (arith, nat_tests)
 
-rising_distinct : (rows : List Route) → IsRising rows → IsDistinct has_same_key rows
+-- so no two have the same key
+pub rising_distinct : (rows : List Route) → IsRising rows → IsDistinct has_same_key rows
 unfolding IsDistinct
 rising_distinct [] rises = tt
 rising_distinct (row ∷ rows) rises = (each_implies (λ other. is_listed_before row other ≡ true) (λ other. has_same_key row other ≡ false) (λ other h. other_key row other h) rows rises.0, rising_distinct rows rises.1)
 
-joined_moves : {X : Type 0} (rows_in : X → List Route) (pieces : List X) → IsPermutation (flat_map rows_in pieces) (joined (map rows_in pieces))
+joined_moves : {X : Type 0} (rows_in : X → List Route) (pieces : List X) → IsPermutation (flat_map rows_in pieces) (rows_of_pieces (map rows_in pieces))
 joined_moves rows_in [] = IsPermutation-refl []
 joined_moves rows_in (piece ∷ pieces) =
-    IsPermutation-trans (rows_in piece ++ flat_map rows_in pieces) (rows_in piece ++ joined (map rows_in pieces)) (joined (map rows_in (piece ∷ pieces)))
-    (IsPermutation-append_right (rows_in piece) (flat_map rows_in pieces) (joined (map rows_in pieces)) (joined_moves rows_in pieces))
-    (insert_all_moves (rows_in piece) (joined (map rows_in pieces)))
+    IsPermutation-trans (rows_in piece ++ flat_map rows_in pieces) (rows_in piece ++ rows_of_pieces (map rows_in pieces)) (rows_of_pieces (map rows_in (piece ∷ pieces)))
+    (IsPermutation-append_right (rows_in piece) (flat_map rows_in pieces) (rows_of_pieces (map rows_in pieces)) (joined_moves rows_in pieces))
+    (insert_all_moves (rows_in piece) (rows_of_pieces (map rows_in pieces)))
 
 -- the rows of all pieces one after another, sorted
-pub sorted_joined : {X : Type 0} (rows_in : X → List Route) (pieces : List X) (given rows : List Route) → given ≡ flat_map rows_in pieces → IsPermutation given rows → IsSortedBy is_listed_before rows → IsRising (joined (map rows_in pieces)) → rows ≡ joined (map rows_in pieces)
+pub sorted_joined : {X : Type 0} (rows_in : X → List Route) (pieces : List X) (given rows : List Route) → given ≡ flat_map rows_in pieces → IsPermutation given rows → IsSortedBy is_listed_before rows → IsRising (rows_of_pieces (map rows_in pieces)) → rows ≡ rows_of_pieces (map rows_in pieces)
 sorted_joined rows_in pieces given rows is moved sorted rises =
-    let all : List Route = joined (map rows_in pieces) in
+    let all : List Route = rows_of_pieces (map rows_in pieces) in
     let same : IsPermutation all rows = IsPermutation-trans all (flat_map rows_in pieces) rows (IsPermutation-sym (flat_map rows_in pieces) all (joined_moves rows_in pieces)) (subst (λ xs. IsPermutation xs rows) is moved) in
     let distinct : IsDistinct has_same_key rows = IsDistinct-IsPermutation has_same_key key_both_ways all rows same (rising_distinct all rises) in
     same_lists rows all (sorted_rises rows sorted distinct) rises

@@ -8,7 +8,7 @@ use Rattle.prt_addr.specs.Block.{Block, IsPrefix}
 use Rattle.prt_addr.specs.Prefix.{contains}
 use Rattle.prt_route.specs.declared.route.Route.{Route}
 use Rattle.prt_trie.specs.Block.{size, IsIn}
-use Rattle.prt_trie.specs.Found.{IsHeaviest, nowhere, row_or, weight}
+use Rattle.prt_trie.specs.Walk.{IsHeaviest, nowhere, row_or, weight}
 use Rattle.prt_trie.specs.Place.{is_before}
 use Rattle.prt_trie.specs.Table.{IsTable}
 use Rattle.prt_trie.proofs.Order.{in_order, order_of}

@@ -17,7 +17,7 @@ use Rattle.prt_route.specs.declared.edit.RouteEdit.{RouteEdit}
 use Rattle.prt_route.specs.declared.edit.RouteEdit.TheVariants.{Put, Remove, Flush}
 use Rattle.prt_route.specs.declared.route.Route.{Route}
 use Rattle.prt_route.specs.declared.route.RouteKey.{RouteKey}
-use Rattle.prt_trie.specs.Pieces.{AreWhole, insert_all, IsOfTheirTable, joined, piece_after, piece_of, pieces_from, rows_of_piece}
+use Rattle.prt_trie.specs.Pieces.{ArePieces, insert_all, IsOfTheirTable, rows_of_pieces, piece_after, piece_of, pieces_from, rows_of_piece}
 use Rattle.prt_trie.specs.Table.{has_same_key, IsOfOneTable, IsOfTable, IsRising, IsTable, table_of}
 use Rattle.prt_trie.proofs.Filters.{each_filtered, each_of, filter_absorbed, filter_all, filter_none, filter_same_tests, filter_swap}
 use Rattle.prt_trie.proofs.Inserts.{filter_insert, filter_insert_dropped, filter_rises, insert_all_filtered, insert_all_moves, put_each, put_rises}
@@ -35,8 +35,8 @@ one_more_from n first count = grind (arith, nat_tests)
 apart_from : (n first count : ℕ) → eqb n first ≡ true → (leb (first + 1) n && ltb n (first + 1 + count)) ≡ false
 apart_from n first count h = grind (arith, nat_tests)
 
--- some pieces joined have the rows whose pieces these are
-joined_from : (rows : List Route) → IsRising rows → (first count : ℕ) → joined (pieces_from first count rows) ≡ filter (is_from first count) rows
+-- some pieces rows_of_pieces have the rows whose pieces these are
+joined_from : (rows : List Route) → IsRising rows → (first count : ℕ) → rows_of_pieces (pieces_from first count rows) ≡ filter (is_from first count) rows
 unfolding pieces_from
 joined_from rows rises first zero = sym (filter_none (is_from first 0) rows (each_of (λ row. is_from first 0 row ≡ false) rows (λ row. none_from (piece_of row.prefix) first)))
 joined_from rows rises first (suc count) =
@@ -47,15 +47,15 @@ joined_from rows rises first (suc count) =
 is_within : (prefix : Block) → IsPrefix prefix → (leb 0 (piece_of prefix) && ltb (piece_of prefix) (0 + 257)) ≡ true
 is_within prefix p = let fits : prefix.bits < 2 ^ 32 = p.fits in grind (arith, nat_tests)
 
--- all pieces joined
-pub joined_pieces : (rows : List Route) → IsTable rows → joined (pieces_from 0 257 rows) ≡ rows
+-- all pieces rows_of_pieces
+pub joined_pieces : (rows : List Route) → IsTable rows → rows_of_pieces (pieces_from 0 257 rows) ≡ rows
 joined_pieces rows table =
     joined_from rows table.rising 0 257
     ∙ filter_all (is_from 0 257) rows (each_implies (λ row. IsPrefix row.prefix) (λ row. is_from 0 257 row ≡ true) (λ row p. is_within row.prefix p) rows (recursion_from_All (λ row. IsPrefix row.prefix) rows table.prefixes))
 
-pub whole_from : (pieces : List (List Route)) (rows : List Route) → IsTable rows → pieces ≡ pieces_from 0 257 rows → AreWhole pieces
+pub whole_from : (pieces : List (List Route)) (rows : List Route) → IsTable rows → pieces ≡ pieces_from 0 257 rows → ArePieces pieces
 whole_from pieces rows table are =
-    let all : joined pieces ≡ rows = ap joined are ∙ joined_pieces rows table in
+    let all : rows_of_pieces pieces ≡ rows = ap rows_of_pieces are ∙ joined_pieces rows table in
     record { table = subst IsTable (sym all) table; are = are ∙ ap (pieces_from 0 257) (sym all) }
 
 pub length_pieces : (first count : ℕ) (rows : List Route) → length (pieces_from first count rows) ≡ count
@@ -88,11 +88,11 @@ unfolding pieces_from
 no_pieces rows = refl
 
 -- how many rows the pieces have
-pub length_joined : {X : Type 0} (rows_in : X → List Route) (pieces : List X) → length (joined (map rows_in pieces)) ≡ sum_by (λ piece. length (rows_in piece)) pieces
+pub length_joined : {X : Type 0} (rows_in : X → List Route) (pieces : List X) → length (rows_of_pieces (map rows_in pieces)) ≡ sum_by (λ piece. length (rows_in piece)) pieces
 length_joined rows_in [] = refl
 length_joined rows_in (piece ∷ pieces) =
-    length_permutation (rows_in piece ++ joined (map rows_in pieces)) (insert_all (rows_in piece) (joined (map rows_in pieces))) (insert_all_moves (rows_in piece) (joined (map rows_in pieces)))
-    ∙ length-append (rows_in piece) (joined (map rows_in pieces))
+    length_permutation (rows_in piece ++ rows_of_pieces (map rows_in pieces)) (insert_all (rows_in piece) (rows_of_pieces (map rows_in pieces))) (insert_all_moves (rows_in piece) (rows_of_pieces (map rows_in pieces)))
+    ∙ length-append (rows_in piece) (rows_of_pieces (map rows_in pieces))
     ∙ ap (λ n. length (rows_in piece) + n) (length_joined rows_in pieces)
     ∙ sym (sum_by-cons (λ p. length (rows_in p)) piece pieces)
 
@@ -120,11 +120,15 @@ each_after P (Put route) rows new all = put_each P route (without_key (key_of ro
 each_after P (Remove key) rows new all = each_filtered P (λ other. not (is_same_key (key_of other) key)) rows all
 each_after P (Flush selector) rows new all = each_filtered P (λ route. not (is_selected selector route)) rows all
 
+-- routes of one table and one more of it
+pub of_table_put : (table : ℕ) (route : Route) (rows : List Route) → route.table ≡ table → IsOfTable table rows → IsOfTable table (after_edit (Put route) rows)
+of_table_put table route rows same all =
+    All-from_recursion (λ row. row.table ≡ table) (after_edit (Put route) rows)
+    (put_each (λ row. row.table ≡ table) route (without_key (key_of route) rows) same (each_filtered (λ row. row.table ≡ table) (λ other. not (is_same_key (key_of other) (key_of route))) rows (recursion_from_All (λ row. row.table ≡ table) rows all)))
+
 -- they are of one table too
 pub one_table_after : (edit : RouteEdit) (rows : List Route) → IsOfTheirTable edit rows → IsOfOneTable rows → IsOfOneTable (after_edit edit rows)
-one_table_after (Put route) rows fits one =
-    one_table_of route.table (after_edit (Put route) rows) (All-from_recursion (λ row. row.table ≡ route.table) (after_edit (Put route) rows)
-    (put_each (λ row. row.table ≡ route.table) route (without_key (key_of route) rows) refl (each_filtered (λ row. row.table ≡ route.table) (λ other. not (is_same_key (key_of other) (key_of route))) rows (recursion_from_All (λ row. row.table ≡ route.table) rows fits))))
+one_table_after (Put route) rows fits one = one_table_of route.table (after_edit (Put route) rows) (of_table_put route.table route rows refl fits)
 one_table_after (Remove key) rows fits one = one_table_of (table_of rows) (without_key key rows) (All-filter (λ other. not (is_same_key (key_of other) key)) (λ row. row.table ≡ table_of rows) rows one)
 one_table_after (Flush selector) rows fits one = one_table_of (table_of rows) (after_edit (Flush selector) rows) (All-filter (λ route. not (is_selected selector route)) (λ row. row.table ≡ table_of rows) rows one)
 
@@ -189,12 +193,12 @@ pieces_step rows_in before after piece count rows push made is =
     ap (map rows_in) push ∙ map-append rows_in before (piece ∷ []) ∙ ap (λ ps. ps ++ rows_in piece ∷ []) made ∙ ap (λ p. pieces_from 0 count rows ++ p ∷ []) is ∙ sym (pieces_more count rows)
 
 -- the rows of one of them
-pub rows_at : {X : Type 0} (rows_in : X → List Route) (pieces : List X) (k : ℕ) (piece : X) → AreWhole (map rows_in pieces) → k < 257 → k < length pieces → piece ≡ get_or pieces k piece → rows_in piece ≡ rows_of_piece k (joined (map rows_in pieces))
+pub rows_at : {X : Type 0} (rows_in : X → List Route) (pieces : List X) (k : ℕ) (piece : X) → ArePieces (map rows_in pieces) → k < 257 → k < length pieces → piece ≡ get_or pieces k piece → rows_in piece ≡ rows_of_piece k (rows_of_pieces (map rows_in pieces))
 rows_at rows_in pieces k piece whole few lt is =
-    ap rows_in is ∙ sym (get_or-map rows_in pieces k piece (rows_in piece) lt) ∙ ap (λ ps. get_or ps k (rows_in piece)) whole.are ∙ piece_at 0 257 k (joined (map rows_in pieces)) (rows_in piece) few ∙ ap (λ n. rows_of_piece n (joined (map rows_in pieces))) (zero-add k)
+    ap rows_in is ∙ sym (get_or-map rows_in pieces k piece (rows_in piece) lt) ∙ ap (λ ps. get_or ps k (rows_in piece)) whole.are ∙ piece_at 0 257 k (rows_of_pieces (map rows_in pieces)) (rows_in piece) few ∙ ap (λ n. rows_of_piece n (rows_of_pieces (map rows_in pieces))) (zero-add k)
 
-pub length_whole : {X : Type 0} (rows_in : X → List Route) (pieces : List X) → AreWhole (map rows_in pieces) → length pieces ≡ 257
-length_whole rows_in pieces whole = sym (length-map pieces rows_in) ∙ ap length whole.are ∙ length_pieces 0 257 (joined (map rows_in pieces))
+pub length_whole : {X : Type 0} (rows_in : X → List Route) (pieces : List X) → ArePieces (map rows_in pieces) → length pieces ≡ 257
+length_whole rows_in pieces whole = sym (length-map pieces rows_in) ∙ ap length whole.are ∙ length_pieces 0 257 (rows_of_pieces (map rows_in pieces))
 
 pub fits_part : (edit : RouteEdit) (piece : ℕ) (rows : List Route) → IsOfTheirTable edit rows → IsOfTheirTable edit (rows_of_piece piece rows)
 fits_part (Put route) piece rows fits = All-filter (λ row. eqb (piece_of row.prefix) piece) (λ row. row.table ≡ route.table) rows fits

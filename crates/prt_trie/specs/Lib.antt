@@ -1,6 +1,6 @@
 pub mod Table
 pub mod Block
 pub mod Place
-pub mod Found
+pub mod Walk
 pub mod Index
 pub mod Pieces

@@ -28,14 +28,14 @@ insert_all [] rows = rows
 insert_all (new ∷ others) rows = insert_by is_listed_before new (insert_all others rows)
 
 -- the rows of all pieces in the order of listings
-abbrev pub joined : List (List Route) → List Route
-joined [] = []
-joined (piece ∷ pieces) = insert_all piece (joined pieces)
+abbrev pub rows_of_pieces : List (List Route) → List Route
+rows_of_pieces [] = []
+rows_of_pieces (piece ∷ pieces) = insert_all piece (rows_of_pieces pieces)
 
 -- the pieces of a table
-pub record AreWhole (pieces : List (List Route)) : Type 0 where
-  pub table : IsTable (joined pieces)
-  pub are : pieces ≡ pieces_from 0 257 (joined pieces)
+pub record ArePieces (pieces : List (List Route)) : Type 0 where
+  pub table : IsTable (rows_of_pieces pieces)
+  pub are : pieces ≡ pieces_from 0 257 (rows_of_pieces pieces)
 
 -- the rows of one piece after an edit of the table
 abbrev pub piece_after : RouteEdit → ℕ → List Route → List Route

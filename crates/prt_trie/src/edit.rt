@@ -2,28 +2,12 @@
 ghost use Rattle.std.specs.Prelude.{◌≡◌, IfOk, filter, length, not, position, unwrap_or};
 ghost use Rattle.prt_addr.specs.Order.{insert_by};
 ghost use Rattle.prt_route.specs.Edit.{after_edit, without_key};
-ghost use Rattle.prt_route.specs.Route.{is_listed_before, key_of, less_then};
+ghost use Rattle.prt_route.specs.Route.{is_listed_before, key_of};
 ghost use Rattle.prt_route.specs.RouteChoice.{is_selected};
 
+use crate::listing::is_listed_before;
 use prt_route::{Route, RouteEdit, RouteKey, Selector};
 use std::alloc::{AllocError, Global};
-
-/// Whether the first route is listed before the other one.
-fn is_listed_before(route: &Route, other: &Route) -> bool
-    ensures { result ≡ is_listed_before route.now other.now }
-{
-    (
-        route.table,
-        route.prefix.bits(),
-        route.prefix.len(),
-        route.metric,
-    ) < (
-        other.table,
-        other.prefix.bits(),
-        other.prefix.len(),
-        other.metric,
-    )
-}
 
 /// The place of the first row that the new one is listed before.
 fn first_after(rows: &[Route], new: &Route) -> Option<usize>

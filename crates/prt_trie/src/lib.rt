@@ -2,10 +2,13 @@
 #![tactic(auto)]
 
 mod edit;
+mod listing;
 mod node;
 mod pieces;
 mod place;
 mod table;
+#[cfg(test)]
+mod tests;
 mod tree;
 
 pub use prt_route::{Addr, Prefix, Refusal, Route, RouteChoice, RouteEdit, RouteKey};

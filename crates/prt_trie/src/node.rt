@@ -4,7 +4,7 @@ ghost use Rattle.std.specs.List.{AllWithin};
 ghost use Rattle.prt_addr.specs.Block.{Block};
 ghost use Rattle.prt_route.specs.declared.route.Route.{Route};
 ghost use Rattle.prt_trie.specs.Block.{IsIn, size};
-ghost use Rattle.prt_trie.specs.Found.{found, nowhere, IsBest};
+ghost use Rattle.prt_trie.specs.Walk.{last_row, nowhere, IsBest};
 ghost use Rattle.prt_trie.specs.Table.{IsTable};
 
 use crate::place::{Place, first_from};
@@ -48,9 +48,9 @@ impl Node {
     }
 }
 
-/// The place of the best row for the address: `NOWHERE` where none contains it.
-pub(crate) fn find(root: &Node, addr: u32) -> usize
-    ensures { result ≡ found root.now addr nowhere }
+/// The place of the last row on the way down to the address, which is the best for it: `NOWHERE` where none contains it.
+pub(crate) fn last_row(root: &Node, addr: u32) -> usize
+    ensures { result ≡ last_row root.now addr nowhere }
 {
     let mut place = NOWHERE;
     let mut node = root;
@@ -172,7 +172,7 @@ fn leaf(rows: &[Route], start: usize, end: usize, first: u32, len: u8) -> Node
     requires in_range { first + size len ≤ 2 ^ 32 }
     requires inside { AllWithin (λ row. IsIn first len row.prefix) rows.now start end }
     requires own { AllWithin (λ row. row.prefix.len ≡ len) rows.now start end }
-    ensures best { (addr before : ℕ) → IsBest rows.now start end addr before (found result addr before) }
+    ensures best { (addr before : ℕ) → IsBest rows.now start end addr before (last_row result addr before) }
     ensures first { result.first ≡ first }
 {
     Node {
@@ -200,7 +200,7 @@ pub(crate) fn node_of(
     requires aligned { first % size len ≡ 0 }
     requires in_range { first + size len ≤ 2 ^ 32 }
     requires inside { AllWithin (λ row. IsIn first len row.prefix) rows.now start end }
-    ensures best { IfOk result (λ node. (addr before : ℕ) → IsBest rows.now start end addr before (found node addr before)) }
+    ensures best { IfOk result (λ node. (addr before : ℕ) → IsBest rows.now start end addr before (last_row node addr before)) }
     ensures first { IfOk result (λ node. first ≤ node.first) }
     ensures within { IfOk result (λ node. AllWithin (λ row. node.first ≤ row.prefix.bits) rows.now start end) }
 {

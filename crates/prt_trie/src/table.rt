@@ -10,10 +10,11 @@ ghost use Rattle.prt_route.specs.Edit.{after_edit, has_key};
 ghost use Rattle.prt_route.specs.Route.{key_of};
 ghost use Rattle.prt_route.specs.RouteChoice.{chosen_route, is_selected};
 ghost use Rattle.prt_route.specs.declared.route.Route.{Route};
-ghost use Rattle.prt_trie.specs.Pieces.{AreWhole, IsOfTheirTable, joined, piece_after, pieces_from, rows_of_piece};
+ghost use Rattle.prt_trie.specs.Pieces.{ArePieces, IsOfTheirTable, rows_of_pieces, piece_after, pieces_from, rows_of_piece};
 ghost use Rattle.prt_trie.specs.Table.{IsOfOneTable, IsOfTable, IsRising, IsTable, has_same_key};
 
 use crate::edit::rows_after;
+use crate::listing::sort_rows;
 use crate::pieces::{PIECES, piece_of, piece_of_octet, rows_of_piece};
 use crate::tree::{metric_of, sorted_rows};
 use crate::{Addr, Refusal, Route, RouteChoice, RouteEdit, RouteKey, Tree};
@@ -34,14 +35,14 @@ pub struct Table {
 impl Model for Table {
     ghost use Rattle.std.specs.Prelude.{◌≡◌, length, List, map};
     ghost use Rattle.std.specs.Arc.{arc_value};
-    ghost use Rattle.prt_trie.specs.Pieces.{AreWhole, joined};
+    ghost use Rattle.prt_trie.specs.Pieces.{ArePieces, rows_of_pieces};
     ghost use Rattle.prt_route.specs.declared.route.Route.{Route as Row};
 
     ghost Value = { List Row };
 
-    ghost view = { λ table. joined (map arc_value table.pieces.items) };
+    ghost view = { λ table. rows_of_pieces (map arc_value table.pieces.items) };
 
-    ghost invariant = { λ table. AreWhole (map arc_value table.pieces.items) × (table.len ≡ length (joined (map arc_value table.pieces.items))) };
+    ghost invariant = { λ table. ArePieces (map arc_value table.pieces.items) × (table.len ≡ length (rows_of_pieces (map arc_value table.pieces.items))) };
 }
 
 /// How many rows the pieces have.
@@ -124,9 +125,9 @@ fn read_edit(edit: &RouteEdit)
 
 /// The piece of this number.
 fn piece_at(pieces: &[Arc<Tree>], number: usize) -> &Tree
-    requires whole { AreWhole (map arc_value pieces.now) }
+    requires whole { ArePieces (map arc_value pieces.now) }
     requires number { number < 257 }
-    ensures { result.now ≡ rows_of_piece number (joined (map arc_value pieces.now)) }
+    ensures { result.now ≡ rows_of_piece number (rows_of_pieces (map arc_value pieces.now)) }
 {
     let piece = &pieces[number];
     piece
@@ -138,9 +139,9 @@ fn pieces_after(
     pieces: &[Arc<Tree>],
     edit: &RouteEdit,
 ) -> Result<Vec<Arc<Tree>>, Refusal>
-    requires whole { AreWhole (map arc_value pieces.now) }
-    requires table { IsOfTheirTable edit.now (joined (map arc_value pieces.now)) }
-    ensures value { IfOk result (λ after. map arc_value after.items ≡ pieces_from 0 257 (after_edit edit.now (joined (map arc_value pieces.now)))) }
+    requires whole { ArePieces (map arc_value pieces.now) }
+    requires table { IsOfTheirTable edit.now (rows_of_pieces (map arc_value pieces.now)) }
+    ensures value { IfOk result (λ after. map arc_value after.items ≡ pieces_from 0 257 (after_edit edit.now (rows_of_pieces (map arc_value pieces.now)))) }
     ensures reason { IfErr result (λ reason. reason ≡ NoMemory) }
 {
     let Ok(mut after) = Vec::with_capacity(alloc, PIECES) else {
@@ -157,16 +158,14 @@ fn pieces_after(
 
 /// The rows of all pieces in the order of listings.
 fn joined_rows(alloc: Global, pieces: &[Arc<Tree>], len: usize) -> Result<Vec<Route>, AllocError>
-    requires { IsRising (joined (map arc_value pieces.now)) }
-    ensures { IfOk result (λ rows. rows.items ≡ joined (map arc_value pieces.now)) }
+    requires { IsRising (rows_of_pieces (map arc_value pieces.now)) }
+    ensures { IfOk result (λ rows. rows.items ≡ rows_of_pieces (map arc_value pieces.now)) }
 {
     let mut rows = Vec::with_capacity(alloc, len)?;
     for piece in pieces {
         rows.extend_from_slice(piece.as_slice())?;
     }
-    rows.sort_unstable_by_key(|row| {
-        (row.table, row.prefix.bits(), row.prefix.len(), row.metric)
-    });
+    sort_rows(&mut rows);
     Ok(rows)
 }
 
@@ -174,8 +173,8 @@ impl Table {
     /// The table of these pieces.
     #[tactic(auto, using(crate::proofs::Wholes::length_joined))]
     fn from_pieces(pieces: Vec<Arc<Tree>>) -> Result<Table, Refusal>
-        requires { AreWhole (map arc_value pieces.items) }
-        ensures value { IfOk result (λ table. table ≡ joined (map arc_value pieces.items)) }
+        requires { ArePieces (map arc_value pieces.items) }
+        ensures value { IfOk result (λ table. table ≡ rows_of_pieces (map arc_value pieces.items)) }
         ensures reason { IfErr result (λ reason. reason ≡ NoMemory) }
     {
         let len = count_rows(pieces.as_slice())?;
@@ -245,6 +244,7 @@ impl Table {
     /// `NoMemory` alone.
     pub fn rows(&self) -> Result<Vec<Route>, Refusal>
         ensures value { IfOk result (λ rows. rows.items ≡ self.now) }
+        ensures table { IfOk result (λ rows. IsTable rows.items) }
         ensures reason { IfErr result (λ reason. reason ≡ NoMemory) }
     {
         let Ok(rows) = joined_rows(*self.pieces.allocator(), self.pieces.as_slice(), self.len)
@@ -256,7 +256,8 @@ impl Table {
 
     /// How many routes there are.
     pub fn len(&self) -> usize
-        ensures { result ≡ length self.now }
+        ensures value { result ≡ length self.now }
+        ensures table { IsTable self.now }
     {
         self.len
     }
@@ -288,5 +289,14 @@ impl Table {
         read_edit(edit);
         let alloc = *self.pieces.allocator();
         Table::from_pieces(pieces_after(alloc, self.pieces.as_slice(), edit)?)
+    }
+
+    /// How many pieces another table has too.
+    #[cfg(test)]
+    pub(crate) fn count_shared(&self) -> usize {
+        self.pieces
+            .iter()
+            .filter(|piece| Arc::strong_count(piece) == 2)
+            .count()
     }
 }

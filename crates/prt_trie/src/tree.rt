@@ -9,7 +9,8 @@ ghost use Rattle.prt_route.specs.Route.{key_of};
 ghost use Rattle.prt_route.specs.RouteChoice.{chosen_route};
 ghost use Rattle.prt_trie.specs.Table.{IsOfOneTable, IsOfTable, IsRising, IsTable, has_same_key};
 
-use crate::node::{Node, find, node_of};
+use crate::listing::sort_rows;
+use crate::node::{Node, last_row, node_of};
 use crate::place::{chosen_route, has_key};
 use crate::{Addr, Refusal, Route, RouteChoice, RouteKey};
 use std::alloc::{AllocError, Global};
@@ -62,9 +63,7 @@ pub(crate) fn sorted_rows(alloc: Global, given: &[Route]) -> Result<Vec<Route>, 
 {
     read_all(given);
     let mut rows = Vec::from_slice(alloc, given)?;
-    rows.sort_unstable_by_key(|row| {
-        (row.table, row.prefix.bits(), row.prefix.len(), row.metric)
-    });
+    sort_rows(&mut rows);
     Ok(rows)
 }
 
@@ -114,7 +113,7 @@ impl Tree {
     pub fn find(&self, addr: Addr) -> Option<&Route>
         ensures { (table : ℕ) → IsOfTable table self.now → option_copied result ≡ best self.now table addr }
     {
-        self.rows.get(find(&self.root, addr.0))
+        self.rows.get(last_row(&self.root, addr.0))
     }
 
     /// A copy of the routes by address, length and metric.
@@ -124,6 +123,7 @@ impl Tree {
     /// `NoMemory` alone.
     pub fn rows(&self) -> Result<Vec<Route>, Refusal>
         ensures value { IfOk result (λ rows. rows.items ≡ self.now) }
+        ensures table { IfOk result (λ rows. IsTable rows.items) }
         ensures reason { IfErr result (λ reason. reason ≡ NoMemory) }
     {
         let Ok(rows) = Vec::from_slice(*self.rows.allocator(), self.rows.as_slice()) else {
@@ -134,7 +134,8 @@ impl Tree {
 
     /// How many routes there are.
     pub fn len(&self) -> usize
-        ensures { result ≡ length self.now }
+        ensures value { result ≡ length self.now }
+        ensures table { IsTable self.now }
     {
         self.rows.len()
     }

@@ -1,4 +1,4 @@
-use Rattle.prt_trie.specs.Found.{found, row_or}
+use Rattle.prt_trie.specs.Walk.{last_row, row_or}
 use Rattle.prt_trie.proofs.Blocks.{in_all}
 use Rattle.prt_trie.proofs.Rows.{begins_within, fork}
 use Rattle.prt_trie.proofs.node.+node_of.Goals as goal
@@ -6,8 +6,8 @@ use Rattle.prt_trie.proofs.node.+node_of.Goals as goal
 pub returns-clause-best : goal.returns-clause-best
 returns-clause-best t c a b d =
     fork c.args.rows.now d c.args.start c.own_end-own.result c.low_end-split.result c.args.end c.args.first c.args.len c.last_of-last.result c.middle_of-middle.result c.in_ok-new.field-0.value.high.first c.first_place-row.result a b
-    (found c.in_ok-new.field-0.value.low a (row_or c.first_place-row.result b))
-    (found c.in_ok-new.field-0.value.high a (row_or c.first_place-row.result b))
+    (last_row c.in_ok-new.field-0.value.low a (row_or c.first_place-row.result b))
+    (last_row c.in_ok-new.field-0.value.high a (row_or c.first_place-row.result b))
     c.requires.rows c.own_end-own.ensures.from c.low_end-split.ensures.from c.low_end-split.ensures.to c.requires.end c.requires.fits c.requires.inside
     c.own_end-own.ensures.own c.own_end-own.ensures.longer c.low_end-split.ensures.low
     c.middle_of-middle.ensures.value

@@ -1,7 +1,7 @@
 use Rattle.std.proofs.Common.{◌≡◌, map, arith, ap, subst, sym, ◌∙◌}
 use Rattle.std.specs.Prelude.{IfOk}
 use Rattle.std.specs.Arc.{arc_value}
-use Rattle.prt_trie.specs.Pieces.{joined, pieces_from}
+use Rattle.prt_trie.specs.Pieces.{rows_of_pieces, pieces_from}
 use Rattle.prt_trie.specs.Table.{IsOfOneTable, IsRising}
 use Rattle.prt_trie.proofs.Wholes.{joined_pieces, no_pieces, part_of_one_table, part_rises, pieces_step, whole_from}
 use Rattle.prt_trie.proofs.table.Table.from_sorted.Goals as goal
@@ -24,10 +24,10 @@ made c = let e : c.loop-number.number ≡ 257 = omega arith in subst (λ n. map 
 pub from_pieces-requires : goal.from_pieces-requires
 from_pieces-requires c = whole_from (map arc_value c.loop-number.pieces.items) c.args.rows.now c.requires (made c)
 
-whole_is : (c : goal.After-from_pieces) → joined (map arc_value c.loop-number.pieces.items) ≡ c.args.rows.now
+whole_is : (c : goal.After-from_pieces) → rows_of_pieces (map arc_value c.loop-number.pieces.items) ≡ c.args.rows.now
 whole_is c =
     let e : c.loop-number.number ≡ 257 = omega arith in
-    ap joined (subst (λ n. map arc_value c.loop-number.pieces.items ≡ pieces_from 0 n c.args.rows.now) e c.loop-number.invariant) ∙ joined_pieces c.args.rows.now c.requires
+    ap rows_of_pieces (subst (λ n. map arc_value c.loop-number.pieces.items ≡ pieces_from 0 n c.args.rows.now) e c.loop-number.invariant) ∙ joined_pieces c.args.rows.now c.requires
 
 pub returns-clause-value : goal.returns-clause-value
 returns-clause-value c = subst (λ rows. IfOk c.from_pieces.result (λ table. table ≡ rows)) (whole_is c) c.from_pieces.ensures.value

@@ -16,15 +16,15 @@ abbrev pub row_or : ℕ → ℕ → ℕ
 row_or row before = if row == nowhere then before else row
 
 -- the place of the last row on the way down to an address, or of the one before it
-abbrev pub found_below : Below → ℕ → ℕ → ℕ
-found_below Nothing addr before = before
-found_below (Halves' p low_first low_last low_row low_below high_first high_last high_row high_below) addr before =
+abbrev pub last_row_below : Below → ℕ → ℕ → ℕ
+last_row_below Nothing addr before = before
+last_row_below (Halves' p low_first low_last low_row low_below high_first high_last high_row high_below) addr before =
     if nat_lt addr high_first
-    then (if nat_le low_first addr && nat_le addr low_last then found_below low_below addr (row_or low_row before) else before)
-    else (if nat_le high_first addr && nat_le addr high_last then found_below high_below addr (row_or high_row before) else before)
+    then (if nat_le low_first addr && nat_le addr low_last then last_row_below low_below addr (row_or low_row before) else before)
+    else (if nat_le high_first addr && nat_le addr high_last then last_row_below high_below addr (row_or high_row before) else before)
 
-abbrev pub found : Node → ℕ → ℕ → ℕ
-found node addr before = if nat_le node.first addr && nat_le addr node.last then found_below node.below addr (row_or node.row before) else before
+abbrev pub last_row : Node → ℕ → ℕ → ℕ
+last_row node addr before = if nat_le node.first addr && nat_le addr node.last then last_row_below node.below addr (row_or node.row before) else before
 
 -- a number that is the greater, the better the row
 abbrev pub weight : Route → ℕ

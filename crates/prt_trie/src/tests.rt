@@ -1,0 +1,210 @@
+ghost use Rattle.std.specs.Prelude.{◌≡◌, ◌≤◌, IfOk};
+ghost use Rattle.prt_trie.specs.Table.{IsOfTable};
+
+use crate::{Addr, Prefix, Refusal, Route, RouteChoice, RouteEdit, RouteKey, Table, Tree};
+use prt_route::{Kind, Range, Selector};
+use std::alloc::Global;
+use std::process::Abort;
+use std::test::Fail;
+
+const MAIN: u32 = 254;
+
+fn route(bits: u32, len: u8, metric: u32) -> Route
+    requires { len ≤ 32 }
+    ensures { result.table ≡ 254 }
+{
+    Route {
+        table: MAIN,
+        prefix: Prefix::masked(bits, len),
+        metric,
+        kind: Kind::Unicast,
+        via: Some(Addr(bits)),
+        dev: None,
+        src: None,
+        proto: 3,
+        scope: 0,
+    }
+}
+
+/// A table with one more route of main.
+fn with_route(table: &Table, route: Route) -> Result<Table, Refusal>
+    requires table { IsOfTable 254 table.now }
+    requires route { route.table ≡ 254 }
+    ensures { IfOk result (λ table. IsOfTable 254 table) }
+{
+    let after = table.with_change(&RouteEdit::Put(route))?;
+    Ok(after)
+}
+
+/// A table of main with no routes.
+fn empty_table(alloc: Global) -> Result<Table, Refusal>
+    ensures { IfOk result (λ table. IsOfTable 254 table) }
+{
+    let table = Table::build(alloc, &[])?;
+    Ok(table)
+}
+
+/// Numbers that look random and are the same in each run (Marsaglia's xorshift).
+#[derive(Drop)]
+struct Random(u64);
+
+impl Random {
+    fn next(&mut self) -> u32 {
+        self.0 ^= self.0 << 13;
+        self.0 ^= self.0 >> 7;
+        self.0 ^= self.0 << 17;
+        (self.0 >> 32) as u32
+    }
+}
+
+/// A prefix of few octets and any length, so that many of a table's lie in one another.
+fn random_prefix(random: &mut Random) -> Prefix {
+    let bits = random.next();
+    let few = [0x0a000000u32, 0x0a0a0a00, 0x0b000000, 0xffffffff, 0];
+    let base = few[(bits % 5) as usize];
+    let len = (random.next() % 33) as u8;
+    Prefix::masked(base ^ (random.next() & 0x00810103), len)
+}
+
+/// A table of up to so many routes of main.
+fn random_table(alloc: Global, random: &mut Random, count: u32) -> Result<Table, Refusal>
+    ensures { IfOk result (λ table. IsOfTable 254 table) }
+{
+    let mut table = empty_table(alloc)?;
+    for _ in 0..count {
+        let prefix = random_prefix(random);
+        let mut new = route(0, 0, random.next() % 3);
+        new.prefix = prefix;
+        table = with_route(&table, new)?;
+    }
+    Ok(table)
+}
+
+/// The best of the rows by comparing each with each.
+fn best_by_scan(rows: &[Route], addr: Addr) -> Option<Route> {
+    let mut best: Option<Route> = None;
+    for row in rows {
+        if row.prefix.contains(addr) {
+            best = match best {
+                Some(kept) if !row.better(&kept) => Some(kept),
+                _ => Some(*row),
+            };
+        }
+    }
+    best
+}
+
+/// Compares the three ways to find the best route for the address.
+fn compare(rt: &impl Abort, rows: &[Route], tree: &Tree, table: &Table, addr: u32) {
+    let addr = Addr(addr);
+    let expected = best_by_scan(rows, addr);
+    assert!(rt;
+        tree.find(addr).copied() == expected,
+        "tree: {addr:?} among {rows:?}"
+    );
+    assert!(rt;
+        table.find(addr).copied() == expected,
+        "table: {addr:?} among {rows:?}"
+    );
+}
+
+/// All routes of main with prefixes in this one.
+fn all_within(prefix: Prefix) -> Selector {
+    Selector {
+        table: Some(MAIN),
+        range: Range::Root(prefix),
+        kind: None,
+        proto: None,
+        scope: None,
+        dev: None,
+    }
+}
+
+/// A default route, and routes of the octets 10, 11 and 255.
+fn small_table(alloc: Global) -> Result<Table, Refusal>
+    ensures { IfOk result (λ table. IsOfTable 254 table) }
+{
+    let table = empty_table(alloc)?;
+    let table = with_route(&table, route(0x0b000000, 8, 5))?;
+    let table = with_route(&table, route(0x0a010000, 16, 7))?;
+    let table = with_route(&table, route(0x0a010000, 16, 3))?;
+    let table = with_route(&table, route(0xffffffff, 32, 0))?;
+    with_route(&table, route(0, 0, 0))
+}
+
+#[test]
+fn edits_share_the_other_pieces(rt: HostRuntime) -> Result<(), Fail> {
+    let table = small_table(rt.alloc())?;
+    let put = with_route(&table, route(0x0a020000, 16, 0))?;
+    assert_eq!(rt; table.count_shared(), 256);
+    drop(put);
+    let default = RouteKey {
+        table: MAIN,
+        prefix: Prefix::masked(0, 0),
+        metric: 0,
+    };
+    let removed = table.with_change(&RouteEdit::Remove(default))?;
+    assert_eq!(rt; table.count_shared(), 256);
+    drop(removed);
+    let flushed = table.with_change(&RouteEdit::Flush(all_within(Prefix::masked(0x0a000000, 7))))?;
+    assert_eq!(rt; table.count_shared(), 255);
+    assert_eq!(rt; (table.len(), flushed.len()), (5, 2));
+    drop(flushed);
+    let same = table.with_change(&RouteEdit::Flush(all_within(Prefix::masked(0x0c000000, 8))))?;
+    assert_eq!(rt; table.count_shared(), 257);
+    assert_eq!(rt; same.len(), 5);
+    Ok(())
+}
+
+#[test]
+fn each_call_answers(rt: HostRuntime) -> Result<(), Fail> {
+    let table = small_table(rt.alloc())?;
+    let rows = table.rows()?;
+    let tree = Tree::build(rt.alloc(), &rows)?;
+    let built = Table::build(rt.alloc(), &rows)?;
+    assert!(rt; built.rows()? == rows);
+    assert_eq!(rt; (tree.len(), built.len(), rows.len()), (5, 5, 5));
+    let choice = RouteChoice {
+        table: MAIN,
+        prefix: Prefix::masked(0x0a010000, 16),
+        metric: None,
+        kind: None,
+        via: None,
+        dev: None,
+        src: None,
+        proto: None,
+        scope: None,
+    };
+    let key = route(0x0a010000, 16, 3).key();
+    assert_eq!(rt;
+        (tree.choose(&choice), built.choose(&choice)),
+        (Some(key), Some(key))
+    );
+    assert!(rt; tree.holds(&key) && built.holds(&key));
+    let after = built.with_change(&RouteEdit::Remove(key))?;
+    assert!(rt; !after.holds(&key));
+    assert!(rt; built.holds(&key), "the table before is as it was");
+    assert_eq!(rt; after.len(), 4);
+    Ok(())
+}
+
+#[test]
+fn random_tables(rt: HostRuntime) -> Result<(), Fail> {
+    let mut random = Random(0x9e3779b97f4a7c15);
+    for _ in 0..20_000 {
+        let table = random_table(rt.alloc(), &mut random, 8)?;
+        let rows = table.rows()?;
+        let tree = Tree::build(rt.alloc(), &rows)?;
+        assert!(rt; tree.rows()? == rows);
+        for row in &rows {
+            let first = row.prefix.bits();
+            let host_bits = u32::MAX.checked_shr(u32::from(row.prefix.len()));
+            let last = first | host_bits.unwrap_or(0);
+            compare(&rt, &rows, &tree, &table, first);
+            compare(&rt, &rows, &tree, &table, last);
+            compare(&rt, &rows, &tree, &table, first.wrapping_sub(1));
+            compare(&rt, &rows, &tree, &table, last.wrapping_add(1));
+        }
+    }
+    Ok(())
+}
