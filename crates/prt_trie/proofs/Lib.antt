@@ -6,6 +6,7 @@ pub mod Edits
 pub mod Maxima
 pub mod Matches
 pub mod Listings
+pub mod Ranges
 pub mod Blocks
 pub mod Bests
 pub mod Rows
