@@ -30,6 +30,7 @@ impl Place {
     }
 }
 
+/// Whether the row of this number stands before the place.
 fn is_before_at(rows: &[Route], at: usize, place: Place) -> bool
     requires { at < length rows.now }
     ensures { (d : Route) → result ≡ is_before (slice_index_or rows.now at d).prefix place }
@@ -37,7 +38,7 @@ fn is_before_at(rows: &[Route], at: usize, place: Place) -> bool
     place.is_after(&rows[at].prefix)
 }
 
-/// How many of the first `end` rows, from `start` on, stand before the place: the number of the first that doesn't.
+/// The number of the first of the rows at `start..end` that doesn't stand before the place; `end` where each does.
 pub(crate) fn first_from(rows: &[Route], start: usize, end: usize, place: Place) -> usize
     requires start { start ≤ end }
     requires end { end ≤ length rows.now }

@@ -45,7 +45,7 @@ impl Model for Table {
     ghost invariant = { λ table. ArePieces (map arc_value table.pieces.items) × (table.len ≡ length (rows_of_pieces (map arc_value table.pieces.items))) };
 }
 
-/// How many rows the pieces have.
+/// How many rows the pieces have. More than a `usize` counts are refused, as memory for them would be.
 fn count_rows(pieces: &[Arc<Tree>]) -> Result<usize, Refusal>
     ensures value { IfOk result (λ count. count ≡ sum_by (λ piece. length (arc_value piece)) pieces.now) }
     ensures reason { IfErr result (λ reason. reason ≡ NoMemory) }
@@ -92,7 +92,7 @@ fn touches(edit: &RouteEdit, number: usize, piece: &Tree) -> bool
     }
 }
 
-/// The piece of this number after the edit: a share in the same one where the edit changes none of its rows.
+/// The piece of this number after the edit: one more owner of the same where the edit leaves its rows as they are.
 fn piece_after(
     alloc: Global,
     edit: &RouteEdit,
