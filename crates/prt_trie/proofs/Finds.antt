@@ -5,11 +5,11 @@ use Rattle.std.proofs.lemmas.Bool.{cases_Bool, cases_lt, cases_eq}
 use Rattle.std.proofs.lemmas.Bool.Decides.{nat_tests}
 use Rattle.prt_addr.specs.Block.{IsPrefix}
 use Rattle.prt_addr.specs.Prefix.{contains}
-use Rattle.prt_route.specs.Best.{best, is_candidate, is_unbeaten}
+use Rattle.prt_route.specs.Best.{best, is_candidate}
 use Rattle.prt_addr.specs.declared.addr.Addr.{Addr}
 use Rattle.prt_route.specs.Route.{is_better}
 use Rattle.prt_route.specs.declared.route.Route.{Route}
-use Rattle.prt_trie.specs.Walk.{IsBest, best_for, last_row, nowhere, weight}
+use Rattle.prt_trie.specs.Walk.{IsBest, best_for, is_unbeaten, last_row, nowhere, weight}
 use Rattle.prt_trie.specs.Index.{IsIndex}
 use Rattle.prt_trie.specs.Table.{IsOfOneTable, IsRising, IsTable}
 use Rattle.prt_trie.specs.declared.node.Node.{Node}

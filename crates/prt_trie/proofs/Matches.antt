@@ -11,9 +11,10 @@ use Rattle.prt_addr.specs.Block.{Block, IsPrefix}
 use Rattle.prt_addr.specs.Order.{first_by}
 use Rattle.prt_addr.specs.Prefix.{contains}
 use Rattle.prt_addr.specs.declared.addr.Addr.{Addr}
-use Rattle.prt_route.specs.Best.{best, candidates, is_candidate, is_unbeaten}
+use Rattle.prt_route.specs.Best.{best, candidates, is_candidate}
 use Rattle.prt_route.specs.Edit.{has_key}
 use Rattle.prt_route.specs.Route.{has_lower_metric, is_better, is_same_key, key_of}
+use Rattle.prt_trie.specs.Walk.{is_unbeaten}
 use Rattle.prt_route.specs.RouteChoice.{chosen_route, is_chosen}
 use Rattle.prt_route.specs.declared.choice.RouteChoice.{RouteChoice}
 use Rattle.prt_route.specs.declared.route.Route.{Route}

@@ -2,8 +2,8 @@
 use Rattle.std.proofs.Common.{◌≡◌, Bool, true, false, List, [], ◌∷◌, Some, None, refl, sym, ◌∙◌, arith, cond, find}
 use Rattle.std.specs.List.{list_any, AllByRecursion as Each}
 use Rattle.std.proofs.lemmas.Bool.Decides.{nat_tests}
-use Rattle.prt_route.specs.Best.{is_unbeaten}
 use Rattle.prt_route.specs.Route.{is_better}
+use Rattle.prt_trie.specs.Walk.{is_unbeaten}
 use Rattle.prt_route.specs.declared.route.Route.{Route}
 
 better_once : (a b : Route) → is_better a b ≡ true → is_better b a ≡ false

@@ -1,8 +1,10 @@
 -- What a walk down the trie finds, and which of some rows is the best.
-use Rattle.std.specs.Prelude.{◌≡◌, ◌⊎◌, ℕ, ◌+◌, ◌-◌, ◌*◌, ◌<◌, ◌≤◌, List, Bool, true, if◌then◌else◌, ◌&&◌, ◌==◌, nat_le, nat_lt, slice_index_or, filter, find, Option}
+use Rattle.std.specs.Prelude.{◌≡◌, ◌⊎◌, ℕ, ◌+◌, ◌-◌, ◌*◌, ◌<◌, ◌≤◌, List, Bool, true, if◌then◌else◌, ◌&&◌, ◌==◌, nat_le, nat_lt, not, slice_index_or, filter, Option}
+use Rattle.std.specs.List.{list_any}
 use Rattle.prt_addr.specs.Prefix.{contains}
 use Rattle.prt_addr.specs.declared.addr.Addr.{Addr}
-use Rattle.prt_route.specs.Best.{is_unbeaten}
+use Rattle.prt_addr.specs.Order.{first_by}
+use Rattle.prt_route.specs.Route.{is_better}
 use Rattle.prt_route.specs.declared.route.Route.{Route}
 use Rattle.prt_trie.specs.declared.node.Node.{Node}
 use Rattle.prt_trie.specs.declared.node.Below.{Below, Nothing, Halves'}
@@ -44,4 +46,8 @@ candidates_for rows addr = filter (λ row. contains row.prefix addr) rows
 
 -- of the rows whose prefix contains the address, the first that none of them beats
 abbrev pub best_for : List Route → Addr → Option Route
-best_for rows addr = find (is_unbeaten (candidates_for rows addr)) (candidates_for rows addr)
+best_for rows addr = first_by is_better (candidates_for rows addr)
+
+-- none of these is better
+abbrev pub is_unbeaten : List Route → Route → Bool
+is_unbeaten others route = not (list_any (λ other. is_better other route) others)
