@@ -1,0 +1,22 @@
+-- The table meta: the form of the file, and how many commands were accepted.
+use Rattle.std.specs.Prelude.{ℕ, List, [], ◌∷◌, codes}
+use Rattle.sqlite_value.specs.Order.{Row}
+use Rattle.prt_rows.specs.Cell.{IsWithin, number}
+use Rattle.prt_rows.specs.Columns.{Column, row_of}
+
+abbrev pub meta_columns : List (Column ℕ)
+meta_columns =
+    (codes "id", λ count. number 1)
+    ∷ (codes "format", λ count. number 1)
+    ∷ (codes "count", λ count. number count)
+    ∷ []
+
+abbrev pub meta_row : ℕ → Row
+meta_row = row_of meta_columns
+
+-- the one row of the table
+abbrev pub meta_rows : ℕ → List Row
+meta_rows count = meta_row count ∷ []
+
+abbrev pub IsCount : ℕ → Type 0
+IsCount = IsWithin 0 1000000000000000

@@ -1,0 +1,19 @@
+//! The rows of the store: what stands in them for routes, rules and the count, written and read back.
+#![tactic(auto)]
+
+mod cell;
+mod column;
+mod laws;
+mod meta_row;
+mod route_row;
+mod rows;
+mod rule_row;
+#[cfg(test)]
+mod tests;
+mod value;
+
+pub use laws::rows_read_back;
+pub use meta_row::{count_of_rows, meta_values};
+pub use route_row::{route_of_row, route_values};
+pub use rows::{routes_of_rows, rules_of_rows};
+pub use rule_row::{rule_of_row, rule_values};

@@ -1,0 +1,59 @@
+//! The row of the count.
+
+ghost use Rattle.std.specs.Prelude.{◌≡◌};
+ghost use Rattle.sqlite.specs.Values.{bound};
+ghost use Rattle.prt_rows.specs.Decodes.{Decodes};
+ghost use Rattle.prt_rows.specs.MetaRow.{IsCount, meta_row, meta_rows};
+
+use crate::column::meta as at;
+use crate::{cell, value};
+use sqlite::Row;
+use sqlite::types::ValueRef;
+
+/// The only id of a row of `meta`.
+const ID: u32 = 1;
+
+/// The format of the file.
+const FORMAT: u32 = 1;
+
+/// The most commands that a database accepts.
+const LARGEST_COUNT: u64 = 1_000_000_000_000_000;
+
+/// The count that the row of `meta` spells, if it spells one.
+fn count_of_row(row: &Row) -> Option<u64>
+    ensures { Decodes meta_row IsCount row.now result }
+{
+    if row.column_count() != at::COLUMNS {
+        return None;
+    }
+    let id = cell::number(row, at::ID)?;
+    let format = cell::number(row, at::FORMAT)?;
+    let count = cell::number_within(row, at::COUNT, 0, LARGEST_COUNT)?;
+    if id == ID && format == FORMAT {
+        Some(count)
+    } else {
+        None
+    }
+}
+
+/// The count that the rows of `meta` spell, if they spell one.
+pub fn count_of_rows(rows: &[Row]) -> Option<u64>
+    ensures { Decodes meta_rows IsCount rows.now result }
+{
+    match rows {
+        [row] => count_of_row(row),
+        _ => None,
+    }
+}
+
+/// The values of the row of `meta`, in the order of the columns.
+pub fn meta_values(count: u64) -> [ValueRef<'static>; at::COLUMNS]
+    requires { IsCount count }
+    ensures { bound result ≡ meta_row count }
+{
+    [
+        value::number(ID),
+        value::number(FORMAT),
+        value::large_number(count),
+    ]
+}

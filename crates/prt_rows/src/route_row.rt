@@ -1,0 +1,104 @@
+//! The row of a route.
+
+ghost use Rattle.std.specs.Prelude.{◌≡◌, ◌↔◌, ⊤, IsTrue};
+ghost use Rattle.sqlite.specs.Values.{bound};
+ghost use Rattle.sqlite_value.specs.Order.{column};
+ghost use Rattle.prt_route.specs.Storable.{IsStorableRoute};
+ghost use Rattle.prt_rows.specs.Decodes.{Decodes};
+ghost use Rattle.prt_rows.specs.Cell.{number};
+ghost use Rattle.prt_rows.specs.RouteRow.{IsInRange, IsRoute, kind_code, route_row};
+
+use crate::column::route as at;
+use crate::{cell, value};
+use prt_route::{Kind, Route};
+use sqlite::Row;
+use sqlite::types::ValueRef;
+
+/// The kind in a cell.
+fn kind(row: &Row, at: usize) -> Option<Kind>
+    ensures { Decodes (λ kind. number (kind_code kind)) (λ _. ⊤) (column row.now at) result }
+{
+    match cell::number(row, at)? {
+        1 => Some(Kind::Unicast),
+        6 => Some(Kind::Blackhole),
+        7 => Some(Kind::Unreachable),
+        8 => Some(Kind::Prohibit),
+        9 => Some(Kind::Throw),
+        _ => None,
+    }
+}
+
+/// The number that stands for a kind.
+fn kind_code(kind: Kind) -> u32
+    ensures { result ≡ kind_code kind }
+{
+    match kind {
+        Kind::Unicast => 1,
+        Kind::Blackhole => 6,
+        Kind::Unreachable => 7,
+        Kind::Prohibit => 8,
+        Kind::Throw => 9,
+    }
+}
+
+/// Whether a table may hold the route.
+fn is_storable(route: &Route) -> bool
+    ensures { IsTrue result ↔ IsStorableRoute route.now }
+{
+    let suits = match route.kind {
+        Kind::Unicast => route.via.is_some() || route.dev.is_some(),
+        _ => route.via.is_none() && route.dev.is_none() && route.src.is_none() && route.scope == 0,
+    };
+    route.table > 0 && suits
+}
+
+/// The route that the cells of a row spell, whether a table may hold it or not.
+fn route_of_cells(row: &Row) -> Option<Route>
+    ensures { Decodes route_row IsInRange row.now result }
+{
+    if row.column_count() != at::COLUMNS {
+        return None;
+    }
+    Some(Route {
+        table: cell::number(row, at::TBL)?,
+        prefix: cell::prefix(row, at::NET, at::LEN)?,
+        metric: cell::number(row, at::METRIC)?,
+        kind: kind(row, at::KIND)?,
+        via: cell::optional_addr(row, at::VIA)?,
+        dev: cell::optional_name(row, at::DEV)?,
+        src: cell::optional_addr(row, at::SRC)?,
+        proto: cell::byte(row, at::PROTO)?,
+        scope: cell::byte(row, at::SCOPE)?,
+    })
+}
+
+/// The route that a row spells, if it spells one.
+#[tactic(auto, using(crate::proofs::RouteRows::same_route))]
+pub fn route_of_row(row: &Row) -> Option<Route>
+    ensures { Decodes route_row IsRoute row.now result }
+{
+    let route = route_of_cells(row)?;
+    if is_storable(&route) {
+        Some(route)
+    } else {
+        None
+    }
+}
+
+/// The values of the row of a route, in the order of the columns.
+pub fn route_values(route: &Route) -> [ValueRef<'_>; at::COLUMNS]
+    ensures { bound result ≡ route_row route.now }
+{
+    [
+        value::number(route.table),
+        value::number(route.prefix.bits()),
+        value::number(u32::from(route.prefix.len())),
+        value::number(route.metric),
+        value::number(kind_code(route.kind)),
+        value::optional_addr(route.via),
+        value::optional_name(&route.dev),
+        value::optional_addr(route.src),
+        value::number(u32::from(route.proto)),
+        value::number(u32::from(route.scope)),
+    ]
+}

@@ -1,0 +1,95 @@
+//! The row of a rule.
+
+ghost use Rattle.std.specs.Prelude.{◌≡◌, ◌<◌, ◌^◌, [], ◌∷◌, ⊤};
+ghost use Rattle.sqlite.specs.Values.{bound};
+ghost use Rattle.sqlite_value.specs.Order.{column};
+ghost use Rattle.prt_rows.specs.Decodes.{Decodes};
+ghost use Rattle.prt_rows.specs.Cell.{IsWithin, flag, number};
+ghost use Rattle.prt_rows.specs.RuleRow.{IsAction, IsOptionalMark, IsRule, action_cells, action_code, action_table, mark_cells, rule_row};
+
+use crate::column::rule as at;
+use crate::{cell, value};
+use prt_rule::{Action, Mark, Rule};
+use sqlite::Row;
+use sqlite::types::ValueRef;
+
+/// The mark in two cells, or none for -1 in both.
+fn mark(row: &Row, mark_at: usize, mask_at: usize) -> Option<Option<Mark>>
+    ensures { Decodes mark_cells IsOptionalMark (column row.now mark_at ∷ column row.now mask_at ∷ []) result }
+{
+    let mark = cell::optional_number(row, mark_at)?;
+    let mask = cell::optional_number(row, mask_at)?;
+    match (mark, mask) {
+        (Some(mark), Some(mask)) => Some(Some(Mark { mark, mask })),
+        (None, None) => Some(None),
+        _ => None,
+    }
+}
+
+/// The action in two cells.
+fn action(row: &Row, act_at: usize, table_at: usize) -> Option<Action>
+    ensures { Decodes action_cells IsAction (column row.now act_at ∷ column row.now table_at ∷ []) result }
+{
+    match (cell::number(row, act_at)?, cell::number(row, table_at)?) {
+        (1, 0) => None,
+        (1, table) => Some(Action::Lookup(table)),
+        (6, 0) => Some(Action::Blackhole),
+        (7, 0) => Some(Action::Unreachable),
+        (8, 0) => Some(Action::Prohibit),
+        _ => None,
+    }
+}
+
+/// The rule that a row spells, if it spells one with an id of 1 to `last`.
+pub fn rule_of_row(row: &Row, last: u64) -> Option<Rule>
+    ensures { Decodes rule_row (IsRule last) row.now result }
+{
+    if row.column_count() != at::COLUMNS {
+        return None;
+    }
+    Some(Rule {
+        id: cell::number_within(row, at::ID, 1, last)?,
+        priority: cell::number(row, at::PRIORITY)?,
+        inverted: cell::flag(row, at::INVERTED)?,
+        from: cell::prefix(row, at::SRC_NET, at::SRC_LEN)?,
+        to: cell::prefix(row, at::DST_NET, at::DST_LEN)?,
+        iif: cell::optional_name(row, at::IIF)?,
+        mark: mark(row, at::MARK, at::MASK)?,
+        action: action(row, at::ACT, at::TBL)?,
+    })
+}
+
+/// The numbers that stand for an action: its code, and the table to look up or 0.
+fn action_codes(action: Action) -> (u32, u32)
+    ensures code { result.0 ≡ action_code action }
+    ensures table { result.1 ≡ action_table action }
+{
+    match action {
+        Action::Lookup(table) => (1, table),
+        Action::Blackhole => (6, 0),
+        Action::Unreachable => (7, 0),
+        Action::Prohibit => (8, 0),
+    }
+}
+
+/// The values of the row of a rule, in the order of the columns.
+pub fn rule_values(rule: &Rule) -> [ValueRef<'_>; at::COLUMNS]
+    requires { rule.now.id < 2 ^ 63 }
+    ensures { bound result ≡ rule_row rule.now }
+{
+    let (code, table) = action_codes(rule.action);
+    [
+        value::large_number(rule.id),
+        value::number(rule.priority),
+        value::flag(rule.inverted),
+        value::number(rule.from.bits()),
+        value::number(u32::from(rule.from.len())),
+        value::number(rule.to.bits()),
+        value::number(u32::from(rule.to.len())),
+        value::optional_name(&rule.iif),
+        value::optional_number(rule.mark.map(|mark| mark.mark)),
+        value::optional_number(rule.mark.map(|mark| mark.mask)),
+        value::number(code),
+        value::number(table),
+    ]
+}

@@ -1,0 +1,152 @@
+use crate::{
+    count_of_rows, meta_values, route_of_row, route_values, routes_of_rows, rule_of_row,
+    rule_values, rules_of_rows,
+};
+use prt_addr::{Addr, Prefix, Refusal};
+use prt_route::{Dev, Kind, Route};
+use prt_rule::{Action, Mark, Rule};
+use sqlite::Row;
+use sqlite::types::ValueRef;
+use sqlite_exec::work::FromRow;
+use sqlite_value::row;
+use std::alloc::{AllocError, Global};
+use std::test::Fail;
+
+/// A row of these values.
+fn row(alloc: Global, values: &[ValueRef<'_>]) -> Result<Row, AllocError> {
+    let mut cells = row::Row::new(alloc);
+    for value in values {
+        cells.push(*value)?;
+    }
+    Row::from_row(alloc, &cells)
+}
+
+/// `blackhole 10.0.0.0/8 table 100 metric 4294967295`.
+const BLACKHOLE: [ValueRef<'static>; 10] = [
+    ValueRef::Int(100),
+    ValueRef::Int(0x0a00_0000),
+    ValueRef::Int(8),
+    ValueRef::Int(4_294_967_295),
+    ValueRef::Int(6),
+    ValueRef::Int(-1),
+    ValueRef::Text(&[]),
+    ValueRef::Int(-1),
+    ValueRef::Int(3),
+    ValueRef::Int(0),
+];
+
+#[test]
+fn reads_back_what_it_writes(rt: HostRuntime) -> Result<(), Fail> {
+    let route = Route {
+        table: 254,
+        prefix: Prefix::masked(0xc000_0200, 24),
+        metric: 100,
+        kind: Kind::Unicast,
+        via: None,
+        dev: Some(Dev::loopback()),
+        src: Some(Addr(0xc000_020a)),
+        proto: 2,
+        scope: 253,
+    };
+    let rule = Rule {
+        id: 4,
+        priority: 32765,
+        inverted: true,
+        from: Prefix::masked(0, 0),
+        to: Prefix::masked(0x0a00_0000, 8),
+        iif: None,
+        mark: Some(Mark {
+            mark: 0xca6c,
+            mask: 0xffff_ffff,
+        }),
+        action: Action::Lookup(51820),
+    };
+    let alloc = rt.alloc();
+    let route_row = row(alloc, &route_values(&route))?;
+    let rule_row = row(alloc, &rule_values(&rule))?;
+    let meta_row = row(alloc, &meta_values(1_000_000_000_000_000))?;
+    assert_eq!(rt; route_of_row(&route_row), Some(route));
+    assert_eq!(rt; rule_of_row(&rule_row, 4), Some(rule));
+    assert_eq!(rt; rule_of_row(&rule_row, 3), None);
+    assert_eq!(rt; count_of_rows(&[meta_row]), Some(1_000_000_000_000_000));
+    Ok(())
+}
+
+#[test]
+fn refuses_routes_that_no_table_holds(rt: HostRuntime) -> Result<(), Fail> {
+    let alloc = rt.alloc();
+    for (at, value) in [
+        (0, ValueRef::Int(0)),
+        (1, ValueRef::Int(0x0a00_0001)),
+        (2, ValueRef::Int(33)),
+        (3, ValueRef::Int(4_294_967_296)),
+        (4, ValueRef::Int(1)),
+        (4, ValueRef::Int(2)),
+        (6, ValueRef::Text(b"a/b")),
+        (7, ValueRef::Int(-2)),
+        (8, ValueRef::Text(b"3")),
+        (9, ValueRef::Int(253)),
+    ] {
+        let mut values = BLACKHOLE;
+        values[at] = value;
+        assert!(rt; route_of_row(&row(alloc, &values)?).is_none(), "{at}");
+    }
+    assert!(rt; route_of_row(&row(alloc, &BLACKHOLE)?).is_some());
+    Ok(())
+}
+
+/// `from 10.0.0.0/8 fwmark 0x10 iif lo lookup 100`, with priority 500 and id 4.
+const LOOKUP: [ValueRef<'static>; 12] = [
+    ValueRef::Int(4),
+    ValueRef::Int(500),
+    ValueRef::Int(0),
+    ValueRef::Int(0x0a00_0000),
+    ValueRef::Int(8),
+    ValueRef::Int(0),
+    ValueRef::Int(0),
+    ValueRef::Text(b"lo"),
+    ValueRef::Int(16),
+    ValueRef::Int(4_294_967_295),
+    ValueRef::Int(1),
+    ValueRef::Int(100),
+];
+
+#[test]
+fn refuses_rules_out_of_range(rt: HostRuntime) -> Result<(), Fail> {
+    let alloc = rt.alloc();
+    for (at, value) in [
+        (0, ValueRef::Int(0)),
+        (0, ValueRef::Int(5)),
+        (1, ValueRef::Int(-1)),
+        (2, ValueRef::Int(2)),
+        (3, ValueRef::Int(0x0a00_0001)),
+        (6, ValueRef::Int(33)),
+        (7, ValueRef::Text(b"sixteen-bytes-xy")),
+        (8, ValueRef::Int(-1)),
+        (10, ValueRef::Int(6)),
+        (11, ValueRef::Int(0)),
+    ] {
+        let mut values = LOOKUP;
+        values[at] = value;
+        assert!(rt; rule_of_row(&row(alloc, &values)?, 4).is_none(), "{at}");
+    }
+    assert!(rt; rule_of_row(&row(alloc, &LOOKUP)?, 4).is_some());
+    Ok(())
+}
+
+#[test]
+fn reads_whole_tables(rt: HostRuntime) -> Result<(), Fail> {
+    let alloc = rt.alloc();
+    let routes = [row(alloc, &BLACKHOLE)?, row(alloc, &BLACKHOLE)?];
+    let rules = [row(alloc, &LOOKUP)?];
+    let counts = [row(alloc, &meta_values(0))?, row(alloc, &meta_values(0))?];
+    assert_eq!(rt; routes_of_rows(alloc, &routes)?.len(), 2);
+    assert_eq!(rt; rules_of_rows(alloc, &rules, 4)?.len(), 1);
+    assert_eq!(rt; routes_of_rows(alloc, &rules).err(), Some(Refusal::Damaged));
+    assert_eq!(rt;
+        rules_of_rows(alloc, &rules, 3).err(),
+        Some(Refusal::Damaged)
+    );
+    assert_eq!(rt; count_of_rows(&counts), None);
+    Ok(())
+}

@@ -1,0 +1,59 @@
+//! What stands in one cell, written.
+
+ghost use Rattle.std.specs.Prelude.{◌≡◌, ◌<◌, ◌^◌};
+ghost use Rattle.sqlite.specs.Values.{bound_value};
+ghost use Rattle.sqlite_value.specs.Value.{owned};
+ghost use Rattle.prt_rows.specs.Cell.{flag, number, optional_addr, optional_name, optional_number};
+
+use prt_addr::Addr;
+use prt_route::Dev;
+use sqlite::types::ValueRef;
+
+/// The cell of a number.
+pub(crate) fn number(n: u32) -> ValueRef<'static>
+    ensures { bound_value (owned result) ≡ number n }
+{
+    ValueRef::Int(i64::from(n))
+}
+
+/// The cell of a number below 2^63.
+pub(crate) fn large_number(n: u64) -> ValueRef<'static>
+    requires { n < 2 ^ 63 }
+    ensures { bound_value (owned result) ≡ number n }
+{
+    ValueRef::Int(n as i64)
+}
+
+/// The cell of a number that may be absent: -1 where it is.
+pub(crate) fn optional_number(n: Option<u32>) -> ValueRef<'static>
+    ensures { bound_value (owned result) ≡ optional_number n }
+{
+    match n {
+        Some(n) => ValueRef::Int(i64::from(n)),
+        None => ValueRef::Int(-1),
+    }
+}
+
+/// The cell of an address that may be absent: -1 where it is.
+pub(crate) fn optional_addr(addr: Option<Addr>) -> ValueRef<'static>
+    ensures { bound_value (owned result) ≡ optional_addr addr }
+{
+    optional_number(addr.map(|addr| addr.0))
+}
+
+/// The cell of a name that may be absent: the empty text where it is.
+pub(crate) fn optional_name(name: &Option<Dev>) -> ValueRef<'_>
+    ensures { bound_value (owned result) ≡ optional_name name.now }
+{
+    match name {
+        Some(name) => ValueRef::Text(name.as_bytes()),
+        None => ValueRef::Text(&[]),
+    }
+}
+
+/// The cell of a flag: 1 where it is set, and 0 where it is not.
+pub(crate) fn flag(is_set: bool) -> ValueRef<'static>
+    ensures { bound_value (owned result) ≡ flag is_set }
+{
+    number(u32::from(is_set))
+}
