@@ -1,12 +1,11 @@
 //! One cell of a row, read.
 
-ghost use Rattle.std.specs.Prelude.{[], ◌∷◌, ⊤};
+ghost use Rattle.std.specs.Prelude.{[], ◌∷◌, IfSome, ⊤};
 ghost use Rattle.sqlite_value.specs.declared.value.Value.TheVariants.{Int};
 ghost use Rattle.sqlite_value.specs.Order.{column};
 ghost use Rattle.prt_addr.specs.Block.{IsPrefix};
 ghost use Rattle.prt_rows.specs.Decodes.{Decodes};
 ghost use Rattle.prt_rows.specs.Cell.{IsByte, IsNumber, IsOptionalAddr, IsOptionalName, IsWithin, flag, number, optional_addr, optional_name, optional_number, prefix_cells};
-ghost use Rattle.std.specs.Prelude.{IfSome};
 
 use prt_addr::{Addr, Prefix};
 use prt_route::{Dev, read_dev};
@@ -14,7 +13,7 @@ use sqlite::Row;
 use sqlite::types::ValueRef;
 
 /// The integer in a cell.
-fn integer(row: &Row, at: usize) -> Option<i64>
+pub(crate) fn integer(row: &Row, at: usize) -> Option<i64>
     ensures { Decodes Int (λ _. ⊤) (column row.now at) result }
 {
     match row.get_ref(at) {

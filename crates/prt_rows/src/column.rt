@@ -1,66 +1,50 @@
-//! The place of each column in the rows of its table, from 0 on.
+//! The columns of the tables. The place of a column, from 0 on, is `Column::Name as usize`.
 
-/// The table `route`.
-pub(crate) mod route {
-    pub const TBL: usize = 0;
-
-    pub const NET: usize = 1;
-
-    pub const LEN: usize = 2;
-
-    pub const METRIC: usize = 3;
-
-    pub const KIND: usize = 4;
-
-    pub const VIA: usize = 5;
-
-    pub const DEV: usize = 6;
-
-    pub const SRC: usize = 7;
-
-    pub const PROTO: usize = 8;
-
-    pub const SCOPE: usize = 9;
-    /// How many columns there are.
-    pub const COLUMNS: usize = 10;
+/// A column of the table `route`, in their order.
+#[derive(Clone, Copy)]
+pub(crate) enum RouteColumn {
+    Tbl,
+    Net,
+    Len,
+    Metric,
+    Kind,
+    Via,
+    Dev,
+    Src,
+    Proto,
+    Scope,
 }
 
-/// The table `rule`.
-pub(crate) mod rule {
-    pub const ID: usize = 0;
+/// How many columns the table `route` has.
+pub(crate) const ROUTE_COLUMNS: usize = 10;
 
-    pub const PRIORITY: usize = 1;
-
-    pub const INVERTED: usize = 2;
-
-    pub const SRC_NET: usize = 3;
-
-    pub const SRC_LEN: usize = 4;
-
-    pub const DST_NET: usize = 5;
-
-    pub const DST_LEN: usize = 6;
-
-    pub const IIF: usize = 7;
-
-    pub const MARK: usize = 8;
-
-    pub const MASK: usize = 9;
-
-    pub const ACT: usize = 10;
-
-    pub const TBL: usize = 11;
-    /// How many columns there are.
-    pub const COLUMNS: usize = 12;
+/// A column of the table `rule`, in their order.
+#[derive(Clone, Copy)]
+pub(crate) enum RuleColumn {
+    Id,
+    Priority,
+    Inverted,
+    SrcNet,
+    SrcLen,
+    DstNet,
+    DstLen,
+    Iif,
+    Mark,
+    Mask,
+    Act,
+    Tbl,
 }
 
-/// The table `meta`.
-pub(crate) mod meta {
-    pub const ID: usize = 0;
+/// How many columns the table `rule` has.
+pub(crate) const RULE_COLUMNS: usize = 12;
 
-    pub const FORMAT: usize = 1;
-
-    pub const COUNT: usize = 2;
-    /// How many columns there are.
-    pub const COLUMNS: usize = 3;
+/// A column of the table `meta`, in their order.
+#[derive(Clone, Copy)]
+pub(crate) enum MetaColumn {
+    Id,
+    Format,
+    Count,
 }
+
+/// How many columns the table `meta` has.
+pub(crate) const META_COLUMNS: usize = 3;

@@ -5,7 +5,7 @@ ghost use Rattle.sqlite.specs.Values.{bound};
 ghost use Rattle.prt_rows.specs.Decodes.{Decodes};
 ghost use Rattle.prt_rows.specs.MetaRow.{IsCount, meta_row, meta_rows};
 
-use crate::column::meta as at;
+use crate::column::{META_COLUMNS, MetaColumn as At};
 use crate::{cell, value};
 use sqlite::Row;
 use sqlite::types::ValueRef;
@@ -23,12 +23,12 @@ const LARGEST_COUNT: u64 = 1_000_000_000_000_000;
 fn count_of_row(row: &Row) -> Option<u64>
     ensures { Decodes meta_row IsCount row.now result }
 {
-    if row.column_count() != at::COLUMNS {
+    if row.column_count() != META_COLUMNS {
         return None;
     }
-    let id = cell::number(row, at::ID)?;
-    let format = cell::number(row, at::FORMAT)?;
-    let count = cell::number_within(row, at::COUNT, 0, LARGEST_COUNT)?;
+    let id = cell::number(row, At::Id as usize)?;
+    let format = cell::number(row, At::Format as usize)?;
+    let count = cell::number_within(row, At::Count as usize, 0, LARGEST_COUNT)?;
     if id == ID && format == FORMAT {
         Some(count)
     } else {
@@ -47,7 +47,7 @@ pub fn count_of_rows(rows: &[Row]) -> Option<u64>
 }
 
 /// The values of the row of `meta`, in the order of the columns.
-pub fn meta_values(count: u64) -> [ValueRef<'static>; at::COLUMNS]
+pub fn meta_values(count: u64) -> [ValueRef<'static>; META_COLUMNS]
     requires { IsCount count }
     ensures { bound result ≡ meta_row count }
 {

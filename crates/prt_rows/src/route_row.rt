@@ -8,7 +8,7 @@ ghost use Rattle.prt_rows.specs.Decodes.{Decodes};
 ghost use Rattle.prt_rows.specs.Cell.{number};
 ghost use Rattle.prt_rows.specs.RouteRow.{IsInRange, IsRoute, kind_code, route_row};
 
-use crate::column::route as at;
+use crate::column::{ROUTE_COLUMNS, RouteColumn as At};
 use crate::{cell, value};
 use prt_route::{Kind, Route};
 use sqlite::Row;
@@ -18,7 +18,7 @@ use sqlite::types::ValueRef;
 fn kind(row: &Row, at: usize) -> Option<Kind>
     ensures { Decodes (λ kind. number (kind_code kind)) (λ _. ⊤) (column row.now at) result }
 {
-    match cell::number(row, at)? {
+    match cell::integer(row, at)? {
         1 => Some(Kind::Unicast),
         6 => Some(Kind::Blackhole),
         7 => Some(Kind::Unreachable),
@@ -56,19 +56,19 @@ fn is_storable(route: &Route) -> bool
 fn route_of_cells(row: &Row) -> Option<Route>
     ensures { Decodes route_row IsInRange row.now result }
 {
-    if row.column_count() != at::COLUMNS {
+    if row.column_count() != ROUTE_COLUMNS {
         return None;
     }
     Some(Route {
-        table: cell::number(row, at::TBL)?,
-        prefix: cell::prefix(row, at::NET, at::LEN)?,
-        metric: cell::number(row, at::METRIC)?,
-        kind: kind(row, at::KIND)?,
-        via: cell::optional_addr(row, at::VIA)?,
-        dev: cell::optional_name(row, at::DEV)?,
-        src: cell::optional_addr(row, at::SRC)?,
-        proto: cell::byte(row, at::PROTO)?,
-        scope: cell::byte(row, at::SCOPE)?,
+        table: cell::number(row, At::Tbl as usize)?,
+        prefix: cell::prefix(row, At::Net as usize, At::Len as usize)?,
+        metric: cell::number(row, At::Metric as usize)?,
+        kind: kind(row, At::Kind as usize)?,
+        via: cell::optional_addr(row, At::Via as usize)?,
+        dev: cell::optional_name(row, At::Dev as usize)?,
+        src: cell::optional_addr(row, At::Src as usize)?,
+        proto: cell::byte(row, At::Proto as usize)?,
+        scope: cell::byte(row, At::Scope as usize)?,
     })
 }
 
@@ -86,7 +86,7 @@ pub fn route_of_row(row: &Row) -> Option<Route>
 }
 
 /// The values of the row of a route, in the order of the columns.
-pub fn route_values(route: &Route) -> [ValueRef<'_>; at::COLUMNS]
+pub fn route_values(route: &Route) -> [ValueRef<'_>; ROUTE_COLUMNS]
     ensures { bound result ≡ route_row route.now }
 {
     [

@@ -74,9 +74,9 @@ fn values_of_rows<R: RowReader>(
         let Some(value) = reader.value_of_row(row) else {
             return Err(Refusal::Damaged);
         };
-        if values.push(value).is_err() {
+        let Ok(()) = values.push(value) else {
             return Err(Refusal::NoMemory);
-        }
+        };
     }
     Ok(values)
 }

@@ -7,7 +7,7 @@ ghost use Rattle.prt_rows.specs.Decodes.{Decodes};
 ghost use Rattle.prt_rows.specs.Cell.{IsWithin, flag, number};
 ghost use Rattle.prt_rows.specs.RuleRow.{IsAction, IsOptionalMark, IsRule, action_cells, action_code, action_table, mark_cells, rule_row};
 
-use crate::column::rule as at;
+use crate::column::{RULE_COLUMNS, RuleColumn as At};
 use crate::{cell, value};
 use prt_rule::{Action, Mark, Rule};
 use sqlite::Row;
@@ -17,12 +17,13 @@ use sqlite::types::ValueRef;
 fn mark(row: &Row, mark_at: usize, mask_at: usize) -> Option<Option<Mark>>
     ensures { Decodes mark_cells IsOptionalMark (column row.now mark_at ∷ column row.now mask_at ∷ []) result }
 {
-    let mark = cell::optional_number(row, mark_at)?;
-    let mask = cell::optional_number(row, mask_at)?;
-    match (mark, mask) {
+    match (
+        cell::optional_number(row, mark_at)?,
+        cell::optional_number(row, mask_at)?,
+    ) {
         (Some(mark), Some(mask)) => Some(Some(Mark { mark, mask })),
         (None, None) => Some(None),
-        _ => None,
+        (Some(_), None) | (None, Some(_)) => None,
     }
 }
 
@@ -44,18 +45,18 @@ fn action(row: &Row, act_at: usize, table_at: usize) -> Option<Action>
 pub fn rule_of_row(row: &Row, last: u64) -> Option<Rule>
     ensures { Decodes rule_row (IsRule last) row.now result }
 {
-    if row.column_count() != at::COLUMNS {
+    if row.column_count() != RULE_COLUMNS {
         return None;
     }
     Some(Rule {
-        id: cell::number_within(row, at::ID, 1, last)?,
-        priority: cell::number(row, at::PRIORITY)?,
-        inverted: cell::flag(row, at::INVERTED)?,
-        from: cell::prefix(row, at::SRC_NET, at::SRC_LEN)?,
-        to: cell::prefix(row, at::DST_NET, at::DST_LEN)?,
-        iif: cell::optional_name(row, at::IIF)?,
-        mark: mark(row, at::MARK, at::MASK)?,
-        action: action(row, at::ACT, at::TBL)?,
+        id: cell::number_within(row, At::Id as usize, 1, last)?,
+        priority: cell::number(row, At::Priority as usize)?,
+        inverted: cell::flag(row, At::Inverted as usize)?,
+        from: cell::prefix(row, At::SrcNet as usize, At::SrcLen as usize)?,
+        to: cell::prefix(row, At::DstNet as usize, At::DstLen as usize)?,
+        iif: cell::optional_name(row, At::Iif as usize)?,
+        mark: mark(row, At::Mark as usize, At::Mask as usize)?,
+        action: action(row, At::Act as usize, At::Tbl as usize)?,
     })
 }
 
@@ -73,7 +74,7 @@ fn action_codes(action: Action) -> (u32, u32)
 }
 
 /// The values of the row of a rule, in the order of the columns.
-pub fn rule_values(rule: &Rule) -> [ValueRef<'_>; at::COLUMNS]
+pub fn rule_values(rule: &Rule) -> [ValueRef<'_>; RULE_COLUMNS]
     requires { rule.now.id < 2 ^ 63 }
     ensures { bound result ≡ rule_row rule.now }
 {
