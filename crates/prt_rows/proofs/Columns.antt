@@ -8,7 +8,7 @@ use Rattle.prt_rows.specs.Columns.{Column, row_of}
 -- from this place on, what stands in the row is what these columns have for x
 abbrev pub HasCells : {X : Type 0} → List (Column X) → X → Row → ℕ → Type 0
 HasCells [] x cells at = ⊤
-HasCells (c ∷ columns) x cells at = (column cells at ≡ c.1 x) × HasCells columns x cells (suc at)
+HasCells (c ∷ columns) x cells at = (column cells at ≡ c.2 x) × HasCells columns x cells (suc at)
 
 after_first : {X : Type 0} (columns : List (Column X)) (x : X) (v : Value) (cells : Row) (at : ℕ) → HasCells columns x (v ∷ cells) (suc at) → HasCells columns x cells at
 after_first [] x v cells at each = each

@@ -4,3 +4,4 @@ pub mod Columns
 pub mod Codes
 pub mod RouteRows
 pub mod RuleRows
+pub mod Texts

@@ -4,3 +4,6 @@ pub mod Columns
 pub mod RouteRow
 pub mod RuleRow
 pub mod MetaRow
+pub mod Tables
+pub mod Statements
+pub mod Meanings

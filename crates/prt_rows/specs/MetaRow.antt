@@ -1,14 +1,15 @@
 -- The table meta: the form of the file, and how many commands were accepted.
 use Rattle.std.specs.Prelude.{ℕ, List, [], ◌∷◌, codes}
+use Rattle.sqlite.specs.Kind.TheVariants.{Integer}
 use Rattle.sqlite_value.specs.Order.{Row}
 use Rattle.prt_rows.specs.Cell.{IsWithin, number}
 use Rattle.prt_rows.specs.Columns.{Column, row_of}
 
 abbrev pub meta_columns : List (Column ℕ)
 meta_columns =
-    (codes "id", λ count. number 1)
-    ∷ (codes "format", λ count. number 1)
-    ∷ (codes "count", λ count. number count)
+    (codes "id", Integer, λ count. number 1)
+    ∷ (codes "format", Integer, λ count. number 1)
+    ∷ (codes "count", Integer, λ count. number count)
     ∷ []
 
 abbrev pub meta_row : ℕ → Row

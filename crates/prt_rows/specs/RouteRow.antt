@@ -1,5 +1,6 @@
 -- The table of routes.
 use Rattle.std.specs.Prelude.{ℕ, List, [], ◌∷◌, codes}
+use Rattle.sqlite.specs.Kind.TheVariants.{Integer, Text}
 use Rattle.sqlite_value.specs.Order.{Row}
 use Rattle.prt_addr.specs.Block.{IsPrefix}
 use Rattle.prt_route.specs.Storable.{IsStorableRoute}
@@ -18,16 +19,16 @@ kind_code Throw = 9
 
 abbrev pub route_columns : List (Column Route)
 route_columns =
-    (codes "tbl", λ route. number route.table)
-    ∷ (codes "net", λ route. number route.prefix.bits)
-    ∷ (codes "len", λ route. number route.prefix.len)
-    ∷ (codes "metric", λ route. number route.metric)
-    ∷ (codes "kind", λ route. number (kind_code route.kind))
-    ∷ (codes "via", λ route. optional_addr route.via)
-    ∷ (codes "dev", λ route. optional_name route.dev)
-    ∷ (codes "src", λ route. optional_addr route.src)
-    ∷ (codes "proto", λ route. number route.proto)
-    ∷ (codes "scope", λ route. number route.scope)
+    (codes "tbl", Integer, λ route. number route.table)
+    ∷ (codes "net", Integer, λ route. number route.prefix.bits)
+    ∷ (codes "len", Integer, λ route. number route.prefix.len)
+    ∷ (codes "metric", Integer, λ route. number route.metric)
+    ∷ (codes "kind", Integer, λ route. number (kind_code route.kind))
+    ∷ (codes "via", Integer, λ route. optional_addr route.via)
+    ∷ (codes "dev", Text, λ route. optional_name route.dev)
+    ∷ (codes "src", Integer, λ route. optional_addr route.src)
+    ∷ (codes "proto", Integer, λ route. number route.proto)
+    ∷ (codes "scope", Integer, λ route. number route.scope)
     ∷ []
 
 abbrev pub route_row : Route → Row

@@ -1,5 +1,6 @@
 -- The table of rules.
 use Rattle.std.specs.Prelude.{ℕ, List, [], ◌∷◌, Option, IfSome, codes, option_map}
+use Rattle.sqlite.specs.Kind.TheVariants.{Integer, Text}
 use Rattle.sqlite_value.specs.declared.value.Value.{Value}
 use Rattle.sqlite_value.specs.Order.{Row}
 use Rattle.prt_addr.specs.Block.{IsPrefix}
@@ -30,18 +31,18 @@ mask_of = option_map (λ mark. mark.mask)
 
 abbrev pub rule_columns : List (Column Rule)
 rule_columns =
-    (codes "id", λ rule. number rule.id)
-    ∷ (codes "priority", λ rule. number rule.priority)
-    ∷ (codes "inverted", λ rule. flag rule.inverted)
-    ∷ (codes "src_net", λ rule. number rule.from.bits)
-    ∷ (codes "src_len", λ rule. number rule.from.len)
-    ∷ (codes "dst_net", λ rule. number rule.to.bits)
-    ∷ (codes "dst_len", λ rule. number rule.to.len)
-    ∷ (codes "iif", λ rule. optional_name rule.iif)
-    ∷ (codes "mark", λ rule. optional_number (mark_of rule.mark))
-    ∷ (codes "mask", λ rule. optional_number (mask_of rule.mark))
-    ∷ (codes "act", λ rule. number (action_code rule.action))
-    ∷ (codes "tbl", λ rule. number (action_table rule.action))
+    (codes "id", Integer, λ rule. number rule.id)
+    ∷ (codes "priority", Integer, λ rule. number rule.priority)
+    ∷ (codes "inverted", Integer, λ rule. flag rule.inverted)
+    ∷ (codes "src_net", Integer, λ rule. number rule.from.bits)
+    ∷ (codes "src_len", Integer, λ rule. number rule.from.len)
+    ∷ (codes "dst_net", Integer, λ rule. number rule.to.bits)
+    ∷ (codes "dst_len", Integer, λ rule. number rule.to.len)
+    ∷ (codes "iif", Text, λ rule. optional_name rule.iif)
+    ∷ (codes "mark", Integer, λ rule. optional_number (mark_of rule.mark))
+    ∷ (codes "mask", Integer, λ rule. optional_number (mask_of rule.mark))
+    ∷ (codes "act", Integer, λ rule. number (action_code rule.action))
+    ∷ (codes "tbl", Integer, λ rule. number (action_table rule.action))
     ∷ []
 
 abbrev pub rule_row : Rule → Row

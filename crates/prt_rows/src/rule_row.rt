@@ -17,13 +17,12 @@ use sqlite::types::ValueRef;
 fn mark(row: &Row, mark_at: usize, mask_at: usize) -> Option<Option<Mark>>
     ensures { Decodes mark_cells IsOptionalMark (column row.now mark_at ∷ column row.now mask_at ∷ []) result }
 {
-    match (
-        cell::optional_number(row, mark_at)?,
-        cell::optional_number(row, mask_at)?,
-    ) {
+    let mark = cell::optional_number(row, mark_at)?;
+    let mask = cell::optional_number(row, mask_at)?;
+    match (mark, mask) {
         (Some(mark), Some(mask)) => Some(Some(Mark { mark, mask })),
         (None, None) => Some(None),
-        (Some(_), None) | (None, Some(_)) => None,
+        _ => None,
     }
 }
 

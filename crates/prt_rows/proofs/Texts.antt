@@ -1,0 +1,71 @@
+-- The texts mean their commands, in a file whose first tables are ours.
+use Rattle.std.proofs.Common.{◌≡◌, List, Ok, refl}
+use Rattle.sqlite.proofs.Callers.{IsPlain, command_of}
+use Rattle.sqlite.specs.Command.{Command}
+use Rattle.sqlite.specs.Compile.{table_defined_by}
+use Rattle.sqlite.specs.Listing.{understood}
+use Rattle.sqlite.specs.Schema.{Schema}
+use Rattle.sqlite.specs.Table.{Table}
+use Rattle.sqlite_schema.specs.declared.schema.Index.{Index}
+use Rattle.sqlite_schema.specs.declared.schema.View.{View}
+use Rattle.sqlite_tied.specs.Compute.{everything}
+use Rattle.prt_addr.specs.Word.{Word}
+use Rattle.prt_rows.specs.Meanings.{delete_route_command, delete_rule_command, flush_rules_command, insert_rule_command, put_route_command, read_meta_command, read_routes_command, read_rules_command, set_count_command}
+use Rattle.prt_rows.specs.Statements.{create_meta, create_route, create_rule, delete_route, delete_rule, flush_rules, insert_rule, put_route, read_meta, read_routes, read_rules, set_count}
+use Rattle.prt_rows.specs.Tables.{meta_table, route_table, rule_table, schema_with}
+
+-- the text is understood as the command, without more
+abbrev pub Means : Schema → Word → Command → Type 0
+Means schema text command = (command_of (understood schema text) ≡ command) × IsPlain (understood schema text)
+
+pub rule_is : table_defined_by create_rule ≡ Ok rule_table
+unfolding everything
+rule_is = refl
+
+pub route_is : table_defined_by create_route ≡ Ok (record route_table { tree = 0 })
+unfolding everything
+route_is = refl
+
+pub meta_is : table_defined_by create_meta ≡ Ok (record meta_table { tree = 0 })
+unfolding everything
+meta_is = refl
+
+module _ (tables : List Table) (indexes : List Index) (views : List View) where
+  abbrev schema : Schema
+  schema = schema_with tables indexes views
+
+  pub read_rules_is : Means schema read_rules read_rules_command
+  unfolding understood everything
+  read_rules_is = (refl, (refl, refl))
+
+  pub read_routes_is : Means schema read_routes read_routes_command
+  unfolding understood everything
+  read_routes_is = (refl, (refl, refl))
+
+  pub read_meta_is : Means schema read_meta read_meta_command
+  unfolding understood everything
+  read_meta_is = (refl, (refl, refl))
+
+  pub put_route_is : Means schema put_route put_route_command
+  unfolding understood everything
+  put_route_is = (refl, (refl, refl))
+
+  pub delete_route_is : Means schema delete_route delete_route_command
+  unfolding understood everything
+  delete_route_is = (refl, (refl, refl))
+
+  pub insert_rule_is : Means schema insert_rule insert_rule_command
+  unfolding understood everything
+  insert_rule_is = (refl, (refl, refl))
+
+  pub delete_rule_is : Means schema delete_rule delete_rule_command
+  unfolding understood everything
+  delete_rule_is = (refl, (refl, refl))
+
+  pub flush_rules_is : Means schema flush_rules flush_rules_command
+  unfolding understood everything
+  flush_rules_is = (refl, (refl, refl))
+
+  pub set_count_is : Means schema set_count set_count_command
+  unfolding understood everything
+  set_count_is = (refl, (refl, refl))

@@ -1,0 +1,103 @@
+-- What the texts that read and write mean, as commands over terms. Parameters are row 0, and a table's row, with its rowid first, is row 1.
+use Rattle.std.specs.Prelude.{ℕ, pos, negsuc, false, List, [], ◌∷◌, None, Some, map}
+use Rattle.sqlite.specs.Collation.TheVariants.{Binary}
+use Rattle.sqlite.specs.Command.{Command}
+use Rattle.sqlite.specs.Command.TheVariants.{Delete, Insert, InsertOr, Select, Update}
+use Rattle.sqlite.specs.Query.{Query, inner, end}
+use Rattle.sqlite.specs.Source.TheVariants.{Values}
+use Rattle.sqlite.specs.Term.{Term, lit, col, op2}
+use Rattle.sqlite.specs.declared.types.Value.TheVariants.{Null, Int}
+use Rattle.sqlite_schema.specs.declared.command.Conflict.TheVariants.{Abort}
+use Rattle.sqlite_schema.specs.declared.command.Upsert.{Upsert}
+use Rattle.sqlite_schema.specs.declared.program.Program.{Program}
+use Rattle.sqlite_sql.specs.declared.ops.BinaryOp.TheVariants.{Compare}
+use Rattle.sqlite_sql.specs.declared.ops.CompareOp.TheVariants.{Eq, Ne}
+use Rattle.prt_addr.specs.Word.{Word}
+use Rattle.prt_rows.specs.Columns.{Column}
+use Rattle.prt_rows.specs.MetaRow.{meta_columns}
+use Rattle.prt_rows.specs.RouteRow.{route_columns}
+use Rattle.prt_rows.specs.RuleRow.{rule_columns}
+use Rattle.prt_rows.specs.Tables.{key_places}
+
+-- SELECT shows FROM the tree WHERE tests
+abbrev pub over_tree : ℕ → List Term → List Term → Query
+over_tree tree tests shows = record {
+  from = inner tree end;
+  filter = tests;
+  group = None;
+  project = shows;
+  distinct = false;
+  collations = [];
+  order = [];
+  limit = lit (Int (negsuc 0));
+  offset = lit (Int (pos 0));
+}
+
+abbrev pub program : ℕ → List Term → List Term → Program
+program tree tests shows = record { lets = []; body = over_tree tree tests shows }
+
+abbrev pub rowid_term : Term
+rowid_term = col 1 0
+
+-- the rows that pass are deleted
+abbrev pub deletion : ℕ → ℕ → List Term → Command
+deletion place tree tests = Delete place (program tree tests (rowid_term ∷ []))
+
+-- a column of the row equals a parameter
+abbrev pub equals : ℕ → ℕ → Term
+equals place parameter = op2 (Compare Eq Binary) (col 1 place) (col 0 parameter)
+
+abbrev pub has_key : List Term
+has_key = equals 1 0 ∷ equals 2 1 ∷ equals 3 2 ∷ equals 4 3 ∷ []
+
+abbrev pub has_id : List Term
+has_id = equals 0 0 ∷ []
+
+abbrev pub has_priority : List Term
+has_priority = op2 (Compare Ne Binary) (col 1 2) (lit (Int (pos 0))) ∷ []
+
+abbrev pub delete_route_command : Command
+delete_route_command = deletion 1 1 has_key
+
+abbrev pub delete_rule_command : Command
+delete_rule_command = deletion 0 0 has_id
+
+abbrev pub flush_rules_command : Command
+flush_rules_command = deletion 0 0 has_priority
+
+-- the parameters as a row, after the rowid
+abbrev pub route_terms : List Term
+route_terms = lit Null ∷ col 0 0 ∷ col 0 1 ∷ col 0 2 ∷ col 0 3 ∷ col 0 4 ∷ col 0 5 ∷ col 0 6 ∷ col 0 7 ∷ col 0 8 ∷ col 0 9 ∷ []
+
+-- the parameters as a row whose first is the rowid
+abbrev pub rule_terms : List Term
+rule_terms = col 0 0 ∷ lit Null ∷ col 0 1 ∷ col 0 2 ∷ col 0 3 ∷ col 0 4 ∷ col 0 5 ∷ col 0 6 ∷ col 0 7 ∷ col 0 8 ∷ col 0 9 ∷ col 0 10 ∷ col 0 11 ∷ []
+
+abbrev pub insert_rule_command : Command
+insert_rule_command = Insert 0 (Values rule_terms 13)
+
+-- where the key is there, all but the key is replaced
+abbrev pub on_key : Upsert
+on_key = record {
+  target = Some key_places;
+  update = Some (program 1 (op2 (Compare Eq Binary) (col 1 0) (col 0 10) ∷ []) (col 1 0 ∷ col 1 0 ∷ col 1 1 ∷ col 1 2 ∷ col 1 3 ∷ col 1 4 ∷ col 0 4 ∷ col 0 5 ∷ col 0 6 ∷ col 0 7 ∷ col 0 8 ∷ col 0 9 ∷ []));
+}
+
+abbrev pub put_route_command : Command
+put_route_command = InsertOr 1 Abort (Values route_terms 11) (on_key ∷ [])
+
+abbrev pub set_count_command : Command
+set_count_command = Update 2 (program 3 [] (col 1 0 ∷ col 1 0 ∷ lit Null ∷ col 1 2 ∷ col 0 0 ∷ []))
+
+-- the names of columns
+abbrev pub names_of : {X : Type 0} → List (Column X) → List Word
+names_of columns = map (λ column. column.0) columns
+
+abbrev pub read_rules_command : Command
+read_rules_command = Select (program 0 [] (col 1 0 ∷ col 1 2 ∷ col 1 3 ∷ col 1 4 ∷ col 1 5 ∷ col 1 6 ∷ col 1 7 ∷ col 1 8 ∷ col 1 9 ∷ col 1 10 ∷ col 1 11 ∷ col 1 12 ∷ [])) (names_of rule_columns)
+
+abbrev pub read_routes_command : Command
+read_routes_command = Select (program 1 [] (col 1 1 ∷ col 1 2 ∷ col 1 3 ∷ col 1 4 ∷ col 1 5 ∷ col 1 6 ∷ col 1 7 ∷ col 1 8 ∷ col 1 9 ∷ col 1 10 ∷ [])) (names_of route_columns)
+
+abbrev pub read_meta_command : Command
+read_meta_command = Select (program 3 [] (col 1 0 ∷ col 1 2 ∷ col 1 3 ∷ [])) (names_of meta_columns)

@@ -1,0 +1,55 @@
+-- The three tables, as the store makes them in an empty file.
+use Rattle.std.specs.Prelude.{ℕ, true, false, List, [], ◌∷◌, Option, Some, None, codes, map}
+use Rattle.sqlite.specs.Collation.TheVariants.{Binary}
+use Rattle.sqlite.specs.Schema.{Schema}
+use Rattle.sqlite.specs.Table.{Table}
+use Rattle.sqlite_schema.specs.declared.schema.Column.{Column as Declared}
+use Rattle.sqlite_schema.specs.declared.schema.Index.{Index}
+use Rattle.sqlite_schema.specs.declared.schema.View.{View}
+use Rattle.sqlite_value.specs.declared.value.Value.TheVariants.{Null}
+use Rattle.prt_addr.specs.Word.{Word}
+use Rattle.prt_rows.specs.Columns.{Column}
+use Rattle.prt_rows.specs.MetaRow.{meta_columns}
+use Rattle.prt_rows.specs.RouteRow.{route_columns}
+use Rattle.prt_rows.specs.RuleRow.{rule_columns}
+
+-- a column of a STRICT table that takes no NULL
+abbrev pub declared : {X : Type 0} → Column X → Declared
+declared column = record { name = column.0; kind = column.1; is_strict = true; not_null = true; default = Null; collation = Binary }
+
+-- a table whose primary key is its column `id`
+abbrev pub table_by_id : {X : Type 0} → Word → ℕ → List (Column X) → Table
+table_by_id name tree columns = record {
+  name = name;
+  tree = tree;
+  columns = map declared columns;
+  key = Some 0;
+  primary = 0 ∷ [];
+  uniques = [];
+  orders = [];
+  checks = [];
+  references = [];
+  computed = [];
+  stamps = record { places = []; terms = []; formats = [] };
+  is_counted = false;
+}
+
+abbrev pub rule_table : Table
+rule_table = table_by_id (codes "rule") 0 rule_columns
+
+abbrev pub meta_table : Table
+meta_table = table_by_id (codes "meta") 3 meta_columns
+
+-- the places of table, address, length and metric in a row, whose rowid has place 0
+abbrev pub key_places : List ℕ
+key_places = 1 ∷ 2 ∷ 3 ∷ 4 ∷ []
+
+abbrev pub route_table : Table
+route_table = record (table_by_id (codes "route") 1 route_columns) { key = None; primary = key_places; uniques = key_places ∷ []; orders = (record { digits = 0 }) ∷ [] }
+
+abbrev pub route_key : Index
+route_key = record { name = codes "sqlite_autoindex_route_1"; tree = 2; table = 1; columns = key_places; order = record { digits = 0 }; is_unique = true }
+
+-- the three tables, and others that were made later
+abbrev pub schema_with : List Table → List Index → List View → Schema
+schema_with tables indexes views = record { tables = rule_table ∷ route_table ∷ meta_table ∷ tables; indexes = route_key ∷ indexes; views = views }
