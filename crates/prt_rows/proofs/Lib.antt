@@ -5,3 +5,8 @@ pub mod Codes
 pub mod RouteRows
 pub mod RuleRows
 pub mod Texts
+pub mod Foreign
+pub mod Found
+pub mod Deletions
+pub mod RowTests
+pub mod Statements

@@ -7,3 +7,6 @@ pub mod MetaRow
 pub mod Tables
 pub mod Statements
 pub mod Meanings
+pub mod Others
+pub mod Effects
+pub mod Kept

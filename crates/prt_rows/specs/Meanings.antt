@@ -1,4 +1,4 @@
--- What the texts that read and write mean, as commands over terms. Parameters are row 0, and a table's row, with its rowid first, is row 1.
+-- What the texts that read and write mean, as commands over terms. `col 0 n` is parameter n + 1; `col 1 n` is the value at place n of a row, whose rowid has place 0.
 use Rattle.std.specs.Prelude.{ℕ, pos, negsuc, false, List, [], ◌∷◌, None, Some, map}
 use Rattle.sqlite.specs.Collation.TheVariants.{Binary}
 use Rattle.sqlite.specs.Command.{Command}

@@ -1,0 +1,25 @@
+-- Rows as a table keeps them, with the rowid first, and the parameters that name them.
+use Rattle.std.specs.Prelude.{ℕ, [], ◌∷◌, drop}
+use Rattle.sqlite_value.specs.declared.value.Value.{Value}
+use Rattle.sqlite_value.specs.declared.value.Value.TheVariants.{Null}
+use Rattle.sqlite_value.specs.Order.{Row}
+use Rattle.prt_route.specs.declared.route.Route.{Route}
+use Rattle.prt_route.specs.declared.route.RouteKey.{RouteKey}
+use Rattle.prt_rule.specs.declared.rule.Rule.{Rule}
+use Rattle.prt_rows.specs.Cell.{number}
+use Rattle.prt_rows.specs.RouteRow.{route_row}
+use Rattle.prt_rows.specs.RuleRow.{rule_row}
+
+-- the rowid of a rule is its id, and NULL stands in the id's own column
+abbrev pub kept_rule : Rule → Row
+kept_rule rule = number rule.id ∷ Null ∷ drop 1 (rule_row rule)
+
+-- the rowid of a route is any integer
+abbrev pub kept_route : Value → Route → Row
+kept_route rowid route = rowid ∷ route_row route
+
+abbrev pub key_values : RouteKey → Row
+key_values key = number key.table ∷ number key.prefix.bits ∷ number key.prefix.len ∷ number key.metric ∷ []
+
+abbrev pub id_values : ℕ → Row
+id_values id = number id ∷ []

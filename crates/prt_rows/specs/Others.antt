@@ -1,0 +1,19 @@
+-- Tables of the file that are not ours.
+use Rattle.std.specs.Prelude.{◌≡◌, false, List, ◌==◌, codes}
+use Rattle.sqlite.specs.Table.{Table}
+use Rattle.sqlite_rules.specs.Lists.{Has}
+use Rattle.sqlite_schema.specs.Names.{same_name}
+use Rattle.sqlite_schema.specs.declared.schema.Reference.{Reference}
+
+-- the reference names none of our tables
+pub record IsElsewhere (reference : Reference) : Type 0 where
+  pub rule : same_name (codes "rule") reference.parent ≡ false
+  pub route : same_name (codes "route") reference.parent ≡ false
+  pub meta : same_name (codes "meta") reference.parent ≡ false
+
+-- these tables keep their rows apart from ours, and refer to none of our tables
+pub record AreOthers (tables : List Table) : Type 0 where
+  pub rule : (table : Table) → Has tables table → (table.tree == 0) ≡ false
+  pub route : (table : Table) → Has tables table → (table.tree == 1) ≡ false
+  pub meta : (table : Table) → Has tables table → (table.tree == 3) ≡ false
+  pub elsewhere : (table : Table) → Has tables table → (reference : Reference) → Has table.references reference → IsElsewhere reference
