@@ -10,3 +10,7 @@ pub mod Found
 pub mod Deletions
 pub mod RowTests
 pub mod Statements
+pub mod Casts
+pub mod Keyed
+pub mod Insertion
+pub mod Counting

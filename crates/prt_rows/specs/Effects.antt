@@ -1,5 +1,5 @@
 -- What the statements do to the rows.
-use Rattle.std.specs.Prelude.{◌≡◌, ◌≢◌, Bool, true, false, List, [], ◌∷◌}
+use Rattle.std.specs.Prelude.{◌≡◌, ◌≢◌, ◌⊎◌, Bool, true, false, List, [], ◌∷◌}
 use Rattle.std.specs.List.{list_all}
 use Rattle.std.specs.declared.cmp.Ordering.TheVariants.{Equal}
 use Rattle.sqlite.specs.Effect.{Database}
@@ -30,3 +30,16 @@ pub record Deletes (table : Table) (tests : List Term) (params : Row) (old new :
   pub sound : (row : Row) → Has (new.trees table.tree) row → Has (old.trees table.tree) row × (passes tests params row ≡ false)
   pub complete : (row : Row) → Has (old.trees table.tree) row → passes tests params row ≡ false → Has (new.trees table.tree) row
   pub keyed : IsKeyed (new.trees table.tree)
+
+-- this row is there beside the others
+pub record Adds (table : Table) (row : Row) (old new : Database) : Type 0 where
+  pub only : ChangesOnly table old new
+  pub sound : (x : Row) → Has (new.trees table.tree) x → (x ≡ row) ⊎ Has (old.trees table.tree) x
+  pub here : Has (new.trees table.tree) row
+  pub complete : (x : Row) → Has (old.trees table.tree) x → Has (new.trees table.tree) x
+  pub keyed : IsKeyed (old.trees table.tree) → IsKeyed (new.trees table.tree)
+
+-- this row is the only one
+pub record Sets (table : Table) (row : Row) (old new : Database) : Type 0 where
+  pub only : ChangesOnly table old new
+  pub alone : new.trees table.tree ≡ row ∷ []

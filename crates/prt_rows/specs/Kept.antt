@@ -7,6 +7,7 @@ use Rattle.prt_route.specs.declared.route.Route.{Route}
 use Rattle.prt_route.specs.declared.route.RouteKey.{RouteKey}
 use Rattle.prt_rule.specs.declared.rule.Rule.{Rule}
 use Rattle.prt_rows.specs.Cell.{number}
+use Rattle.prt_rows.specs.MetaRow.{meta_row}
 use Rattle.prt_rows.specs.RouteRow.{route_row}
 use Rattle.prt_rows.specs.RuleRow.{rule_row}
 
@@ -23,3 +24,10 @@ key_values key = number key.table ∷ number key.prefix.bits ∷ number key.pref
 
 abbrev pub id_values : ℕ → Row
 id_values id = number id ∷ []
+
+-- the rowid of the row of `meta` is its id
+abbrev pub kept_count : ℕ → Row
+kept_count count = number 1 ∷ Null ∷ drop 1 (meta_row count)
+
+abbrev pub count_values : ℕ → Row
+count_values count = number count ∷ []
