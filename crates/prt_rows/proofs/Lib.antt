@@ -14,3 +14,6 @@ pub mod Casts
 pub mod Keyed
 pub mod Insertion
 pub mod Counting
+pub mod RouteKeys
+pub mod Replacing
+pub mod Putting

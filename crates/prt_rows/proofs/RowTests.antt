@@ -17,7 +17,7 @@ use Rattle.prt_rows.specs.Effects.{passes}
 use Rattle.prt_rows.specs.Kept.{id_values, kept_route, kept_rule, key_values}
 use Rattle.prt_rows.specs.Meanings.{has_id, has_key, has_priority}
 
-truth_again : (b : Bool) → is_true (from_truth (Some b)) ≡ b
+pub truth_again : (b : Bool) → is_true (from_truth (Some b)) ≡ b
 truth_again true = refl
 truth_again false = refl
 
@@ -39,7 +39,7 @@ and_end : (b : Bool) → (b && true) ≡ b
 and_end true = refl
 and_end false = refl
 
-and_key : (table bits len metric : Bool) → (table && (bits && (len && (metric && true)))) ≡ ((table && (bits && len)) && metric)
+pub and_key : (table bits len metric : Bool) → (table && (bits && (len && (metric && true)))) ≡ ((table && (bits && len)) && metric)
 and_key true true true metric = and_end metric
 and_key true true false metric = refl
 and_key true false len metric = refl

@@ -1,5 +1,5 @@
 -- What the statements do to the rows.
-use Rattle.std.specs.Prelude.{◌≡◌, ◌≢◌, ◌⊎◌, Bool, true, false, List, [], ◌∷◌}
+use Rattle.std.specs.Prelude.{◌≡◌, ◌≢◌, ◌⊎◌, Bool, true, false, List, [], ◌∷◌, drop}
 use Rattle.std.specs.List.{list_all}
 use Rattle.std.specs.declared.cmp.Ordering.TheVariants.{Equal}
 use Rattle.sqlite.specs.Effect.{Database}
@@ -9,6 +9,12 @@ use Rattle.sqlite.specs.Tree.{rowid}
 use Rattle.sqlite.specs.View.{is_int}
 use Rattle.sqlite_rules.specs.Lists.{Has}
 use Rattle.sqlite_value.specs.Order.{Row, value_cmp}
+use Rattle.prt_route.specs.Route.{key_of}
+use Rattle.prt_route.specs.declared.route.Route.{Route}
+use Rattle.prt_rows.specs.Kept.{key_values}
+use Rattle.prt_rows.specs.Meanings.{has_key}
+use Rattle.prt_rows.specs.RouteRow.{route_row}
+use Rattle.prt_rows.specs.Tables.{route_table}
 
 -- each rowid is an integer, and names one row
 pub record IsKeyed (rows : List Row) : Type 0 where
@@ -43,3 +49,19 @@ pub record Adds (table : Table) (row : Row) (old new : Database) : Type 0 where
 pub record Sets (table : Table) (row : Row) (old new : Database) : Type 0 where
   pub only : ChangesOnly table old new
   pub alone : new.trees table.tree ≡ row ∷ []
+
+-- each row is a route's
+abbrev pub AreRouteRows : List Row → Type 0
+AreRouteRows rows = (x : Row) → Has rows x → (route : Route) × (drop 1 x ≡ route_row route)
+
+-- whether the row has the route's key
+abbrev pub has_key_of : Route → Row → Bool
+has_key_of route x = passes has_key (key_values (key_of route)) x
+
+-- the route's row is there, in the place of the one that had its key
+pub record Puts (route : Route) (old new : Database) : Type 0 where
+  pub only : ChangesOnly route_table old new
+  pub sound : (x : Row) → Has (new.trees 1) x → (drop 1 x ≡ route_row route) ⊎ (Has (old.trees 1) x × (has_key_of route x ≡ false))
+  pub here : (x : Row) × Has (new.trees 1) x × (drop 1 x ≡ route_row route)
+  pub complete : (x : Row) → Has (old.trees 1) x → has_key_of route x ≡ false → Has (new.trees 1) x
+  pub keyed : IsKeyed (new.trees 1)

@@ -76,12 +76,17 @@ rule_terms = col 0 0 ∷ lit Null ∷ col 0 1 ∷ col 0 2 ∷ col 0 3 ∷ col 0 
 abbrev pub insert_rule_command : Command
 insert_rule_command = Insert 0 (Values rule_terms 13)
 
+-- the row whose rowid is parameter 11
+abbrev pub same_rowid : List Term
+same_rowid = equals 0 10 ∷ []
+
+-- its rowid, twice, its key, and the parameters in place of the rest
+abbrev pub replaced_terms : List Term
+replaced_terms = col 1 0 ∷ col 1 0 ∷ col 1 1 ∷ col 1 2 ∷ col 1 3 ∷ col 1 4 ∷ col 0 4 ∷ col 0 5 ∷ col 0 6 ∷ col 0 7 ∷ col 0 8 ∷ col 0 9 ∷ []
+
 -- where the key is there, all but the key is replaced
 abbrev pub on_key : Upsert
-on_key = record {
-  target = Some key_places;
-  update = Some (program 1 (op2 (Compare Eq Binary) (col 1 0) (col 0 10) ∷ []) (col 1 0 ∷ col 1 0 ∷ col 1 1 ∷ col 1 2 ∷ col 1 3 ∷ col 1 4 ∷ col 0 4 ∷ col 0 5 ∷ col 0 6 ∷ col 0 7 ∷ col 0 8 ∷ col 0 9 ∷ []));
-}
+on_key = record { target = Some key_places; update = Some (program 1 same_rowid replaced_terms) }
 
 abbrev pub put_route_command : Command
 put_route_command = InsertOr 1 Abort (Values route_terms 11) (on_key ∷ [])

@@ -3,7 +3,10 @@ use Rattle.std.specs.Prelude.{◌≡◌, false, List, ◌==◌, codes}
 use Rattle.sqlite.specs.Table.{Table}
 use Rattle.sqlite_rules.specs.Lists.{Has}
 use Rattle.sqlite_schema.specs.Names.{same_name}
+use Rattle.sqlite_schema.specs.Rules.{guards}
+use Rattle.sqlite_schema.specs.declared.schema.Index.{Index}
 use Rattle.sqlite_schema.specs.declared.schema.Reference.{Reference}
+use Rattle.prt_rows.specs.Tables.{route_table}
 
 -- the reference names none of our tables
 pub record IsElsewhere (reference : Reference) : Type 0 where
@@ -17,3 +20,7 @@ pub record AreOthers (tables : List Table) : Type 0 where
   pub route : (table : Table) → Has tables table → (table.tree == 1) ≡ false
   pub meta : (table : Table) → Has tables table → (table.tree == 3) ≡ false
   pub elsewhere : (table : Table) → Has tables table → (reference : Reference) → Has table.references reference → IsElsewhere reference
+
+-- none of these indexes is a unique one of the table of routes
+abbrev pub AreNotOfRoutes : List Index → Type 0
+AreNotOfRoutes indexes = (index : Index) → Has indexes index → guards index route_table ≡ false
