@@ -54,11 +54,13 @@ module _ (tests : List Term) (params : Row) (rows found : List Row) (keyed : IsK
 
   pub none_passes : (x : Row) → Has (without_all rows (ids_of found)) x → Has rows x × (passes tests params x ≡ false)
   none_passes x there =
-      let left = left_has (ids_of found) rows x there in
-      (left.0, false_from_ne_true _ (λ pass.
-      let taken = mapped_has (λ (r : Row). id_in (rowid r)) found _ (finds.complete x left.0 pass) in
-      let same : has_rowid (id_in (rowid x)) x ≡ true = rw (id_of x left.0) (ap is_eq (tied_itself value_cmp_total (Int (id_in (rowid x))))) in
-      true≢false (sym same ∙ left.1 _ taken)))
+      let left = left_has (ids_of found) rows x there in (
+        left.0,
+        false_from_ne_true _ (λ pass.
+            let taken = mapped_has (λ (r : Row). id_in (rowid r)) found _ (finds.complete x left.0 pass) in
+            let same : has_rowid (id_in (rowid x)) x ≡ true = rw (id_of x left.0) (ap is_eq (tied_itself value_cmp_total (Int (id_in (rowid x))))) in
+            true≢false (sym same ∙ left.1 _ taken)),
+      )
 
   pub others_stay : (x : Row) → Has rows x → passes tests params x ≡ false → Has (without_all rows (ids_of found)) x
   others_stay x there fails = has_left (ids_of found) rows x there (λ id among.

@@ -51,10 +51,10 @@ answered tree tests shows db params found is answers =
     let a = answers.answer Null in
     let query = over_tree tree tests shows in
     let kept : map (λ (o : Output). o.1) a.kept ≡ map (shown_of shows params) (filter (passes tests params) (db.trees tree)) =
-        ap (map (λ (o : Output). o.1)) (a.distinct ∙ ap (map (output query)) a.grouped) ∙ shown_rows tree tests shows params (overlay db.trees [] tree)
-        ∙ ap (λ rows. map (shown_of shows params) (filter (passes tests params) rows)) is in
+    ap (map (λ (o : Output). o.1)) (a.distinct ∙ ap (map (output query)) a.grouped) ∙ shown_rows tree tests shows params (overlay db.trees [] tree)
+    ∙ ap (λ rows. map (shown_of shows params) (filter (passes tests params) rows)) is in
     let same : IsPermutation (map (shown_of shows params) (filter (passes tests params) (db.trees tree))) found =
-        subst (λ l. IsPermutation l found) kept (subst (IsPermutation (map (λ (o : Output). o.1) a.kept)) (sym a.shown) (IsPermutation-map (λ (o : Output). o.1) a.kept a.ordered a.same)) in
+    subst (λ l. IsPermutation l found) kept (subst (IsPermutation (map (λ (o : Output). o.1) a.kept)) (sym a.shown) (IsPermutation-map (λ (o : Output). o.1) a.kept a.ordered a.same)) in
     record {
       sound = λ x there.
           let m = has_mapped (shown_of shows params) _ x (has_permuted _ found x same there) in

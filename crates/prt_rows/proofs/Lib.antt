@@ -17,3 +17,4 @@ pub mod Counting
 pub mod RouteKeys
 pub mod Replacing
 pub mod Putting
+pub mod Reading

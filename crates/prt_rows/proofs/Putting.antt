@@ -81,8 +81,9 @@ module _ (tables : List Table) (indexes : List Index) (views : List View) (other
         let trees : w.trees ≡ e.0 = ap (λ (it : Written). it.trees) (same_value e.2) in
         let finds = subst (λ (t : Row). Finds same_rowid replaced_terms (db 1) (update_values route (rowid t) id) queried.0) it.3 found in
         subst Made (sym trees) (
-        replaced tables indexes views free route db e.0 routes distinct id it.0 q.0 it.1 q.1 same queried.0 finds step,
-        λ other among apart. all_has _ schema.tables other step.tables among apart)
+          replaced tables indexes views free route db e.0 routes distinct id it.0 q.0 it.1 q.1 same queried.0 finds step,
+          λ other among apart. all_has _ schema.tables other step.tables among apart,
+        )
 
     tried : (w : Written) → Tries (task_of limit route) Abort (on_key ∷ []) new db (Ok w) → Made w.trees
     tried w (inl wide) = absurd (let e = wide.1 in cc)

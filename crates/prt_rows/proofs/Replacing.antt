@@ -67,11 +67,11 @@ module _ (tables : List Table) (indexes : List Index) (views : List View) (free 
       let rows : next 1 ≡ put_all (db 1) (new ∷ []) = step.rows ∙ ap (put_all (db 1)) news in
       let fresh : are_fresh (db 1) (new ∷ []) ≡ true = subst (λ ns. are_fresh (db 1) ns ≡ true) news step.fresh in
       let fails = λ (x : Row) (there : Has (db 1) x).
-          let other = routes x there in
-          false_from_ne_true (has_key_of route x) (λ pass.
-          let same : same_key other.0 route ≡ true = sym (row_has_key x other.0 route other.1) ∙ pass in
-          let met = ap (λ y. conflicts (Some key_places) (route_key ∷ indexes) route_table new y) (split x other.0 other.1) ∙ conflict_is indexes free (rowid x) (Int id) other.0 route ∙ same in
-          absurd (none.complete x there met)) in
+      let other = routes x there in
+      false_from_ne_true (has_key_of route x) (λ pass.
+      let same : same_key other.0 route ≡ true = sym (row_has_key x other.0 route other.1) ∙ pass in
+      let met = ap (λ y. conflicts (Some key_places) (route_key ∷ indexes) route_table new y) (split x other.0 other.1) ∙ conflict_is indexes free (rowid x) (Int id) other.0 route ∙ same in
+      absurd (none.complete x there met)) in
       record {
         sound = λ x there. elim (put_all_has (new ∷ []) (db 1) x (subst (λ l. Has l x) rows there)) [
           | inl is ↦ elim is [ inl same ↦ inl (ap (drop 1) same) | inr nothing ↦ absurd nothing ]
@@ -149,10 +149,10 @@ module _ (tables : List Table) (indexes : List Index) (views : List View) (free 
         let row = all_has _ (next 1) x rules h in
         let clash : clashes (record { digits = 0 }) key_places (next 1) x ≡ false = not-true _ (and_parts _ _ row).0 in
         let agrees : agree (record { digits = 0 }) key_places new key_places x ≡ true =
-            ap (λ y. agree (record { digits = 0 }) key_places new key_places y) (split x p spells) ∙ agree_is (rowid old) (rowid x) route p ∙ same_back p route key in
+        ap (λ y. agree (record { digits = 0 }) key_places new key_places y) (split x p spells) ∙ agree_is (rowid old) (rowid x) route p ∙ same_back p route key in
         let apart : differ (rowid new) (rowid x) ≡ false = false_from_ne_true _ (λ differs. absurd (
-            let met = some_from (λ other. agree (record { digits = 0 }) key_places other key_places x && differ (rowid other) (rowid x)) (next 1) new there_now (and_from _ _ agrees differs) in
-            true≢false (sym met ∙ clash))) in
+        let met = some_from (λ other. agree (record { digits = 0 }) key_places other key_places x && differ (rowid other) (rowid x)) (next 1) new there_now (and_from _ _ agrees differs) in
+        true≢false (sym met ∙ clash))) in
         tied_if_same (rowid new) (rowid x) _ _ (id_of old there) (id_now x h) apart
 
     pub replaced : PutsRow
@@ -162,11 +162,14 @@ module _ (tables : List Table) (indexes : List Index) (views : List View) (free 
         | inr left ↦
             let was = left_has (ids_of found) (db 1) x left in
             let p = routes x was.0 in
-            inr (was.0, false_from_ne_true _ (λ pass. absurd (
-            let tie = alone x h p.0 p.1 (sym (row_has_key x p.0 route p.1) ∙ pass) in
-            let apart = was.1 (id_in (rowid old)) old_gone in
-            let hit : has_rowid (id_in (rowid old)) x ≡ true = ap (λ v. is_eq (value_cmp (rowid x) v)) (sym (id_of old there)) ∙ ap is_eq (tied_back value_cmp_total (rowid old) (rowid x) tie) in
-            true≢false (sym hit ∙ apart))))
+            inr (
+              was.0,
+              false_from_ne_true _ (λ pass. absurd (
+                  let tie = alone x h p.0 p.1 (sym (row_has_key x p.0 route p.1) ∙ pass) in
+                  let apart = was.1 (id_in (rowid old)) old_gone in
+                  let hit : has_rowid (id_in (rowid old)) x ≡ true = ap (λ v. is_eq (value_cmp (rowid x) v)) (sym (id_of old there)) ∙ ap is_eq (tied_back value_cmp_total (rowid old) (rowid x) tie) in
+                  true≢false (sym hit ∙ apart))),
+            )
       ];
       here = (new, there_now, refl);
       complete = λ x was fails.

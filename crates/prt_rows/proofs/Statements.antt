@@ -18,14 +18,14 @@ module _ (tables : List Table) (indexes : List Index) (views : List View) (other
   pub deletes_route : IsKeyed (old.now.trees 1) → Executes delete_route params old new (Ok count) → Deletes route_table has_key params old.now new.now
   deletes_route =
       deletes (schema_with tables indexes views) 1 route_table refl (no_works 1 tables indexes views others.route others.elsewhere) delete_route has_key (texts.delete_route_is tables indexes views)
-        old new params count has refl
+      old new params count has refl
 
   pub deletes_rule : IsKeyed (old.now.trees 0) → Executes delete_rule params old new (Ok count) → Deletes rule_table has_id params old.now new.now
   deletes_rule =
       deletes (schema_with tables indexes views) 0 rule_table refl (no_works 0 tables indexes views others.rule others.elsewhere) delete_rule has_id (texts.delete_rule_is tables indexes views)
-        old new params count has refl
+      old new params count has refl
 
   pub flushes_rules : IsKeyed (old.now.trees 0) → Executes flush_rules params old new (Ok count) → Deletes rule_table has_priority params old.now new.now
   flushes_rules =
       deletes (schema_with tables indexes views) 0 rule_table refl (no_works 0 tables indexes views others.rule others.elsewhere) flush_rules has_priority (texts.flush_rules_is tables indexes views)
-        old new params count has refl
+      old new params count has refl

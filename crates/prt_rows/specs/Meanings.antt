@@ -98,11 +98,21 @@ set_count_command = Update 2 (program 3 [] (col 1 0 ∷ col 1 0 ∷ lit Null ∷
 abbrev pub names_of : {X : Type 0} → List (Column X) → List Word
 names_of columns = map (λ column. column.0) columns
 
+-- all columns; the id of a rule and of the row of `meta` is the rowid
+abbrev pub read_rule_terms : List Term
+read_rule_terms = col 1 0 ∷ col 1 2 ∷ col 1 3 ∷ col 1 4 ∷ col 1 5 ∷ col 1 6 ∷ col 1 7 ∷ col 1 8 ∷ col 1 9 ∷ col 1 10 ∷ col 1 11 ∷ col 1 12 ∷ []
+
+abbrev pub read_route_terms : List Term
+read_route_terms = col 1 1 ∷ col 1 2 ∷ col 1 3 ∷ col 1 4 ∷ col 1 5 ∷ col 1 6 ∷ col 1 7 ∷ col 1 8 ∷ col 1 9 ∷ col 1 10 ∷ []
+
+abbrev pub read_meta_terms : List Term
+read_meta_terms = col 1 0 ∷ col 1 2 ∷ col 1 3 ∷ []
+
 abbrev pub read_rules_command : Command
-read_rules_command = Select (program 0 [] (col 1 0 ∷ col 1 2 ∷ col 1 3 ∷ col 1 4 ∷ col 1 5 ∷ col 1 6 ∷ col 1 7 ∷ col 1 8 ∷ col 1 9 ∷ col 1 10 ∷ col 1 11 ∷ col 1 12 ∷ [])) (names_of rule_columns)
+read_rules_command = Select (program 0 [] read_rule_terms) (names_of rule_columns)
 
 abbrev pub read_routes_command : Command
-read_routes_command = Select (program 1 [] (col 1 1 ∷ col 1 2 ∷ col 1 3 ∷ col 1 4 ∷ col 1 5 ∷ col 1 6 ∷ col 1 7 ∷ col 1 8 ∷ col 1 9 ∷ col 1 10 ∷ [])) (names_of route_columns)
+read_routes_command = Select (program 1 [] read_route_terms) (names_of route_columns)
 
 abbrev pub read_meta_command : Command
-read_meta_command = Select (program 3 [] (col 1 0 ∷ col 1 2 ∷ col 1 3 ∷ [])) (names_of meta_columns)
+read_meta_command = Select (program 3 [] read_meta_terms) (names_of meta_columns)
