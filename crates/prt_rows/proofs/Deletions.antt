@@ -29,7 +29,7 @@ use Rattle.sqlite_rules.specs.Lists.{Has}
 use Rattle.sqlite_schema.specs.declared.schema.Keys.{Keys}
 use Rattle.sqlite_value.proofs.OrderLemmas.{value_cmp_total}
 use Rattle.sqlite_value.specs.Order.{Row, value_cmp}
-use Rattle.prt_rows.proofs.Found.{Finds, answered, has_left, left_has}
+use Rattle.prt_rows.proofs.Found.{Finds, finds_passing, has_left, left_has}
 use Rattle.prt_rows.proofs.Texts.{Means}
 use Rattle.prt_rows.specs.Effects.{Deletes, IsKeyed, passes}
 use Rattle.prt_rows.specs.Meanings.{deletion, rowid_term}
@@ -106,7 +106,7 @@ module _ (schema : Schema) (place : ℕ) (table : Table) (there : slice_get sche
       let step = one_step schema (mode_of old).keys db written.0 edit (quiet (mode_of old).keys (taken_by db edit) edit.news) written.1 in
       let all : new.now.trees ≡ written.0 = ap (λ (d : Database). d.trees) now ∙ trees in
       let rows : new.now.trees tree ≡ without_all (db tree) (ids_of given.0) = ap (λ (t : Trees). t tree) all ∙ step.rows in
-      let finds = answered tree tests (rowid_term ∷ []) _ params given.0 shown given.1 in
+      let finds = finds_passing tree tests (rowid_term ∷ []) _ params given.0 shown given.1 in
       record {
         only = record {
           schema = ap (λ (d : Database). d.schema) now ∙ sym has;

@@ -19,13 +19,13 @@ use Rattle.prt_rows.specs.Effects.{passes}
 use Rattle.prt_rows.specs.Meanings.{over_tree, program}
 
 -- what is shown of a row
-abbrev pub shown_of : List Term → Row → Row → Row
-shown_of shows params row = eval_all shows (params ∷ row ∷ [])
+abbrev pub projection : List Term → Row → Row → Row
+projection shows params row = eval_all shows (params ∷ row ∷ [])
 
 -- what is found is what the rows that pass show, and nothing else
 pub record Finds (tests shows : List Term) (rows : List Row) (params : Row) (found : List Row) : Type 0 where
-  pub sound : (x : Row) → Has found x → (row : Row) × Has rows row × (passes tests params row ≡ true) × (x ≡ shown_of shows params row)
-  pub complete : (row : Row) → Has rows row → passes tests params row ≡ true → Has found (shown_of shows params row)
+  pub sound : (x : Row) → Has found x → (row : Row) × Has rows row × (passes tests params row ≡ true) × (x ≡ projection shows params row)
+  pub complete : (row : Row) → Has rows row → passes tests params row ≡ true → Has found (projection shows params row)
 
 has_permuted : {X : Type 0} (xs ys : List X) (x : X) → IsPermutation xs ys → Has ys x → Has xs x
 has_permuted xs ys x same = all_has (Has xs) ys x (all-permutation (Has xs) xs ys same (all_from (Has xs) xs (λ e there. there)))
@@ -35,33 +35,33 @@ abbrev kept_rows : List Term → Row → List Row → List (List Row)
 kept_rows tests params rows = flat_map (λ row. cond (list_all (holds (params ∷ row ∷ [])) tests) ((params ∷ row ∷ []) ∷ []) []) rows
 
 shown_rows : (tree : ℕ) (tests shows : List Term) (params : Row) (rows : List Row)
-    → map (λ (o : Output). o.1) (map (output (over_tree tree tests shows)) (kept_rows tests params rows)) ≡ map (shown_of shows params) (filter (passes tests params) rows)
+    → map (λ (o : Output). o.1) (map (output (over_tree tree tests shows)) (kept_rows tests params rows)) ≡ map (projection shows params) (filter (passes tests params) rows)
 shown_rows tree tests shows params [] = refl
 shown_rows tree tests shows params (row ∷ rows) = go (passes tests params row) (shown_rows tree tests shows params rows)
   where
-    go : (b : Bool) → map (λ (o : Output). o.1) (map (output (over_tree tree tests shows)) (kept_rows tests params rows)) ≡ map (shown_of shows params) (filter (passes tests params) rows)
+    go : (b : Bool) → map (λ (o : Output). o.1) (map (output (over_tree tree tests shows)) (kept_rows tests params rows)) ≡ map (projection shows params) (filter (passes tests params) rows)
         → map (λ (o : Output). o.1) (map (output (over_tree tree tests shows)) (cond b ((params ∷ row ∷ []) ∷ []) [] ++ kept_rows tests params rows))
-        ≡ map (shown_of shows params) (cond b (row ∷ filter (passes tests params) rows) (filter (passes tests params) rows))
-    go true later = ap (λ rest. shown_of shows params row ∷ rest) later
+        ≡ map (projection shows params) (cond b (row ∷ filter (passes tests params) rows) (filter (passes tests params) rows))
+    go true later = ap (λ rest. projection shows params row ∷ rest) later
     go false later = later
 
-pub answered : (tree : ℕ) (tests shows : List Term) (db : Database) (params : Row) (found : List Row) → overlay db.trees [] tree ≡ db.trees tree → Answers db (program tree tests shows) params found
+pub finds_passing : (tree : ℕ) (tests shows : List Term) (db : Database) (params : Row) (found : List Row) → overlay db.trees [] tree ≡ db.trees tree → Answers db (program tree tests shows) params found
     → Finds tests shows (db.trees tree) params found
-answered tree tests shows db params found is answers =
+finds_passing tree tests shows db params found is answers =
     let a = answers.answer Null in
     let query = over_tree tree tests shows in
-    let kept : map (λ (o : Output). o.1) a.kept ≡ map (shown_of shows params) (filter (passes tests params) (db.trees tree)) =
+    let kept : map (λ (o : Output). o.1) a.kept ≡ map (projection shows params) (filter (passes tests params) (db.trees tree)) =
     ap (map (λ (o : Output). o.1)) (a.distinct ∙ ap (map (output query)) a.grouped) ∙ shown_rows tree tests shows params (overlay db.trees [] tree)
-    ∙ ap (λ rows. map (shown_of shows params) (filter (passes tests params) rows)) is in
-    let same : IsPermutation (map (shown_of shows params) (filter (passes tests params) (db.trees tree))) found =
+    ∙ ap (λ rows. map (projection shows params) (filter (passes tests params) rows)) is in
+    let same : IsPermutation (map (projection shows params) (filter (passes tests params) (db.trees tree))) found =
     subst (λ l. IsPermutation l found) kept (subst (IsPermutation (map (λ (o : Output). o.1) a.kept)) (sym a.shown) (IsPermutation-map (λ (o : Output). o.1) a.kept a.ordered a.same)) in
     record {
       sound = λ x there.
-          let m = has_mapped (shown_of shows params) _ x (has_permuted _ found x same there) in
+          let m = has_mapped (projection shows params) _ x (has_permuted _ found x same there) in
           let k = has_filtered (passes tests params) (db.trees tree) m.0 m.1 in
           (m.0, k.0, k.1, m.2);
       complete = λ row there pass.
-          has_permuted found _ (shown_of shows params row) (IsPermutation-sym _ _ same) (mapped_has (shown_of shows params) _ row (has_kept (passes tests params) (db.trees tree) row there pass));
+          has_permuted found _ (projection shows params row) (IsPermutation-sym _ _ same) (mapped_has (projection shows params) _ row (has_kept (passes tests params) (db.trees tree) row there pass));
     }
 
 -- a row that is left was there, and has none of the rowids

@@ -26,8 +26,8 @@ use Rattle.prt_route.specs.declared.route.Route.{Route}
 use Rattle.prt_rows.proofs.Casts.{cast_null, cast_route}
 use Rattle.prt_rows.proofs.Deletions.{went, same_value}
 use Rattle.prt_rows.proofs.Foreign.{no_works}
-use Rattle.prt_rows.proofs.Found.{Finds, answered}
-use Rattle.prt_rows.proofs.Replacing.{PutsRow, added, replaced, update_values}
+use Rattle.prt_rows.proofs.Found.{Finds, finds_passing}
+use Rattle.prt_rows.proofs.Replacing.{PutsRow, puts_new, puts_in_place, update_values}
 use Rattle.prt_rows.proofs.RouteKeys.{conflict_is, split}
 use Rattle.prt_rows.proofs.Texts.{put_route_is}
 use Rattle.prt_rows.specs.Effects as effects
@@ -64,7 +64,7 @@ module _ (tables : List Table) (indexes : List Index) (views : List View) (other
         let edit = edit_of db route_table [] Given 0 (new ∷ []) in
         let step = one_step schema Enforced db e.0 edit (no_works 1 tables indexes views others.route others.elsewhere Enforced (taken_by db edit) edit.news) e.1 in
         let trees : w.trees ≡ e.0 = ap (λ (it : Written). it.trees) (same_value e.2) in
-        subst Made (sym trees) (added tables indexes views free route db e.0 routes distinct id none step, λ other among apart. all_has _ schema.tables other step.tables among apart)
+        subst Made (sym trees) (puts_new tables indexes views free route db e.0 routes distinct id none step, λ other among apart. all_has _ schema.tables other step.tables among apart)
 
     resolved : (w : Written) (found : List Row) → AreConflicts (Some key_places) (route_key ∷ indexes) route_table (db 1) new found
         → Meets (task_of limit route) (Upserts (task_of limit route) Abort new db []) new db on_key found (Ok w) → Made w.trees
@@ -75,13 +75,13 @@ module _ (tables : List Table) (indexes : List Index) (views : List View) (other
         let same = sym (ap (λ y. conflicts (Some key_places) (route_key ∷ indexes) route_table new y) (split it.0 q.0 q.1) ∙ conflict_is indexes free (rowid it.0) (Int id) q.0 route) ∙ it.2 in
         let queried = went meets in
         let e = went queried.2 in
-        let found = answered 1 same_rowid replaced_terms (record { schema = schema; trees = db }) (update_values route (rowid there) id) queried.0 refl queried.1 in
+        let found = finds_passing 1 same_rowid replaced_terms (record { schema = schema; trees = db }) (update_values route (rowid there) id) queried.0 refl queried.1 in
         let edit = edit_of db route_table (ids_of queried.0) Given 1 queried.0 in
         let step = one_step schema Enforced db e.0 edit (no_works 1 tables indexes views others.route others.elsewhere Enforced (taken_by db edit) edit.news) e.1 in
         let trees : w.trees ≡ e.0 = ap (λ (it : Written). it.trees) (same_value e.2) in
         let finds = subst (λ (t : Row). Finds same_rowid replaced_terms (db 1) (update_values route (rowid t) id) queried.0) it.3 found in
         subst Made (sym trees) (
-          replaced tables indexes views free route db e.0 routes distinct id it.0 q.0 it.1 q.1 same queried.0 finds step,
+          puts_in_place tables indexes views free route db e.0 routes distinct id it.0 q.0 it.1 q.1 same queried.0 finds step,
           λ other among apart. all_has _ schema.tables other step.tables among apart,
         )
 

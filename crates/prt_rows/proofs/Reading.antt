@@ -15,25 +15,25 @@ use Rattle.sqlite_schema.specs.declared.schema.Index.{Index}
 use Rattle.sqlite_schema.specs.declared.schema.View.{View}
 use Rattle.sqlite_tied.specs.Compute.{everything}
 use Rattle.sqlite_value.specs.Order.{Row}
-use Rattle.prt_rows.proofs.Found.{shown_of}
+use Rattle.prt_rows.proofs.Found.{projection}
 use Rattle.prt_rows.proofs.Texts.{read_meta_is, read_routes_is, read_rules_is}
 use Rattle.prt_rows.specs.Meanings.{over_tree, program, read_meta_terms, read_route_terms, read_rule_terms}
 use Rattle.prt_rows.specs.Statements.{read_meta, read_routes, read_rules}
 use Rattle.prt_rows.specs.Tables.{schema_with}
 
 all_shown : (tree : ℕ) (shows : List Term) (rows : List Row)
-    → map (λ (o : Output). o.1) (map (output (over_tree tree [] shows)) (flat_map (λ row. ([] ∷ row ∷ []) ∷ []) rows)) ≡ map (shown_of shows []) rows
+    → map (λ (o : Output). o.1) (map (output (over_tree tree [] shows)) (flat_map (λ row. ([] ∷ row ∷ []) ∷ []) rows)) ≡ map (projection shows []) rows
 all_shown tree shows [] = refl
-all_shown tree shows (row ∷ rows) = ap (λ rest. shown_of shows [] row ∷ rest) (all_shown tree shows rows)
+all_shown tree shows (row ∷ rows) = ap (λ rest. projection shows [] row ∷ rest) (all_shown tree shows rows)
 
 -- the rows that are read are what is shown of the table's rows, in some order
 pub answers_all : (tree : ℕ) (shows : List Term) (db : Database) (rows : List Row) → overlay db.trees [] tree ≡ db.trees tree → Answers db (program tree [] shows) [] rows
-    → IsPermutation (map (shown_of shows []) (db.trees tree)) rows
+    → IsPermutation (map (projection shows []) (db.trees tree)) rows
 answers_all tree shows db rows is answers =
     let query = over_tree tree [] shows in
     let a = answers.answer Null in
     let same = IsPermutation-map (λ (o : Output). o.1) a.kept a.ordered a.same in
-    subst₂ IsPermutation (ap (map (λ (o : Output). o.1)) (a.distinct ∙ ap (map (output query)) a.grouped) ∙ all_shown tree shows (overlay db.trees [] tree) ∙ ap (map (shown_of shows [])) is) (sym a.shown) same
+    subst₂ IsPermutation (ap (map (λ (o : Output). o.1)) (a.distinct ∙ ap (map (output query)) a.grouped) ∙ all_shown tree shows (overlay db.trees [] tree) ∙ ap (map (projection shows [])) is) (sym a.shown) same
 
 module _ (tables : List Table) (indexes : List Index) (views : List View) where
   abbrev schema : Schema
@@ -52,17 +52,17 @@ module _ (tables : List Table) (indexes : List Index) (views : List View) where
   meta_listed = refl
 
   module _ (old new : State) (has : old.now.schema ≡ schema) (rows : List Row) where
-    pub reads_rules : Shown read_rules [] old new rows → IsPermutation (map (shown_of read_rule_terms []) (old.now.trees 0)) rows
+    pub reads_rules : Shown read_rules [] old new rows → IsPermutation (map (projection read_rule_terms []) (old.now.trees 0)) rows
     reads_rules ran =
         let is = read_rules_is tables indexes views in
         answers_all 0 read_rule_terms old.now rows refl (reads_as read_rules [] old new schema has _ is.0 is.1 rules_listed rows ran)
 
-    pub reads_routes : Shown read_routes [] old new rows → IsPermutation (map (shown_of read_route_terms []) (old.now.trees 1)) rows
+    pub reads_routes : Shown read_routes [] old new rows → IsPermutation (map (projection read_route_terms []) (old.now.trees 1)) rows
     reads_routes ran =
         let is = read_routes_is tables indexes views in
         answers_all 1 read_route_terms old.now rows refl (reads_as read_routes [] old new schema has _ is.0 is.1 routes_listed rows ran)
 
-    pub reads_meta : Shown read_meta [] old new rows → IsPermutation (map (shown_of read_meta_terms []) (old.now.trees 3)) rows
+    pub reads_meta : Shown read_meta [] old new rows → IsPermutation (map (projection read_meta_terms []) (old.now.trees 3)) rows
     reads_meta ran =
         let is = read_meta_is tables indexes views in
         answers_all 3 read_meta_terms old.now rows refl (reads_as read_meta [] old new schema has _ is.0 is.1 meta_listed rows ran)

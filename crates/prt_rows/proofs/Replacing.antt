@@ -58,9 +58,9 @@ module _ (tables : List Table) (indexes : List Index) (views : List View) (free 
     pub keyed : IsKeyed (next 1)
 
   -- no row has the key, and one more row is there
-  pub added : (id : ℤ) → AreConflicts (Some key_places) (route_key ∷ indexes) route_table (db 1) (kept_route (Int id) route) []
+  pub puts_new : (id : ℤ) → AreConflicts (Some key_places) (route_key ∷ indexes) route_table (db 1) (kept_route (Int id) route) []
       → Applies schema Enforced db (edit_of db route_table [] Given 0 (kept_route (Int id) route ∷ [])) next → PutsRow
-  added id none step =
+  puts_new id none step =
       let new = kept_route (Int id) route in
       let edit = edit_of db route_table [] Given 0 (new ∷ []) in
       let news : edit.news ≡ new ∷ [] = ap (λ x. x ∷ []) (cast_route (Int id) route (cast_int id)) in
@@ -155,8 +155,8 @@ module _ (tables : List Table) (indexes : List Index) (views : List View) (free 
         true≢false (sym met ∙ clash))) in
         tied_if_same (rowid new) (rowid x) _ _ (id_of old there) (id_now x h) apart
 
-    pub replaced : PutsRow
-    replaced = record {
+    pub puts_in_place : PutsRow
+    puts_in_place = record {
       sound = λ x h. elim (put_all_has edit.news (left_by db edit) x (subst (λ l. Has l x) step.rows h)) [
         | inl fresh ↦ inl (ap (drop 1) (news_are x fresh))
         | inr left ↦

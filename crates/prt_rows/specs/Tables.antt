@@ -14,15 +14,15 @@ use Rattle.prt_rows.specs.RouteRow.{route_columns}
 use Rattle.prt_rows.specs.RuleRow.{rule_columns}
 
 -- a column of a STRICT table that takes no NULL
-abbrev pub declared : {X : Type 0} → Column X → Declared
-declared column = record { name = column.0; kind = column.1; is_strict = true; not_null = true; default = Null; collation = Binary }
+abbrev pub declaration : {X : Type 0} → Column X → Declared
+declaration column = record { name = column.0; kind = column.1; is_strict = true; not_null = true; default = Null; collation = Binary }
 
 -- a table whose primary key is its column `id`
 abbrev pub table_by_id : {X : Type 0} → Word → ℕ → List (Column X) → Table
 table_by_id name tree columns = record {
   name = name;
   tree = tree;
-  columns = map declared columns;
+  columns = map declaration columns;
   key = Some 0;
   primary = 0 ∷ [];
   uniques = [];

@@ -17,13 +17,13 @@ use std::alloc::Global;
 trait RowReader {
     type Value: Copy;
 
-    ghost written: { Self.Value → Values };
+    ghost row_of: { Self.Value → Values };
 
     ghost Fits: { Self → Self.Value → Type 0 };
 
     /// The value that a row spells, if it spells one.
     fn value_of_row(&self, row: &Row) -> Option<Self::Value>
-        ensures { Decodes written (Fits self.now) row.now result };
+        ensures { Decodes row_of (Fits self.now) row.now result };
 }
 
 /// Reads the table `route`.
@@ -33,7 +33,7 @@ struct RouteReader;
 impl RowReader for RouteReader {
     type Value = Route;
 
-    ghost written = { route_row };
+    ghost row_of = { route_row };
 
     ghost Fits = { λ _. IsRoute };
 
@@ -51,7 +51,7 @@ struct RuleReader {
 impl RowReader for RuleReader {
     type Value = Rule;
 
-    ghost written = { rule_row };
+    ghost row_of = { rule_row };
 
     ghost Fits = { λ reader. IsRule reader.last };
 
@@ -66,8 +66,8 @@ fn values_of_rows<R: RowReader>(
     rows: &[Row],
     reader: &R,
 ) -> Result<Vec<R::Value>, Refusal>
-    ensures ok { IfOk result (λ values. Decodes (map R.written) (All (R.Fits reader.now)) rows.now (Some values.items)) }
-    ensures err { IfErr result (FailsToDecode R.written (R.Fits reader.now) rows.now) }
+    ensures ok { IfOk result (λ values. Decodes (map R.row_of) (All (R.Fits reader.now)) rows.now (Some values.items)) }
+    ensures err { IfErr result (FailsToDecode R.row_of (R.Fits reader.now) rows.now) }
 {
     let mut values = Vec::new(alloc);
     for row in rows {
