@@ -1,4 +1,4 @@
-//! The rows of the store: what stands in them for routes, rules and the count, written and read back.
+//! The rows of the database file, format 1: what stands in the tables `rule`, `route` and `meta`, written and read back.
 #![tactic(auto)]
 
 mod cell;

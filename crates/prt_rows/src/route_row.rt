@@ -72,7 +72,10 @@ fn route_of_cells(row: &Row) -> Option<Route>
     })
 }
 
-/// The route that a row spells, if it spells one.
+/// The route that a row of the table `route` spells, if it spells one.
+///
+/// Its ten cells stand in the order of the columns, each in its range, and the route has what its kind asks for
+/// (`ip-route(8)`): a unicast route a gateway or an interface, a route of another kind neither, no source and scope 0.
 #[tactic(auto, using(crate::proofs::RouteRows::same_route))]
 pub fn route_of_row(row: &Row) -> Option<Route>
     ensures { Decodes route_row IsRoute row.now result }
@@ -85,7 +88,7 @@ pub fn route_of_row(row: &Row) -> Option<Route>
     }
 }
 
-/// The values of the row of a route, in the order of the columns.
+/// The values of the row of a route, in the order of the columns, to be bound to a statement.
 pub fn route_values(route: &Route) -> [ValueRef<'_>; ROUTE_COLUMNS]
     ensures { bound result ≡ route_row route.now }
 {

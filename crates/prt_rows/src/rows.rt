@@ -81,7 +81,11 @@ fn values_of_rows<R: RowReader>(
     Ok(values)
 }
 
-/// The routes that the rows spell, in the order of the rows.
+/// The routes that the rows of the table `route` spell, in the order of the rows.
+///
+/// # Errors
+///
+/// `Damaged` only where one of the rows spells no route. `NoMemory` where memory is refused, which may come first.
 pub fn routes_of_rows(alloc: Global, rows: &[Row]) -> Result<Vec<Route>, Refusal>
     ensures ok { IfOk result (λ routes. Decodes (map route_row) (All IsRoute) rows.now (Some routes.items)) }
     ensures err { IfErr result (FailsToDecode route_row IsRoute rows.now) }
@@ -89,7 +93,12 @@ pub fn routes_of_rows(alloc: Global, rows: &[Row]) -> Result<Vec<Route>, Refusal
     values_of_rows(alloc, rows, &RouteReader)
 }
 
-/// The rules that the rows spell, with ids of 1 to `last`, in the order of the rows.
+/// The rules that the rows of the table `rule` spell, in the order of the rows.
+///
+/// # Errors
+///
+/// `Damaged` only where one of the rows spells no rule with an id of 1 to `last`. `NoMemory` where memory is refused, which
+/// may come first.
 pub fn rules_of_rows(alloc: Global, rows: &[Row], last: u64) -> Result<Vec<Rule>, Refusal>
     ensures ok { IfOk result (λ rules. Decodes (map rule_row) (All (IsRule last)) rows.now (Some rules.items)) }
     ensures err { IfErr result (FailsToDecode rule_row (IsRule last) rows.now) }

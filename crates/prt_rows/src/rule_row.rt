@@ -40,7 +40,10 @@ fn action(row: &Row, act_at: usize, table_at: usize) -> Option<Action>
     }
 }
 
-/// The rule that a row spells, if it spells one with an id of 1 to `last`.
+/// The rule that a row of the table `rule` spells, if it spells one with an id of 1 to `last`.
+///
+/// Its twelve cells stand in the order of the columns, each in its range; mark and mask are there together or not at all,
+/// and there is a table to look up exactly where the action is to look one up (`ip-rule(8)`).
 pub fn rule_of_row(row: &Row, last: u64) -> Option<Rule>
     ensures { Decodes rule_row (IsRule last) row.now result }
 {
@@ -72,7 +75,7 @@ fn action_codes(action: Action) -> (u32, u32)
     }
 }
 
-/// The values of the row of a rule, in the order of the columns.
+/// The values of the row of a rule, whose id is below 2^63, in the order of the columns, to be bound to a statement.
 pub fn rule_values(rule: &Rule) -> [ValueRef<'_>; RULE_COLUMNS]
     requires { rule.now.id < 2 ^ 63 }
     ensures { bound result ≡ rule_row rule.now }
