@@ -10,6 +10,7 @@ mod list_desk;
 mod observer;
 mod reply;
 mod script;
+pub mod scripts;
 mod session;
 #[cfg(test)]
 mod tests;
