@@ -1,3 +1,4 @@
+pub mod ByTable
 pub mod Places
 pub mod RuleOrder
 pub mod Rules

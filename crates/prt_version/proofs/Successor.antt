@@ -1,6 +1,6 @@
 -- What holds of a version holds of the next one.
 use Rattle.std.proofs.Common.{◌≡◌, ℕ, ◌+◌, ◌<◌, ◌≤◌, Bool, true, false, not, List, [], ◌∷◌, Option, Some, None, Result, Ok, Err, length, refl, sym, ap, ◌∙◌, subst, arith, cond}
-use Rattle.std.specs.Prelude.{nat_lt, ◌==◌, filter, ok_or, option_map}
+use Rattle.std.specs.Prelude.{nat_lt, ◌==◌, filter, IfOk, ok_or, option_map}
 use Rattle.std.specs.List.{AllByRecursion as Each, IsDistinct}
 use Rattle.std.proofs.lemmas.Bool.Decides.{nat_tests}
 use Rattle.prt_addr.specs.declared.refusal.Refusal.{Refusal}
@@ -218,3 +218,8 @@ next_sound inside state made rules routes same sound checked rules_are routes_ar
     let whole : IsSound (record { count = inside.count + 1; rules = (put inside made).rules; routes = (put inside made).routes }) = with_count (inside.count + 1) (put inside made) (put_count inside made) (put_sound inside made sound checked_inside) in
     let with_rules : IsSound (record { count = inside.count + 1; rules = rules; routes = (put inside made).routes }) = subst (λ x. IsSound (record { count = inside.count + 1; rules = x; routes = (put inside made).routes })) (sym (rules_are ∙ ap (λ s. s.rules) put_is)) whole in
     subst (λ x. IsSound (record { count = inside.count + 1; rules = rules; routes = x })) (sym (routes_are ∙ ap (λ s. s.routes) put_is)) with_rules
+
+-- what holds of a value that was made holds of the shared one
+pub of_shared : {X Y E F : Type 0} (P : X → Type 0) (value : Y → X) (made : Result X E) (shared : Result Y F) → IfOk made P → IfOk shared (λ owner. made ≡ Ok (value owner)) → IfOk shared (λ owner. P (value owner))
+of_shared {E = E} P value made (Ok owner) holds is = let held : IfOk {E = E} (Ok (value owner)) P = subst (λ r. IfOk r P) is holds in held
+of_shared P value made (Err reason) holds is = tt

@@ -1,4 +1,5 @@
 pub mod State
+pub mod Tables
 pub mod Change
 pub mod Listing
 pub mod Sound

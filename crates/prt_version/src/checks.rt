@@ -1,44 +1,16 @@
 //! The change that a command asks for, and what one is refused for.
 ghost use Rattle.std.specs.Prelude.{◌≡◌, find, option_map};
-ghost use Rattle.prt_addr.specs.Order.{IsRising};
-ghost use Rattle.prt_route.specs.Edit.{has_key};
-ghost use Rattle.prt_route.specs.Route.{is_listed_before};
-ghost use Rattle.prt_route.specs.RouteChoice.{chosen_route, is_chosen};
 ghost use Rattle.prt_version.specs.Change.{change_of, has_rule, if_room, named_rule};
 
 use crate::{Change, Command, MOST_ROUTES, MOST_RULES, NewRule, Refusal, Route, Rule, Version};
-use prt_route::{RouteChoice, RouteEdit, RouteKey};
+use prt_route::{RouteChoice, RouteEdit};
 use prt_rule::{RuleChoice, same};
-
-/// Whether one of the routes has the key.
-fn has_key(routes: &[Route], key: RouteKey) -> bool
-    ensures { result ≡ has_key key routes.now }
-{
-    routes.iter().any(|route| route.key() == key)
-}
 
 /// Whether one of the rules is equal to this one in all but the id.
 fn has_rule(rules: &[Rule], new: &Rule) -> bool
     ensures { result ≡ has_rule new.now rules.now }
 {
     rules.iter().any(|rule| same(rule, new))
-}
-
-/// The first route that the choice takes.
-fn first_taken<'a>(routes: &'a [Route], choice: &RouteChoice) -> Option<&'a Route>
-    ensures { option_map (λ r. r.now) result ≡ find (is_chosen choice.now) routes.now }
-{
-    routes.iter().find(|route| choice.takes(route))
-}
-
-/// The route of lowest metric among those that the choice takes: the one that `del` removes (`ip-route(8)`).
-///
-/// The choice takes routes of one prefix in one table, so in the order of listings the first has the lowest metric.
-fn chosen_route<'a>(routes: &'a [Route], choice: &RouteChoice) -> Option<&'a Route>
-    requires { IsRising is_listed_before routes.now }
-    ensures { option_map (λ r. r.now) result ≡ chosen_route choice.now routes.now }
-{
-    first_taken(routes, choice)
 }
 
 /// The first rule that the choice names.
@@ -63,8 +35,8 @@ fn if_room(count: usize, most: usize, change: Change) -> Result<Change, Refusal>
 fn route_addition(version: &Version, route: &Route) -> Result<Change, Refusal>
     ensures { result ≡ change_of version.now (Command.RouteAdd route.now) }
 {
-    let routes = version.all_routes();
-    if has_key(routes, route.key()) {
+    let routes = version.tables();
+    if routes.holds(&route.key()) {
         return Err(Refusal::Exists);
     }
     let change = Change::Route(RouteEdit::Put(*route));
@@ -75,7 +47,7 @@ fn route_addition(version: &Version, route: &Route) -> Result<Change, Refusal>
 fn route_change(version: &Version, route: &Route) -> Result<Change, Refusal>
     ensures { result ≡ change_of version.now (Command.RouteChange route.now) }
 {
-    if has_key(version.all_routes(), route.key()) {
+    if version.tables().holds(&route.key()) {
         Ok(Change::Route(RouteEdit::Put(*route)))
     } else {
         Err(Refusal::NoSuch)
@@ -86,9 +58,9 @@ fn route_change(version: &Version, route: &Route) -> Result<Change, Refusal>
 fn route_replacement(version: &Version, route: &Route) -> Result<Change, Refusal>
     ensures { result ≡ change_of version.now (Command.RouteReplace route.now) }
 {
-    let routes = version.all_routes();
+    let routes = version.tables();
     let change = Change::Route(RouteEdit::Put(*route));
-    if has_key(routes, route.key()) {
+    if routes.holds(&route.key()) {
         return Ok(change);
     }
     if_room(routes.len(), MOST_ROUTES, change)
@@ -98,8 +70,8 @@ fn route_replacement(version: &Version, route: &Route) -> Result<Change, Refusal
 fn route_removal(version: &Version, choice: &RouteChoice) -> Result<Change, Refusal>
     ensures { result ≡ change_of version.now (Command.RouteDel choice.now) }
 {
-    match chosen_route(version.all_routes(), choice) {
-        Some(route) => Ok(Change::Route(RouteEdit::Remove(route.key()))),
+    match version.tables().choose(choice) {
+        Some(key) => Ok(Change::Route(RouteEdit::Remove(key))),
         None => Err(Refusal::NoSuch),
     }
 }

@@ -7,9 +7,10 @@ mod checks;
 pub mod examples;
 pub mod laws;
 mod limits;
-mod listing;
+mod owners;
 mod rows;
 mod select;
+mod tables;
 mod version;
 
 pub use answer::{Answer, Verdict};

@@ -1,17 +1,17 @@
 ghost use Rattle.std.specs.Prelude.{◌≡◌, IfErr, IfOk, None};
-ghost use Rattle.prt_addr.specs.Order.{IsRising};
+ghost use Rattle.std.specs.Arc.{arc_value};
 ghost use Rattle.prt_addr.specs.declared.refusal.Refusal.TheVariants.{NoMemory};
 ghost use Rattle.prt_rule.specs.Rule.{IsInOrder};
-ghost use Rattle.prt_route.specs.Route.{is_listed_before};
 ghost use Rattle.prt_version.specs.Change.{IsChecked, check, put, rule_of};
 ghost use Rattle.prt_version.specs.Listing.{listing};
 ghost use Rattle.prt_version.specs.Select.{select};
 ghost use Rattle.prt_version.specs.State.{opening_state, table_rule};
 
 use crate::checks::change_of;
-use crate::listing::listing;
-use crate::rows::{after_edit, flushed_rules, with_rule, without_rule};
+use crate::owners::{first_owner, share};
+use crate::rows::{flushed_rules, with_rule, without_rule};
 use crate::select::verdict_of;
+use crate::tables::Tables;
 use crate::{
     Action, Answer, Change, Command, MOST_COMMANDS, NewRule, Packet, Refusal, Route, Rule,
 };
@@ -19,24 +19,26 @@ use prt_route::{Prefix, Selector};
 use prt_rule::auto_priority;
 use std::alloc::{AllocError, Global};
 use std::marker::Model;
+use std::sync::Arc;
 
 /// A version of the policy database, which never changes: a command makes a new one.
 #[derive(Drop)]
 pub struct Version {
     count: u64,
-    rules: Vec<Rule>,
-    routes: Vec<Route>,
+    rules: Arc<Vec<Rule>>,
+    routes: Arc<Tables>,
 }
 
 impl Model for Version {
+    ghost use Rattle.std.specs.Arc.{arc_value};
     ghost use Rattle.prt_version.specs.State.{State};
     ghost use Rattle.prt_version.specs.Sound.{IsSound};
 
     ghost Value = { State };
 
-    ghost view = { λ v. record { count = v.count; rules = v.rules.items; routes = v.routes.items } };
+    ghost view = { λ v. record { count = v.count; rules = (arc_value v.rules).items; routes = arc_value v.routes } };
 
-    ghost invariant = { λ v. IsSound (record { count = v.count; rules = v.rules.items; routes = v.routes.items }) };
+    ghost invariant = { λ v. IsSound (record { count = v.count; rules = (arc_value v.rules).items; routes = arc_value v.routes }) };
 }
 
 /// A rule that looks up a table for every packet.
@@ -52,6 +54,20 @@ fn table_rule(id: u64, priority: u32, table: u32) -> Rule
         iif: None,
         mark: None,
         action: Action::Lookup(table),
+    }
+}
+
+/// The first owner of the rules that were made, if there was memory for them.
+fn owner_of_rules(
+    alloc: Global,
+    made: Result<Vec<Rule>, AllocError>,
+) -> Result<Arc<Vec<Rule>>, Refusal>
+    ensures value { IfOk result (λ rules. made ≡ Ok (arc_value rules)) }
+    ensures reason { IfErr result (λ reason. reason ≡ NoMemory) }
+{
+    match made {
+        Ok(rules) => first_owner(alloc, rules),
+        Err(_) => Err(Refusal::NoMemory),
     }
 }
 
@@ -75,8 +91,8 @@ impl Version {
         };
         Ok(Version {
             count: 0,
-            rules,
-            routes: Vec::new(alloc),
+            rules: first_owner(alloc, rules)?,
+            routes: first_owner(alloc, Tables::new(alloc))?,
         })
     }
 
@@ -95,12 +111,11 @@ impl Version {
         self.rules.as_slice()
     }
 
-    /// The routes, in the order of listings.
-    pub(crate) fn all_routes(&self) -> &[Route]
-        ensures value { result.now ≡ self.now.routes }
-        ensures order { IsRising is_listed_before result.now }
+    /// The routes, table by table.
+    pub(crate) fn tables(&self) -> &Tables
+        ensures { result.now ≡ self.now.routes }
     {
-        self.routes.as_slice()
+        &self.routes
     }
 
     /// The routes that the selector takes, by table, address, length and metric (`ip-route(8)`, `show`).
@@ -112,10 +127,7 @@ impl Version {
         ensures value { IfOk result (λ rows. rows.items ≡ listing selector.now self.now.routes) }
         ensures reason { IfErr result (λ reason. reason ≡ NoMemory) }
     {
-        match listing(*self.routes.allocator(), &self.routes, selector) {
-            Ok(rows) => Ok(rows),
-            Err(_) => Err(Refusal::NoMemory),
-        }
+        self.routes.rows(selector)
     }
 
     /// The rule with its id, and the priority that is given or the automatic one.
@@ -157,28 +169,29 @@ impl Version {
     }
 
     /// The rules after a change.
-    fn rules_after(&self, change: &Change) -> Result<Vec<Rule>, AllocError>
-        ensures { IfOk result (λ rows. rows.items ≡ (put self.now change.now).rules) }
+    fn rules_after(&self, change: &Change) -> Result<Arc<Vec<Rule>>, Refusal>
+        ensures value { IfOk result (λ rules. (arc_value rules).items ≡ (put self.now change.now).rules) }
+        ensures reason { IfErr result (λ reason. reason ≡ NoMemory) }
     {
         let alloc = *self.rules.allocator();
         match change {
-            Change::Route(_) => Vec::from_slice(alloc, &self.rules),
-            Change::RulePut(rule) => with_rule(alloc, &self.rules, rule),
-            Change::RuleDrop(id) => without_rule(alloc, &self.rules, *id),
-            Change::RuleFlush => flushed_rules(alloc, &self.rules),
+            Change::Route(_) => share(&self.rules),
+            Change::RulePut(rule) => owner_of_rules(alloc, with_rule(alloc, &self.rules, rule)),
+            Change::RuleDrop(id) => owner_of_rules(alloc, without_rule(alloc, &self.rules, *id)),
+            Change::RuleFlush => owner_of_rules(alloc, flushed_rules(alloc, &self.rules)),
         }
     }
 
     /// The routes after a change.
-    fn routes_after(&self, change: &Change) -> Result<Vec<Route>, AllocError>
-        ensures { IfOk result (λ rows. rows.items ≡ (put self.now change.now).routes) }
+    fn routes_after(&self, change: &Change) -> Result<Arc<Tables>, Refusal>
+        ensures value { IfOk result (λ routes. arc_value routes ≡ (put self.now change.now).routes) }
+        ensures reason { IfErr result (λ reason. reason ≡ NoMemory) }
     {
-        let alloc = *self.routes.allocator();
         match change {
-            Change::Route(edit) => after_edit(alloc, &self.routes, edit),
-            Change::RulePut(_) | Change::RuleDrop(_) | Change::RuleFlush => {
-                Vec::from_slice(alloc, &self.routes)
+            Change::Route(edit) => {
+                first_owner(*self.rules.allocator(), self.routes.with_edit(edit)?)
             }
+            Change::RulePut(_) | Change::RuleDrop(_) | Change::RuleFlush => share(&self.routes),
         }
     }
 
@@ -192,16 +205,10 @@ impl Version {
         ensures value { IfOk result (λ version. version ≡ put self.now change.now) }
         ensures reason { IfErr result (λ reason. reason ≡ NoMemory) }
     {
-        let Ok(rules) = self.rules_after(change) else {
-            return Err(Refusal::NoMemory);
-        };
-        let Ok(routes) = self.routes_after(change) else {
-            return Err(Refusal::NoMemory);
-        };
         Ok(Version {
             count: self.count + 1,
-            rules,
-            routes,
+            rules: self.rules_after(change)?,
+            routes: self.routes_after(change)?,
         })
     }
 
@@ -214,5 +221,18 @@ impl Version {
             number: self.count,
             verdict: verdict_of(&self.rules, &self.routes, packet),
         }
+    }
+}
+
+#[cfg(test)]
+impl Version {
+    /// How many owners the rules have.
+    pub(crate) fn rule_owners(&self) -> usize {
+        Arc::strong_count(&self.rules)
+    }
+
+    /// How many owners all tables have together.
+    pub(crate) fn route_owners(&self) -> usize {
+        Arc::strong_count(&self.routes)
     }
 }

@@ -1,0 +1,30 @@
+//! Values that several versions own.
+ghost use Rattle.std.specs.Prelude.{◌≡◌, IfErr, IfOk};
+ghost use Rattle.std.specs.Arc.{arc_value};
+ghost use Rattle.prt_addr.specs.declared.refusal.Refusal.TheVariants.{NoMemory};
+
+use crate::Refusal;
+use std::alloc::Global;
+use std::sync::Arc;
+
+/// The first owner of the value.
+pub(crate) fn first_owner<T: Drop>(alloc: Global, value: T) -> Result<Arc<T>, Refusal>
+    ensures value { IfOk result (λ owner. arc_value owner ≡ value) }
+    ensures reason { IfErr result (λ reason. reason ≡ NoMemory) }
+{
+    match Arc::new(alloc, value) {
+        Ok(owner) => Ok(owner),
+        Err(_) => Err(Refusal::NoMemory),
+    }
+}
+
+/// One more owner of the same value.
+pub(crate) fn share<T: Drop>(owner: &Arc<T>) -> Result<Arc<T>, Refusal>
+    ensures value { IfOk result (λ other. arc_value other ≡ arc_value owner.now) }
+    ensures reason { IfErr result (λ reason. reason ≡ NoMemory) }
+{
+    match Arc::try_clone(owner) {
+        Ok(other) => Ok(other),
+        Err(_) => Err(Refusal::NoMemory),
+    }
+}

@@ -1,0 +1,341 @@
+//! The routes of a version, in one table for each number that has any.
+ghost use Rattle.std.specs.Prelude.{◌≡◌, ◌++◌, [], length, filter, nat_lt, position, unwrap_or, IfErr, IfOk, OnOk, option_map};
+ghost use Rattle.std.specs.List.{AllByRecursion as Each};
+ghost use Rattle.std.specs.Option.{option_copied};
+ghost use Rattle.prt_addr.specs.Order.{IsRising, insert_by};
+ghost use Rattle.prt_addr.specs.declared.refusal.Refusal.TheVariants.{NoMemory};
+ghost use Rattle.prt_route.specs.Best.{best};
+ghost use Rattle.prt_route.specs.Edit.{after_edit, has_key};
+ghost use Rattle.prt_route.specs.Route.{key_of};
+ghost use Rattle.prt_route.specs.RouteChoice.{chosen_route, is_selected};
+ghost use Rattle.prt_version.specs.Tables.{AreTables, HasOwnRows, TableRows, all_rows, has_rows, has_table, is_lower, names_table, rows_of_table, table_after, tables_after, table_of, tables_with};
+
+use crate::owners::{first_owner, share};
+use crate::{Refusal, Route};
+use prt_addr::agrees;
+use prt_route::{Addr, RouteChoice, RouteEdit, RouteKey, Selector};
+use prt_trie::Table;
+use std::alloc::Global;
+use std::marker::Model;
+use std::slice;
+use std::sync::Arc;
+
+/// A table under its number, which versions share until an edit of it.
+#[derive(Drop)]
+struct SharedTable {
+    number: u32,
+    table: Arc<Table>,
+}
+
+impl Model for SharedTable {
+    ghost use Rattle.std.specs.Arc.{arc_value};
+    ghost use Rattle.prt_version.specs.Tables.{TableRows};
+
+    ghost Value = { TableRows };
+
+    ghost view = { λ shared. record { number = shared.number; rows = arc_value shared.table } };
+}
+
+/// The routes in the order of listings: each table's rows, by the tables' numbers.
+#[derive(Drop)]
+pub(crate) struct Tables {
+    tables: Vec<SharedTable>,
+    len: usize,
+}
+
+impl Model for Tables {
+    ghost use Rattle.std.specs.Prelude.{◌≡◌, List, length};
+    ghost use Rattle.prt_route.specs.declared.route.Route.{Route as Row};
+    ghost use Rattle.prt_version.specs.Tables.{AreTables, all_rows};
+
+    ghost Value = { List Row };
+
+    ghost view = { λ it. all_rows it.tables.items };
+
+    ghost invariant = { λ it. AreTables it.tables.items × (it.len ≡ length (all_rows it.tables.items)) };
+}
+
+/// Whether the edit may change a row of the table of this number.
+fn names_table(edit: &RouteEdit, number: u32) -> bool
+    ensures { result ≡ names_table edit.now number }
+{
+    match edit {
+        RouteEdit::Put(route) => route.table == number,
+        RouteEdit::Remove(key) => key.table == number,
+        RouteEdit::Flush(selector) => agrees(&selector.table, &number),
+    }
+}
+
+impl SharedTable {
+    /// One more owner of the same table.
+    fn share(&self) -> Result<SharedTable, Refusal>
+        ensures value { IfOk result (λ shared. shared ≡ self.now) }
+        ensures reason { IfErr result (λ reason. reason ≡ NoMemory) }
+    {
+        Ok(SharedTable {
+            number: self.number,
+            table: share(&self.table)?,
+        })
+    }
+
+    /// A table of these rows, under its number.
+    fn with_rows(alloc: Global, number: u32, table: Table) -> Result<SharedTable, Refusal>
+        ensures value { IfOk result (λ shared. shared ≡ record { number = number; rows = table }) }
+        ensures reason { IfErr result (λ reason. reason ≡ NoMemory) }
+    {
+        Ok(SharedTable {
+            number,
+            table: first_owner(alloc, table)?,
+        })
+    }
+
+    /// The table after the edit: the same one where the edit names another.
+    fn after_edit(&self, alloc: Global, edit: &RouteEdit) -> Result<SharedTable, Refusal>
+        requires { HasOwnRows self.now }
+        ensures value { IfOk result (λ shared. shared ≡ table_after edit.now self.now) }
+        ensures reason { IfErr result (λ reason. reason ≡ NoMemory) }
+    {
+        if !names_table(edit, self.number) {
+            return self.share();
+        }
+        SharedTable::with_rows(alloc, self.number, self.table.with_change(edit)?)
+    }
+
+    /// Whether the table has routes.
+    fn has_rows(&self) -> bool
+        ensures { result ≡ has_rows self.now }
+    {
+        self.table.len() > 0
+    }
+
+    /// Adds the table's routes that the selector takes.
+    fn add_selected(&self, rows: &mut Vec<Route>, selector: &Selector) -> Result<(), Refusal>
+        requires { HasOwnRows self.now }
+        ensures value { OnOk result (rows.new.items ≡ rows.old.items ++ filter (is_selected selector.now) self.now.rows) }
+        ensures reason { IfErr result (λ reason. reason ≡ NoMemory) }
+    {
+        if !agrees(&selector.table, &self.number) {
+            return Ok(());
+        }
+        let mut part = self.table.rows()?;
+        part.retain(|row| selector.takes(row));
+        let Ok(()) = rows.extend_from_slice(part.as_slice()) else {
+            return Err(Refusal::NoMemory);
+        };
+        Ok(())
+    }
+}
+
+/// The table of this number.
+fn find_table(tables: &[SharedTable], number: u32) -> Option<&SharedTable>
+    requires { AreTables tables.now }
+    ensures { unwrap_or (option_map (λ table. table.now.rows) result) [] ≡ rows_of_table number (all_rows tables.now) }
+{
+    match tables.binary_search_by_key(&number, |table| table.number) {
+        Ok(place) => Some(&tables[place]),
+        Err(_) => None,
+    }
+}
+
+/// Whether there is a table of this number.
+fn has_table(tables: &[SharedTable], number: u32) -> bool
+    ensures { result ≡ has_table number tables.now }
+{
+    tables.iter().any(|table| table.number == number)
+}
+
+/// How many routes the tables have.
+fn count_rows(tables: &[SharedTable]) -> Result<usize, Refusal>
+    ensures value { IfOk result (λ count. count ≡ length (all_rows tables.now)) }
+    ensures reason { IfErr result (λ reason. reason ≡ NoMemory) }
+{
+    let mut count = 0usize;
+    for table in tables {
+        let Some(sum) = count.checked_add(table.table.len()) else {
+            return Err(Refusal::NoMemory);
+        };
+        count = sum;
+    }
+    Ok(count)
+}
+
+/// The tables after the edit, but for one that has no routes left.
+fn tables_after(
+    alloc: Global,
+    tables: &[SharedTable],
+    edit: &RouteEdit,
+) -> Result<Vec<SharedTable>, Refusal>
+    requires { AreTables tables.now }
+    ensures value { IfOk result (λ after. after.items ≡ tables_after edit.now tables.now) }
+    ensures reason { IfErr result (λ reason. reason ≡ NoMemory) }
+{
+    let mut after = Vec::new(alloc);
+    for table in tables {
+        let table = table.after_edit(alloc, edit)?;
+        if table.has_rows() {
+            let Ok(()) = after.push(table) else {
+                return Err(Refusal::NoMemory);
+            };
+        }
+    }
+    Ok(after)
+}
+
+/// A table of one route.
+fn table_of(alloc: Global, route: &Route) -> Result<SharedTable, Refusal>
+    ensures value { IfOk result (λ table. table ≡ table_of route.now) }
+    ensures reason { IfErr result (λ reason. reason ≡ NoMemory) }
+{
+    let table = Table::build(alloc, slice::from_ref(route))?;
+    SharedTable::with_rows(alloc, route.table, table)
+}
+
+/// The place of the first table whose number is higher.
+fn table_above(tables: &[SharedTable], number: u32) -> Option<usize>
+    ensures { result ≡ position (λ table. nat_lt number table.number) tables.now }
+{
+    tables.iter().position(|table| number < table.number)
+}
+
+/// The tables with a new one of the route in its place.
+fn with_table_of(
+    alloc: Global,
+    mut tables: Vec<SharedTable>,
+    route: &Route,
+) -> Result<Vec<SharedTable>, Refusal>
+    ensures value { IfOk result (λ after. after.items ≡ insert_by is_lower (table_of route.now) tables.items) }
+    ensures reason { IfErr result (λ reason. reason ≡ NoMemory) }
+{
+    let table = table_of(alloc, route)?;
+    let place = table_above(&tables, route.table).unwrap_or(tables.len());
+    let Ok(()) = tables.insert(place, table) else {
+        return Err(Refusal::NoMemory);
+    };
+    Ok(tables)
+}
+
+/// All tables after the edit.
+fn tables_with(
+    alloc: Global,
+    tables: &[SharedTable],
+    edit: &RouteEdit,
+) -> Result<Vec<SharedTable>, Refusal>
+    requires { AreTables tables.now }
+    ensures value { IfOk result (λ after. after.items ≡ tables_with edit.now tables.now) }
+    ensures reason { IfErr result (λ reason. reason ≡ NoMemory) }
+{
+    let after = tables_after(alloc, tables, edit)?;
+    match edit {
+        RouteEdit::Put(route) if !has_table(tables, route.table) => {
+            with_table_of(alloc, after, route)
+        }
+        RouteEdit::Put(_) | RouteEdit::Remove(_) | RouteEdit::Flush(_) => Ok(after),
+    }
+}
+
+impl Tables {
+    /// No routes.
+    pub(crate) fn new(alloc: Global) -> Tables
+        ensures { result ≡ [] }
+    {
+        Tables {
+            tables: Vec::new(alloc),
+            len: 0,
+        }
+    }
+
+    /// The routes of these tables.
+    fn from_tables(tables: Vec<SharedTable>) -> Result<Tables, Refusal>
+        requires { AreTables tables.items }
+        ensures value { IfOk result (λ it. it ≡ all_rows tables.items) }
+        ensures reason { IfErr result (λ reason. reason ≡ NoMemory) }
+    {
+        let len = count_rows(&tables)?;
+        Ok(Tables { tables, len })
+    }
+
+    /// The table of this number, if it has routes.
+    fn table(&self, number: u32) -> Option<&Table>
+        ensures { unwrap_or (option_map (λ table. table.now) result) [] ≡ rows_of_table number self.now }
+    {
+        Some(&find_table(&self.tables, number)?.table)
+    }
+
+    /// The best route of the table for the address: longest match, then lowest metric (RFC 1812, section 5.2.4.3).
+    /// It takes no memory.
+    pub(crate) fn find(&self, table: u32, addr: Addr) -> Option<&Route>
+        ensures { option_copied result ≡ best self.now table addr }
+    {
+        match self.table(table) {
+            Some(table) => table.find(addr),
+            None => None,
+        }
+    }
+
+    /// How many routes there are.
+    pub(crate) fn len(&self) -> usize
+        ensures { result ≡ length self.now }
+    {
+        self.len
+    }
+
+    /// Whether one of the routes has the key.
+    pub(crate) fn holds(&self, key: &RouteKey) -> bool
+        ensures { result ≡ has_key key.now self.now }
+    {
+        match self.table(key.table) {
+            Some(table) => table.holds(key),
+            None => false,
+        }
+    }
+
+    /// The key of the route of lowest metric among those that the choice takes (`ip-route(8)`, `delete`).
+    pub(crate) fn choose(&self, choice: &RouteChoice) -> Option<RouteKey>
+        ensures { result ≡ option_map key_of (chosen_route choice.now self.now) }
+    {
+        match self.table(choice.table) {
+            Some(table) => table.choose(choice),
+            None => None,
+        }
+    }
+
+    /// A copy of the routes that the selector takes, in the order of listings (`ip-route(8)`, `show`).
+    ///
+    /// # Errors
+    ///
+    /// `NoMemory` alone.
+    pub(crate) fn rows(&self, selector: &Selector) -> Result<Vec<Route>, Refusal>
+        ensures value { IfOk result (λ rows. rows.items ≡ filter (is_selected selector.now) self.now) }
+        ensures reason { IfErr result (λ reason. reason ≡ NoMemory) }
+    {
+        let mut rows = Vec::new(*self.tables.allocator());
+        for table in &self.tables {
+            table.add_selected(&mut rows, selector)?;
+        }
+        Ok(rows)
+    }
+
+    /// The routes after the edit, in tables that are shared but for those that it changes. These stay as they are.
+    ///
+    /// # Errors
+    ///
+    /// `NoMemory` alone.
+    pub(crate) fn with_edit(&self, edit: &RouteEdit) -> Result<Tables, Refusal>
+        ensures value { IfOk result (λ after. after ≡ after_edit edit.now self.now) }
+        ensures reason { IfErr result (λ reason. reason ≡ NoMemory) }
+    {
+        let alloc = *self.tables.allocator();
+        Tables::from_tables(tables_with(alloc, &self.tables, edit)?)
+    }
+}
+
+#[cfg(test)]
+impl Tables {
+    /// How many owners the table of this number has; 0 where there is no such table.
+    pub(crate) fn owners(&self, number: u32) -> usize {
+        match find_table(&self.tables, number) {
+            Some(shared) => Arc::strong_count(&shared.table),
+            None => 0,
+        }
+    }
+}
