@@ -21,7 +21,7 @@ use Rattle.prt_addr.proofs.Orders.{each_inserted, inserted_at, inserted_rises, r
 use Rattle.prt_route.specs.Best.{best, is_candidate}
 use Rattle.prt_route.specs.Edit.{after_edit, has_key, without_key}
 use Rattle.prt_route.specs.Route.{has_lower_metric, is_better, is_listed_before, is_same_key, key_of}
-use Rattle.prt_route.specs.RouteChoice.{chosen_route, is_chosen, is_same_addr, is_same_kind, is_selected}
+use Rattle.prt_route.specs.RouteChoice.{chosen_route, is_chosen, is_same_addr, is_same_kind, is_selected, takes_metric}
 use Rattle.prt_route.specs.declared.choice.RouteChoice.{RouteChoice}
 use Rattle.prt_route.specs.declared.choice.Selector.{Selector}
 use Rattle.prt_route.specs.declared.edit.RouteEdit.{RouteEdit}
@@ -106,7 +106,7 @@ has_key_of_table key routes =
 chosen_is_own : (choice : RouteChoice) (route : Route) → is_chosen choice route ≡ true → eqb route.table choice.table ≡ true
 chosen_is_own choice route taken =
     other_way choice.table route.table
-    (own_choice (eqb choice.table route.table) (is_same_prefix choice.prefix route.prefix) (agrees (λ a b. eqb a b) choice.metric route.metric) (agrees is_same_kind choice.kind route.kind) (agrees_there is_same_addr choice.via route.via) (agrees_there bytes_eq choice.dev route.dev) (agrees_there is_same_addr choice.src route.src) (agrees (λ a b. eqb a b) choice.proto route.proto) (agrees (λ a b. eqb a b) choice.scope route.scope) taken)
+    (own_choice (eqb choice.table route.table) (is_same_prefix choice.prefix route.prefix) (takes_metric choice.metric route.metric) (agrees is_same_kind choice.kind route.kind) (agrees_there is_same_addr choice.via route.via) (agrees_there bytes_eq choice.dev route.dev) (agrees_there is_same_addr choice.src route.src) (agrees (λ a b. eqb a b) choice.proto route.proto) (agrees (λ a b. eqb a b) choice.scope route.scope) taken)
 
 pub chosen_of_table : (choice : RouteChoice) (routes : List Route) → chosen_route choice routes ≡ chosen_route choice (rows_of_table choice.table routes)
 chosen_of_table choice routes =
