@@ -409,10 +409,13 @@ rows_put route tables false absent are =
     ∙ ap (after_edit (Put route)) (rows_of_filled (map (table_after (Put route)) tables) ∙ unnamed route tables (each_fails (λ table. eqb table.number route.table) tables absent))
 
 -- the rows of all tables after an edit are the edit of all rows
-pub rows_with : (edit : RouteEdit) (tables : List TableRows) → AreTables tables → all_rows (tables_with edit tables) ≡ after_edit edit (all_rows tables)
+rows_with : (edit : RouteEdit) (tables : List TableRows) → AreTables tables → all_rows (tables_with edit tables) ≡ after_edit edit (all_rows tables)
 rows_with (Put route) tables are = rows_put route tables (has_table route.table tables) refl are
 rows_with (Remove key) tables are = rows_of_filled (map (table_after (Remove key)) tables) ∙ removed_rows key tables are.own
 rows_with (Flush selector) tables are = rows_of_filled (map (table_after (Flush selector)) tables) ∙ flushed_rows selector tables are.own
+
+pub all_rows_with : (edit : RouteEdit) (routes : List Route) (inside given after : List TableRows) → AreTables inside → all_rows inside ≡ routes → given ≡ inside → after ≡ tables_with edit given → all_rows after ≡ after_edit edit routes
+all_rows_with edit routes inside given after are views same made = ap all_rows (made ∙ ap (tables_with edit) same) ∙ rows_with edit inside are ∙ ap (after_edit edit) views
 
 -- ---- one table found by its number
 
@@ -488,8 +491,18 @@ selected_more selector tables i table before after lt is so_far adds =
     ∙ sym (filter-append (is_selected selector) (all_rows (take i tables)) table.rows)
     ∙ ap (filter (is_selected selector)) (sym (rows_more tables i table lt is))
 
-pub count_more : (tables : List TableRows) (i count sum : ℕ) (table : TableRows) → i < length tables → table ≡ get_or tables i table → count ≡ length (all_rows (take i tables)) → sum ≡ count + length table.rows → sum ≡ length (all_rows (take (i + 1) tables))
-count_more tables i count sum table lt is so_far adds = omega (arith, ap length (rows_more tables i table lt is), length-append (all_rows (take i tables)) table.rows)
+rows_within : (tables : List TableRows) (i : ℕ) → length (all_rows (take i tables)) ≤ length (all_rows tables)
+rows_within [] zero = omega arith
+rows_within [] (suc i) = omega arith
+rows_within (table ∷ tables) zero = omega arith
+rows_within (table ∷ tables) (suc i) = omega (arith, rows_within tables i, length-append table.rows (all_rows (take i tables)), length-append table.rows (all_rows tables))
+
+pub count_more : (tables : List TableRows) (i : ℕ) (table : TableRows) → i < length tables → table ≡ get_or tables i table → length (all_rows (take (i + 1) tables)) ≡ length (all_rows (take i tables)) + length table.rows
+count_more tables i table lt is = ap length (rows_more tables i table lt is) ∙ length-append (all_rows (take i tables)) table.rows
+
+-- no more up to this one than in all
+pub count_within : (tables : List TableRows) (i : ℕ) (table : TableRows) → i < length tables → table ≡ get_or tables i table → length (all_rows (take i tables)) + length table.rows ≤ length (all_rows tables)
+count_within tables i table lt is = omega (arith, count_more tables i table lt is, rows_within tables (i + 1))
 
 -- ---- one table
 

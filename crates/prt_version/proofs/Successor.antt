@@ -219,6 +219,12 @@ next_sound inside state made rules routes same sound checked rules_are routes_ar
     let with_rules : IsSound (record { count = inside.count + 1; rules = rules; routes = (put inside made).routes }) = subst (λ x. IsSound (record { count = inside.count + 1; rules = x; routes = (put inside made).routes })) (sym (rules_are ∙ ap (λ s. s.rules) put_is)) whole in
     subst (λ x. IsSound (record { count = inside.count + 1; rules = rules; routes = x })) (sym (routes_are ∙ ap (λ s. s.routes) put_is)) with_rules
 
+-- a change that was checked leaves no more routes than there is room for
+pub edit_fits : (inside state : State) (made : Change) (edit : RouteEdit) (routes : List Route) → inside ≡ state → IsSound inside → IsChecked state made → made ≡ change.Route edit → routes ≡ inside.routes → length (after_edit edit routes) ≤ MOST_ROUTES
+edit_fits inside state made edit routes same sound checked is routes_are =
+    let checked_inside : IsChecked inside (change.Route edit) = subst (IsChecked inside) is (subst (λ s. IsChecked s made) (sym same) checked) in
+    subst (λ rs. length (after_edit edit rs) ≤ MOST_ROUTES) (sym routes_are) (put_sound inside (change.Route edit) sound checked_inside).routes_fit
+
 -- what holds of a value that was made holds of the shared one
 pub of_shared : {X Y E F : Type 0} (P : X → Type 0) (value : Y → X) (made : Result X E) (shared : Result Y F) → IfOk made P → IfOk shared (λ owner. made ≡ Ok (value owner)) → IfOk shared (λ owner. P (value owner))
 of_shared {E = E} P value made (Ok owner) holds is = let held : IfOk {E = E} (Ok (value owner)) P = subst (λ r. IfOk r P) is holds in held

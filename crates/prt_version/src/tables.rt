@@ -1,5 +1,5 @@
 //! The routes of a version, in one table for each number that has any.
-ghost use Rattle.std.specs.Prelude.{◌≡◌, ◌++◌, [], length, filter, nat_lt, position, unwrap_or, IfErr, IfOk, OnOk, option_map};
+ghost use Rattle.std.specs.Prelude.{◌≡◌, ◌≤◌, ◌++◌, [], length, filter, nat_lt, position, unwrap_or, IfErr, IfOk, OnOk, option_map};
 ghost use Rattle.std.specs.List.{AllByRecursion as Each};
 ghost use Rattle.std.specs.Option.{option_copied};
 ghost use Rattle.prt_addr.specs.Order.{IsRising, insert_by};
@@ -11,7 +11,7 @@ ghost use Rattle.prt_route.specs.RouteChoice.{chosen_route, is_selected};
 ghost use Rattle.prt_version.specs.Tables.{AreTables, HasOwnRows, TableRows, all_rows, has_rows, has_table, is_lower, names_table, rows_of_table, table_after, tables_after, table_of, tables_with};
 
 use crate::owners::{first_owner, share};
-use crate::{Refusal, Route};
+use crate::{MOST_ROUTES, Refusal, Route};
 use prt_addr::agrees;
 use prt_route::{Addr, RouteChoice, RouteEdit, RouteKey, Selector};
 use prt_trie::Table;
@@ -145,18 +145,15 @@ fn has_table(tables: &[SharedTable], number: u32) -> bool
 }
 
 /// How many routes the tables have.
-fn count_rows(tables: &[SharedTable]) -> Result<usize, Refusal>
-    ensures value { IfOk result (λ count. count ≡ length (all_rows tables.now)) }
-    ensures reason { IfErr result (λ reason. reason ≡ NoMemory) }
+fn count_rows(tables: &[SharedTable]) -> usize
+    requires { length (all_rows tables.now) ≤ MOST_ROUTES }
+    ensures { result ≡ length (all_rows tables.now) }
 {
-    let mut count = 0usize;
+    let mut count = 0;
     for table in tables {
-        let Some(sum) = count.checked_add(table.table.len()) else {
-            return Err(Refusal::NoMemory);
-        };
-        count = sum;
+        count += table.table.len();
     }
-    Ok(count)
+    count
 }
 
 /// The tables after the edit, but for one that has no routes left.
@@ -245,13 +242,13 @@ impl Tables {
     }
 
     /// The routes of these tables.
-    fn from_tables(tables: Vec<SharedTable>) -> Result<Tables, Refusal>
-        requires { AreTables tables.items }
-        ensures value { IfOk result (λ it. it ≡ all_rows tables.items) }
-        ensures reason { IfErr result (λ reason. reason ≡ NoMemory) }
+    fn from_tables(tables: Vec<SharedTable>) -> Tables
+        requires tables { AreTables tables.items }
+        requires room { length (all_rows tables.items) ≤ MOST_ROUTES }
+        ensures { result ≡ all_rows tables.items }
     {
-        let len = count_rows(&tables)?;
-        Ok(Tables { tables, len })
+        let len = count_rows(&tables);
+        Tables { tables, len }
     }
 
     /// The table of this number, if it has routes.
@@ -321,11 +318,13 @@ impl Tables {
     ///
     /// `NoMemory` alone.
     pub(crate) fn with_edit(&self, edit: &RouteEdit) -> Result<Tables, Refusal>
+        requires { length (after_edit edit.now self.now) ≤ MOST_ROUTES }
         ensures value { IfOk result (λ after. after ≡ after_edit edit.now self.now) }
         ensures reason { IfErr result (λ reason. reason ≡ NoMemory) }
     {
         let alloc = *self.tables.allocator();
-        Tables::from_tables(tables_with(alloc, &self.tables, edit)?)
+        let tables = tables_with(alloc, &self.tables, edit)?;
+        Ok(Tables::from_tables(tables))
     }
 }
 

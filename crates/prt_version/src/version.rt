@@ -184,12 +184,14 @@ impl Version {
 
     /// The routes after a change.
     fn routes_after(&self, change: &Change) -> Result<Arc<Tables>, Refusal>
+        requires { IsChecked self.now change.now }
         ensures value { IfOk result (λ routes. arc_value routes ≡ (put self.now change.now).routes) }
         ensures reason { IfErr result (λ reason. reason ≡ NoMemory) }
     {
         match change {
             Change::Route(edit) => {
-                first_owner(*self.rules.allocator(), self.routes.with_edit(edit)?)
+                let routes = self.routes.with_edit(edit)?;
+                first_owner(*self.rules.allocator(), routes)
             }
             Change::RulePut(_) | Change::RuleDrop(_) | Change::RuleFlush => share(&self.routes),
         }
