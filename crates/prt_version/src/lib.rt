@@ -11,6 +11,8 @@ mod owners;
 mod rows;
 mod select;
 mod tables;
+#[cfg(test)]
+mod tests;
 mod version;
 
 pub use answer::{Answer, Verdict};

@@ -1,7 +1,0 @@
-use Rattle.std.proofs.Common.{refl}
-use Rattle.std.specs.Fmt.{digits}
-use Rattle.prt_listing.proofs.examples.refusals.Goals as goal
-
-pub returns : goal.returns
-unfolding digits
-returns c = record { no_such = refl; store_failed = refl }
