@@ -2,10 +2,10 @@
 use Rattle.std.proofs.Common.{◌≡◌, Bool, true, false, List, [], ◌∷◌, ◌++◌, Option, Some, None, Ok, Err, map, option_map, bytes_eq, refl, ◌∙◌, ap}
 use Rattle.std.specs.Prelude.{find, if◌then◌else◌}
 use Rattle.prt_addr.specs.Word.{Word, is_one_of}
-use Rattle.prt_command.specs.Grammar.{Entry, LineKind, prefix_word, is_to, word_in}
+use Rattle.prt_command.specs.LineKinds.{Entry, LineKind, is_to, word_in}
 use Rattle.prt_command.specs.Scan.{Scanned, one_more, what_follows, item_by, items_of, plain_from, plain_item, and_items, word_item}
 use Rattle.prt_command.specs.Items.{has}
-use Rattle.prt_command.specs.Values.{every_kind, kind_of, spelling}
+use Rattle.prt_command.specs.Values.{every_kind, kind_of, prefix_word, spelling}
 use Rattle.prt_command.specs.declared.item.Items.{Items}
 use Rattle.prt_command.specs.declared.item.ItemWord.{ItemWord}
 use Rattle.prt_command.specs.declared.item.Slot.{Slot}

@@ -13,7 +13,8 @@ use Rattle.prt_addr.specs.declared.refusal.Refusal.TheVariants.{UnknownWord, Bad
 use Rattle.prt_route.specs.Dev.{device}
 use Rattle.prt_route.specs.Names.{protocol, scope, table}
 use Rattle.prt_command.proofs.Results.{ok_result, err_result, err_inj}
-use Rattle.prt_command.specs.Grammar.{LineKind, Place, IsFault, unknown_word, second_bare, nothing_after, given_before, alone_before, bad_value, further}
+use Rattle.prt_command.specs.Grammar.{Place, IsFault, unknown_word, second_bare, nothing_after, given_before, alone_before, bad_value, further}
+use Rattle.prt_command.specs.LineKinds.{LineKind}
 use Rattle.prt_command.specs.Mark.{is_slash, mark_at, part}
 use Rattle.prt_command.specs.Then.{◌>>=◌, map_ok}
 use Rattle.prt_command.specs.Values.{kind_of, value}

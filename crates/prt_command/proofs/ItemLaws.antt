@@ -4,10 +4,11 @@ use Rattle.std.specs.Prelude.{if◌then◌else◌}
 use Rattle.prt_addr.specs.Word.{Word}
 use Rattle.prt_addr.specs.declared.refusal.Refusal.{Refusal}
 use Rattle.prt_addr.specs.declared.refusal.Refusal.TheVariants.{UnknownWord, Repeated}
-use Rattle.prt_command.specs.Grammar.{LineKind, prefix_word, word_in, is_to, Place, start, after_to, at_value, IsPlain, no_word, word_after_to, MustBeFollowed, keyword, to_word, before_prefix, IsValue, bare, any_word, IsItem, alone, valued, followed, IsFault, unknown_word, second_bare, nothing_after, given_before, alone_before, bad_value, further}
+use Rattle.prt_command.specs.Grammar.{Place, start, after_to, at_value, IsPlain, no_word, word_after_to, MustBeFollowed, keyword, to_word, before_prefix, IsValue, bare, any_word, IsItem, alone, valued, followed, IsFault, unknown_word, second_bare, nothing_after, given_before, alone_before, bad_value, further}
+use Rattle.prt_command.specs.LineKinds.{LineKind, word_in, is_to}
 use Rattle.prt_command.specs.Scan.{Scanned, item_ends, one_more, what_follows, plain_by, plain_from, plain_item, item_by, item_or_fault}
 use Rattle.prt_command.specs.Items.{slot_of, has}
-use Rattle.prt_command.specs.Values.{value}
+use Rattle.prt_command.specs.Values.{prefix_word, value}
 use Rattle.prt_command.specs.declared.item.Item.{Item}
 use Rattle.prt_command.specs.declared.item.Items.{Items}
 use Rattle.prt_command.specs.declared.item.ItemWord.{ItemWord}

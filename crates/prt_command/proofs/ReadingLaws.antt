@@ -4,7 +4,8 @@ use Rattle.prt_addr.specs.Word.{Word}
 use Rattle.prt_addr.specs.declared.refusal.Refusal.{Refusal}
 use Rattle.prt_command.specs.Scan.{items_of}
 use Rattle.prt_command.specs.Items.{no_items}
-use Rattle.prt_command.specs.Reading.{Meaning, Spells, HasFault, of_item, of_items, items_request}
+use Rattle.prt_command.specs.Reading.{Meaning, items_request}
+use Rattle.prt_command.specs.Spelling.{Spells, HasFault, of_item, of_items}
 use Rattle.prt_command.specs.Then.{◌>>=◌}
 use Rattle.prt_command.specs.declared.item.Items.{Items}
 use Rattle.prt_command.specs.declared.request.Request.{Request}

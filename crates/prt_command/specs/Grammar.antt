@@ -1,39 +1,16 @@
 -- Lines of items in any order, each at most once, and the first fault of one.
-use Rattle.std.specs.Prelude.{◌≡◌, true, false, if◌then◌else◌, List, [], ◌∷◌, ◌++◌, Bool, Option, Some, None, Ok, Err, bytes_eq, codes}
-use Rattle.prt_addr.specs.Word.{Word, is_one_of}
+use Rattle.std.specs.Prelude.{◌≡◌, true, false, List, [], ◌∷◌, ◌++◌, Option, Some, None, Ok, Err}
+use Rattle.prt_addr.specs.Word.{Word}
 use Rattle.prt_addr.specs.declared.refusal.Refusal.{Refusal}
 use Rattle.prt_addr.specs.declared.refusal.Refusal.TheVariants.{UnknownWord, MissingValue, Repeated}
 use Rattle.prt_command.specs.Items.{slot_of, has, put, put_all}
-use Rattle.prt_command.specs.Values.{prefix_word_in, value, prefix_words}
+use Rattle.prt_command.specs.LineKinds.{LineKind, is_to, word_in}
+use Rattle.prt_command.specs.Values.{prefix_word, value}
 use Rattle.prt_command.specs.declared.item.Item.{Item}
 use Rattle.prt_command.specs.declared.item.Items.{Items}
-use Rattle.prt_command.specs.declared.item.ItemWord.{ItemWord}
 use Rattle.prt_command.specs.declared.item.ItemWord.TheVariants.{Keyword, Alone}
 use Rattle.prt_command.specs.declared.item.PrefixWord.{PrefixWord}
 use Rattle.prt_command.specs.declared.item.Slot.{Slot}
-
--- ---- a kind of line
-
--- the spellings of a word, and what it begins
-abbrev pub Entry : Type 0
-Entry = List Word × ItemWord
-
--- The items of a kind of line: those with a word of their own, and at most one without: [to] [word before its prefix] prefix, or [to] address.
-pub record LineKind : Type 0 where
-  pub entries : List Entry
-  pub plain : Option Slot
-
--- what a word begins
-abbrev pub word_in : List Entry → Word → Option ItemWord
-word_in [] w = None
-word_in (entry ∷ entries) w = if is_one_of w entry.0 then Some entry.1 else word_in entries w
-
--- the word that w is, if one such may stand before the prefix of this item
-abbrev pub prefix_word : Slot → Word → Option PrefixWord
-prefix_word slot w = prefix_word_in (prefix_words slot) w
-
-abbrev pub is_to : Word → Bool
-is_to w = bytes_eq (codes "to") w
 
 -- ---- words at their places
 

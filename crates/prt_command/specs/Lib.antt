@@ -3,12 +3,13 @@ pub mod Items
 pub mod Then
 pub mod Mark
 pub mod Values
-pub mod Grammar
-pub mod Scan
 pub mod LineKinds
+pub mod Scan
 pub mod Requests
 pub mod Storable
 pub mod Reading
+pub mod Grammar
+pub mod Spelling
 pub use Rattle.prt_addr.specs.Addr
 pub use Rattle.prt_addr.specs.Block
 pub use Rattle.prt_addr.specs.Decimal

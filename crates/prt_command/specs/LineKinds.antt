@@ -1,10 +1,31 @@
 -- The items of each kind of line, with the words that spell them.
-use Rattle.std.specs.Prelude.{List, [], ◌∷◌, ◌++◌, Some, None, codes}
+use Rattle.std.specs.Prelude.{Bool, if◌then◌else◌, List, [], ◌∷◌, ◌++◌, Option, Some, None, bytes_eq, codes}
+use Rattle.prt_addr.specs.Word.{Word, is_one_of}
 use Rattle.prt_rule.specs.declared.rule.Action.TheVariants as actions
-use Rattle.prt_command.specs.Grammar.{Entry, LineKind}
 use Rattle.prt_command.specs.declared.item.Item.TheVariants as item
+use Rattle.prt_command.specs.declared.item.ItemWord.{ItemWord}
 use Rattle.prt_command.specs.declared.item.ItemWord.TheVariants.{Keyword, Alone}
+use Rattle.prt_command.specs.declared.item.Slot.{Slot}
 use Rattle.prt_command.specs.declared.item.Slot.TheVariants.{Destination, Via, Dev, Table, Proto, Scope, Src, Metric, Range, Tables, OfKind, Address, Source, Iif, Mark, From, To, Fwmark, Priority, Action}
+
+-- the spellings of a word, and what it begins
+abbrev pub Entry : Type 0
+Entry = List Word × ItemWord
+
+-- The items of a kind of line: those with a word of their own, and at most one without: [to] [word before its prefix] prefix, or [to] address.
+pub record LineKind : Type 0 where
+  pub entries : List Entry
+  pub plain : Option Slot
+
+-- what a word begins
+abbrev pub word_in : List Entry → Word → Option ItemWord
+word_in [] w = None
+word_in (entry ∷ entries) w = if is_one_of w entry.0 then Some entry.1 else word_in entries w
+
+abbrev pub is_to : Word → Bool
+is_to w = bytes_eq (codes "to") w
+
+-- ---- the words of each kind
 
 -- add, change, replace and del
 abbrev pub route_edit_words : List Entry

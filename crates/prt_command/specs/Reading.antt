@@ -1,18 +1,16 @@
 -- What a line asks for, or its first fault.
-use Rattle.std.specs.Prelude.{◌≡◌, ℕ, Bool, true, false, not, ◌&&◌, ◌||◌, ◌==◌, nat_lt, nat_le, List, [], ◌∷◌, length, filter, find, Option, Some, None, Result, Ok, Err, bytes_eq, codes, if◌then◌else◌}
+use Rattle.std.specs.Prelude.{ℕ, Bool, true, false, not, ◌&&◌, ◌||◌, ◌==◌, nat_lt, nat_le, List, [], ◌∷◌, length, filter, find, Option, Some, None, Result, Ok, Err, bytes_eq, codes, if◌then◌else◌}
 use Rattle.std.specs.List.{before_first, list_all, slice_split}
 use Rattle.std.specs.Option.{ok_or}
 use Rattle.prt_addr.specs.Word.{Word, is_white, is_one_of}
 use Rattle.prt_addr.specs.declared.refusal.Refusal.{Refusal}
 use Rattle.prt_addr.specs.declared.refusal.Refusal.TheVariants.{LineTooLong, NotAscii, UnknownObject, UnknownVerb}
-use Rattle.prt_command.specs.Grammar.{FirstFault, Good, LineKind}
-use Rattle.prt_command.specs.Items.{no_items, put_all}
+use Rattle.prt_command.specs.Items.{no_items}
 use Rattle.prt_command.specs.Lines.{longest_line}
-use Rattle.prt_command.specs.LineKinds.{bare_line, route_edit_line, route_get_line, route_list_line, rule_edit_line}
+use Rattle.prt_command.specs.LineKinds.{LineKind, bare_line, route_edit_line, route_get_line, route_list_line, rule_edit_line}
 use Rattle.prt_command.specs.Requests.{Asks, refuse_if, route_request, route_del_request, route_flush_request, route_show_request, route_get_request, rule_add_request, rule_del_request}
 use Rattle.prt_command.specs.Scan.{items_of}
 use Rattle.prt_command.specs.Then.{◌>>=◌}
-use Rattle.prt_command.specs.declared.item.Item.{Item}
 use Rattle.prt_command.specs.declared.request.Command.TheVariants as commands
 use Rattle.prt_command.specs.declared.request.Query.TheVariants as queries
 use Rattle.prt_command.specs.declared.request.Request.{Request}
@@ -100,17 +98,6 @@ object_of w = find (λ object. is_one_of w (object_words object)) every_object
 -- what the items of a verb ask for, or their first fault
 abbrev pub items_request : Meaning → List Word → Result Request Refusal
 items_request verb ws = items_of verb.line no_items ws >>= verb.asks
-
--- The words are whole items of the verb, each at most once, which together ask for this.
-pub record Spells (verb : Meaning) (ws : List Word) (request : Request) : Type 0 where
-  pub taken : List Item
-  pub good : Good verb.line no_items ws taken
-  pub asks : verb.asks (put_all taken no_items) ≡ Ok request
-
--- The first fault: of the item after the longest run of good items, or, where all words are good, of what the items say together.
-pub data HasFault (verb : Meaning) (ws : List Word) (fault : Refusal) : Type 0 where
-  of_item : FirstFault verb.line no_items ws fault → HasFault verb ws fault
-  of_items : (taken : List Item) → Good verb.line no_items ws taken → verb.asks (put_all taken no_items) ≡ Err fault → HasFault verb ws fault
 
 -- the verb and its items
 abbrev pub verb_request : Object → List Word → Result Request Refusal

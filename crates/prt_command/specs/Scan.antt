@@ -3,10 +3,10 @@ use Rattle.std.specs.Prelude.{ℕ, zero, suc, Bool, true, false, if◌then◌els
 use Rattle.prt_addr.specs.Word.{Word}
 use Rattle.prt_addr.specs.declared.refusal.Refusal.{Refusal}
 use Rattle.prt_addr.specs.declared.refusal.Refusal.TheVariants.{UnknownWord, MissingValue, Repeated}
-use Rattle.prt_command.specs.Grammar.{LineKind, word_in, prefix_word, is_to}
 use Rattle.prt_command.specs.Items.{slot_of, has, put}
+use Rattle.prt_command.specs.LineKinds.{LineKind, word_in, is_to}
 use Rattle.prt_command.specs.Then.{◌>>=◌}
-use Rattle.prt_command.specs.Values.{value}
+use Rattle.prt_command.specs.Values.{prefix_word, value}
 use Rattle.prt_command.specs.declared.item.Item.{Item}
 use Rattle.prt_command.specs.declared.item.Items.{Items}
 use Rattle.prt_command.specs.declared.item.ItemWord.{ItemWord}

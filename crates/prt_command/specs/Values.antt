@@ -54,6 +54,10 @@ prefix_words slot = []
 abbrev pub prefix_word_in : List PrefixWord → Word → Option PrefixWord
 prefix_word_in befores w = find (λ b. bytes_eq (spelling b) w) befores
 
+-- the word that w is, if one such may stand before the prefix of this item
+abbrev pub prefix_word : Slot → Word → Option PrefixWord
+prefix_word slot w = prefix_word_in (prefix_words slot) w
+
 -- ---- values
 
 abbrev pub kind_before : Option PrefixWord → Option Kind

@@ -1,8 +1,7 @@
 ghost use Rattle.std.specs.Prelude.{◌≡◌, ◌↔◌, true};
 ghost use Rattle.std.specs.List.{list_any};
-ghost use Rattle.prt_command.specs.Grammar.{prefix_word};
 ghost use Rattle.prt_command.specs.Items.{has, is_empty, no_items, put, slot_of};
-ghost use Rattle.prt_command.specs.Values.{kind_of};
+ghost use Rattle.prt_command.specs.Values.{kind_of, prefix_word};
 
 use crate::words::is;
 use prt_route::{Addr, Dev, Kind, Prefix, Range};

@@ -1,7 +1,7 @@
 //! The items of a line, one after another, and what they ask for.
 ghost use Rattle.std.specs.Prelude.{◌≡◌, ◌<◌, ◌≤◌, List, ◌∷◌, false, length, IfOk, IfErr, MatchResult, Some, Ok, Err};
 ghost use Rattle.prt_addr.specs.Word.{Word};
-ghost use Rattle.prt_command.specs.Grammar.{LineKind};
+ghost use Rattle.prt_command.specs.LineKinds.{LineKind};
 ghost use Rattle.prt_command.specs.Reading.{items_request, line_of, meaning_of, words};
 ghost use Rattle.prt_command.specs.Scan.{Scanned, and_items, items_of, one_more, plain_from, plain_item, value_item, what_follows, word_item};
 

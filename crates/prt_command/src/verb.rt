@@ -1,6 +1,5 @@
 ghost use Rattle.std.specs.Prelude.{◌≡◌};
-ghost use Rattle.prt_command.specs.Grammar.{word_in};
-ghost use Rattle.prt_command.specs.LineKinds.{action_words, route_edit_words, route_get_words, route_list_words, rule_edit_words, selector_words};
+ghost use Rattle.prt_command.specs.LineKinds.{action_words, route_edit_words, route_get_words, route_list_words, rule_edit_words, selector_words, word_in};
 ghost use Rattle.prt_command.specs.Reading.{line_of, lone_verb, object_of, verb_of};
 
 use crate::words::is;
