@@ -2,9 +2,9 @@
 use Rattle.std.proofs.Common.{◌≡◌, List, [], ◌∷◌, ◌++◌, false, refl, ◌∙◌, ap, sym, subst}
 use Rattle.std.proofs.Common.{append_assoc}
 use Rattle.prt_addr.specs.Word.{Word}
-use Rattle.prt_command.specs.Grammar.{AreItems, none, more, EachOnce}
+use Rattle.prt_command.specs.Grammar.{AreItems, none, more, EachOnce, put_all}
 use Rattle.prt_command.specs.LineKinds.{LineKind}
-use Rattle.prt_command.specs.Items.{slot_of, has, no_items, put, put_all}
+use Rattle.prt_command.specs.Items.{slot_of, has, no_items, put}
 use Rattle.prt_command.specs.Reading.{Meaning}
 use Rattle.prt_command.specs.Spelling.{Spells}
 use Rattle.prt_command.specs.declared.item.Item.{Item}

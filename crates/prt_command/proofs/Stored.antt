@@ -18,9 +18,9 @@ use Rattle.prt_route.specs.declared.kind.Kind.TheVariants.{Unicast, Blackhole, U
 use Rattle.prt_route.specs.declared.route.Route.{Route}
 use Rattle.prt_rule.specs.declared.rule.Action as rule
 use Rattle.prt_rule.specs.declared.rule.Action.TheVariants.{Lookup}
-use Rattle.prt_command.specs.Grammar.{Place, start, IsItem, alone, valued, followed, AreItems, none, more}
+use Rattle.prt_command.specs.Grammar.{Place, start, IsItem, alone, valued, followed, AreItems, none, more, put_all}
 use Rattle.prt_command.specs.LineKinds.{Entry, LineKind, word_in}
-use Rattle.prt_command.specs.Items.{no_items, put, put_all, is_empty}
+use Rattle.prt_command.specs.Items.{no_items, put, is_empty}
 use Rattle.prt_command.specs.Reading.{items_request, line_of, lone_verb, meaning_of, object_of, object_request, skip_word, verb_of, verb_request, words_request}
 use Rattle.prt_command.specs.Requests.{has_next_hop, is_unicast, new_route, refuse_if, route_by, route_of, route_request, selector_of, rule_choice, unless_empty}
 use Rattle.prt_command.specs.Scan.{items_of}

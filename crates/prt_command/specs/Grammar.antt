@@ -3,7 +3,7 @@ use Rattle.std.specs.Prelude.{◌≡◌, true, false, List, [], ◌∷◌, ◌++
 use Rattle.prt_addr.specs.Word.{Word}
 use Rattle.prt_addr.specs.declared.refusal.Refusal.{Refusal}
 use Rattle.prt_addr.specs.declared.refusal.Refusal.TheVariants.{UnknownWord, MissingValue, Repeated}
-use Rattle.prt_command.specs.Items.{slot_of, has, put, put_all}
+use Rattle.prt_command.specs.Items.{slot_of, has, put}
 use Rattle.prt_command.specs.LineKinds.{LineKind, is_to, word_in}
 use Rattle.prt_command.specs.Values.{prefix_word, value}
 use Rattle.prt_command.specs.declared.item.Item.{Item}
@@ -56,6 +56,11 @@ pub data IsItem (line : LineKind) : Place → Word → List Word → Item → Ty
 pub data AreItems (line : LineKind) : List Word → List Item → Type 0 where
   none : AreItems line [] []
   more : (w : Word) (own rest : List Word) (item : Item) (others : List Item) → IsItem line start w own item → AreItems line rest others → AreItems line (w ∷ (own ++ rest)) (item ∷ others)
+
+-- these items, with more put in from left to right
+abbrev pub put_all : List Item → Items → Items
+put_all [] items = items
+put_all (item ∷ others) items = put_all others (put item items)
 
 -- None of these items is among those given, and none comes twice.
 abbrev pub EachOnce : Items → List Item → Type 0

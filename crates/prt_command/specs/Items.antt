@@ -111,8 +111,3 @@ put (item.To prefix) items = record items { to = Some prefix }
 put (item.Fwmark mark) items = record items { fwmark = Some mark }
 put (item.Priority priority) items = record items { priority = Some priority }
 put (item.Action action) items = record items { action = Some action }
-
--- these items, with more put in from left to right
-abbrev pub put_all : List Item → Items → Items
-put_all [] items = items
-put_all (item ∷ more) items = put_all more (put item items)

@@ -84,16 +84,13 @@ abbrev pub object_words : Object → List Word
 object_words Route = codes "route" ∷ codes "ro" ∷ codes "r" ∷ []
 object_words Rule = codes "rule" ∷ codes "ru" ∷ []
 
-abbrev pub every_object : List Object
-every_object = Route ∷ Rule ∷ []
-
 -- the verb of this object that the word spells
 abbrev pub verb_of : Object → Word → Option ObjectVerb
 verb_of object w = find (λ verb. is_one_of w (meaning_of verb).spellings) (verbs_of object)
 
 -- the object that the word spells
 abbrev pub object_of : Word → Option Object
-object_of w = find (λ object. is_one_of w (object_words object)) every_object
+object_of w = find (λ object. is_one_of w (object_words object)) (Route ∷ Rule ∷ [])
 
 -- what the items of a verb ask for, or their first fault
 abbrev pub items_request : Meaning → List Word → Result Request Refusal

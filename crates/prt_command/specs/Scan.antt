@@ -36,14 +36,10 @@ what_follows false reads (v ∷ vs) = one_more (reads v vs)
 abbrev pub value_item : Slot → Option PrefixWord → Items → List Word → Scanned
 value_item slot b given ws = what_follows (has slot given) (λ v vs. item_ends (value slot b v)) ws
 
--- an item that its word says alone
-abbrev pub lone_item : Item → Items → Scanned
-lone_item x given = if has (slot_of x) given then Err Repeated else Ok (x, 0)
-
 -- the item that a word begins, before the words ws
 abbrev pub word_item : ItemWord → Items → List Word → Scanned
 word_item (Keyword slot) given ws = value_item slot None given ws
-word_item (Alone x) given ws = lone_item x given
+word_item (Alone x) given ws = if has (slot_of x) given then Err Repeated else Ok (x, 0)
 
 -- the item at w, by the word before a prefix that w is
 abbrev pub plain_by : Slot → Option PrefixWord → Items → Word → List Word → Scanned

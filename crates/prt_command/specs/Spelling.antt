@@ -2,8 +2,8 @@
 use Rattle.std.specs.Prelude.{◌≡◌, List, Ok, Err}
 use Rattle.prt_addr.specs.Word.{Word}
 use Rattle.prt_addr.specs.declared.refusal.Refusal.{Refusal}
-use Rattle.prt_command.specs.Grammar.{FirstFault, Good}
-use Rattle.prt_command.specs.Items.{no_items, put_all}
+use Rattle.prt_command.specs.Grammar.{FirstFault, Good, put_all}
+use Rattle.prt_command.specs.Items.{no_items}
 use Rattle.prt_command.specs.Reading.{Meaning}
 use Rattle.prt_command.specs.declared.item.Item.{Item}
 use Rattle.prt_command.specs.declared.request.Request.{Request}

@@ -50,13 +50,9 @@ prefix_words Destination = map before.Kind every_kind
 prefix_words Range = before.Root ∷ before.Match ∷ before.Exact ∷ []
 prefix_words slot = []
 
--- the one among these that the word is
-abbrev pub prefix_word_in : List PrefixWord → Word → Option PrefixWord
-prefix_word_in befores w = find (λ b. bytes_eq (spelling b) w) befores
-
 -- the word that w is, if one such may stand before the prefix of this item
 abbrev pub prefix_word : Slot → Word → Option PrefixWord
-prefix_word slot w = prefix_word_in (prefix_words slot) w
+prefix_word slot w = find (λ b. bytes_eq (spelling b) w) (prefix_words slot)
 
 -- ---- values
 

@@ -2,9 +2,8 @@
 ghost use Rattle.std.specs.Prelude.{◌≡◌, ◌≤◌, ◌↔◌, List, [], ◌∷◌, ◌++◌, Ok, Err, length};
 ghost use Rattle.prt_addr.specs.Word.{Word};
 ghost use Rattle.prt_addr.specs.declared.refusal.Refusal.{Refusal};
-ghost use Rattle.prt_command.specs.Grammar.{AreItems, FirstFault, Good};
+ghost use Rattle.prt_command.specs.Grammar.{AreItems, FirstFault, Good, put_all};
 ghost use Rattle.prt_command.specs.LineKinds.{LineKind};
-ghost use Rattle.prt_command.specs.Items.{put_all};
 ghost use Rattle.prt_command.specs.Reading.{Meaning, items_request};
 ghost use Rattle.prt_command.specs.Spelling.{HasFault, Spells};
 ghost use Rattle.prt_command.specs.Scan.{items_of};
