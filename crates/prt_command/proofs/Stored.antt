@@ -21,7 +21,7 @@ use Rattle.prt_rule.specs.declared.rule.Action.TheVariants.{Lookup}
 use Rattle.prt_command.specs.Grammar.{Place, start, IsItem, alone, valued, followed, AreItems, none, more, put_all}
 use Rattle.prt_command.specs.LineKinds.{Entry, LineKind, word_in}
 use Rattle.prt_command.specs.Items.{no_items, put, is_empty}
-use Rattle.prt_command.specs.Reading.{items_request, line_of, lone_verb, meaning_of, object_of, object_request, skip_word, verb_of, verb_request, words_request}
+use Rattle.prt_command.specs.Reading.{items_request, lone_verb, meaning_of, object_of, object_request, skip_word, verb_of, verb_request, words_request}
 use Rattle.prt_command.specs.Requests.{has_next_hop, is_unicast, new_route, refuse_if, route_by, route_of, route_request, selector_of, rule_choice, unless_empty}
 use Rattle.prt_command.specs.Scan.{items_of}
 use Rattle.prt_rule.specs.Storable.{IsStorableAction}
@@ -162,7 +162,7 @@ items_sound : (line : LineKind) (ws : List Word) (taken : List Item) (given : It
 items_sound line ws taken given are none sound = sound
 items_sound line ws taken given are (more w own rest x others i a) sound = items_sound line rest others (put x given) are a (put_sound x given (item_sound line start w own x are i) sound)
 
-entries_sound : (verb : ObjectVerb) → AreSoundWords (line_of verb).entries
+entries_sound : (verb : ObjectVerb) → AreSoundWords (meaning_of verb).line.entries
 entries_sound RouteAdd = search rules
 entries_sound RouteChange = search rules
 entries_sound RouteReplace = search rules
@@ -256,16 +256,16 @@ asks_for RuleShow items sound = fine_for_ok IsStorableRequest _ tt
 
 -- ---- a line
 
-read_for : (verb : ObjectVerb) (ws : List Word) (r : Result Items Refusal) → items_of (line_of verb) no_items ws ≡ r → IsFineFor IsSound r
+read_for : (verb : ObjectVerb) (ws : List Word) (r : Result Items Refusal) → items_of (meaning_of verb).line no_items ws ≡ r → IsFineFor IsSound r
 read_for verb ws (Ok items) read =
-    let d = good_of_items (line_of verb) ws zero no_items items read (omega arith) in
-    fine_for_ok IsSound items (subst IsSound (sym d.is) (items_sound (line_of verb) ws d.taken no_items (entries_sound verb) d.good.spelled (tt, tt)))
+    let d = good_of_items (meaning_of verb).line ws zero no_items items read (omega arith) in
+    fine_for_ok IsSound items (subst IsSound (sym d.is) (items_sound (meaning_of verb).line ws d.taken no_items (entries_sound verb) d.good.spelled (tt, tt)))
 read_for verb ws (Err e) read =
-    let d = fault (line_of verb) ws zero no_items e read (omega arith) in
-    fine_for_err IsSound e (fault_fine (line_of verb) (put_all d.taken no_items) start d.w d.rest e d.first)
+    let d = fault (meaning_of verb).line ws zero no_items e read (omega arith) in
+    fine_for_err IsSound e (fault_fine (meaning_of verb).line (put_all d.taken no_items) start d.w d.rest e d.first)
 
 verb_for : (verb : ObjectVerb) (ws : List Word) → IsFineFor IsStorableRequest (items_request (meaning_of verb) ws)
-verb_for verb ws = fine_for_then IsSound IsStorableRequest (items_of (line_of verb) no_items ws) _ (read_for verb ws _ refl) (λ items sound. asks_for verb items sound)
+verb_for verb ws = fine_for_then IsSound IsStorableRequest (items_of (meaning_of verb).line no_items ws) _ (read_for verb ws _ refl) (λ items sound. asks_for verb items sound)
 
 object_for : (object : Object) (ws : List Word) → IsFineFor IsStorableRequest (verb_request object ws)
 object_for object [] = verb_for (lone_verb object) []

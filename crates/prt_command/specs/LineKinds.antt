@@ -27,7 +27,7 @@ is_to w = bytes_eq (codes "to") w
 
 -- ---- the words of each kind
 
--- add, change, replace and del
+-- add, change, replace and del of routes
 abbrev pub route_edit_words : List Entry
 route_edit_words =
     (codes "via" ∷ [], Keyword Via)
@@ -39,7 +39,7 @@ route_edit_words =
     ∷ (codes "metric" ∷ codes "priority" ∷ codes "preference" ∷ [], Keyword Metric)
     ∷ []
 
--- show and flush
+-- show and flush of routes
 abbrev pub route_list_words : List Entry
 route_list_words =
     (codes "table" ∷ [], Keyword Tables)
@@ -76,10 +76,6 @@ action_words =
     ∷ (codes "prohibit" ∷ [], Alone (item.Action actions.Prohibit))
     ∷ []
 
--- add and del
-abbrev pub rule_edit_words : List Entry
-rule_edit_words = selector_words ++ action_words
-
 abbrev pub route_edit_line : LineKind
 route_edit_line = record { entries = route_edit_words; plain = Some Destination }
 
@@ -89,8 +85,9 @@ route_list_line = record { entries = route_list_words; plain = Some Range }
 abbrev pub route_get_line : LineKind
 route_get_line = record { entries = route_get_words; plain = Some Address }
 
+-- add and del of rules
 abbrev pub rule_edit_line : LineKind
-rule_edit_line = record { entries = rule_edit_words; plain = None }
+rule_edit_line = record { entries = selector_words ++ action_words; plain = None }
 
 -- flush and show of rules
 abbrev pub bare_line : LineKind

@@ -68,9 +68,6 @@ meaning_of RuleDel = record { spellings = del_words; line = rule_edit_line; asks
 meaning_of RuleFlush = record { spellings = codes "flush" ∷ []; line = bare_line; asks = λ _. Ok (requests.Command commands.RuleFlush) }
 meaning_of RuleShow = record { spellings = show_words; line = bare_line; asks = λ _. Ok (requests.Query queries.RuleShow) }
 
-abbrev pub line_of : ObjectVerb → LineKind
-line_of verb = (meaning_of verb).line
-
 abbrev pub verbs_of : Object → List ObjectVerb
 verbs_of Route = RouteAdd ∷ RouteChange ∷ RouteReplace ∷ RouteDel ∷ RouteFlush ∷ RouteShow ∷ RouteGet ∷ []
 verbs_of Rule = RuleAdd ∷ RuleDel ∷ RuleFlush ∷ RuleShow ∷ []

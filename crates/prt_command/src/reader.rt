@@ -2,7 +2,7 @@
 ghost use Rattle.std.specs.Prelude.{◌≡◌, ◌<◌, ◌≤◌, List, ◌∷◌, false, length, IfOk, IfErr, MatchResult, Some, Ok, Err};
 ghost use Rattle.prt_addr.specs.Word.{Word};
 ghost use Rattle.prt_command.specs.LineKinds.{LineKind};
-ghost use Rattle.prt_command.specs.Reading.{items_request, line_of, meaning_of, words};
+ghost use Rattle.prt_command.specs.Reading.{items_request, meaning_of, words};
 ghost use Rattle.prt_command.specs.Scan.{Scanned, and_items, items_of, one_more, plain_from, plain_item, value_item, what_follows, word_item};
 
 use crate::value::value;
@@ -116,9 +116,9 @@ fn read_item<'a>(
     word: &[u8],
     rest: &'a [u8],
 ) -> Result<&'a [u8], Refusal>
-    ensures items { IfOk result (λ after. items_of (line_of verb) items.old (word.now ∷ words rest.now) ≡ items_of (line_of verb) items.new (words after.now)) }
+    ensures items { IfOk result (λ after. items_of (meaning_of verb).line items.old (word.now ∷ words rest.now) ≡ items_of (meaning_of verb).line items.new (words after.now)) }
     ensures shorter { IfOk result (λ after. length after.now ≤ length rest.now) }
-    ensures fault { IfErr result (λ e. items_of (line_of verb) items.old (word.now ∷ words rest.now) ≡ Err e) }
+    ensures fault { IfErr result (λ e. items_of (meaning_of verb).line items.old (word.now ∷ words rest.now) ≡ Err e) }
 {
     match verb.item_word(word) {
         Some(item) => read_word_item(items, item, rest),
@@ -136,8 +136,8 @@ fn read_item<'a>(
 /// The first fault of the text, which leaves the items read so far.
 fn read_items(verb: ObjectVerb, items: &mut Items, text: &[u8]) -> Result<(), Refusal>
     ensures { MatchResult result
-        (λ _. items_of (line_of verb) items.old (words text.now) ≡ Ok items.new)
-        (λ e. items_of (line_of verb) items.old (words text.now) ≡ Err e) }
+        (λ _. items_of (meaning_of verb).line items.old (words text.now) ≡ Ok items.new)
+        (λ e. items_of (meaning_of verb).line items.old (words text.now) ≡ Err e) }
 {
     let mut rest = text;
     'items: while let Some((word, after)) = next_word(rest) {

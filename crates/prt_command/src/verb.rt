@@ -1,6 +1,6 @@
 ghost use Rattle.std.specs.Prelude.{◌≡◌};
-ghost use Rattle.prt_command.specs.LineKinds.{action_words, route_edit_words, route_get_words, route_list_words, rule_edit_words, selector_words, word_in};
-ghost use Rattle.prt_command.specs.Reading.{line_of, lone_verb, object_of, verb_of};
+ghost use Rattle.prt_command.specs.LineKinds.{action_words, route_edit_words, route_get_words, route_list_words, rule_edit_line, selector_words, word_in};
+ghost use Rattle.prt_command.specs.Reading.{lone_verb, meaning_of, object_of, verb_of};
 
 use crate::words::is;
 use crate::{Item, ItemWord, Slot};
@@ -107,7 +107,7 @@ fn rule_verb(word: &[u8]) -> Option<ObjectVerb>
 impl ObjectVerb {
     /// Tells what the word begins, as one of the item words of this verb's line.
     pub(crate) fn item_word(self, word: &[u8]) -> Option<ItemWord>
-        ensures { result ≡ word_in (line_of self).entries word.now }
+        ensures { result ≡ word_in (meaning_of self).line.entries word.now }
     {
         match self {
             ObjectVerb::RouteAdd
@@ -123,7 +123,7 @@ impl ObjectVerb {
 
     /// Tells which item of this verb's line needs no word of its own.
     pub(crate) fn plain_slot(self) -> Option<Slot>
-        ensures { result ≡ (line_of self).plain }
+        ensures { result ≡ (meaning_of self).line.plain }
     {
         match self {
             ObjectVerb::RouteAdd
@@ -241,7 +241,7 @@ fn action_word(word: &[u8]) -> Option<ItemWord>
 
 /// Tells what the word begins on the lines of `rule add` and `del`.
 fn rule_edit_word(word: &[u8]) -> Option<ItemWord>
-    ensures { result ≡ word_in rule_edit_words word.now }
+    ensures { result ≡ word_in rule_edit_line.entries word.now }
 {
     match selector_word(word) {
         Some(item) => Some(item),
