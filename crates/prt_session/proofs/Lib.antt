@@ -10,3 +10,4 @@ pub mod Served
 pub mod SessionSteps
 pub mod Turns
 pub mod ListReplies
+pub mod ListRefusals

@@ -1,7 +1,7 @@
 -- What a run over lists refuses for.
-use Rattle.std.specs.Prelude.{◌≡◌, List, ℕ, Some, Err, ⊤}
+use Rattle.std.specs.Prelude.{◌≡◌, Bool, true, false, List, ℕ, Some, Err, ⊤}
 use Rattle.prt_addr.specs.declared.refusal.Refusal.{Refusal}
-use Rattle.prt_addr.specs.declared.refusal.Refusal.TheVariants.{LineTooLong, NoMemory, ReadFault, TooManyLines}
+use Rattle.prt_addr.specs.declared.refusal.Refusal.TheVariants.{LineTooLong, Closed, Busy, NoMemory, StoreFailed, NotPublished, NotFetched, Damaged, OpenFailed, ReadFault, WriteFault, TooManyLines}
 use Rattle.prt_command.specs.Reading.{reading}
 use Rattle.prt_command.specs.declared.request.Command.{Command}
 use Rattle.prt_session.specs.declared.reply.Reply.{Reply}
@@ -26,3 +26,20 @@ pub data IsListRefusal (reason : Refusal) : Type 0 where
 abbrev pub IsListReply : Reply → Type 0
 IsListReply (Refused reason) = IsListRefusal reason
 IsListReply reply = ⊤
+
+-- the refusals of a publisher, a store, a reader of versions and a writer
+abbrev pub is_beyond_lists : Refusal → Bool
+is_beyond_lists Closed = true
+is_beyond_lists Busy = true
+is_beyond_lists (StoreFailed call) = true
+is_beyond_lists NotPublished = true
+is_beyond_lists NotFetched = true
+is_beyond_lists Damaged = true
+is_beyond_lists OpenFailed = true
+is_beyond_lists WriteFault = true
+is_beyond_lists reason = false
+
+-- a reply that is no refusal, or none of these
+abbrev pub IsWithinLists : Reply → Type 0
+IsWithinLists (Refused reason) = is_beyond_lists reason ≡ false
+IsWithinLists reply = ⊤

@@ -2,7 +2,7 @@
 ghost use Rattle.std.specs.Prelude.{◌+◌, ◌*◌, ◌≤◌, List, Option, length};
 ghost use Rattle.std.specs.List.{All};
 ghost use Rattle.prt_session.specs.Desk.{Befalls, DeskState, IsNoMemory, Mishap, request_turn, settled};
-ghost use Rattle.prt_session.specs.Refusals.{IsListReply};
+ghost use Rattle.prt_session.specs.Refusals.{IsListReply, IsWithinLists};
 ghost use Rattle.prt_session.specs.Session.{Input, Path, replies, session};
 ghost use Rattle.prt_session.specs.declared.script.OnRefusal.{OnRefusal};
 ghost use Rattle.prt_version.specs.State.{State};
@@ -13,10 +13,13 @@ pub fn session_ends()
         length input.bytes ≤ length (session request_turn desk input mode mishaps).unread + (1000000 * 65537 + 1) }
 {}
 
-/// A run over lists refuses for what a line says, for want of memory, and for the input: never for room, a store or a
-/// publication.
+/// A run over lists refuses for what a line or its command says, for want of memory, and for the input: never as a
+/// publisher, a store or a writer would, so never with `Busy`, `StoreFailed` or `NotPublished`.
 pub fn list_replies()
-    ensures { (state : State) (desk : DeskState) (input : Input) (mode : OnRefusal) (mishaps : List (Option Mishap)) →
+    ensures cause { (state : State) (desk : DeskState) (input : Input) (mode : OnRefusal) (mishaps : List (Option Mishap)) →
         Path request_turn (Befalls IsNoMemory) (settled state) (session request_turn (settled state) input mode mishaps).exchanges desk →
         All IsListReply (replies (session request_turn (settled state) input mode mishaps)) }
+    ensures never { (state : State) (desk : DeskState) (input : Input) (mode : OnRefusal) (mishaps : List (Option Mishap)) →
+        Path request_turn (Befalls IsNoMemory) (settled state) (session request_turn (settled state) input mode mishaps).exchanges desk →
+        All IsWithinLists (replies (session request_turn (settled state) input mode mishaps)) }
 {}

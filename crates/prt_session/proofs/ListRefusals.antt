@@ -1,0 +1,112 @@
+-- The refusals that no run over lists replies.
+use Rattle.std.proofs.Common.{◌≡◌, ◌≤◌, ℕ, Bool, true, false, List, length, Option, Some, None, IfErr, Result, Ok, Err, refl, subst, arith}
+use Rattle.std.proofs.lemmas.List.Elements.{All-weaker}
+use Rattle.std.specs.List.{All, list_all}
+use Rattle.std.specs.Option.{ok_or}
+use Rattle.std.specs.Prelude.{if◌then◌else◌, nat_lt, not, option_map}
+use Rattle.std.specs.Result.{result_err}
+use Rattle.prt_addr.specs.Refusal.{code_of}
+use Rattle.prt_addr.specs.declared.refusal.Refusal.{Refusal}
+use Rattle.prt_addr.specs.declared.refusal.Refusal.TheVariants.{LineTooLong, NotAscii, Closed, NoSuch, Full, CountFull, Busy, StoreFailed, NotPublished, NotFetched, Damaged, OpenFailed, WriteFault}
+use Rattle.prt_route.specs.Edit.{has_key}
+use Rattle.prt_route.specs.Route.{key_of}
+use Rattle.prt_route.specs.RouteChoice.{chosen_route}
+use Rattle.prt_command.proofs.Faults.{Fine, fine_err, fine_ok, then_fine}
+use Rattle.prt_command.proofs.Stored.{text_is}
+use Rattle.prt_command.specs.Lines.{longest_line}
+use Rattle.prt_command.specs.Reading.{before_comment, is_text_byte, reading, words, words_request}
+use Rattle.prt_command.specs.Requests.{refuse_if}
+use Rattle.prt_command.specs.declared.request.Command.{Command}
+use Rattle.prt_command.specs.declared.request.Command.TheVariants.{RouteAdd, RouteChange, RouteReplace, RouteDel, RouteFlush, RuleAdd, RuleDel, RuleFlush}
+use Rattle.prt_command.specs.declared.request.Request.{Request}
+use Rattle.prt_session.proofs.ListReplies.{list_replies}
+use Rattle.prt_session.specs.Desk.{Befalls, DeskState, IsNoMemory, Mishap, request_turn, settled}
+use Rattle.prt_session.specs.Refusals.{IsListRefusal, IsListReply, IsWithinLists, is_beyond_lists, of_line, of_command, of_memory, of_reader, of_line_length, of_line_count}
+use Rattle.prt_session.specs.Session.{Input, Path, replies, session}
+use Rattle.prt_session.specs.declared.reply.Reply.{Reply}
+use Rattle.prt_session.specs.declared.reply.Reply.TheVariants.{Refused}
+use Rattle.prt_session.specs.declared.script.OnRefusal.{OnRefusal}
+use Rattle.prt_version.specs.Change.{change_of, check, has_rule, if_room, named_rule, rule_of, unless_count_full}
+use Rattle.prt_version.specs.State.{State}
+use Rattle.prt_version.specs.declared.change.Change.{Change}
+use Rattle.prt_version.specs.declared.limits.TheConstants.{MOST_COMMANDS, MOST_ROUTES, MOST_RULES}
+
+-- ---- a line
+
+refuse_fine : (refused : Bool) (e : Refusal) → code_of e ≤ 17 → Fine (refuse_if refused e)
+refuse_fine true e low = fine_err e low
+refuse_fine false e low = fine_ok tt
+
+fine_by : (r : Result (Option Request) Refusal) → IfErr r (λ e. code_of e ≤ 17) → Fine r
+fine_by (Ok request) low = fine_ok request
+fine_by (Err e) low = fine_err e low
+
+reading_fine : (line : List ℕ) → Fine (reading line)
+reading_fine line =
+    let ws = words (before_comment line) in
+    then_fine _ _ (refuse_fine (nat_lt longest_line (length line)) LineTooLong (omega arith)) (λ _.
+    then_fine _ _ (refuse_fine (not (list_all is_text_byte (before_comment line))) NotAscii (omega arith)) (λ _.
+    fine_by (words_request ws) (text_is ws (words_request ws) refl).1))
+
+-- the first seventeen refusals are of lines
+line_within : (reason : Refusal) → code_of reason ≤ 17 → is_beyond_lists reason ≡ false
+line_within Closed low = absurd (omega arith)
+line_within Busy low = absurd (omega arith)
+line_within (StoreFailed call) low = absurd (omega arith)
+line_within NotPublished low = absurd (omega arith)
+line_within NotFetched low = absurd (omega arith)
+line_within Damaged low = absurd (omega arith)
+line_within OpenFailed low = absurd (omega arith)
+line_within WriteFault low = absurd (omega arith)
+line_within _ low = refl
+
+-- ---- a command
+
+abbrev IsWithin : Result Change Refusal → Type 0
+IsWithin r = IfErr r (λ reason. is_beyond_lists reason ≡ false)
+
+if_within : (b : Bool) (r s : Result Change Refusal) → IsWithin r → IsWithin s → IsWithin (if b then r else s)
+if_within true r s then_so else_so = then_so
+if_within false r s then_so else_so = else_so
+
+room_within : (count most : ℕ) (made : Change) → IsWithin (if_room count most made)
+room_within count most made = if_within (nat_lt count most) (Ok made) (Err Full) tt refl
+
+found_within : {X : Type 0} (make : X → Change) (found : Option X) → IsWithin (ok_or (option_map make found) NoSuch)
+found_within make None = refl
+found_within make (Some x) = tt
+
+change_within : (state : State) (command : Command) → IsWithin (change_of state command)
+change_within state (RouteAdd route) = if_within (has_key (key_of route) state.routes) _ _ refl (room_within (length state.routes) MOST_ROUTES _)
+change_within state (RouteChange route) = if_within (has_key (key_of route) state.routes) _ _ tt refl
+change_within state (RouteReplace route) = if_within (has_key (key_of route) state.routes) _ _ tt (room_within (length state.routes) MOST_ROUTES _)
+change_within state (RouteDel choice) = found_within _ (chosen_route choice state.routes)
+change_within state (RouteFlush selector) = tt
+change_within state (RuleAdd new) = if_within (has_rule (rule_of state new) state.rules) _ _ refl (room_within (length state.rules) MOST_RULES _)
+change_within state (RuleDel choice) = found_within _ (named_rule choice state.rules)
+change_within state RuleFlush = tt
+
+count_within : (count : ℕ) (r : Result Change Refusal) → IsWithin r → IsWithin (unless_count_full count r)
+count_within count (Ok made) within = if_within (nat_lt count MOST_COMMANDS) (Ok made) (Err CountFull) tt refl
+count_within count (Err reason) within = within
+
+err_within : (r : Result Change Refusal) (reason : Refusal) → IsWithin r → result_err r ≡ Some reason → is_beyond_lists reason ≡ false
+err_within (Ok made) reason within is = absurd (cc)
+err_within (Err e) reason within is = let same : e ≡ reason = cc in subst (λ (x : Refusal). is_beyond_lists x ≡ false) same within
+
+-- ---- a run
+
+refusal_within : (reason : Refusal) → IsListRefusal reason → is_beyond_lists reason ≡ false
+refusal_within reason (of_line line is) = line_within reason ((reading_fine line).number reason is)
+refusal_within reason (of_command state command is) = err_within (check state command) reason (count_within state.count (change_of state command) (change_within state command)) is
+refusal_within reason (of_memory is) = rw is refl
+refusal_within reason (of_reader is) = rw is refl
+refusal_within reason (of_line_length is) = rw is refl
+refusal_within reason (of_line_count is) = rw is refl
+
+reply_within : (reply : Reply) → IsListReply reply → IsWithinLists reply
+reply_within (Refused reason) fine = refusal_within reason fine
+reply_within _ fine = tt
+
+pub list_never : (state : State) (desk : DeskState) (input : Input) (mode : OnRefusal) (mishaps : List (Option Mishap)) → Path request_turn (Befalls IsNoMemory) (settled state) (session request_turn (settled state) input mode mishaps).exchanges desk → All IsWithinLists (replies (session request_turn (settled state) input mode mishaps))
+list_never state desk input mode mishaps path = All-weaker IsListReply IsWithinLists reply_within (replies (session request_turn (settled state) input mode mishaps)) (list_replies state desk input mode mishaps path)
