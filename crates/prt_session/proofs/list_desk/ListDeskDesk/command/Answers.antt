@@ -1,6 +1,6 @@
-use Rattle.std.proofs.Common.{◌≡◌, None, Ok, inr, ap, sym, ◌∙◌}
+use Rattle.std.proofs.Common.{◌≡◌, Ok, inr, ap, sym, ◌∙◌}
 use Rattle.std.specs.Result.{result_err}
-use Rattle.prt_version.specs.Change.{check, refusal, put, put_if, apply}
+use Rattle.prt_version.specs.Change.{check, put, put_if, apply}
 use Rattle.prt_session.proofs.Turns.{memory_refused, accepted_turn}
 use Rattle.prt_session.proofs.list_desk.ListDeskDesk.command.Goals as goal
 
