@@ -5,6 +5,7 @@ use prt_command::{Command, Query, Refusal};
 /// Where commands go, and who answers queries.
 pub trait Desk {
     ghost use Rattle.std.specs.Prelude.{◌≡◌};
+    ghost use Rattle.prt_command.specs.Storable.{IsStorable};
     ghost use Rattle.prt_listing.specs.QueryText.{query_text};
     ghost use Rattle.prt_session.specs.Desk.{CommandGives, DeskState, Mishap, no_memory};
     ghost use Rattle.prt_session.specs.Stands.{Explained, Stands};
@@ -15,12 +16,14 @@ pub trait Desk {
     /// What may befall a request.
     ghost may: { Mishap → Type 0 };
 
-    /// Checks, stores and publishes a command; gives the number of commands ever accepted.
+    /// Checks, stores and publishes a command, whose routes and rules may be stored; gives the number of commands ever
+    /// accepted.
     ///
     /// # Errors
     ///
     /// Why the command is refused; after a failed commit or publication the desk is closed, and else as it was.
     fn command(&mut self, command: &Command) -> Result<u64, Refusal>
+        requires { IsStorable command.now }
         ensures turn { Explained stands self.old self.new (λ before after. CommandGives may before command.now result after) }
         ensures left { Stands stands self.old → Stands stands self.new };
 

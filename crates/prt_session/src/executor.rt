@@ -7,6 +7,7 @@ use prt_command::Request;
 /// tables, and who shares them with others for what it knows of them.
 pub trait Executor<C> {
     ghost use Rattle.std.specs.Prelude.{Option};
+    ghost use Rattle.prt_command.specs.Storable.{IsStorableRequest};
     ghost use Rattle.prt_command.specs.declared.request.Request.{Request};
     ghost use Rattle.prt_session.specs.Session.{Turn};
     ghost use Rattle.prt_session.specs.Stands.{Explained, Stands};
@@ -30,9 +31,10 @@ pub trait Executor<C> {
     /// Whether it belongs to the context.
     ghost fits: { Self → Type 0 };
 
-    /// Executes a request.
+    /// Executes a request, whose routes and rules may be stored.
     fn execute(&mut self, context: &C, request: &Request) -> Reply
-        requires { fits self.old }
+        requires fits { fits self.old }
+        requires storable { IsStorableRequest request.now }
         ensures fits { fits self.new }
         ensures turn { Explained stands self.old self.new (λ before after. Gives turn may before request.now result after) }
         ensures left { Stands stands self.old → Stands stands self.new };
