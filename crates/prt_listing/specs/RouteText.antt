@@ -2,7 +2,7 @@
 use Rattle.std.specs.Prelude.{ℕ, List, [], ◌∷◌, Option, Some, None, option_map, codes, decimal}
 use Rattle.prt_addr.specs.Addr.{addr_text}
 use Rattle.prt_route.specs.Kind.{kind_name}
-use Rattle.prt_route.specs.Names.{protocols, scopes}
+use Rattle.prt_route.specs.Names.{boot_protocol, global_scope, main_table, protocols, scopes}
 use Rattle.prt_route.specs.declared.kind.Kind.{Kind}
 use Rattle.prt_route.specs.declared.kind.Kind.TheVariants.{Unicast}
 use Rattle.prt_route.specs.declared.route.Route.{Route}
@@ -17,16 +17,16 @@ kind_part kind = Some (kind_name kind)
 
 -- the table, where it is shown, but for main
 abbrev pub table_part : TablePart → ℕ → Option (List ℕ)
-table_part Shown table = part (codes "table") (unless 254 table (table_text table))
+table_part Shown table = part (codes "table") (unless main_table table (table_text table))
 table_part LeftOut table = None
 
 -- the protocol, but for boot
 abbrev pub protocol_part : ℕ → Option (List ℕ)
-protocol_part proto = part (codes "proto") (unless 3 proto (name_or_number protocols proto))
+protocol_part proto = part (codes "proto") (unless boot_protocol proto (name_or_number protocols proto))
 
 -- the scope, but for global
 abbrev pub scope_part : ℕ → Option (List ℕ)
-scope_part scope = part (codes "scope") (unless 0 scope (name_or_number scopes scope))
+scope_part scope = part (codes "scope") (unless global_scope scope (name_or_number scopes scope))
 
 -- the metric, but for 0
 abbrev pub metric_part : ℕ → Option (List ℕ)

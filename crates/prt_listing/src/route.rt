@@ -7,17 +7,8 @@ ghost use Rattle.prt_listing.specs.Steps.{part_of};
 use crate::part::{Part, Value, addr_part, dev_part, name_or_number, prefix_or, table_value};
 use crate::push::{push_parts, whole_or_nothing};
 use prt_addr::Refusal;
-use prt_route::{Kind, Route, protocol_name, scope_name};
+use prt_route::{BOOT_PROTOCOL, GLOBAL_SCOPE, Kind, MAIN_TABLE, Route, protocol_name, scope_name};
 use std::alloc::AllocError;
-
-/// The table that goes without saying: main.
-const UNSAID_TABLE: u32 = 254;
-
-/// The protocol that goes without saying: boot.
-const UNSAID_PROTOCOL: u8 = 3;
-
-/// The scope that goes without saying: global.
-const UNSAID_SCOPE: u8 = 0;
 
 /// The metric that goes without saying.
 const UNSAID_METRIC: u32 = 0;
@@ -46,7 +37,7 @@ fn table_part(shown: TablePart, table: u32) -> Option<Part>
     ensures { part_of result ≡ table_part shown table }
 {
     match shown {
-        TablePart::Shown if table != UNSAID_TABLE => {
+        TablePart::Shown if table != MAIN_TABLE => {
             Some(Part::Named("table", table_value(table)))
         }
         _ => None,
@@ -57,7 +48,7 @@ fn table_part(shown: TablePart, table: u32) -> Option<Part>
 fn protocol_part(proto: u8) -> Option<Part>
     ensures { part_of result ≡ protocol_part proto }
 {
-    if proto == UNSAID_PROTOCOL {
+    if proto == BOOT_PROTOCOL {
         return None;
     }
     let value = name_or_number(protocol_name(proto), u32::from(proto));
@@ -68,7 +59,7 @@ fn protocol_part(proto: u8) -> Option<Part>
 fn scope_part(scope: u8) -> Option<Part>
     ensures { part_of result ≡ scope_part scope }
 {
-    if scope == UNSAID_SCOPE {
+    if scope == GLOBAL_SCOPE {
         return None;
     }
     let value = name_or_number(scope_name(scope), u32::from(scope));

@@ -1,7 +1,7 @@
 -- The routes of one table, in the order of listings.
-use Rattle.std.specs.Prelude.{◌≡◌, ℕ, ◌^◌, ◌<◌, Bool, true, List, [], ◌∷◌, All}
-use Rattle.std.specs.List.{AllByRecursion as Each}
+use Rattle.std.specs.Prelude.{◌≡◌, ℕ, ◌^◌, ◌<◌, Bool, List, [], ◌∷◌, All}
 use Rattle.prt_addr.specs.Block.{IsPrefix}
+use Rattle.prt_addr.specs.Order as order
 use Rattle.prt_route.specs.Route.{is_listed_before, is_same_key, key_of}
 use Rattle.prt_route.specs.declared.route.Route.{Route}
 
@@ -21,8 +21,7 @@ IsOfOneTable routes = IsOfTable (table_of routes) routes
 
 -- each is listed before all those after it, so no two have the same key
 abbrev pub IsRising : List Route → Type 0
-IsRising [] = Unit {0}
-IsRising (route ∷ routes) = Each (λ other. is_listed_before route other ≡ true) routes × IsRising routes
+IsRising routes = order.IsRising is_listed_before routes
 
 pub record IsTable (routes : List Route) : Type 0 where
   pub one_table : IsOfOneTable routes

@@ -2,6 +2,7 @@
 use Rattle.std.specs.Prelude.{ℕ, false, List, [], ◌∷◌, None}
 use Rattle.prt_addr.specs.Prefix.{everything}
 use Rattle.prt_route.specs.declared.route.Route.{Route}
+use Rattle.prt_route.specs.Names.{default_table, local_table, main_table}
 use Rattle.prt_rule.specs.declared.rule.Action.TheVariants.{Lookup}
 use Rattle.prt_rule.specs.declared.rule.Rule.{Rule}
 
@@ -17,7 +18,7 @@ table_rule id priority table = record { id = id; priority = priority; inverted =
 
 -- local, main and default
 abbrev pub opening_rules : List Rule
-opening_rules = table_rule 1 0 255 ∷ table_rule 2 32766 254 ∷ table_rule 3 32767 253 ∷ []
+opening_rules = table_rule 1 0 local_table ∷ table_rule 2 32766 main_table ∷ table_rule 3 32767 default_table ∷ []
 
 abbrev pub opening_state : State
 opening_state = record { count = 0; rules = opening_rules; routes = [] }

@@ -15,7 +15,7 @@ use crate::tables::Tables;
 use crate::{
     Action, Answer, Change, Command, MOST_COMMANDS, NewRule, Packet, Refusal, Route, Rule,
 };
-use prt_route::{Prefix, Selector};
+use prt_route::{DEFAULT_TABLE, LOCAL_TABLE, MAIN_TABLE, Prefix, Selector};
 use prt_rule::auto_priority;
 use std::alloc::{AllocError, Global};
 use std::marker::Model;
@@ -82,9 +82,9 @@ impl Version {
         ensures reason { IfErr result (λ reason. reason ≡ NoMemory) }
     {
         let rules = [
-            table_rule(1, 0, 255),
-            table_rule(2, 32766, 254),
-            table_rule(3, 32767, 253),
+            table_rule(1, 0, LOCAL_TABLE),
+            table_rule(2, 32766, MAIN_TABLE),
+            table_rule(3, 32767, DEFAULT_TABLE),
         ];
         let Ok(rules) = Vec::from_slice(alloc, &rules) else {
             return Err(Refusal::NoMemory);
