@@ -1,7 +1,7 @@
 ghost use Rattle.std.specs.Prelude.{◌≡◌, ◌≤◌, option_map, IfSome, Some};
 ghost use Rattle.std.specs.Option.{SomeIff, ok_or};
 ghost use Rattle.prt_addr.specs.Word.{is_one_of};
-ghost use Rattle.prt_addr.specs.Block.{Block, host_bits, IsPrefix};
+ghost use Rattle.prt_addr.specs.Block.{Block, IsPrefix};
 ghost use Rattle.prt_addr.specs.Prefix.{contains, masked, net, prefix, prefix_text, block, block_from, everything_words, within};
 ghost use Rattle.prt_addr.specs.declared.refusal.Refusal.TheVariants.{BadPrefix};
 
@@ -17,29 +17,39 @@ use std::marker::Model;
 /// An IPv4 prefix: the addresses that begin with its first `len` bits.
 ///
 /// The bits after the length, its host bits, are 0.
-#[derive(Clone, Copy, Debug, PartialEq, Eq)]
+#[derive(Clone, Copy, Debug, Eq)]
 pub struct Prefix {
     bits: u32,
+    /// The bits after the length, all set: how far the last address is from the first.
+    host_mask: u32,
     len: u8,
 }
 
 impl Model for Prefix {
+    ghost use Rattle.std.specs.Prelude.{◌≡◌, ◌+◌, ◌-◌, ◌^◌};
+    ghost use Rattle.prt_addr.specs.Block.{Block, IsPrefix};
+
     ghost Value = { Block };
 
     ghost view = { λ p. record { bits = p.bits; len = p.len } };
 
-    ghost invariant = { λ p. IsPrefix (record { bits = p.bits; len = p.len }) };
+    ghost invariant = { λ p. IsPrefix (record { bits = p.bits; len = p.len }) × (p.host_mask + 1 ≡ 2 ^ (32 - p.len)) };
 
-    ghost inverse = { λ block. record { bits = block.bits; len = block.len } };
+    ghost inverse = { λ block. record { bits = block.bits; host_mask = 2 ^ (32 - block.len) - 1; len = block.len } };
 }
 
-/// The bits after a length of at most 32.
-fn host_bits(bits: u32, len: u8) -> u32
-    requires { len ≤ 32 }
-    ensures { result ≡ host_bits (record { bits = bits; len = len }) }
-{
-    let block_size = 1u64 << (32 - len);
-    (u64::from(bits) % block_size) as u32
+// Not derived: a derived `eq` also says how the host masks compare.
+impl PartialEq for Prefix {
+    ghost use Rattle.std.proofs.Common.{rules};
+    ghost use Rattle.prt_addr.specs.Prefix.{is_same_prefix};
+
+    ghost eq = { is_same_prefix };
+
+    ghost laws = { Prim.search rules };
+
+    fn eq(&self, other: &Prefix) -> bool {
+        self.bits == other.bits && self.len == other.len
+    }
 }
 
 impl Prefix {
@@ -47,10 +57,11 @@ impl Prefix {
     pub fn new(bits: u32, len: u8) -> Option<Prefix>
         ensures { SomeIff result (IsPrefix (record { bits = bits; len = len })) (record { bits = bits; len = len }) }
     {
-        if len > 32 || host_bits(bits, len) != 0 {
+        if len > 32 {
             return None;
         }
-        Some(Prefix { bits, len })
+        let prefix = Prefix::masked(bits, len);
+        if prefix.bits == bits { Some(prefix) } else { None }
     }
 
     /// The prefix of this length, at most 32, with the host bits of `bits` cleared.
@@ -58,8 +69,10 @@ impl Prefix {
         requires { len ≤ 32 }
         ensures { result ≡ masked (record { bits = bits; len = len }) }
     {
+        let block_size = 1u64 << (32 - len);
         Prefix {
-            bits: bits - host_bits(bits, len),
+            bits: bits - (u64::from(bits) % block_size) as u32,
+            host_mask: (block_size - 1) as u32,
             len,
         }
     }
@@ -81,11 +94,11 @@ impl Prefix {
     }
 
     /// Whether the address begins with the prefix's bits (Basic Match of RFC 1812, section 5.2.4.3).
+    #[tactic(auto, using(crate::proofs::Ranges::is_in_reach))]
     pub fn contains(&self, addr: Addr) -> bool
         ensures { result ≡ contains self.now addr }
     {
-        let host = 32 - u32::from(self.len);
-        u64::from(addr.0) >> host == u64::from(self.bits) >> host
+        addr.0.wrapping_sub(self.bits) <= self.host_mask
     }
 
     /// Whether every address of this prefix is one of the other's.

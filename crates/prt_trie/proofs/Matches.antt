@@ -22,7 +22,7 @@ use Rattle.prt_route.specs.declared.route.RouteKey.{RouteKey}
 use Rattle.prt_trie.specs.Pieces.{piece_of, rows_of_piece}
 use Rattle.prt_trie.specs.Block.{size}
 use Rattle.prt_trie.specs.Table.{IsTable}
-use Rattle.prt_trie.proofs.Blocks.{apart, contains_tells, sizes_divide}
+use Rattle.prt_addr.proofs.Ranges.{apart, contains_tells, sizes_divide}
 use Rattle.prt_trie.proofs.Choices.{chosen_prefix}
 use Rattle.prt_trie.proofs.Filters.{any_filter, any_implies, any_same_tests, each_fails, none_kept, filter_absorbed, filter_both, filter_none, filter_same_tests, filter_swap, find_same_tests}
 use Rattle.prt_trie.proofs.Finds.{find-filter}

@@ -13,7 +13,8 @@ use Rattle.prt_trie.specs.Place.{is_before}
 use Rattle.prt_trie.specs.Table.{IsTable}
 use Rattle.prt_trie.proofs.Order.{in_order, order_of}
 use Rattle.prt_trie.proofs.Bests.{best_of_none, best_of_part}
-use Rattle.prt_trie.proofs.Blocks.{own_bits, in_low as low_in_low, in_high as high_in_high, contains_tells, contains_from}
+use Rattle.prt_addr.proofs.Ranges.{contains_tells, contains_from}
+use Rattle.prt_trie.proofs.Blocks.{own_bits, in_low as low_in_low, in_high as high_in_high}
 
 pub own_from_order : (first len : ℕ) (block : Block) → IsIn first len block → is_before block (record { bits = first; len = len + 1 }) ≡ true → block.len ≡ len
 own_from_order first len block i h = let from : first ≤ block.bits = i.from in let longer : len ≤ block.len = i.longer in grind (arith, nat_tests)
