@@ -99,6 +99,13 @@ def most_memory(program, lines):
     return int(most.split()[1]) / 1024
 
 
+def flush_lines(prefixes):
+    """Adds a static route to each octet, and then takes these away by one command: it makes each piece again."""
+    octets = sorted({bits >> 24 for bits, _ in prefixes})
+    yield from (f"route add {octet}.0.0.1 dev eth0 proto static metric 7\n" for octet in octets)
+    yield "route flush table main proto static\n"
+
+
 def show_commands(program, numbers):
     prefixes = random_prefixes(numbers, ROUTES, range(1, 223))
     adds = [route_line("add", prefix, 1) for prefix in prefixes]
@@ -112,7 +119,11 @@ def show_commands(program, numbers):
     for verb, hop in (("replace", 2), ("del", 1)):
         spent = seconds(program, adds + [route_line(verb, prefix, hop) for prefix in prefixes]) - added
         print(f"{ROUTES} route {verb} after them: {spent:.2f} s, {spent / inserts:.1f} times the inserts")
+    # As many routes less as the flush takes away: there is a limit.
+    most = prefixes[:-256]
+    flushed = adds[:-256] + list(flush_lines(most))
     print(f"most memory with {ROUTES} routes: {most_memory(program, adds):.1f} MB, "
+          f"with a command that makes each piece again: {most_memory(program, flushed):.1f} MB, "
           f"with none: {most_memory(program, []):.1f} MB")
 
 
