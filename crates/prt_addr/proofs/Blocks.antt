@@ -4,10 +4,12 @@ use Rattle.std.specs.List.{onto_first, join_with_byte}
 use Rattle.std.proofs.lemmas.Option.{none-some, cond_some}
 use Rattle.std.proofs.lemmas.Bool.{cases_eq}
 use Rattle.std.proofs.lemmas.List.Splits.{length-slice_split, join_with_byte-slice_split, slice_split-cons_no}
-use Rattle.prt_addr.specs.Word.{Word, parts_at, parts_of_rest, is_one_of}
+use Rattle.prt_addr.specs.Word.{Word, parts_at, is_one_of}
+use Rattle.prt_addr.specs.Steps.{parts_of_rest}
 use Rattle.prt_addr.specs.Decimal.{decimal_within, has_leading_zero, followed_by, digit_of, at_most}
 use Rattle.prt_addr.specs.Addr.{address}
-use Rattle.prt_addr.specs.Prefix.{block, block_of, block_from, everything_words}
+use Rattle.prt_addr.specs.Prefix.{block, block_of, everything_words}
+use Rattle.prt_addr.specs.Steps.{block_from}
 use Rattle.prt_addr.specs.declared.addr.Addr.{Addr}
 
 -- a word that names no block spells its parts

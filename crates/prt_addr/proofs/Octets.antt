@@ -2,7 +2,8 @@
 use Rattle.std.proofs.Common.{◌≡◌, ℕ, ◌<◌, ◌≤◌, true, false, List, [], ◌∷◌, ◌++◌, Option, Some, None, refl, ap, ◌∙◌, arith, length, take, get_or, option_map, map, nat_le, is_some, ◌==◌}
 use Rattle.std.proofs.lemmas.List.{length-append, take_all}
 use Rattle.std.proofs.lemmas.List.Splits.{length-slice_split}
-use Rattle.prt_addr.specs.Word.{Word, keep, before, all_of, parts_at, parts_of_rest}
+use Rattle.prt_addr.specs.Word.{Word, keep, before, all_of, parts_at}
+use Rattle.prt_addr.specs.Steps.{parts_of_rest}
 use Rattle.prt_addr.specs.Addr.{octet, octets_of, address, address_of}
 
 -- the octets, if they are four at most

@@ -1,14 +1,15 @@
 -- Lists in an order, one more put at its place, and the first by an order.
-use Rattle.std.proofs.Common.{◌≡◌, ◌⊎◌, inl, inr, ℕ, ◌+◌, ◌<◌, ◌≤◌, suc, Bool, true, false, not, ◌||◌, List, [], ◌∷◌, ◌++◌, Option, Some, None, refl, sym, ap, ◌∙◌, subst, arith, length, take, get_or, append_assoc, find, fold, cond}
+use Rattle.std.proofs.Common.{◌≡◌, ◌⊎◌, inl, inr, ℕ, ◌+◌, ◌≤◌, suc, Bool, true, false, not, ◌||◌, List, [], ◌∷◌, ◌++◌, Option, Some, None, refl, sym, ap, ◌∙◌, subst, arith, length, get_or, append_assoc, find, fold, cond}
 use Rattle.std.specs.Cmp.{IsStrictWeakOrder}
-use Rattle.std.specs.Prelude.{filter, nat_lt, unwrap_or}
+use Rattle.std.specs.Prelude.{filter, if◌then◌else◌, nat_lt, unwrap_or}
 use Rattle.std.specs.List.{Contains, insert, list_any, position, position_or_len, AllByRecursion as Each, IsDistinct}
 use Rattle.std.proofs.lemmas.Bool.Decides.{nat_tests}
-use Rattle.std.proofs.lemmas.List.{take_more, append-nil}
-use Rattle.std.proofs.lemmas.List.Elements.{All-contains, All-from_recursion, Contains-get_or, filter-append, recursion_from_All}
+use Rattle.std.proofs.lemmas.List.{append-nil}
+use Rattle.std.proofs.lemmas.List.Elements.{All-contains, All-from_recursion, Contains-get_or, recursion_from_All}
 use Rattle.std.proofs.lemmas.List.Folds.{list_any-append}
 use Rattle.std.proofs.lemmas.List.Sums.{prefix_len-le-length}
-use Rattle.prt_addr.specs.Order.{first_by, insert_by, leader, IsRising}
+use Rattle.prt_addr.specs.Order.{first_by, insert_by}
+use Rattle.prt_addr.specs.Rising.{IsRising}
 use Rattle.prt_addr.proofs.Each.{any_none, each_append, each_filtered, each_implies}
 
 -- ---- orders
@@ -123,10 +124,19 @@ finds : {X : Type 0} (p : X → Bool) (front back : List X) (k : X) → Each (λ
 finds p [] back k h good = simp good refl
 finds p (x ∷ front) back k h good = simp h.0 (finds p front back k h.1 good)
 
+-- the first of those so far, or the next one where that comes before it
+abbrev leader : {X : Type 0} → (X → X → Bool) → Option X → X → X
+leader before None next = next
+leader before (Some first) next = if before next first then next else first
+
+-- none of these comes before it
+abbrev pub is_first : {X : Type 0} → (X → X → Bool) → List X → X → Bool
+is_first before xs x = not (list_any (λ other. before other x) xs)
+
 -- the head, where nothing comes before it
 pub first_is_head : {X : Type 0} (before : X → X → Bool) (x : X) (xs : List X) → before x x ≡ false → Each (λ other. before other x ≡ false) xs → first_by before (x ∷ xs) ≡ Some x
 first_is_head before x xs itself others =
-    finds (λ y. not (list_any (λ other. before other y) (x ∷ xs))) [] xs x tt
+    finds (is_first before (x ∷ xs)) [] xs x tt
     (ap not (ap (λ b. b || list_any (λ other. before other x) xs) itself ∙ any_none (λ other. before other x) xs others))
 
 module _ {X : Type 0} (before : X → X → Bool) (order : IsStrictWeakOrder before) where
@@ -190,17 +200,14 @@ module _ {X : Type 0} (before : X → X → Bool) (order : IsStrictWeakOrder bef
       subst (λ ys. LeaderOf ys (fold next_leader (Some (leader before first x)) xs)) (append_assoc done (x ∷ []) xs)
       (leader_all (done ++ x ∷ []) xs (Some (leader before first x)) (leader_more done first x h))
 
-  abbrev is_first : List X → X → Bool
-  is_first xs x = not (list_any (λ other. before other x) xs)
-
   -- none comes before k, and k comes before each ahead of it
-  leader_is_first : (front back : List X) (k : X) → Leads k front → Withstands k back → is_first (front ++ k ∷ back) k ≡ true
+  leader_is_first : (front back : List X) (k : X) → Leads k front → Withstands k back → is_first before (front ++ k ∷ back) k ≡ true
   leader_is_first front back k leads withstands =
       let ahead : list_any (λ x. before x k) front ≡ false = any_none (λ x. before x k) front (each_implies (λ x. before k x ≡ true) (λ x. before x k ≡ false) (λ x h. order.one_way k x h) front leads) in
       let after : list_any (λ x. before x k) back ≡ false = any_none (λ x. before x k) back withstands in
       simp (list_any-append, ahead, after, not_itself before order k) refl
 
-  other_is_not : (front back : List X) (k x : X) → before k x ≡ true → is_first (front ++ k ∷ back) x ≡ false
+  other_is_not : (front back : List X) (k x : X) → before k x ≡ true → is_first before (front ++ k ∷ back) x ≡ false
   other_is_not front back k x over =
       ap not (list_any-append (λ y. before y x) front (k ∷ back) ∙ ap (λ b. list_any (λ y. before y x) front || (b || list_any (λ y. before y x) back)) over ∙ or_true (list_any (λ y. before y x) front) (list_any (λ y. before y x) back))
 
@@ -210,33 +217,18 @@ module _ {X : Type 0} (before : X → X → Bool) (order : IsStrictWeakOrder bef
   first_is_leader xs (Some k) found =
       let whole = found.front ++ k ∷ found.back in
       ap (λ ys. first_by before ys) found.parts
-      ∙ finds (is_first whole) found.front found.back k
-      (each_implies (λ x. before k x ≡ true) (λ x. is_first whole x ≡ false) (λ x h. other_is_not found.front found.back k x h) found.front found.leads)
+      ∙ finds (is_first before whole) found.front found.back k
+      (each_implies (λ x. before k x ≡ true) (λ x. is_first before whole x ≡ false) (λ x h. other_is_not found.front found.back k x h) found.front found.leads)
       (leader_is_first found.front found.back k found.leads found.withstands)
 
-  -- of one more at the end
-  pub first_of_more : (xs : List X) (x : X) → first_by before (xs ++ x ∷ []) ≡ Some (leader before (first_by before xs) x)
-  first_of_more xs x =
-      let old : LeaderOf xs (fold next_leader None xs) = leader_all [] xs None refl in
-      first_is_leader (xs ++ x ∷ []) (next_leader (fold next_leader None xs) x) (leader_more xs (fold next_leader None xs) x old)
-      ∙ ap (λ o. Some (leader before o x)) (sym (first_is_leader xs (fold next_leader None xs) old))
+  first_of_all : (xs : List X) → LeaderOf xs (first_by before xs)
+  first_of_all xs =
+      let all : LeaderOf xs (fold next_leader None xs) = leader_all [] xs None refl in
+      subst (LeaderOf xs) (sym (first_is_leader xs (fold next_leader None xs) all)) all
 
-  passes_more : (passes : X → Bool) (xs : List X) (i : ℕ) (x : X) → i < length xs → x ≡ get_or xs i x → filter passes (take (i + 1) xs) ≡ filter passes (take i xs) ++ cond (passes x) (x ∷ []) []
-  passes_more passes xs i x inside is =
-      ap (filter passes) (take_more xs i x inside)
-      ∙ ap (λ y. filter passes (take i xs ++ y ∷ [])) (sym is)
-      ∙ filter-append passes (take i xs) (x ∷ [])
-
-  -- the one at i passes: the leader of the two is the first
-  pub first_more : (passes : X → Bool) (xs : List X) (i : ℕ) (x : X) → i < length xs → x ≡ get_or xs i x → passes x ≡ true → first_by before (filter passes (take (i + 1) xs)) ≡ Some (leader before (first_by before (filter passes (take i xs))) x)
-  first_more passes xs i x inside is good =
-      ap (λ ys. first_by before ys) (passes_more passes xs i x inside is ∙ ap (λ b. filter passes (take i xs) ++ cond b (x ∷ []) []) good)
-      ∙ first_of_more (filter passes (take i xs)) x
-
-  -- the one at i does not pass
-  pub first_same : (passes : X → Bool) (xs : List X) (i : ℕ) (x : X) → i < length xs → x ≡ get_or xs i x → passes x ≡ false → first_by before (filter passes (take (i + 1) xs)) ≡ first_by before (filter passes (take i xs))
-  first_same passes xs i x inside is bad =
-      ap (λ ys. first_by before ys) (passes_more passes xs i x inside is ∙ ap (λ b. filter passes (take i xs) ++ cond b (x ∷ []) []) bad ∙ append-nil (filter passes (take i xs)))
+  -- there is a first, where there is any
+  pub none_first : (xs : List X) → first_by before xs ≡ None → xs ≡ []
+  none_first xs none = subst (LeaderOf xs) none (first_of_all xs)
 
 -- ---- lists that rise and have the same members
 

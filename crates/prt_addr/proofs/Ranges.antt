@@ -6,7 +6,8 @@ use Rattle.std.specs.Cmp.{both_ways}
 use Rattle.std.proofs.lemmas.Bool.{eqb-true, leb-true, le-leb}
 use Rattle.std.proofs.lemmas.Nat.{pow_pos, pow-add, div-add-mod', mod_below}
 use Rattle.std.proofs.lemmas.Nat.Gcd.{le_of_dvd, dvd_of_mod-eq-zero}
-use Rattle.prt_addr.specs.Block.{Block, IsPrefix}
+use Rattle.prt_addr.specs.Block.{Block}
+use Rattle.prt_addr.specs.Sound.{IsPrefix}
 use Rattle.prt_addr.specs.Prefix.{contains}
 use Rattle.prt_addr.specs.declared.addr.Addr.{Addr}
 

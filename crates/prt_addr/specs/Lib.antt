@@ -7,3 +7,6 @@ pub mod Block
 pub mod Prefix
 pub mod Number
 pub mod Order
+pub mod Rising
+pub mod Sound
+pub mod Steps

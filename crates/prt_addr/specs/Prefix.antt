@@ -41,10 +41,6 @@ block_of (bits ∷ len ∷ more ∷ others) = None
 abbrev pub block : Word → Option Block
 block w = if is_one_of w everything_words then Some everything else block_of (parts_at 47 w)
 
--- an address and a length as a block
-abbrev pub block_from : Addr × ℕ → Block
-block_from x = record { bits = x.0.0; len = x.1 }
-
 -- a block without host bits, or the refusal
 abbrev pub without_host_bits : Option Block → Result Block Refusal
 without_host_bits None = Err BadPrefix

@@ -14,11 +14,6 @@ is_white b = b == 32 || b == 9 || b == 13
 abbrev pub parts_at : ℕ → Word → List Word
 parts_at separator w = slice_split (λ b. b == separator) w
 
--- the parts of what stands after a separator; none if there is no separator
-abbrev pub parts_of_rest : ℕ → Option Word → List Word
-parts_of_rest separator None = []
-parts_of_rest separator (Some w) = parts_at separator w
-
 -- the word is one of these
 abbrev pub is_one_of : Word → List Word → Bool
 is_one_of w words = list_any (λ x. bytes_eq x w) words

@@ -1,8 +1,10 @@
 ghost use Rattle.std.specs.Prelude.{◌≡◌, ◌≤◌, option_map, IfSome, Some};
 ghost use Rattle.std.specs.Option.{SomeIff, ok_or};
 ghost use Rattle.prt_addr.specs.Word.{is_one_of};
-ghost use Rattle.prt_addr.specs.Block.{Block, IsPrefix};
-ghost use Rattle.prt_addr.specs.Prefix.{contains, masked, net, prefix, prefix_text, block, block_from, everything_words, within};
+ghost use Rattle.prt_addr.specs.Block.{Block};
+ghost use Rattle.prt_addr.specs.Sound.{IsPrefix};
+ghost use Rattle.prt_addr.specs.Prefix.{contains, masked, net, prefix, prefix_text, block, everything_words, within};
+ghost use Rattle.prt_addr.specs.Steps.{block_from};
 ghost use Rattle.prt_addr.specs.declared.refusal.Refusal.TheVariants.{BadPrefix};
 
 use crate::addr::parse_addr;
@@ -27,7 +29,8 @@ pub struct Prefix {
 
 impl Model for Prefix {
     ghost use Rattle.std.specs.Prelude.{◌≡◌, ◌+◌, ◌-◌, ◌^◌};
-    ghost use Rattle.prt_addr.specs.Block.{Block, IsPrefix};
+    ghost use Rattle.prt_addr.specs.Block.{Block};
+    ghost use Rattle.prt_addr.specs.Sound.{IsPrefix};
 
     ghost Value = { Block };
 

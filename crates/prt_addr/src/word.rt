@@ -1,5 +1,6 @@
 ghost use Rattle.std.specs.Prelude.{◌≡◌, ◌∷◌, ◌==◌, bytes_eq, option_map, position};
-ghost use Rattle.prt_addr.specs.Word.{parts_at, parts_of_rest};
+ghost use Rattle.prt_addr.specs.Word.{parts_at};
+ghost use Rattle.prt_addr.specs.Steps.{parts_of_rest};
 
 /// Whether the word is this one.
 pub(crate) fn is(word: &[u8], name: &str) -> bool

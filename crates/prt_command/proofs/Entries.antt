@@ -3,7 +3,8 @@ use Rattle.std.proofs.Common.{◌≡◌, Bool, true, false, List, [], ◌∷◌,
 use Rattle.std.specs.Prelude.{find, if◌then◌else◌}
 use Rattle.prt_addr.specs.Word.{Word, is_one_of}
 use Rattle.prt_command.specs.LineKinds.{Entry, LineKind, is_to, word_in}
-use Rattle.prt_command.specs.Scan.{Scanned, one_more, what_follows, item_by, items_of, plain_from, plain_item, and_items, word_item}
+use Rattle.prt_command.specs.Scan.{Scanned, one_more, what_follows, item_by, items_of, plain_from, plain_item, word_item}
+use Rattle.prt_command.specs.Steps.{and_items}
 use Rattle.prt_command.specs.Items.{has}
 use Rattle.prt_command.specs.Values.{every_kind, kind_of, prefix_word, spelling}
 use Rattle.prt_command.specs.declared.item.Items.{Items}

@@ -7,7 +7,8 @@ use Rattle.prt_addr.specs.declared.refusal.Refusal.{Refusal}
 use Rattle.prt_command.specs.Grammar.{start, IsItem, AreItems, none, more, EachOnce, IsFault, Good, FirstFault, put_all}
 use Rattle.prt_command.specs.LineKinds.{LineKind}
 use Rattle.prt_command.specs.Items.{slot_of, has, no_items, put}
-use Rattle.prt_command.specs.Scan.{Scanned, item_or_fault, and_items, items_after, items_of}
+use Rattle.prt_command.specs.Scan.{Scanned, item_or_fault, items_after, items_of}
+use Rattle.prt_command.specs.Steps.{and_items}
 use Rattle.prt_command.specs.declared.item.Item.{Item}
 use Rattle.prt_command.specs.declared.item.Items.{Items}
 use Rattle.prt_command.specs.declared.item.Slot.{Slot}

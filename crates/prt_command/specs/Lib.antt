@@ -5,6 +5,7 @@ pub mod Mark
 pub mod Values
 pub mod LineKinds
 pub mod Scan
+pub mod Steps
 pub mod Requests
 pub mod Storable
 pub mod Reading

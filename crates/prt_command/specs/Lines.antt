@@ -1,5 +1,5 @@
 -- The lines of an input, and how long and how many they may be.
-use Rattle.std.specs.Prelude.{ℕ, ◌==◌, Bool, true, false, if◌then◌else◌, List, [], ◌∷◌, ◌++◌}
+use Rattle.std.specs.Prelude.{ℕ, ◌==◌, Bool, true, false, if◌then◌else◌, List, [], ◌∷◌, ◌++◌, flat_map}
 
 -- A line of the input, and whether a newline ends it.
 pub record Line : Type 0 where
@@ -19,8 +19,7 @@ abbrev pub line_bytes : Line → List ℕ
 line_bytes line = line.content ++ (if line.ended then 10 ∷ [] else [])
 
 abbrev pub bytes_of : List Line → List ℕ
-bytes_of [] = []
-bytes_of (line ∷ lines) = line_bytes line ++ bytes_of lines
+bytes_of lines = flat_map line_bytes lines
 
 -- the most bytes of a line, without its newline
 abbrev pub longest_line : ℕ

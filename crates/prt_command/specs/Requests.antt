@@ -1,5 +1,5 @@
 -- What the items of a line ask for.
-use Rattle.std.specs.Prelude.{ℕ, Bool, true, false, not, ◌&&◌, ◌||◌, nat_lt, if◌then◌else◌, Option, Some, None, is_some, unwrap_or, Result, Ok, Err, codes}
+use Rattle.std.specs.Prelude.{ℕ, Bool, not, ◌&&◌, ◌||◌, nat_lt, if◌then◌else◌, Option, Some, None, is_some, unwrap_or, Result, Ok, Err, codes}
 use Rattle.std.specs.Option.{ok_or}
 use Rattle.prt_addr.specs.Block.{Block}
 use Rattle.prt_addr.specs.Prefix.{everything}
@@ -8,6 +8,7 @@ use Rattle.prt_addr.specs.declared.addr.Addr.{Addr}
 use Rattle.prt_addr.specs.declared.refusal.Refusal.{Refusal}
 use Rattle.prt_addr.specs.declared.refusal.Refusal.TheVariants.{MissingDestination, NoNextHop, NextHopNotAllowed, TooBroad}
 use Rattle.prt_route.specs.Names.{boot_protocol, global_scope, link_scope, main_table}
+use Rattle.prt_route.specs.RouteChoice.{is_same_kind}
 use Rattle.prt_route.specs.declared.choice.Range.TheVariants as ranges
 use Rattle.prt_route.specs.declared.choice.RouteChoice.{RouteChoice}
 use Rattle.prt_route.specs.declared.choice.Selector.{Selector}
@@ -31,8 +32,7 @@ use Rattle.prt_command.specs.declared.request.Request.{Request}
 use Rattle.prt_command.specs.declared.request.Request.TheVariants as requests
 
 abbrev pub refuse_if : Bool → Refusal → Result (Unit {0}) Refusal
-refuse_if true refusal = Err refusal
-refuse_if false refusal = Ok tt
+refuse_if test refusal = if test then Err refusal else Ok tt
 
 -- what good items ask for together, or their fault
 abbrev pub Asks : Type 0
@@ -45,8 +45,7 @@ unless_empty items command = refuse_if (is_empty items) TooBroad >>= λ _. Ok (r
 -- ---- a route to be put
 
 abbrev pub is_unicast : Kind → Bool
-is_unicast Unicast = true
-is_unicast kind = false
+is_unicast kind = is_same_kind Unicast kind
 
 -- a gateway or an interface
 abbrev pub has_next_hop : Items → Bool

@@ -72,9 +72,5 @@ items_after line n given [] = Ok given
 items_after line (suc n) given (w ∷ ws) = items_after line n given ws
 items_after line zero given (w ∷ ws) = item_or_fault line given w ws >>= λ t. items_after line t.1 (put t.0 given) ws
 
--- an item that was read and the items after it, or its fault
-abbrev pub and_items : LineKind → Items → Scanned → List Word → Result Items Refusal
-and_items line given taken ws = taken >>= λ t. items_after line t.1 (put t.0 given) ws
-
 abbrev pub items_of : LineKind → Items → List Word → Result Items Refusal
 items_of line given ws = items_after line zero given ws

@@ -13,7 +13,7 @@ mod value;
 mod verb;
 mod words;
 
-pub use examples::{accepted_lines, refused_lines};
+pub use examples::{accepted_lines, accepted_routes, accepted_rules, refused_lines};
 pub use item::{Item, ItemWord, Items, PrefixWord, Slot, Target, WhichTables};
 pub use laws::{any_order, first_faults, readings};
 pub use line::{LONGEST_LINE, LONGEST_UNENDED, MOST_LINES, read_line};

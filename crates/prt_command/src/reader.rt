@@ -3,7 +3,8 @@ ghost use Rattle.std.specs.Prelude.{◌≡◌, ◌<◌, ◌≤◌, List, ◌∷�
 ghost use Rattle.prt_addr.specs.Word.{Word};
 ghost use Rattle.prt_command.specs.LineKinds.{LineKind};
 ghost use Rattle.prt_command.specs.Reading.{items_request, meaning_of, words};
-ghost use Rattle.prt_command.specs.Scan.{Scanned, and_items, items_of, one_more, plain_from, plain_item, value_item, what_follows, word_item};
+ghost use Rattle.prt_command.specs.Scan.{Scanned, items_of, one_more, plain_from, plain_item, value_item, what_follows, word_item};
+ghost use Rattle.prt_command.specs.Steps.{and_items};
 
 use crate::value::value;
 use crate::verb::ObjectVerb;

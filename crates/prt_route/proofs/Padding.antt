@@ -4,7 +4,8 @@ use Rattle.std.specs.Prelude.{replicate}
 use Rattle.std.proofs.lemmas.List.{drop-replicate}
 use Rattle.std.proofs.Math.Seq.{take-append_seam}
 use Rattle.prt_addr.specs.Word.{Word}
-use Rattle.prt_route.specs.Name.{is_name, IsPadded}
+use Rattle.prt_route.specs.Name.{is_name}
+use Rattle.prt_route.specs.Sound.{IsPadded}
 
 -- a name before zeros is padded
 pub padded : (w : Word) (bytes : List ℕ) → is_name w ≡ true → bytes ≡ w ++ drop (length w) (replicate 15 0) → IsPadded (length w) bytes

@@ -7,6 +7,7 @@ pub mod Route
 pub mod Best
 pub mod RouteChoice
 pub mod Edit
+pub mod Sound
 pub use Rattle.prt_addr.specs.Addr
 pub use Rattle.prt_addr.specs.Block
 pub use Rattle.prt_addr.specs.Decimal

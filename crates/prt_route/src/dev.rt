@@ -23,7 +23,7 @@ pub struct Dev {
 
 impl Model for Dev {
     ghost use Rattle.std.specs.Prelude.{ℕ, List, ◌-◌, ◌++◌, length, replicate, take};
-    ghost use Rattle.prt_route.specs.Name.{IsPadded};
+    ghost use Rattle.prt_route.specs.Sound.{IsPadded};
 
     ghost Value = { List ℕ };
 

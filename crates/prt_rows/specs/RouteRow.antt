@@ -2,7 +2,7 @@
 use Rattle.std.specs.Prelude.{ℕ, List, [], ◌∷◌, codes}
 use Rattle.sqlite.specs.Kind.TheVariants.{Integer, Text}
 use Rattle.sqlite_value.specs.Order.{Row}
-use Rattle.prt_addr.specs.Block.{IsPrefix}
+use Rattle.prt_addr.specs.Sound.{IsPrefix}
 use Rattle.prt_route.specs.Storable.{IsStorableRoute}
 use Rattle.prt_route.specs.declared.kind.Kind.{Kind}
 use Rattle.prt_route.specs.declared.kind.Kind.TheVariants.{Unicast, Blackhole, Unreachable, Prohibit, Throw}

@@ -3,7 +3,7 @@
 ghost use Rattle.std.specs.Prelude.{[], ◌∷◌, IfSome, ⊤};
 ghost use Rattle.sqlite_value.specs.declared.value.Value.TheVariants.{Int};
 ghost use Rattle.sqlite_value.specs.Order.{column};
-ghost use Rattle.prt_addr.specs.Block.{IsPrefix};
+ghost use Rattle.prt_addr.specs.Sound.{IsPrefix};
 ghost use Rattle.prt_rows.specs.Decodes.{Decodes};
 ghost use Rattle.prt_rows.specs.Cell.{IsByte, IsNumber, IsOptionalAddr, IsOptionalName, IsWithin, flag, number, optional_addr, optional_name, optional_number, prefix_cells};
 

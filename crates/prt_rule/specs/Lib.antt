@@ -2,6 +2,7 @@ pub mod Rule
 pub mod Same
 pub mod RuleChoice
 pub mod Storable
+pub mod Sound
 pub use Rattle.prt_addr.specs.Addr
 pub use Rattle.prt_addr.specs.Block
 pub use Rattle.prt_addr.specs.Decimal

@@ -1,6 +1,5 @@
 -- Which packets a rule matches, which rules are the same, and where a new one goes: ip-rule(8).
 use Rattle.std.specs.Prelude.{ℕ, ◌-◌, Bool, true, not, ◌&&◌, ◌==◌, nat_lt, ◌||◌, if◌then◌else◌, List, [], ◌∷◌, Option, Some, None, bytes_eq, bit_and, bit_xor}
-use Rattle.prt_addr.specs.Order.{IsRising}
 use Rattle.prt_addr.specs.Prefix.{contains}
 use Rattle.prt_addr.specs.Word.{Word}
 use Rattle.prt_rule.specs.declared.packet.Packet.{Packet}
@@ -28,10 +27,6 @@ matches rule packet = if rule.inverted then not (selects rule packet) else selec
 -- the rule is asked before the other: by priority, then by id
 abbrev pub is_before : Rule → Rule → Bool
 is_before rule other = nat_lt rule.priority other.priority || (rule.priority == other.priority && nat_lt rule.id other.id)
-
--- each rule is asked before those after it
-abbrev pub IsInOrder : List Rule → Type 0
-IsInOrder rules = IsRising is_before rules
 
 -- the priority of a rule that is added without one, to rules in order: that of the second rule less one, or 0
 abbrev pub auto_priority : List Rule → ℕ

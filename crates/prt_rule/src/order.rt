@@ -1,5 +1,6 @@
 ghost use Rattle.std.specs.Prelude.{◌≡◌};
-ghost use Rattle.prt_rule.specs.Rule.{IsInOrder, auto_priority, is_before};
+ghost use Rattle.prt_rule.specs.Rule.{auto_priority, is_before};
+ghost use Rattle.prt_rule.specs.Sound.{IsInOrder};
 
 use crate::Rule;
 

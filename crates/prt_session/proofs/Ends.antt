@@ -1,24 +1,27 @@
 -- A line that was read and answered: how the session ends with it, or goes on.
-use Rattle.std.proofs.Common.{◌≡◌, ℕ, ◌-◌, ◌<◌, ◌≤◌, Bool, true, false, List, [], ◌∷◌, ◌++◌, length, Option, None, inl, inr, refl, sym, ◌∙◌, ap, arith, append_assoc}
+use Rattle.std.proofs.Common.{◌≡◌, ◌≢◌, ℕ, ◌-◌, ◌<◌, ◌≤◌, Bool, true, false, List, [], ◌∷◌, ◌++◌, length, Option, None, Some, inl, inr, refl, sym, ◌∙◌, ap, arith, append_assoc}
 use Rattle.std.proofs.lemmas.Bool.Decides.{nat_tests}
 use Rattle.std.proofs.lemmas.List.{map-append}
 use Rattle.std.specs.Io.KnownBytes.{Consumes, Appends, IsAtEnd}
-use Rattle.prt_addr.specs.declared.refusal.Refusal.TheVariants.{LineTooLong, ReadFault, TooManyLines}
+use Rattle.std.specs.Prelude.{if◌then◌else◌}
+use Rattle.prt_addr.specs.declared.refusal.Refusal.TheVariants.{LineTooLong, ReadFault, TooManyLines, WriteFault}
 use Rattle.prt_command.specs.Lines.{limits, lines_of}
 use Rattle.prt_session.proofs.Known.{append_none, left_of, consumes_more, appends_more, gives_rest, gives_behind, gives_all}
 use Rattle.prt_session.proofs.Paths.{mishaps_of, path_append}
 use Rattle.prt_session.proofs.Replies.{after_exchanges, text_append, refused_append, fault_append, one_text, one_refused, one_fault}
-use Rattle.prt_session.proofs.Served.{Moment, GoesOn, Served, Closes, ClosesAlone}
+use Rattle.prt_session.proofs.Served.{Moment, moment, GoesOn, Served, Closes, ClosesAlone, cut_from, ran_from, ran_to_end}
 use Rattle.prt_session.proofs.SessionSteps.{too_many, goes_on_after, stops_there, ends_endless, ends_in_fault, ends_unended}
 use Rattle.prt_session.specs.Reply.{reply_text, replies_text}
-use Rattle.prt_session.specs.Run.{refused_in, fault_in, refused_after, fault_after}
-use Rattle.prt_session.specs.Session.{TurnsOf, Mishaps, LineMay, Exchange, end_of_input, read_fault, Session, exchange_of, session_lines, line_turn, stops_after, replies, replies_of}
-use Rattle.prt_session.specs.Steps.{HasNoNewline, LineIs, AnswerIs, StopIs, newline_read, is_nothing, is_nothing_by, ends_after}
+use Rattle.prt_session.specs.Run.{RunIs, refused_in, fault_in, refused_after, fault_after}
+use Rattle.prt_session.specs.Session.{TurnsOf, Mishaps, LineMay, Exchange, end_of_input, read_fault, Session, ends, after_exchange, exchange_of, session_lines, line_turn, stops_after, replies, replies_of}
+use Rattle.prt_session.specs.Steps.{ByteIs, EndsBy, EndsAfterLast, HasNoNewline, LineIs, AnswerIs, StopIs, Written, newline_read, is_nothing, is_nothing_by, ends_after}
+use Rattle.prt_session.specs.declared.input.ByteRead.{ByteRead}
+use Rattle.prt_session.specs.declared.input.ByteRead.TheVariants as bytes
 use Rattle.prt_session.specs.declared.input.LineRead.{LineRead}
 use Rattle.prt_session.specs.declared.input.Stop.{Stop}
 use Rattle.prt_session.specs.declared.input.Stop.TheVariants as stops
 use Rattle.prt_session.specs.declared.reply.Reply.{Reply}
-use Rattle.prt_session.specs.declared.reply.Reply.TheVariants.{Refused}
+use Rattle.prt_session.specs.declared.reply.Reply.TheVariants.{Refused, Silent}
 use Rattle.prt_session.specs.declared.script.OnRefusal.{OnRefusal}
 use Rattle.prt_session.specs.declared.script.ScriptEnd.{ScriptEnd}
 
@@ -54,30 +57,33 @@ fault_is_no_end : (behind : List ℕ) → read_fault ≡ end_of_input → behind
 fault_is_no_end behind e = absurd (cc)
 
 module _ {D M : Type 0} (turn : TurnsOf D M) (may : Mishaps D M) (mode : OnRefusal) (left : ℕ) (some_left : 0 < left) (now later : Moment D) (reply : Reply) where
+  -- one line, whether the session goes on after it or not
+  one_alone : (content : List ℕ) (mishap : Option M) (rest : List Reply) → LineAnswered turn may now later stops.Newline content reply → LineMay may now.desk content mishap → reply ≡ (line_turn turn now.desk content mishap).reply → later.desk ≡ (line_turn turn now.desk content mishap).desk →
+      session_lines turn limits mode end_of_input left (lines_of (content ++ (10 ∷ []))) (mishap ∷ []) now.desk ≡ after_exchange (exchange_of turn now.desk content mishap) (ends [] (line_turn turn now.desk content mishap).desk []) →
+      replies (session_lines turn limits mode read_fault left (lines_of (content ++ (10 ∷ []))) (mishap ∷ []) now.desk) ≡ (line_turn turn now.desk content mishap).reply ∷ rest →
+      ClosesAlone turn may mode left now later reply
+  one_alone content mishap rest line befell e k law faulty = record {
+    more = content ++ (10 ∷ []);
+    ending = end_of_input;
+    exchanges = exchange_of turn now.desk content mishap ∷ [];
+    last = [];
+    law = rw k law;
+    are = ap (λ r. r ∷ []) (sym e);
+    path = (befell, refl, k);
+    is_due = inr (rest, rw e faulty);
+    read = line.read;
+  }
+
   whole_alone : (content : List ℕ) (mishap : Option M) (stops_it : Bool) → LineAnswered turn may now later stops.Newline content reply → LineMay may now.desk content mishap → reply ≡ (line_turn turn now.desk content mishap).reply → later.desk ≡ (line_turn turn now.desk content mishap).desk → stops_after mode (line_turn turn now.desk content mishap).reply ≡ stops_it → ClosesAlone turn may mode left now later reply
   unfolding session_lines lines_of
-  whole_alone content mishap true line befell e k st = record {
-    more = content ++ (10 ∷ []);
-    ending = end_of_input;
-    exchanges = exchange_of turn now.desk content mishap ∷ [];
-    last = [];
-    law = rw k (stops_there turn limits mode end_of_input left now.desk some_left content [] mishap [] line.bare line.stopped st);
-    are = ap (λ r. r ∷ []) (sym e);
-    path = (befell, refl, k);
-    is_due = inr ([], rw e (ap (λ (s : Session D M). replies s) (stops_there turn limits mode read_fault left now.desk some_left content [] mishap [] line.bare line.stopped st)));
-    read = line.read;
-  }
-  whole_alone content mishap false line befell e k st = record {
-    more = content ++ (10 ∷ []);
-    ending = end_of_input;
-    exchanges = exchange_of turn now.desk content mishap ∷ [];
-    last = [];
-    law = rw k (goes_on_after turn limits mode end_of_input left now.desk some_left content [] mishap [] line.bare line.stopped st);
-    are = ap (λ r. r ∷ []) (sym e);
-    path = (befell, refl, k);
-    is_due = inr (Refused ReadFault ∷ [], rw e (ap (λ (s : Session D M). replies s) (goes_on_after turn limits mode read_fault left now.desk some_left content [] mishap [] line.bare line.stopped st)));
-    read = line.read;
-  }
+  whole_alone content mishap true line befell e k st =
+      one_alone content mishap [] line befell e k
+      (stops_there turn limits mode end_of_input left now.desk some_left content [] mishap [] line.bare line.stopped st)
+      (ap (λ (s : Session D M). replies s) (stops_there turn limits mode read_fault left now.desk some_left content [] mishap [] line.bare line.stopped st))
+  whole_alone content mishap false line befell e k st =
+      one_alone content mishap (Refused ReadFault ∷ []) line befell e k
+      (goes_on_after turn limits mode end_of_input left now.desk some_left content [] mishap [] line.bare line.stopped st)
+      (ap (λ (s : Session D M). replies s) (goes_on_after turn limits mode read_fault left now.desk some_left content [] mishap [] line.bare line.stopped st))
 
   -- the last line, with nothing after it
   pub closes_alone : (stop : Stop) (content : List ℕ) → LineAnswered turn may now later stop content reply → ClosesAlone turn may mode left now later reply
@@ -197,6 +203,24 @@ module _ {D M : Type 0} (turn : TurnsOf D M) (may : Mishaps D M) (mode : OnRefus
   pub fault_closes : (left : ℕ) → Consumes now.reader later.reader [] → Closes turn may mode left now later (Refused ReadFault ∷ [])
   unfolding session_lines lines_of
   fault_closes left read = record { more = []; ending = read_fault; exchanges = []; last = Refused ReadFault ∷ []; unread = []; behind = left_of later.reader; law = rw same; are = refl; path = same; gives = gives_behind now.reader later.reader [] read; whole = fault_is_no_end (left_of later.reader) }
+
+module _ {D M : Type 0} (turn : TurnsOf D M) (may : Mishaps D M) (mode : OnRefusal) (start now : Moment D) (end : ScriptEnd) (served : Served turn may mode start now 0 end) (reader writer : Option (List ℕ)) (end' : ScriptEnd) where
+  abbrev later : Moment D
+  later = moment now.desk reader writer
+
+  ends_with : (reply : Reply) (whole : Bool) → Closes turn may mode 0 now later (reply ∷ []) → ClosesAlone turn may mode 0 now later reply → reply ≢ Silent → Written whole now.writer writer (reply_text reply) → end'.refused ≡ refused_after end.refused reply → end'.fault ≡ (if whole then fault_after end.fault reply else Some WriteFault) →
+      RunIs turn may mode start.desk now.desk start.reader reader start.writer writer end'
+  ends_with reply true closes alone told wrote refused_is fault_is = ran_from turn may mode start now later 0 end served end' reply closes wrote refused_is fault_is
+  ends_with reply false closes alone told wrote refused_is fault_is = cut_from turn may mode start now later 0 end served end' reply alone told wrote refused_is fault_is
+
+  ends_by : (byte : ByteRead) → ByteIs byte now.reader reader → EndsBy byte now.writer writer end end' → RunIs turn may mode start.desk now.desk start.reader reader start.writer writer end'
+  ends_by (bytes.Byte b) read over = ends_with (Refused TooManyLines) over.whole (too_many_closes turn may mode now later refl b read) (too_many_alone turn may mode now later refl b read) (λ e. cc) over.wrote over.refused_is over.fault_is
+  ends_by bytes.End read over = rw (over.0, over.1) (ran_to_end turn may mode start now 0 end reader served read.0 read.1)
+  ends_by bytes.Fault read over = ends_with (Refused ReadFault) over.whole (fault_closes turn may mode now later refl 0 read) (fault_alone turn may mode now later refl 0 read) (λ e. cc) over.wrote over.refused_is over.fault_is
+
+  -- where no line may follow
+  pub after_last : EndsAfterLast now.reader reader now.writer writer end end' → RunIs turn may mode start.desk now.desk start.reader reader start.writer writer end'
+  after_last over = ends_by over.byte over.read over.ends
 
 -- ---- a line after which the session goes on
 

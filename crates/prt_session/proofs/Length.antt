@@ -1,11 +1,11 @@
 -- How many bytes a session takes.
-use Rattle.std.proofs.Common.{◌≡◌, ℕ, zero, suc, ◌+◌, ◌-◌, ◌*◌, ◌≤◌, ◌==◌, nat_lt, ◌&&◌, ◌⊎◌, inl, inr, Bool, true, false, not, List, [], ◌∷◌, length, Option, refl, ap, sym, arith, length-append, length-drop, ◌∙◌}
+use Rattle.std.proofs.Common.{◌≡◌, ℕ, zero, suc, ◌+◌, ◌-◌, ◌*◌, ◌≤◌, ◌==◌, nat_lt, ◌&&◌, ◌⊎◌, inl, inr, Bool, true, false, not, List, [], ◌∷◌, drop, length, Option, refl, ap, sym, arith, length-append, length-drop, ◌∙◌}
 use Rattle.std.proofs.lemmas.Bool.{ltb-false}
 use Rattle.std.proofs.lemmas.Bool.Decides.{nat_tests}
 use Rattle.std.specs.Prelude.{⊤, if◌then◌else◌}
 use Rattle.prt_session.proofs.Lines.{bytes_of_lines}
 use Rattle.prt_command.specs.Lines.{Limits, Line, limits, lines_of, onto_line, bytes_of, line_bytes}
-use Rattle.prt_session.specs.Session.{TurnsOf, Input, Ending, session, session_lines, is_fault, first_mishap, later_mishaps, line_turn, stops_after}
+use Rattle.prt_session.specs.Session.{TurnsOf, Input, Ending, session, session_lines, is_fault, first_mishap, line_turn, stops_after}
 use Rattle.prt_session.specs.declared.script.OnRefusal.{OnRefusal}
 
 -- each line but the last has its newline
@@ -87,7 +87,7 @@ module _ {D M : Type 0} (turn : TurnsOf D M) (limit : Limits) (mode : OnRefusal)
               | inl cut ↦ let u = unended_alone line lines whole (not_true line.ended (both_of (not line.ended) (is_fault ending) cut)) in rw (not_zero n, short, cut) (omega (arith, m, b, s, u))
               | inr on ↦ elim (sides (stops_after mode after.reply)) [
                 | inl stop ↦ rw (not_zero n, short, on, stop) (omega (arith, m, b, s))
-                | inr go ↦ let rec = taken n lines (later_mishaps mishaps) after.desk (tail_whole line lines whole) in rw (not_zero n, short, on, go, one_less n) (omega (arith, m, b, s, rec))
+                | inr go ↦ let rec = taken n lines (drop 1 mishaps) after.desk (tail_whole line lines whole) in rw (not_zero n, short, on, go, one_less n) (omega (arith, m, b, s, rec))
               ]
             ]
       ]

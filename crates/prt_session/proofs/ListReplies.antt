@@ -1,5 +1,5 @@
 -- The replies of a run over lists.
-use Rattle.std.proofs.Common.{◌≡◌, ℕ, ◌-◌, ◌==◌, ◌&&◌, nat_lt, false, not, List, [], ◌∷◌, length, Option, Some, None, Result, Ok, Err, inl, inr, refl, subst}
+use Rattle.std.proofs.Common.{◌≡◌, ℕ, ◌-◌, ◌==◌, ◌&&◌, nat_lt, false, not, List, [], ◌∷◌, drop, length, Option, Some, None, Result, Ok, Err, inl, inr, refl, subst}
 use Rattle.std.proofs.lemmas.List.Elements.{All-append, All-cons, All-nil}
 use Rattle.std.specs.List.{All}
 use Rattle.prt_addr.specs.declared.refusal.Refusal.{Refusal}
@@ -12,7 +12,7 @@ use Rattle.prt_command.specs.declared.request.Request.TheVariants as requests
 use Rattle.prt_session.proofs.Length.{sides}
 use Rattle.prt_session.specs.Desk.{Befalls, DeskState, IsNoMemory, Mishap, no_room, no_memory, store_fails, commit_kept, publication_fails, command_or_refusal, request_turn, settled}
 use Rattle.prt_session.specs.Refusals.{IsListRefusal, IsListReply, of_line, of_command, of_memory, of_reader, of_line_length, of_line_count}
-use Rattle.prt_session.specs.Session.{TurnsOf, Turn, MayOn, LineMay, Path, Exchange, Ending, end_of_input, read_fault, Input, Session, at_ending, first_mishap, later_mishaps, is_fault, stops_after, line_turn, turn_on, session, session_lines, replies, replies_of}
+use Rattle.prt_session.specs.Session.{TurnsOf, Turn, MayOn, LineMay, Path, Exchange, Ending, end_of_input, read_fault, Input, Session, at_ending, first_mishap, is_fault, stops_after, line_turn, turn_on, session, session_lines, replies, replies_of}
 use Rattle.prt_session.specs.declared.reply.Reply.TheVariants.{Refused}
 use Rattle.prt_session.specs.declared.script.OnRefusal.{OnRefusal}
 use Rattle.prt_version.specs.Change.{refusal}
@@ -75,7 +75,7 @@ last_fine {D} {M} turn limit mode ending left (line ∷ lines) mishaps desk =
           | inl cut ↦ rw (some, short, cut) (one_fine ReadFault (of_reader refl))
           | inr on ↦ elim (sides (stops_after mode after.reply)) [
             | inl stop ↦ rw (some, short, on, stop) (All-nil IsListReply)
-            | inr go ↦ rw (some, short, on, go) (last_fine turn limit mode ending (left - 1) lines (later_mishaps mishaps) after.desk)
+            | inr go ↦ rw (some, short, on, go) (last_fine turn limit mode ending (left - 1) lines (drop 1 mishaps) after.desk)
           ]
         ]
       ]

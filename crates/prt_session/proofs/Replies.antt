@@ -1,6 +1,8 @@
 -- Replies one after the other: their text, and what a summary says of them.
-use Rattle.std.proofs.Common.{◌≡◌, ℕ, Bool, List, [], ◌∷◌, ◌++◌, Option, refl, sym, ◌∙◌, ap, append_assoc}
+use Rattle.std.proofs.Common.{◌≡◌, ℕ, Bool, List, [], ◌∷◌, ◌++◌, Option, refl, ◌∙◌, ap, append_assoc}
+use Rattle.std.proofs.lemmas.Grind.{flat_map-append}
 use Rattle.std.proofs.lemmas.List.{map-append}
+use Rattle.std.proofs.lemmas.List.Sums.{fold-append}
 use Rattle.std.specs.Io.KnownBytes.{Appends}
 use Rattle.prt_addr.specs.declared.refusal.Refusal.{Refusal}
 use Rattle.prt_session.proofs.Known.{append_none, appends_nothing}
@@ -17,18 +19,15 @@ replies_after {D} {M} xs session = ap (λ rs. rs ++ session.last) (map-append (�
 
 pub text_append : (a b : List Reply) → replies_text (a ++ b) ≡ replies_text a ++ replies_text b
 unfolding replies_text
-text_append [] b = refl
-text_append (reply ∷ a) b = ap (λ text. reply_text reply ++ text) (text_append a b) ∙ sym (append_assoc (reply_text reply) (replies_text a) (replies_text b))
+text_append a b = flat_map-append reply_text a b
 
 pub refused_append : (a b : List Reply) (had : Bool) → refused_in had (a ++ b) ≡ refused_in (refused_in had a) b
 unfolding refused_in
-refused_append [] b had = refl
-refused_append (reply ∷ a) b had = refused_append a b (refused_after had reply)
+refused_append a b had = fold-append refused_after had a b
 
 pub fault_append : (a b : List Reply) (last : Option Refusal) → fault_in last (a ++ b) ≡ fault_in (fault_in last a) b
 unfolding fault_in
-fault_append [] b last = refl
-fault_append (reply ∷ a) b last = fault_append a b (fault_after last reply)
+fault_append a b last = fold-append fault_after last a b
 
 pub one_text : (reply : Reply) → replies_text (reply ∷ []) ≡ reply_text reply
 unfolding replies_text

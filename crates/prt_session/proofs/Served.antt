@@ -8,7 +8,7 @@ use Rattle.prt_session.proofs.Known.{Gives, gives_had, gives_has, gives_all, con
 use Rattle.prt_session.proofs.Paths.{mishaps_of, path_append}
 use Rattle.prt_session.proofs.Replies.{after_exchanges, replies_after, text_append, refused_append, fault_append, one_text, one_refused, one_fault, no_text, no_refused, no_fault}
 use Rattle.prt_session.specs.Reply.{reply_text, replies_text}
-use Rattle.prt_session.specs.Run.{Ran, Cut, refused_in, fault_in, refused_after, fault_after}
+use Rattle.prt_session.specs.Run.{RunIs, refused_in, fault_in, refused_after, fault_after}
 use Rattle.prt_session.specs.Session.{TurnsOf, Mishaps, Exchange, Path, Ending, end_of_input, read_fault, Session, session, session_lines, replies, replies_of}
 use Rattle.prt_session.specs.Steps.{Written}
 use Rattle.prt_session.specs.declared.reply.Reply.{Reply}
@@ -102,28 +102,30 @@ module _ {D M : Type 0} (turn : TurnsOf D M) (may : Mishaps D M) (mode : OnRefus
 
   -- a run whose last replies were written
   ran_by : (end' : ScriptEnd) (told : List Reply) → Closes turn may mode left now later told → Appends now.writer later.writer (replies_text told) → end'.refused ≡ refused_in end.refused told → end'.fault ≡ fault_in end.fault told →
-      Ran turn may mode start.desk later.desk start.reader later.reader start.writer later.writer end'
+      RunIs turn may mode start.desk later.desk start.reader later.reader start.writer later.writer end'
   ran_by end' told closes wrote refused_is fault_is =
       let rest : Session D M = record { exchanges = closes.exchanges; last = closes.last; desk = later.desk; unread = closes.unread } in
       let e = session_by closes.more closes.ending (mishaps_of closes.exchanges) rest closes.law in
       let all = replies_by (session turn start.desk (record { bytes = served.bytes ++ closes.more; ending = closes.ending }) mode (mishaps_of served.exchanges ++ mishaps_of closes.exchanges)) rest told e closes.are in
       record {
         input = record { bytes = served.bytes ++ closes.more; ending = closes.ending };
-        behind = closes.behind;
         mishaps = mishaps_of served.exchanges ++ mishaps_of closes.exchanges;
-        bytes_before = gives_had start.reader now.reader later.reader served.bytes closes.more closes.unread closes.behind served.read closes.gives;
-        whole = closes.whole;
-        bytes_left = rw e (gives_has start.reader now.reader later.reader served.bytes closes.more closes.unread closes.behind served.read closes.gives);
-        wrote = rw all (rw (text_append (replies_of served.exchanges) told) (appends_more start.writer now.writer later.writer (replies_text (replies_of served.exchanges)) (replies_text told) served.wrote wrote));
         leaves = rw e;
         path = rw e (path_append turn may start.desk now.desk later.desk served.exchanges closes.exchanges served.path closes.path);
         refused_is = rw all (refused_by end'.refused told refused_is);
-        fault_is = rw all (fault_by end'.fault told fault_is);
+        ended = inl (record {
+          behind = closes.behind;
+          bytes_before = gives_had start.reader now.reader later.reader served.bytes closes.more closes.unread closes.behind served.read closes.gives;
+          whole = closes.whole;
+          bytes_left = rw e (gives_has start.reader now.reader later.reader served.bytes closes.more closes.unread closes.behind served.read closes.gives);
+          wrote = rw all (rw (text_append (replies_of served.exchanges) told) (appends_more start.writer now.writer later.writer (replies_text (replies_of served.exchanges)) (replies_text told) served.wrote wrote));
+          fault_is = rw all (fault_by end'.fault told fault_is);
+        });
       }
 
   -- a run whose last reply was written
   pub ran_from : (end' : ScriptEnd) (reply : Reply) → Closes turn may mode left now later (reply ∷ []) → Appends now.writer later.writer (reply_text reply) → end'.refused ≡ refused_after end.refused reply → end'.fault ≡ fault_after end.fault reply →
-      Ran turn may mode start.desk later.desk start.reader later.reader start.writer later.writer end'
+      RunIs turn may mode start.desk later.desk start.reader later.reader start.writer later.writer end'
   ran_from end' reply closes wrote refused_is fault_is = ran_by end' (reply ∷ []) closes (rw (one_text reply) wrote) (refused_is ∙ sym (one_refused end.refused reply)) (fault_is ∙ sym (one_fault end.fault reply))
 
   due_by : (more : List ℕ) (exchanges : List (Exchange M)) (reply : Reply) → IsDue turn mode left now later more exchanges reply →
@@ -135,7 +137,7 @@ module _ {D M : Type 0} (turn : TurnsOf D M) (may : Mishaps D M) (mode : OnRefus
 
   -- a run of whose last reply only a part was written
   pub cut_from : (end' : ScriptEnd) (reply : Reply) → ClosesAlone turn may mode left now later reply → reply ≢ Silent → Written false now.writer later.writer (reply_text reply) → end'.refused ≡ refused_after end.refused reply → end'.fault ≡ Some WriteFault →
-      Cut turn may mode start.desk later.desk start.reader later.reader start.writer later.writer end'
+      RunIs turn may mode start.desk later.desk start.reader later.reader start.writer later.writer end'
   cut_from end' reply closes told written refused_is fault_is =
       let rest : Session D M = record { exchanges = closes.exchanges; last = closes.last; desk = later.desk; unread = [] } in
       let e = session_by closes.more closes.ending (mishaps_of closes.exchanges) rest closes.law in
@@ -143,21 +145,23 @@ module _ {D M : Type 0} (turn : TurnsOf D M) (may : Mishaps D M) (mode : OnRefus
       record {
         input = record { bytes = served.bytes ++ closes.more; ending = closes.ending };
         mishaps = mishaps_of served.exchanges ++ mishaps_of closes.exchanges;
-        told = replies_of served.exchanges;
-        last = reply;
-        part = written.0;
-        cut_off = written.1;
-        read = consumes_more start.reader now.reader later.reader served.bytes closes.more served.read closes.read;
-        all_read = rw e;
-        are = all;
         leaves = rw e;
         path = rw e (path_append turn may start.desk now.desk later.desk served.exchanges closes.exchanges served.path closes.path);
-        is_written = told;
-        is_due = due_by closes.more closes.exchanges reply closes.is_due;
-        last_text = written.2;
-        wrote = appends_more start.writer now.writer later.writer (replies_text (replies_of served.exchanges)) written.0 served.wrote written.3;
         refused_is = rw all (refused_by end'.refused (reply ∷ []) (refused_is ∙ sym (one_refused end.refused reply)));
-        fault_is = fault_is;
+        ended = inr (record {
+          told = replies_of served.exchanges;
+          last = reply;
+          part = written.0;
+          cut_off = written.1;
+          read = consumes_more start.reader now.reader later.reader served.bytes closes.more served.read closes.read;
+          all_read = rw e;
+          are = all;
+          is_written = told;
+          is_due = due_by closes.more closes.exchanges reply closes.is_due;
+          last_text = written.2;
+          wrote = appends_more start.writer now.writer later.writer (replies_text (replies_of served.exchanges)) written.0 served.wrote written.3;
+          fault_is = fault_is;
+        });
       }
 
 closes_empty : {D M : Type 0} (turn : TurnsOf D M) (may : Mishaps D M) (mode : OnRefusal) (left : ℕ) (now : Moment D) (reader : Option (List ℕ)) → Consumes now.reader reader [] → IsAtEnd reader → Closes turn may mode left now (moment now.desk reader now.writer) []
@@ -166,5 +170,5 @@ closes_empty {D} {M} turn may mode left now reader read at_end = record { more =
 
 -- the input ends where a line would begin
 pub ran_to_end : {D M : Type 0} (turn : TurnsOf D M) (may : Mishaps D M) (mode : OnRefusal) (start now : Moment D) (left : ℕ) (end : ScriptEnd) (reader : Option (List ℕ)) → Served turn may mode start now left end → Consumes now.reader reader [] → IsAtEnd reader →
-    Ran turn may mode start.desk now.desk start.reader reader start.writer now.writer end
+    RunIs turn may mode start.desk now.desk start.reader reader start.writer now.writer end
 ran_to_end {D} {M} turn may mode start now left end reader served read at_end = ran_by turn may mode start now (moment now.desk reader now.writer) left end served end [] (closes_empty turn may mode left now reader read at_end) (no_text now.writer) (no_refused end.refused) (no_fault end.fault)

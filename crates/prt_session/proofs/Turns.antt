@@ -3,7 +3,8 @@ use Rattle.std.proofs.Common.{◌≡◌, false, None, Some, Ok, Err, ap, refl, s
 use Rattle.prt_addr.specs.declared.refusal.Refusal.{Refusal}
 use Rattle.prt_addr.specs.declared.refusal.Refusal.TheVariants.{NoMemory}
 use Rattle.prt_command.specs.declared.request.Command.{Command}
-use Rattle.prt_session.specs.Desk.{CommandGives, IsNoMemory, no_memory, settled, command_or_refusal}
+use Rattle.prt_session.specs.Desk.{IsNoMemory, no_memory, settled, command_or_refusal}
+use Rattle.prt_session.specs.Steps.{CommandGives}
 use Rattle.prt_version.specs.Change.{refusal, apply}
 use Rattle.prt_version.specs.State.{State}
 

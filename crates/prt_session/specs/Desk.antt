@@ -1,5 +1,5 @@
 -- What a request does at a desk.
-use Rattle.std.specs.Prelude.{◌≡◌, Bool, true, false, Option, Some, None, IfSome, Result, Ok, Err, ℕ}
+use Rattle.std.specs.Prelude.{◌≡◌, Bool, true, false, Option, Some, None, IfSome}
 use Rattle.prt_addr.specs.declared.refusal.Refusal.{Refusal}
 use Rattle.prt_addr.specs.declared.refusal.Refusal.TheVariants.{Closed, Busy, NoMemory, StoreFailed, NotPublished}
 use Rattle.prt_addr.specs.declared.refusal.StoreCall.{StoreCall}
@@ -10,7 +10,6 @@ use Rattle.prt_command.specs.declared.request.Request.{Request}
 use Rattle.prt_command.specs.declared.request.Request.TheVariants as requests
 use Rattle.prt_listing.specs.QueryText.{query_text}
 use Rattle.prt_session.specs.Session.{Turn}
-use Rattle.prt_session.specs.declared.reply.Reply.{Reply}
 use Rattle.prt_session.specs.declared.reply.Reply.TheVariants.{Accepted, Answered, Refused}
 use Rattle.prt_version.specs.Change.{refusal, apply}
 use Rattle.prt_version.specs.State.{State}
@@ -40,7 +39,7 @@ settled state = record { published = state; stored = state; closed = false }
 
 -- the desk after a failed commit or publication: closed, with what is stored
 abbrev pub shut : DeskState → State → DeskState
-shut desk stored = record { published = desk.published; stored = stored; closed = true }
+shut desk stored = record desk { stored = stored; closed = true }
 
 -- a command that is not refused, with its mishap
 abbrev pub submit : DeskState → Command → Option Mishap → Turn DeskState
@@ -76,12 +75,3 @@ IsNoMemory mishap = mishap ≡ no_memory
 -- nothing, or a mishap that the desk can have
 abbrev pub Befalls : (Mishap → Type 0) → DeskState → Request → Option Mishap → Type 0
 Befalls may desk request mishap = IfSome mishap may
-
-abbrev pub reply_of : Result ℕ Refusal → Reply
-reply_of (Ok number) = Accepted number
-reply_of (Err reason) = Refused reason
-
--- for nothing that befalls it, or a mishap that may, this is the command's turn
-abbrev pub CommandGives : (Mishap → Type 0) → DeskState → Command → Result ℕ Refusal → DeskState → Type 0
-CommandGives may desk0 command result desk =
-    (mishap : Option Mishap) × IfSome mishap may × (reply_of result ≡ (command_turn desk0 command mishap).reply) × (desk ≡ (command_turn desk0 command mishap).desk)

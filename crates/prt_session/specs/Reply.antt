@@ -1,5 +1,5 @@
 -- Replies, and their bytes.
-use Rattle.std.specs.Prelude.{ℕ, Bool, true, false, List, [], ◌∷◌, ◌++◌, codes, decimal}
+use Rattle.std.specs.Prelude.{ℕ, Bool, true, false, List, [], ◌++◌, codes, decimal, flat_map}
 use Rattle.prt_addr.specs.Refusal.{refusal_text}
 use Rattle.prt_session.specs.declared.reply.Reply.{Reply}
 use Rattle.prt_session.specs.declared.reply.Reply.TheVariants.{Silent, Accepted, Answered, Refused}
@@ -15,5 +15,4 @@ reply_text (Answered text) = text
 reply_text (Refused reason) = refusal_text reason ++ codes "\n"
 
 unfoldable pub replies_text : List Reply → List ℕ
-replies_text [] = []
-replies_text (reply ∷ replies) = reply_text reply ++ replies_text replies
+replies_text replies = flat_map reply_text replies

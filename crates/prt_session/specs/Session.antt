@@ -94,10 +94,6 @@ abbrev pub first_mishap : {M : Type 0} → List (Option M) → Option M
 first_mishap {M} [] = None
 first_mishap {M} (mishap ∷ mishaps) = mishap
 
-abbrev pub later_mishaps : {M : Type 0} → List (Option M) → List (Option M)
-later_mishaps {M} [] = []
-later_mishaps {M} (mishap ∷ mishaps) = mishaps
-
 -- no more lines are executed
 abbrev pub ends : {D M : Type 0} → List Reply → D → List ℕ → Session D M
 ends {D} {M} last desk unread = record { exchanges = []; last = last; desk = desk; unread = unread }
@@ -106,7 +102,7 @@ abbrev pub exchange_of : {D M : Type 0} → TurnsOf D M → D → List ℕ → O
 exchange_of {D} {M} turn desk line mishap = record { line = line; mishap = mishap; reply = (line_turn turn desk line mishap).reply }
 
 abbrev pub after_exchange : {D M : Type 0} → Exchange M → Session D M → Session D M
-after_exchange {D} {M} x session = record { exchanges = x ∷ session.exchanges; last = session.last; desk = session.desk; unread = session.unread }
+after_exchange {D} {M} x session = record session { exchanges = x ∷ session.exchanges }
 
 -- the session on these lines, where so many more may come
 unfoldable pub session_lines : {D M : Type 0} → TurnsOf D M → Limits → OnRefusal → Ending → ℕ → List Line → List (Option M) → D → Session D M
@@ -118,7 +114,7 @@ session_lines {D} {M} turn limit mode ending left (line ∷ lines) mishaps desk 
     else after_exchange (exchange_of turn desk line.content (first_mishap mishaps))
     (if stops_after mode (line_turn turn desk line.content (first_mishap mishaps)).reply
     then ends [] (line_turn turn desk line.content (first_mishap mishaps)).desk (bytes_of lines)
-    else session_lines turn limit mode ending (left - 1) lines (later_mishaps mishaps) (line_turn turn desk line.content (first_mishap mishaps)).desk)))
+    else session_lines turn limit mode ending (left - 1) lines (drop 1 mishaps) (line_turn turn desk line.content (first_mishap mishaps)).desk)))
 
 -- the session on an input
 unfoldable pub session : {D M : Type 0} → TurnsOf D M → D → Input → OnRefusal → List (Option M) → Session D M

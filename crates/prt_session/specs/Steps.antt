@@ -1,18 +1,24 @@
 -- What the parts of a run do: one read, one line, one reply.
-use Rattle.std.specs.Prelude.{◌≡◌, ℕ, ◌+◌, ◌≤◌, ◌==◌, ◌≢◌, Bool, true, false, List, [], ◌∷◌, ◌++◌, length, Option, ⊤}
+use Rattle.std.specs.Prelude.{◌≡◌, ℕ, ◌+◌, ◌≤◌, ◌==◌, ◌≢◌, Bool, true, false, List, [], ◌∷◌, ◌++◌, length, Option, Some, IfSome, Result, Ok, Err, if◌then◌else◌, ⊤}
 use Rattle.std.specs.Io.KnownBytes.{Consumes, Appends, IsAtEnd}
-use Rattle.prt_addr.specs.declared.refusal.Refusal.TheVariants.{LineTooLong, ReadFault}
+use Rattle.prt_addr.specs.declared.refusal.Refusal.{Refusal}
+use Rattle.prt_addr.specs.declared.refusal.Refusal.TheVariants.{LineTooLong, ReadFault, TooManyLines, WriteFault}
 use Rattle.prt_command.specs.Lines.{limits}
+use Rattle.prt_command.specs.declared.request.Command.{Command}
 use Rattle.prt_command.specs.declared.request.Request.{Request}
-use Rattle.prt_session.specs.Session.{TurnsOf, Mishaps, LineMay, line_turn, stops_after}
+use Rattle.prt_session.specs.Desk.{DeskState, Mishap, command_turn}
+use Rattle.prt_session.specs.Reply.{reply_text}
+use Rattle.prt_session.specs.Run.{fault_after, refused_after}
+use Rattle.prt_session.specs.Session.{Turn, TurnsOf, Mishaps, LineMay, line_turn, stops_after}
 use Rattle.prt_session.specs.declared.input.ByteRead.{ByteRead}
 use Rattle.prt_session.specs.declared.input.ByteRead.TheVariants as bytes
 use Rattle.prt_session.specs.declared.input.LineRead.{LineRead}
 use Rattle.prt_session.specs.declared.input.Stop.{Stop}
 use Rattle.prt_session.specs.declared.input.Stop.TheVariants as stops
 use Rattle.prt_session.specs.declared.reply.Reply.{Reply}
-use Rattle.prt_session.specs.declared.reply.Reply.TheVariants.{Refused}
+use Rattle.prt_session.specs.declared.reply.Reply.TheVariants.{Accepted, Refused}
 use Rattle.prt_session.specs.declared.script.OnRefusal.{OnRefusal}
+use Rattle.prt_session.specs.declared.script.ScriptEnd.{ScriptEnd}
 
 -- one read of one byte, at a reader that has these bytes left before and after
 abbrev pub ByteIs : ByteRead → Option (List ℕ) → Option (List ℕ) → Type 0
@@ -47,15 +53,25 @@ pub record LineIs (reader0 reader : Option (List ℕ)) (kept : List ℕ) (line :
   pub keeps : line.length ≤ 1024 → kept ≡ content
   pub stopped : StopIs line.stop line.length reader
 
--- for nothing that befalls it, or what may befall it, this is the turn of a request
-abbrev pub Gives : {D M : Type 0} → TurnsOf D M → Mishaps D M → D → Request → Reply → D → Type 0
-Gives {D} {M} turn may desk0 request reply desk =
-    (mishap : Option M) × may desk0 request mishap × (reply ≡ (turn desk0 request mishap).reply) × (desk ≡ (turn desk0 request mishap).desk)
+-- for nothing that befalls it, or what may befall it, the turn has this reply, and leaves this desk
+abbrev pub TurnGives : {D M : Type 0} → (Option M → Type 0) → (Option M → Turn D) → Reply → D → Type 0
+TurnGives {D} {M} may turn reply desk = (mishap : Option M) × may mishap × (reply ≡ (turn mishap).reply) × (desk ≡ (turn mishap).desk)
 
--- the same of a whole line
+-- the turn of a request
+abbrev pub Gives : {D M : Type 0} → TurnsOf D M → Mishaps D M → D → Request → Reply → D → Type 0
+Gives {D} {M} turn may desk0 request reply desk = TurnGives (may desk0 request) (turn desk0 request) reply desk
+
+-- the turn of a whole line
 abbrev pub LineGives : {D M : Type 0} → TurnsOf D M → Mishaps D M → D → List ℕ → Reply → D → Type 0
-LineGives {D} {M} turn may desk0 line reply desk =
-    (mishap : Option M) × LineMay may desk0 line mishap × (reply ≡ (line_turn turn desk0 line mishap).reply) × (desk ≡ (line_turn turn desk0 line mishap).desk)
+LineGives {D} {M} turn may desk0 line reply desk = TurnGives (LineMay may desk0 line) (line_turn turn desk0 line) reply desk
+
+abbrev pub reply_of : Result ℕ Refusal → Reply
+reply_of (Ok number) = Accepted number
+reply_of (Err reason) = Refused reason
+
+-- the turn of a command
+abbrev pub CommandGives : (Mishap → Type 0) → DeskState → Command → Result ℕ Refusal → DeskState → Type 0
+CommandGives may desk0 command result desk = TurnGives (λ mishap. IfSome mishap may) (command_turn desk0 command) (reply_of result) desk
 
 -- the reply to a line that was read to there
 abbrev pub AnswerIs : {D M : Type 0} → TurnsOf D M → Mishaps D M → D → Stop → List ℕ → Reply → D → Type 0
@@ -85,3 +101,22 @@ ends_after mode stops.Newline reply = stops_after mode reply
 ends_after mode stops.End reply = true
 ends_after mode stops.Fault reply = true
 ends_after mode stops.Endless reply = true
+
+-- A session ends with this reply: all of it was written, or else a part of it.
+pub record EndsWith (reply : Reply) (writer0 writer : Option (List ℕ)) (end0 end : ScriptEnd) : Type 0 where
+  pub whole : Bool
+  pub wrote : Written whole writer0 writer (reply_text reply)
+  pub refused_is : end.refused ≡ refused_after end0.refused reply
+  pub fault_is : end.fault ≡ (if whole then fault_after end0.fault reply else Some WriteFault)
+
+-- a session ends where no line may follow, by what is read there
+abbrev pub EndsBy : ByteRead → Option (List ℕ) → Option (List ℕ) → ScriptEnd → ScriptEnd → Type 0
+EndsBy (bytes.Byte b) writer0 writer end0 end = EndsWith (Refused TooManyLines) writer0 writer end0 end
+EndsBy bytes.End writer0 writer end0 end = (writer ≡ writer0) × (end ≡ end0)
+EndsBy bytes.Fault writer0 writer end0 end = EndsWith (Refused ReadFault) writer0 writer end0 end
+
+-- One byte was read where no line may follow, and the session ends.
+pub record EndsAfterLast (reader0 reader writer0 writer : Option (List ℕ)) (end0 end : ScriptEnd) : Type 0 where
+  pub byte : ByteRead
+  pub read : ByteIs byte reader0 reader
+  pub ends : EndsBy byte writer0 writer end0 end

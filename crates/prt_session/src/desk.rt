@@ -7,8 +7,9 @@ pub trait Desk {
     ghost use Rattle.std.specs.Prelude.{◌≡◌};
     ghost use Rattle.prt_command.specs.Storable.{IsStorable};
     ghost use Rattle.prt_listing.specs.QueryText.{query_text};
-    ghost use Rattle.prt_session.specs.Desk.{CommandGives, DeskState, Mishap, no_memory};
+    ghost use Rattle.prt_session.specs.Desk.{DeskState, Mishap, no_memory};
     ghost use Rattle.prt_session.specs.Stands.{Explained, Stands};
+    ghost use Rattle.prt_session.specs.Steps.{CommandGives};
 
     /// The states that the desk may stand for: more than one where it can't be known which is stored.
     ghost stands: { Self → DeskState → Type 0 };

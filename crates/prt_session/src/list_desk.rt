@@ -1,7 +1,8 @@
 ghost use Rattle.std.specs.Prelude.{◌≡◌, ◌⊎◌, None, Some, IfErr, IfOk};
 ghost use Rattle.prt_addr.specs.declared.refusal.Refusal.TheVariants.{NoMemory};
-ghost use Rattle.prt_session.specs.Desk.{Befalls, CommandGives, IsNoMemory, request_turn, settled};
+ghost use Rattle.prt_session.specs.Desk.{Befalls, IsNoMemory, request_turn, settled};
 ghost use Rattle.prt_session.specs.Run.{RunIs};
+ghost use Rattle.prt_session.specs.Steps.{CommandGives};
 ghost use Rattle.prt_version.specs.Change.{refusal};
 ghost use Rattle.prt_version.specs.State.{opening_state};
 

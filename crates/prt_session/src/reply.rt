@@ -1,4 +1,5 @@
-ghost use Rattle.std.specs.Prelude.{◌≡◌, ◌≢◌, ◌++◌, codes, decimal, false};
+ghost use Rattle.std.specs.Prelude.{◌≡◌, ◌≢◌, ◌<◌, ◌≤◌, ◌++◌, [], IfSome, MatchOption, codes, decimal, false, length, take, ⊤};
+ghost use Rattle.std.specs.Io.KnownBytes.{Appends};
 ghost use Rattle.prt_addr.specs.Refusal.{refusal_text};
 ghost use Rattle.prt_session.specs.Reply.{reply_text};
 ghost use Rattle.prt_session.specs.Steps.{Written};
@@ -79,16 +80,27 @@ fn refused_line(refusal: Refusal) -> ArrayString<32>
     line
 }
 
+/// Writes some of these bytes by one call, and tells how many; none where the writer takes none or fails.
+fn write_some<W: Write>(writer: &mut W, bytes: &[u8]) -> Option<usize>
+    ensures some { IfSome result (λ count. (0 < count) × (count ≤ length bytes.now) × Appends (W.contents writer.old) (W.contents writer.new) (take count bytes.now)) }
+    ensures none { MatchOption result (Appends (W.contents writer.old) (W.contents writer.new) []) (λ _. ⊤) }
+{
+    match writer.write(bytes) {
+        Ok(0) => None,
+        Ok(count) => Some(count),
+        Err(_) => None,
+    }
+}
+
 /// Writes these bytes and flushes; tells whether all of it went well.
 fn write_bytes<W: Write>(writer: &mut W, bytes: &[u8]) -> bool
     ensures { Written result (W.contents writer.old) (W.contents writer.new) bytes.now }
 {
     let mut written = 0;
     while written < bytes.len() {
-        match writer.write(&bytes[written..]) {
-            Ok(0) => return false,
-            Ok(count) => written += count,
-            Err(_) => return false,
+        match write_some(writer, &bytes[written..]) {
+            Some(count) => written += count,
+            None => return false,
         }
     }
     writer.flush().is_ok()

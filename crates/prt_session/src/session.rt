@@ -3,7 +3,7 @@ ghost use Rattle.std.specs.Prelude.{◌≡◌, ◌≤◌, ℕ, List, length};
 ghost use Rattle.prt_session.specs.Run.{RunIs};
 ghost use Rattle.prt_session.specs.Session.{stops_after};
 ghost use Rattle.prt_session.specs.Stands.{Explained, Stands};
-ghost use Rattle.prt_session.specs.Steps.{AnswerIs, LineGives, ends_after, is_nothing};
+ghost use Rattle.prt_session.specs.Steps.{AnswerIs, EndsAfterLast, EndsWith, LineGives, ends_after, is_nothing};
 
 use crate::executor::Executor;
 use crate::input::{ByteRead, LineRead, Stop, next_byte, next_line};
@@ -42,7 +42,8 @@ fn reply_to_whole<C, E: Executor<C>>(
         Explained E.stands executor.old executor.new (λ before after. LineGives E.turn E.may before content result after) }
     ensures left { Stands E.stands executor.old → Stands E.stands executor.new }
 {
-    if count > LONGEST_LINE {
+    let is_long = count > LONGEST_LINE;
+    if is_long {
         return Reply::Refused(Refusal::LineTooLong);
     }
     execute_line(context, executor, line)
@@ -95,6 +96,29 @@ fn is_last(mode: OnRefusal, read: LineRead, reply: &Reply) -> bool
     }
 }
 
+/// Writes the last reply of a session, and takes it in.
+fn write_last<W: Write>(writer: &mut W, reply: &Reply, end: ScriptEnd) -> ScriptEnd
+    ensures { EndsWith reply.now (W.contents writer.old) (W.contents writer.new) end result }
+{
+    let end = end.with_reply(reply);
+    if write_reply(writer, reply) {
+        return end;
+    }
+    end.with_write_fault()
+}
+
+/// Ends a session after as many lines as it may have: with the input, or at the first byte too many or a fault.
+fn end_after_last<R: Read, W: Write>(reader: &mut R, writer: &mut W, end: ScriptEnd) -> ScriptEnd
+    ensures { EndsAfterLast (R.remaining reader.old) (R.remaining reader.new) (W.contents writer.old) (W.contents writer.new) end result }
+{
+    let refusal = match next_byte(reader) {
+        ByteRead::End => return end,
+        ByteRead::Byte(_) => Refusal::TooManyLines,
+        ByteRead::Fault => Refusal::ReadFault,
+    };
+    write_last(writer, &Reply::Refused(refusal), end)
+}
+
 /// Runs a session: does what each line asks for, and replies to it before the next is read.
 ///
 /// The session ends with the input, after a refused line under `OnRefusal::Stop`, at a fault of the reader or the
@@ -133,15 +157,5 @@ pub fn run_session<C, E: Executor<C>, R: Read, W: Write, O: Observer>(
             return end;
         }
     }
-    let refusal = match next_byte(reader) {
-        ByteRead::End => return end,
-        ByteRead::Byte(_) => Refusal::TooManyLines,
-        ByteRead::Fault => Refusal::ReadFault,
-    };
-    let reply = Reply::Refused(refusal);
-    end = end.with_reply(&reply);
-    if !write_reply(writer, &reply) {
-        return end.with_write_fault();
-    }
-    end
+    end_after_last(reader, writer, end)
 }

@@ -3,7 +3,8 @@ use Rattle.std.proofs.Common.{◌≡◌, ℕ, ◌+◌, ◌-◌, ◌%◌, ◌^◌
 use Rattle.std.proofs.Math.Nat.{dvd-add}
 use Rattle.std.proofs.lemmas.Nat.{pow-add}
 use Rattle.std.proofs.lemmas.Nat.Gcd.{dvd_refl, dvd_of_mod-eq-zero, mod-eq-zero_of_dvd, dvd_trans}
-use Rattle.prt_addr.specs.Block.{Block, IsPrefix}
+use Rattle.prt_addr.specs.Block.{Block}
+use Rattle.prt_addr.specs.Sound.{IsPrefix}
 use Rattle.prt_addr.proofs.Ranges.{apart, ends_within, sizes_divide}
 use Rattle.prt_trie.specs.Block.{size, IsIn}
 

@@ -3,13 +3,15 @@ use Rattle.std.proofs.Common.{◌≡◌, ℕ, zero, suc, ◌+◌, ◌*◌, ◌-�
 use Rattle.std.specs.List.{All, filter, find, list_any, slice_get}
 use Rattle.std.proofs.lemmas.Bool.{cases_Bool, cases_lt, cases_eq}
 use Rattle.std.proofs.lemmas.Bool.Decides.{nat_tests}
-use Rattle.prt_addr.specs.Block.{IsPrefix}
+use Rattle.prt_addr.proofs.Orders.{is_first}
+use Rattle.prt_addr.specs.Sound.{IsPrefix}
+use Rattle.prt_addr.specs.Order.{first_by}
 use Rattle.prt_addr.specs.Prefix.{contains}
 use Rattle.prt_route.specs.Best.{best, is_candidate}
 use Rattle.prt_addr.specs.declared.addr.Addr.{Addr}
 use Rattle.prt_route.specs.Route.{is_better}
 use Rattle.prt_route.specs.declared.route.Route.{Route}
-use Rattle.prt_trie.specs.Walk.{IsBest, best_for, is_unbeaten, last_row, nowhere, weight}
+use Rattle.prt_trie.specs.Walk.{IsBest, best_for, last_row, nowhere, weight}
 use Rattle.prt_trie.specs.Index.{IsIndex}
 use Rattle.prt_trie.specs.Table.{IsOfOneTable, IsRising, IsTable}
 use Rattle.prt_trie.specs.declared.node.Node.{Node}
@@ -55,7 +57,7 @@ better l k m n hm hn h =
 pub best_row : (rows : List Route) (a p : ℕ) → length rows ≤ nowhere → All (λ row. row.metric < 2 ^ 32) rows → IsBest rows 0 (length rows) a nowhere p → slice_get rows p ≡ best_for rows (record { 0 = a })
 best_row rows a p few metrics best =
     let c : Route → Bool = λ row. contains row.prefix (record { 0 = a }) in
-    let u : Route → Bool = is_unbeaten (filter c rows) in
+    let u : Route → Bool = is_first is_better (filter c rows) in
     sym (find-filter u c rows ∙ find_at (λ x. c x && u x) rows p
     (λ k d lt l. ⊎_elim
     (λ (e : c (get_or rows k d) ≡ true).
@@ -81,7 +83,7 @@ filter_within c e (x ∷ xs) same =
 -- where all rows are of one table, its best row is the best of all
 pub best_of_table : (rows : List Route) (table : ℕ) (addr : Addr) → All (λ row. row.table ≡ table) rows → best rows table addr ≡ best_for rows addr
 best_of_table rows table addr all =
-    ap (λ (cs : List Route). find (is_unbeaten cs) cs) (filter_within (is_candidate table addr) (λ row. contains row.prefix addr) rows
+    ap (λ (cs : List Route). first_by is_better cs) (filter_within (is_candidate table addr) (λ row. contains row.prefix addr) rows
     (λ k d l. let e : (get_or rows k d).table ≡ table = all k d l in let t : eqb (get_or rows k d).table table ≡ true = eq-eqb (get_or rows k d).table table e in rw t refl))
 
 -- a trie that finds the best of all rows is an index of them

@@ -3,7 +3,6 @@ pub mod Filters
 pub mod Inserts
 pub mod Wholes
 pub mod Edits
-pub mod Maxima
 pub mod Matches
 pub mod Listings
 pub mod Ranges

@@ -1,5 +1,5 @@
 -- Where in the pieces the best route of all stands, a key, and the route that a choice names.
-use Rattle.std.proofs.Common.{◌≡◌, ℕ, ◌+◌, ◌*◌, ◌/◌, ◌^◌, ◌<◌, ◌≤◌, Bool, true, false, not, ◌&&◌, eqb, List, [], ◌∷◌, Some, None, refl, sym, ap, ◌∙◌, arith, find, ⊎_elim}
+use Rattle.std.proofs.Common.{◌≡◌, ℕ, ◌+◌, ◌*◌, ◌/◌, ◌^◌, ◌<◌, ◌≤◌, Bool, true, false, not, ◌&&◌, eqb, List, [], ◌∷◌, Some, None, refl, sym, ap, ◌∙◌, arith, ⊎_elim}
 use Rattle.std.specs.List.{filter, list_any, AllByRecursion as Each}
 use Rattle.std.proofs.lemmas.Bool.{cases_Bool, cases_lt}
 use Rattle.std.proofs.lemmas.Bool.Decides.{nat_tests}
@@ -7,14 +7,17 @@ use Rattle.std.proofs.Math.Nat.{dvd-mul_right}
 use Rattle.std.proofs.lemmas.Nat.Gcd.{dvd_of_mod-eq-zero, dvd_trans}
 use Rattle.std.proofs.lemmas.List.Elements.{recursion_from_All}
 use Rattle.std.proofs.lemmas.Map.Views.{any-filter_same}
-use Rattle.prt_addr.specs.Block.{Block, IsPrefix}
+use Rattle.prt_addr.specs.Block.{Block}
+use Rattle.prt_addr.specs.Sound.{IsPrefix}
 use Rattle.prt_addr.specs.Order.{first_by}
+use Rattle.prt_addr.proofs.Each.{each_fails, each_implies}
+use Rattle.prt_addr.proofs.Orders.{is_first, none_first}
+use Rattle.prt_route.proofs.Edits.{better_order}
 use Rattle.prt_addr.specs.Prefix.{contains}
 use Rattle.prt_addr.specs.declared.addr.Addr.{Addr}
 use Rattle.prt_route.specs.Best.{best, candidates, is_candidate}
 use Rattle.prt_route.specs.Edit.{has_key}
 use Rattle.prt_route.specs.Route.{has_lower_metric, is_better, is_same_key, key_of}
-use Rattle.prt_trie.specs.Walk.{is_unbeaten}
 use Rattle.prt_route.specs.RouteChoice.{chosen_route, is_chosen}
 use Rattle.prt_route.specs.declared.choice.RouteChoice.{RouteChoice}
 use Rattle.prt_route.specs.declared.route.Route.{Route}
@@ -24,10 +27,8 @@ use Rattle.prt_trie.specs.Block.{size}
 use Rattle.prt_trie.specs.Table.{IsTable}
 use Rattle.prt_addr.proofs.Ranges.{apart, contains_tells, sizes_divide}
 use Rattle.prt_trie.proofs.Choices.{chosen_prefix}
-use Rattle.prt_trie.proofs.Filters.{any_filter, any_implies, any_same_tests, each_fails, none_kept, filter_absorbed, filter_both, filter_none, filter_same_tests, filter_swap, find_same_tests}
+use Rattle.prt_trie.proofs.Filters.{any_filter, any_implies, any_same_tests, none_kept, filter_absorbed, filter_both, filter_none, filter_same_tests, filter_swap, find_same_tests}
 use Rattle.prt_trie.proofs.Finds.{find-filter}
-use Rattle.prt_trie.proofs.Maxima.{none_unbeaten}
-use Rattle.prt_trie.proofs.Order.{each_implies}
 use Rattle.prt_trie.proofs.Wholes.{piece_of_key, same_piece}
 
 -- the row is one of the piece
@@ -120,7 +121,7 @@ module _ (table : ℕ) (addr : Addr) where
       is_long_from other p parts.0 (omega arith))
 
   -- a long row is unbeaten by all candidates where it is by the long ones
-  unbeaten_alike : (rows : List Route) (row : Route) → Each (λ other. IsPrefix other.prefix) rows → is_long row ≡ true → is_unbeaten (candidates rows table addr) row ≡ is_unbeaten (long_cands rows) row
+  unbeaten_alike : (rows : List Route) (row : Route) → Each (λ other. IsPrefix other.prefix) rows → is_long row ≡ true → is_first is_better (candidates rows table addr) row ≡ is_first is_better (long_cands rows) row
   unbeaten_alike rows row prefixes long =
       let beats : Route → Bool = λ other. is_better other row in
       ap not (any_filter beats is_cand rows
@@ -129,14 +130,14 @@ module _ (table : ℕ) (addr : Addr) where
       ∙ sym (any_filter beats is_cand (filter is_long rows)))
 
   -- a short one is beaten where there is a long one
-  short_is_beaten : (rows : List Route) (row : Route) → row.prefix.len < 8 → has_long rows ≡ true → is_unbeaten (candidates rows table addr) row ≡ false
+  short_is_beaten : (rows : List Route) (row : Route) → row.prefix.len < 8 → has_long rows ≡ true → is_first is_better (candidates rows table addr) row ≡ false
   short_is_beaten rows row short some =
       let beats : Route → Bool = λ other. is_better other row in
       ap not (any_filter beats is_cand rows ∙ any_implies (λ other. is_long other && is_cand other) (λ other. is_cand other && beats other) rows (λ other h.
       let parts : (is_long other ≡ true) × (is_cand other ≡ true) = both_true (is_long other) (is_cand other) h in
       both_are (is_cand other) (beats other) parts.1 (longer_is_better row other short (long_len other parts.0))) some)
 
-  test_alike_by : (rows : List Route) (row : Route) (c l : Bool) → is_cand row ≡ c → is_long row ≡ l → IsPrefix row.prefix → Each (λ other. IsPrefix other.prefix) rows → has_long rows ≡ true → (c && is_unbeaten (candidates rows table addr) row) ≡ (l && (c && is_unbeaten (long_cands rows) row))
+  test_alike_by : (rows : List Route) (row : Route) (c l : Bool) → is_cand row ≡ c → is_long row ≡ l → IsPrefix row.prefix → Each (λ other. IsPrefix other.prefix) rows → has_long rows ≡ true → (c && is_first is_better (candidates rows table addr) row) ≡ (l && (c && is_first is_better (long_cands rows) row))
   test_alike_by rows row false true cand long p prefixes some = refl
   test_alike_by rows row false false cand long p prefixes some = refl
   test_alike_by rows row true true cand long p prefixes some = unbeaten_alike rows row prefixes long
@@ -145,8 +146,8 @@ module _ (table : ℕ) (addr : Addr) where
   -- where there is a long candidate, the best is the best of the long ones
   best_of_long : (rows : List Route) → Each (λ row. IsPrefix row.prefix) rows → has_long rows ≡ true → best rows table addr ≡ best (rows_of_piece (piece_of_addr addr) rows) table addr
   best_of_long rows prefixes some =
-      let all : Route → Bool = is_unbeaten (candidates rows table addr) in
-      let long : Route → Bool = is_unbeaten (long_cands rows) in
+      let all : Route → Bool = is_first is_better (candidates rows table addr) in
+      let long : Route → Bool = is_first is_better (long_cands rows) in
       find-filter all is_cand rows
       ∙ find_same_tests (λ row. is_cand row && all row) (λ row. is_long row && (is_cand row && long row)) rows
       (each_implies (λ row. IsPrefix row.prefix) _ (λ row p. test_alike_by rows row (is_cand row) (is_long row) refl refl p prefixes some) rows prefixes)
@@ -168,7 +169,7 @@ module _ (table : ℕ) (addr : Addr) where
   -- where there is none, it is the best of the short ones
   best_of_short : (rows : List Route) → Each (λ row. IsPrefix row.prefix) rows → has_long rows ≡ false → best rows table addr ≡ best (rows_of_piece 0 rows) table addr
   best_of_short rows prefixes none =
-      ap (λ (cs : List Route). find (is_unbeaten cs) cs)
+      ap (λ (cs : List Route). first_by is_better cs)
       (filter_same_tests is_cand (λ row. is_of 0 row && is_cand row) rows (short_alike rows prefixes (each_fails (λ row. is_long row && is_cand row) rows none)) ∙ sym (filter_both is_cand (is_of 0) rows))
 
   pub best_in_piece : (rows : List Route) (route : Route) → IsTable rows → best (rows_of_piece (piece_of_addr addr) rows) table addr ≡ Some route → best rows table addr ≡ Some route
@@ -176,7 +177,7 @@ module _ (table : ℕ) (addr : Addr) where
       let prefixes : Each (λ row. IsPrefix row.prefix) rows = recursion_from_All (λ row. IsPrefix row.prefix) rows whole.prefixes in
       ⊎_elim
       (λ (some : has_long rows ≡ true). best_of_long rows prefixes some ∙ h)
-      (λ (none : has_long rows ≡ false). absurd (let e : best (rows_of_piece (piece_of_addr addr) rows) table addr ≡ None = ap (λ (cs : List Route). find (is_unbeaten cs) cs) (no_long rows none) in cc))
+      (λ (none : has_long rows ≡ false). absurd (let e : best (rows_of_piece (piece_of_addr addr) rows) table addr ≡ None = ap (λ (cs : List Route). first_by is_better cs) (no_long rows none) in cc))
       (cases_Bool (has_long rows))
 
   pub best_in_short : (rows : List Route) → IsTable rows → best (rows_of_piece (piece_of_addr addr) rows) table addr ≡ None → best rows table addr ≡ best (rows_of_piece 0 rows) table addr
@@ -184,7 +185,7 @@ module _ (table : ℕ) (addr : Addr) where
       let prefixes : Each (λ row. IsPrefix row.prefix) rows = recursion_from_All (λ row. IsPrefix row.prefix) rows whole.prefixes in
       ⊎_elim
       (λ (some : has_long rows ≡ true).
-      let none : long_cands rows ≡ [] = none_unbeaten (long_cands rows) h in
+      let none : long_cands rows ≡ [] = none_first is_better better_order (long_cands rows) h in
       let no_long_one : has_long rows ≡ false = none_kept (λ row. is_long row && is_cand row) rows (sym (filter_both is_cand is_long rows) ∙ none) in
       absurd (let e : true ≡ false = sym some ∙ no_long_one in cc))
       (λ (none : has_long rows ≡ false). best_of_short rows prefixes none)

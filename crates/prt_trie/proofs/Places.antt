@@ -4,7 +4,8 @@ use Rattle.std.specs.List.{AllWithin, between}
 use Rattle.std.specs.List.Sorted.{IsPartitionPoint, IsPartitionedBy}
 use Rattle.std.proofs.lemmas.Bool.Decides.{nat_tests}
 use Rattle.std.proofs.lemmas.List.{length-take-le, length-drop, get_or-take, get_or-drop}
-use Rattle.prt_addr.specs.Block.{Block, IsPrefix}
+use Rattle.prt_addr.specs.Block.{Block}
+use Rattle.prt_addr.specs.Sound.{IsPrefix}
 use Rattle.prt_route.specs.declared.route.Route.{Route}
 use Rattle.prt_trie.specs.Place.{is_before}
 use Rattle.prt_trie.specs.Table.{IsTable}

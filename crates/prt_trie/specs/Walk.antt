@@ -1,6 +1,5 @@
 -- What a walk down the trie finds, and which of some rows is the best.
-use Rattle.std.specs.Prelude.{◌≡◌, ◌⊎◌, ℕ, ◌+◌, ◌-◌, ◌*◌, ◌<◌, ◌≤◌, List, Bool, true, if◌then◌else◌, ◌&&◌, ◌==◌, nat_le, nat_lt, not, slice_index_or, filter, Option}
-use Rattle.std.specs.List.{list_any}
+use Rattle.std.specs.Prelude.{◌≡◌, ◌⊎◌, ℕ, ◌+◌, ◌-◌, ◌*◌, ◌<◌, ◌≤◌, List, Bool, true, if◌then◌else◌, ◌&&◌, ◌==◌, nat_le, nat_lt, slice_index_or, filter, Option}
 use Rattle.prt_addr.specs.Prefix.{contains}
 use Rattle.prt_addr.specs.declared.addr.Addr.{Addr}
 use Rattle.prt_addr.specs.Order.{first_by}
@@ -47,7 +46,3 @@ candidates_for rows addr = filter (λ row. contains row.prefix addr) rows
 -- of the rows whose prefix contains the address, the first that none of them beats
 abbrev pub best_for : List Route → Addr → Option Route
 best_for rows addr = first_by is_better (candidates_for rows addr)
-
--- none of these is better
-abbrev pub is_unbeaten : List Route → Route → Bool
-is_unbeaten others route = not (list_any (λ other. is_better other route) others)

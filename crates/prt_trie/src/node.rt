@@ -4,7 +4,7 @@ ghost use Rattle.std.specs.List.{AllWithin};
 ghost use Rattle.prt_addr.specs.Block.{Block};
 ghost use Rattle.prt_route.specs.declared.route.Route.{Route};
 ghost use Rattle.prt_trie.specs.Block.{IsIn, size};
-ghost use Rattle.prt_trie.specs.Walk.{last_row, nowhere, IsBest};
+ghost use Rattle.prt_trie.specs.Walk.{last_row, nowhere, row_or, IsBest};
 ghost use Rattle.prt_trie.specs.Table.{IsTable};
 
 use crate::place::{Place, first_from};
@@ -48,6 +48,13 @@ impl Node {
     }
 }
 
+/// The row's place, or the one so far where the node has no row.
+fn row_or(row: usize, before: usize) -> usize
+    ensures { result ≡ row_or row before }
+{
+    if row == NOWHERE { before } else { row }
+}
+
 /// The place of the last row on the way down to the address, which is the best for it: `NOWHERE` where none contains it.
 pub(crate) fn last_row(root: &Node, addr: u32) -> usize
     ensures { result ≡ last_row root.now addr nowhere }
@@ -55,9 +62,7 @@ pub(crate) fn last_row(root: &Node, addr: u32) -> usize
     let mut place = NOWHERE;
     let mut node = root;
     while node.has(addr) {
-        if node.row != NOWHERE {
-            place = node.row;
-        }
+        place = row_or(node.row, place);
         match &node.below {
             Below::Nothing => break,
             Below::Halves(halves) => {

@@ -1,7 +1,7 @@
 ghost use Rattle.std.specs.Prelude.{◌≡◌, ◌<◌, ◌^◌, ℕ, length, All, IfErr, IfOk, IsPermutation, option_map, slice_get};
 ghost use Rattle.std.specs.List.{IsDistinct};
 ghost use Rattle.std.specs.Option.{option_copied};
-ghost use Rattle.prt_addr.specs.Block.{IsPrefix};
+ghost use Rattle.prt_addr.specs.Sound.{IsPrefix};
 ghost use Rattle.prt_addr.specs.declared.refusal.Refusal.TheVariants.{NoMemory};
 ghost use Rattle.prt_route.specs.Best.{best};
 ghost use Rattle.prt_route.specs.Edit.{has_key};

@@ -13,7 +13,8 @@ use Rattle.std.proofs.lemmas.List.{append-nil, take_more, length-append}
 use Rattle.std.proofs.lemmas.List.Elements.{All-from_recursion, filter-append, recursion_from_All}
 use Rattle.std.proofs.lemmas.List.Sorted.{All-permutation, length_permutation}
 use Rattle.prt_addr.specs.Given.{agrees, agrees_there}
-use Rattle.prt_addr.specs.Order.{first_by, insert_by, IsRising}
+use Rattle.prt_addr.specs.Order.{first_by, insert_by}
+use Rattle.prt_addr.specs.Rising.{IsRising}
 use Rattle.prt_addr.specs.Prefix.{contains, is_same_prefix}
 use Rattle.prt_addr.specs.declared.addr.Addr.{Addr}
 use Rattle.prt_addr.proofs.Each.{each_append, each_filtered, each_implies, each_fails}

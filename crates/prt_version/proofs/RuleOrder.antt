@@ -4,7 +4,8 @@ use Rattle.std.specs.Cmp.{IsStrictWeakOrder}
 use Rattle.std.specs.Prelude.{◌==◌}
 use Rattle.std.specs.List.{AllByRecursion as Each, IsDistinct}
 use Rattle.std.proofs.lemmas.Bool.Decides.{nat_tests}
-use Rattle.prt_addr.specs.Order.{insert_by, IsRising}
+use Rattle.prt_addr.specs.Order.{insert_by}
+use Rattle.prt_addr.specs.Rising.{IsRising}
 use Rattle.prt_addr.proofs.Each.{each_fails, each_implies}
 use Rattle.prt_addr.proofs.Orders.{distinct_inserted, inserted_rises}
 use Rattle.prt_rule.specs.Rule.{is_before}

@@ -2,7 +2,8 @@
 use Rattle.std.proofs.Common.{◌≡◌, ℕ, ◌+◌, ◌<◌, Bool, List, [], ◌∷◌, Option, Some, None, refl, sym, ap, ◌∙◌, length, drop, get_or, drop-cons, add-one, suc, true, false, cond}
 use Rattle.std.specs.Prelude.{filter, is_some, option_and_then, unwrap_or}
 use Rattle.std.specs.List.{AllByRecursion as Each}
-use Rattle.prt_addr.specs.Order.{first_by, IsRising}
+use Rattle.prt_addr.specs.Order.{first_by}
+use Rattle.prt_addr.specs.Rising.{IsRising}
 use Rattle.prt_addr.proofs.Each.{each_passing}
 use Rattle.prt_addr.proofs.Orders.{first_is_head, not_itself}
 use Rattle.prt_route.specs.declared.route.Route.{Route}

@@ -1,9 +1,9 @@
 -- What holds of every version.
 use Rattle.std.specs.Prelude.{◌+◌, ◌≤◌, ◌==◌, length}
 use Rattle.std.specs.List.{AllByRecursion as Each, IsDistinct}
-use Rattle.prt_addr.specs.Order.{IsRising}
+use Rattle.prt_addr.specs.Rising.{IsRising}
 use Rattle.prt_route.specs.Route.{is_listed_before}
-use Rattle.prt_rule.specs.Rule.{IsInOrder}
+use Rattle.prt_rule.specs.Sound.{IsInOrder}
 use Rattle.prt_rule.specs.Same.{is_same_rule}
 use Rattle.prt_version.specs.State.{State}
 use Rattle.prt_version.specs.declared.limits.TheConstants.{MOST_COMMANDS, MOST_ROUTES, MOST_RULES}

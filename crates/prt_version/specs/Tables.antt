@@ -2,7 +2,8 @@
 use Rattle.std.specs.Prelude.{◌≡◌, ℕ, Bool, true, false, ◌==◌, nat_lt, if◌then◌else◌, List, [], ◌∷◌, ◌++◌, filter, map}
 use Rattle.std.specs.List.{list_any, AllByRecursion as Each}
 use Rattle.prt_addr.specs.Given.{agrees}
-use Rattle.prt_addr.specs.Order.{insert_by, IsRising}
+use Rattle.prt_addr.specs.Order.{insert_by}
+use Rattle.prt_addr.specs.Rising.{IsRising}
 use Rattle.prt_route.specs.Edit.{after_edit}
 use Rattle.prt_route.specs.declared.edit.RouteEdit.{RouteEdit}
 use Rattle.prt_route.specs.declared.edit.RouteEdit.TheVariants.{Put, Remove, Flush}

@@ -1,5 +1,5 @@
 ghost use Rattle.std.specs.Prelude.{◌≡◌, option_map};
-ghost use Rattle.prt_rule.specs.Rule.{IsInOrder};
+ghost use Rattle.prt_rule.specs.Sound.{IsInOrder};
 ghost use Rattle.prt_version.specs.Select.{decision, table_lookup, verdict_of};
 ghost use Rattle.prt_version.specs.Steps.{first_verdict};
 

@@ -1,7 +1,7 @@
 ghost use Rattle.std.specs.Prelude.{◌≡◌, IfErr, IfOk, None};
 ghost use Rattle.std.specs.Arc.{arc_value};
 ghost use Rattle.prt_addr.specs.declared.refusal.Refusal.TheVariants.{NoMemory};
-ghost use Rattle.prt_rule.specs.Rule.{IsInOrder};
+ghost use Rattle.prt_rule.specs.Sound.{IsInOrder};
 ghost use Rattle.prt_version.specs.Change.{IsChecked, check, put, rule_of};
 ghost use Rattle.prt_version.specs.Listing.{listing};
 ghost use Rattle.prt_version.specs.Select.{select};

@@ -1,5 +1,5 @@
 use Rattle.std.proofs.Common.{◌∙◌, ap, sym, option_map}
-use Rattle.prt_addr.specs.Prefix.{block_from}
+use Rattle.prt_addr.specs.Steps.{block_from}
 use Rattle.prt_addr.proofs.Blocks.{bad_length, both}
 use Rattle.prt_addr.proofs.prefix.read_block.Goals as goal
 

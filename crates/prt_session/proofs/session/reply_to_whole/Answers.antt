@@ -4,9 +4,9 @@ use Rattle.prt_session.specs.Session.{LineMay, line_turn}
 use Rattle.prt_session.proofs.session.reply_to_whole.Goals as goal
 
 -- a long line is refused by its reading alone
-pub returns-then-count-gt-LONGEST_LINE-clause-turn : goal.returns-then-count-gt-LONGEST_LINE-clause-turn
+pub returns-then-is_long-clause-turn : goal.returns-then-is_long-clause-turn
 unfolding line_turn LineMay
-returns-then-count-gt-LONGEST_LINE-clause-turn g c = λ content counted kept after stands.
+returns-then-is_long-clause-turn g c = λ content counted kept after stands.
     let long : 1024 < length content = omega (arith, counted) in
     let e = reading_long content long in
     (after, stands, (None, rw e refl, rw e refl, rw e refl))

@@ -1,12 +1,10 @@
-use Rattle.std.proofs.Common.{◌≡◌, ◌+◌, ◌-◌, ◌<◌, true, false, inl, inr, refl, arith}
+use Rattle.std.proofs.Common.{◌≡◌, ◌+◌, ◌-◌, ◌<◌, true, false, refl, arith}
 use Rattle.prt_command.specs.Lines.{limits}
-use Rattle.prt_session.proofs.Ends.{answered_line, nothing_read, line_served, closes, closes_alone, too_many_alone, too_many_closes, fault_alone, fault_closes}
+use Rattle.prt_session.proofs.Ends.{after_last, answered_line, nothing_read, line_served, closes, closes_alone}
 use Rattle.prt_session.proofs.Served.{moment, served_at_first, ran_from, cut_from, ran_to_end}
 use Rattle.prt_session.specs.Run.{refused_after}
 use Rattle.prt_session.specs.Steps.{is_nothing, ends_after}
-use Rattle.prt_session.specs.declared.reply.Reply.TheVariants.{Refused}
 use Rattle.prt_session.proofs.session.run_session.Goals as goal
-use Rattle.prt_session.proofs.session.run_session.Goals.{in-Byte, in-Fault}
 
 pub loop-count-init : goal.loop-count-init
 loop-count-init g c = record {
@@ -25,7 +23,7 @@ returns-then-is_no_line-clause-run g c = λ after stands.
     let reader = g.R.Read.remaining c.next_line-read.new.reader in
     let nothing : is_nothing c.next_line-read.result ≡ true = cc in
     let h = nothing_read now.reader reader c.next_line-read.new.line.items c.next_line-read.result c.next_line-read.ensures nothing in
-    (before.0, before.1, inl (ran_to_end turn may c.args.mode start now (limits.lines - c.loop-count.count) c.loop-count.end reader before.2 h.0 h.1))
+    (before.0, before.1, ran_to_end turn may c.args.mode start now (limits.lines - c.loop-count.count) c.loop-count.end reader before.2 h.0 h.1)
 
 pub returns-then-not-is_written-clause-run : goal.returns-then-not-is_written-clause-run
 returns-then-not-is_written-clause-run g c = λ after stands.
@@ -45,7 +43,7 @@ returns-then-not-is_written-clause-run g c = λ after stands.
     let line = answered_line turn may now later c.next_line-read.new.line.items read reply is something answer.2 in
     let noted : c.with_write_fault.result.refused ≡ refused_after c.loop-count.end.refused reply = cc in
     let alone = closes_alone turn may c.args.mode left some_left now later reply read.stop is.content line in
-    (before.0, before.1, inr (cut_from turn may c.args.mode start now later left c.loop-count.end before.2 c.with_write_fault.result reply alone (c.if-not-is_written.ensures.told refl) c.if-not-is_written.ensures.written noted c.with_write_fault.ensures.fault))
+    (before.0, before.1, cut_from turn may c.args.mode start now later left c.loop-count.end before.2 c.with_write_fault.result reply alone (c.if-not-is_written.ensures.told refl) c.if-not-is_written.ensures.written noted c.with_write_fault.ensures.fault)
 
 pub returns-then-is_last-clause-run : goal.returns-then-is_last-clause-run
 returns-then-is_last-clause-run g c = λ after stands.
@@ -65,7 +63,7 @@ returns-then-is_last-clause-run g c = λ after stands.
     let over : ends_after c.args.mode read.stop reply ≡ true = cc in
     let line = answered_line turn may now later c.next_line-read.new.line.items read reply is something answer.2 in
     let last = closes turn may c.args.mode left some_left now later reply read.stop is.content line over in
-    (before.0, before.1, inl (ran_from turn may c.args.mode start now later left c.loop-count.end before.2 c.with_reply-end.result reply last c.if-not-is_written.ensures.written c.with_reply-end.ensures.refused c.with_reply-end.ensures.fault))
+    (before.0, before.1, ran_from turn may c.args.mode start now later left c.loop-count.end before.2 c.with_reply-end.result reply last c.if-not-is_written.ensures.written c.with_reply-end.ensures.refused c.with_reply-end.ensures.fault)
 
 pub loop-count-preserved : goal.loop-count-preserved
 loop-count-preserved g c = record {
@@ -91,42 +89,10 @@ loop-count-preserved g c = record {
       (before.0, before.1, rw less (line_served turn may c.args.mode left start now later c.loop-count.end c.with_reply-end.result reply read.stop is.content some_left before.2 line over c.if-not-is_written.ensures.written c.with_reply-end.ensures.refused c.with_reply-end.ensures.fault));
 }
 
-pub returns-in-End-clause-run : goal.returns-in-End-clause-run
-returns-in-End-clause-run g c = λ after stands.
-    let before = c.loop-count.invariant.served after stands in
-    let start = moment before.0 (g.R.Read.remaining c.args.reader.now) (g.W.Write.contents c.args.writer.now) in
-    let now = moment after (g.R.Read.remaining c.loop-count.reader) (g.W.Write.contents c.loop-count.writer) in
-    (before.0, before.1, inl (ran_to_end g.E.Executor.turn g.E.Executor.may c.args.mode start now (limits.lines - c.loop-count.count) c.loop-count.end (g.R.Read.remaining c.next_byte.new.reader) before.2 c.in-End.ensures.0 c.in-End.ensures.1))
-
-pub returns-then-not-write_reply-clause-run : goal.returns-then-not-write_reply-clause-run
-returns-then-not-write_reply-clause-run g c = λ after stands.
-    let turn = g.E.Executor.turn in
-    let may = g.E.Executor.may in
-    let before = c.loop-count.invariant.served after stands in
-    let start = moment before.0 (g.R.Read.remaining c.args.reader.now) (g.W.Write.contents c.args.writer.now) in
-    let now = moment after (g.R.Read.remaining c.loop-count.reader) (g.W.Write.contents c.loop-count.writer) in
-    let later = moment after (g.R.Read.remaining c.next_byte.new.reader) (g.W.Write.contents c.write_reply.new.writer) in
-    let none : limits.lines - c.loop-count.count ≡ 0 = omega arith in
-    let served = rw none at before.2 in
-    let reply = Refused c.match-next_byte.refusal in
-    let noted : c.with_write_fault-then-not-write_reply.result.refused ≡ refused_after c.loop-count.end.refused reply = cc in
-    elim c.match-next_byte.branch [
-      | in-Byte w ↦ (before.0, before.1, inr (cut_from turn may c.args.mode start now later 0 c.loop-count.end served c.with_write_fault-then-not-write_reply.result reply (rw w.refusal-is (too_many_alone turn may c.args.mode now later refl w.in-Byte.field-0 w.in-Byte.ensures)) (λ e. cc) c.if-not-write_reply.ensures.written noted c.with_write_fault-then-not-write_reply.ensures.fault))
-      | in-Fault w ↦ (before.0, before.1, inr (cut_from turn may c.args.mode start now later 0 c.loop-count.end served c.with_write_fault-then-not-write_reply.result reply (rw w.refusal-is (fault_alone turn may c.args.mode now later refl 0 w.in-Fault.ensures)) (λ e. cc) c.if-not-write_reply.ensures.written noted c.with_write_fault-then-not-write_reply.ensures.fault))
-    ]
-
 pub returns-clause-run : goal.returns-clause-run
 returns-clause-run g c = λ after stands.
-    let turn = g.E.Executor.turn in
-    let may = g.E.Executor.may in
     let before = c.loop-count.invariant.served after stands in
     let start = moment before.0 (g.R.Read.remaining c.args.reader.now) (g.W.Write.contents c.args.writer.now) in
     let now = moment after (g.R.Read.remaining c.loop-count.reader) (g.W.Write.contents c.loop-count.writer) in
-    let later = moment after (g.R.Read.remaining c.next_byte.new.reader) (g.W.Write.contents c.write_reply.new.writer) in
     let none : limits.lines - c.loop-count.count ≡ 0 = omega arith in
-    let served = rw none at before.2 in
-    let reply = Refused c.match-next_byte.refusal in
-    elim c.match-next_byte.branch [
-      | in-Byte w ↦ (before.0, before.1, inl (ran_from turn may c.args.mode start now later 0 c.loop-count.end served c.with_reply-end-2.result reply (rw w.refusal-is (too_many_closes turn may c.args.mode now later refl w.in-Byte.field-0 w.in-Byte.ensures)) c.if-not-write_reply.ensures.written c.with_reply-end-2.ensures.refused c.with_reply-end-2.ensures.fault))
-      | in-Fault w ↦ (before.0, before.1, inl (ran_from turn may c.args.mode start now later 0 c.loop-count.end served c.with_reply-end-2.result reply (rw w.refusal-is (fault_closes turn may c.args.mode now later refl 0 w.in-Fault.ensures)) c.if-not-write_reply.ensures.written c.with_reply-end-2.ensures.refused c.with_reply-end-2.ensures.fault))
-    ]
+    (before.0, before.1, after_last g.E.Executor.turn g.E.Executor.may c.args.mode start now c.loop-count.end (rw none at before.2) (g.R.Read.remaining c.end_after_last.new.reader) (g.W.Write.contents c.end_after_last.new.writer) c.end_after_last.result c.end_after_last.ensures)
