@@ -1,6 +1,7 @@
 ghost use Rattle.std.specs.Prelude.{◌≡◌};
 ghost use Rattle.prt_command.specs.LineKinds.{action_words, route_edit_words, route_get_words, route_list_words, rule_edit_line, selector_words, word_in};
-ghost use Rattle.prt_command.specs.Reading.{lone_verb, meaning_of, object_of, verb_of};
+ghost use Rattle.prt_addr.specs.Word.{is_one_of};
+ghost use Rattle.prt_command.specs.Reading.{add_words, del_words, lone_verb, meaning_of, object_of, show_words, verb_of};
 
 use crate::words::is;
 use crate::{Item, ItemWord, Slot};
@@ -64,21 +65,42 @@ impl Object {
     }
 }
 
+/// Tells whether the word means `add`.
+fn is_add(word: &[u8]) -> bool
+    ensures { result ≡ is_one_of word.now add_words }
+{
+    is(word, b"add") || is(word, b"a")
+}
+
+/// Tells whether the word means `del`.
+fn is_del(word: &[u8]) -> bool
+    ensures { result ≡ is_one_of word.now del_words }
+{
+    is(word, b"del") || is(word, b"delete") || is(word, b"d")
+}
+
+/// Tells whether the word means `show`.
+fn is_show(word: &[u8]) -> bool
+    ensures { result ≡ is_one_of word.now show_words }
+{
+    is(word, b"show") || is(word, b"list") || is(word, b"lst") || is(word, b"ls")
+}
+
 /// Reads a verb of routes.
 fn route_verb(word: &[u8]) -> Option<ObjectVerb>
     ensures { result ≡ verb_of Object.Route word.now }
 {
-    if is(word, b"add") || is(word, b"a") {
+    if is_add(word) {
         Some(ObjectVerb::RouteAdd)
     } else if is(word, b"change") || is(word, b"chg") {
         Some(ObjectVerb::RouteChange)
     } else if is(word, b"replace") {
         Some(ObjectVerb::RouteReplace)
-    } else if is(word, b"del") || is(word, b"delete") || is(word, b"d") {
+    } else if is_del(word) {
         Some(ObjectVerb::RouteDel)
     } else if is(word, b"flush") {
         Some(ObjectVerb::RouteFlush)
-    } else if is(word, b"show") || is(word, b"list") || is(word, b"lst") || is(word, b"ls") {
+    } else if is_show(word) {
         Some(ObjectVerb::RouteShow)
     } else if is(word, b"get") {
         Some(ObjectVerb::RouteGet)
@@ -91,13 +113,13 @@ fn route_verb(word: &[u8]) -> Option<ObjectVerb>
 fn rule_verb(word: &[u8]) -> Option<ObjectVerb>
     ensures { result ≡ verb_of Object.Rule word.now }
 {
-    if is(word, b"add") || is(word, b"a") {
+    if is_add(word) {
         Some(ObjectVerb::RuleAdd)
-    } else if is(word, b"del") || is(word, b"delete") || is(word, b"d") {
+    } else if is_del(word) {
         Some(ObjectVerb::RuleDel)
     } else if is(word, b"flush") {
         Some(ObjectVerb::RuleFlush)
-    } else if is(word, b"show") || is(word, b"list") || is(word, b"lst") || is(word, b"ls") {
+    } else if is_show(word) {
         Some(ObjectVerb::RuleShow)
     } else {
         None
