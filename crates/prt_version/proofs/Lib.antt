@@ -1,4 +1,5 @@
 pub mod ByTable
+pub mod OneForm
 pub mod Places
 pub mod RuleOrder
 pub mod Rules

@@ -3,6 +3,7 @@ pub mod Tables
 pub mod Change
 pub mod Listing
 pub mod Sound
+pub mod RowsSpell
 pub mod Select
 pub mod Steps
 pub mod Example

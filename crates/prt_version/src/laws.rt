@@ -1,5 +1,5 @@
 //! Laws of the definitions, which no program calls.
-ghost use Rattle.std.specs.Prelude.{◌≡◌, ◌↔◌, None, Some, false, length};
+ghost use Rattle.std.specs.Prelude.{◌≡◌, ◌↔◌, ℕ, List, None, Some, false, length};
 ghost use Rattle.std.specs.List.{Contains};
 ghost use Rattle.prt_addr.specs.declared.refusal.Refusal.TheVariants.{Full};
 ghost use Rattle.prt_route.specs.Edit.{has_key};
@@ -8,6 +8,7 @@ ghost use Rattle.prt_route.specs.declared.route.Route.{Route};
 ghost use Rattle.prt_rule.specs.declared.rule.Rule.{Rule};
 ghost use Rattle.prt_command.specs.declared.request.Command.TheVariants.{RouteAdd};
 ghost use Rattle.prt_version.specs.Change.{refusal};
+ghost use Rattle.prt_version.specs.RowsSpell.{RowsSpell};
 ghost use Rattle.prt_version.specs.Sound.{IsSound};
 ghost use Rattle.prt_version.specs.State.{State};
 
@@ -17,6 +18,12 @@ pub fn one_form()
         ((rule : Rule) → Contains state.rules rule ↔ Contains other.rules rule) →
         ((route : Route) → Contains state.routes route ↔ Contains other.routes route) →
         state ≡ other }
+{}
+
+/// Rows spell one state at most.
+pub fn spelled_once()
+    ensures { (number : ℕ) (rules : List Rule) (routes : List Route) (state other : State) →
+        RowsSpell number rules routes state → RowsSpell number rules routes other → state ≡ other }
 {}
 
 /// The hundred-thousand-and-first route is refused as one too many, and the one before it is not.
