@@ -30,6 +30,7 @@ use Rattle.prt_route.specs.declared.edit.RouteEdit.TheVariants.{Put, Remove, Flu
 use Rattle.prt_route.specs.declared.route.Route.{Route}
 use Rattle.prt_route.specs.declared.route.RouteKey.{RouteKey}
 use Rattle.prt_trie.specs.Table.{IsOfTable}
+use Rattle.prt_version.proofs.SortedRows.{rising_numbers}
 use Rattle.prt_version.specs.Tables.{AreTables, HasOwnRows, TableRows, all_rows, has_rows, has_table, is_lower, names_table, rows_of_table, table_after, table_of, tables_after, tables_with}
 
 -- ---- filters and tests of lists
@@ -119,11 +120,11 @@ each_row : (P : Route → Type 0) (tables : List TableRows) → Each (λ table. 
 each_row P [] h = tt
 each_row P (table ∷ tables) h = each_append P table.rows (all_rows tables) h.0 (each_row P tables h.1)
 
-both_in_each : {X : Type 0} (P Q : X → Type 0) (xs : List X) → Each P xs → Each Q xs → Each (λ x. P x × Q x) xs
+pub both_in_each : {X : Type 0} (P Q : X → Type 0) (xs : List X) → Each P xs → Each Q xs → Each (λ x. P x × Q x) xs
 both_in_each P Q [] h k = tt
 both_in_each P Q (x ∷ xs) h k = ((h.0, k.0), both_in_each P Q xs h.1 k.1)
 
-rows_append : (front back : List TableRows) → all_rows (front ++ back) ≡ all_rows front ++ all_rows back
+pub rows_append : (front back : List TableRows) → all_rows (front ++ back) ≡ all_rows front ++ all_rows back
 rows_append [] back = refl
 rows_append (table ∷ front) back = ap (λ rows. table.rows ++ rows) (rows_append front back) ∙ sym (append_assoc table.rows (all_rows front) (all_rows back))
 
@@ -420,18 +421,6 @@ all_rows_with edit routes inside given after are views same made = ap all_rows (
 
 -- ---- one table found by its number
 
-each_get : {X : Type 0} (P : X → Type 0) (xs : List X) (i : ℕ) (d : X) → Each P xs → i < length xs → P (get_or xs i d)
-each_get P [] i d h lt = absurd (omega arith)
-each_get P (x ∷ xs) zero d h lt = h.0
-each_get P (x ∷ xs) (suc i) d h lt = each_get P xs i d h.1 (omega arith)
-
-numbers_rise : (tables : List TableRows) → IsRising is_lower tables → (i j : ℕ) (d : TableRows) → i ≤ j → j < length tables → (get_or tables i d).number ≤ (get_or tables j d).number
-numbers_rise [] rise i j d le lt = absurd (omega arith)
-numbers_rise (table ∷ tables) rise zero zero d le lt = omega arith
-numbers_rise (table ∷ tables) rise zero (suc j) d le lt = lower_is_le table.number (get_or tables j d).number (each_get (λ other. is_lower table other ≡ true) tables j d rise.0 (omega arith))
-numbers_rise (table ∷ tables) rise (suc i) zero d le lt = absurd (omega arith)
-numbers_rise (table ∷ tables) rise (suc i) (suc j) d le lt = numbers_rise tables rise.1 i j d (omega arith) (omega arith)
-
 order_rises : (a b number : ℕ) → a ≤ b → ordering_index (nat_cmp a number) ≤ ordering_index (nat_cmp b number)
 order_rises a b number le = grind (arith, nat_tests)
 
@@ -452,7 +441,7 @@ found_rows tables number place table are lt is equal =
 pub missing_rows : (tables : List TableRows) (number place : ℕ) → AreTables tables → (IsNonDecreasingBy (λ table. ordering_index (nat_cmp table.number number)) tables → IsPartitionPoint (λ table. nat_cmp table.number number ≡ Less) (λ table. nat_cmp table.number number ≡ Greater) tables place) → [] ≡ rows_of_table number (all_rows tables)
 missing_rows tables number place are parted =
     let parts : IsPartitionPoint (λ table. nat_cmp table.number number ≡ Less) (λ table. nat_cmp table.number number ≡ Greater) tables place =
-    parted (λ i j d le lt. order_rises (get_or tables i d).number (get_or tables j d).number number (numbers_rise tables are.rise i j d le lt)) in
+    parted (λ i j d le lt. order_rises (get_or tables i d).number (get_or tables j d).number number (rising_numbers is_lower (λ (table : TableRows). table.number) (λ table other lower. lower_is_le table.number other.number lower) tables are.rise i j d le lt)) in
     let others : All (λ table. eqb table.number number ≡ false) tables = λ k d lt.
     ⊎_elim
     (λ (below : k < place). less_differs (get_or tables k d).number number (parts.0 k d (omega arith) below))

@@ -1,6 +1,11 @@
 pub mod ByTable
+pub mod Contents
+pub mod FromRows
 pub mod OneForm
 pub mod Places
+pub mod RowOrder
 pub mod RuleOrder
 pub mod Rules
+pub mod Runs
+pub mod SortedRows
 pub mod Successor

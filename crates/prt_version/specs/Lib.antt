@@ -4,6 +4,8 @@ pub mod Change
 pub mod Listing
 pub mod Sound
 pub mod RowsSpell
+pub mod Content
+pub mod Ordered
 pub mod Select
 pub mod Steps
 pub mod Example

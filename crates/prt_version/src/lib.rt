@@ -5,6 +5,7 @@ mod answer;
 mod change;
 mod checks;
 pub mod examples;
+mod from_rows;
 pub mod laws;
 mod limits;
 mod owners;

@@ -1,5 +1,5 @@
 //! The routes of a version, in one table for each number that has any.
-ghost use Rattle.std.specs.Prelude.{◌≡◌, ◌≤◌, ◌++◌, [], length, filter, nat_lt, position, unwrap_or, IfErr, IfOk, OnOk, option_map};
+ghost use Rattle.std.specs.Prelude.{◌≡◌, ◌<◌, ◌≤◌, ◌++◌, [], length, filter, nat_lt, position, unwrap_or, IfErr, IfOk, OnOk, option_map};
 ghost use Rattle.std.specs.List.{AllByRecursion as Each};
 ghost use Rattle.std.specs.Option.{option_copied};
 ghost use Rattle.prt_addr.specs.Order.{insert_by};
@@ -7,8 +7,9 @@ ghost use Rattle.prt_addr.specs.Rising.{IsRising};
 ghost use Rattle.prt_addr.specs.declared.refusal.Refusal.TheVariants.{NoMemory};
 ghost use Rattle.prt_route.specs.Best.{best};
 ghost use Rattle.prt_route.specs.Edit.{after_edit, has_key};
-ghost use Rattle.prt_route.specs.Route.{key_of};
+ghost use Rattle.prt_route.specs.Route.{is_listed_before, key_of};
 ghost use Rattle.prt_route.specs.RouteChoice.{chosen_route, is_selected};
+ghost use Rattle.prt_trie.specs.Table.{table_of as first_table};
 ghost use Rattle.prt_version.specs.Tables.{AreTables, HasOwnRows, TableRows, all_rows, has_rows, has_table, is_lower, names_table, rows_of_table, table_after, tables_after, table_of, tables_with};
 
 use crate::owners::{first_owner, share};
@@ -231,6 +232,50 @@ fn tables_with(
     }
 }
 
+/// The rows of a table, which stand first, and the rows after them.
+fn split_table(rows: &[Route], number: u32) -> (&[Route], &[Route])
+    requires rising { IsRising is_listed_before rows.now }
+    requires some { 0 < length rows.now }
+    requires first { first_table rows.now ≡ number }
+    ensures whole { result.0.now ++ result.1.now ≡ rows.now }
+    ensures own { Each (λ row. row.table ≡ number) result.0.now }
+    ensures some { 0 < length result.0.now }
+    ensures higher { Each (λ row. number < row.table) result.1.now }
+{
+    rows.split_at(rows.partition_point(|row| row.table <= number))
+}
+
+/// A table of these rows.
+fn table_of_rows(alloc: Global, number: u32, rows: &[Route]) -> Result<SharedTable, Refusal>
+    requires own { Each (λ row. row.table ≡ number) rows.now }
+    requires rising { IsRising is_listed_before rows.now }
+    ensures value { IfOk result (λ table. table ≡ record { number = number; rows = rows.now }) }
+    ensures reason { IfErr result (λ reason. reason ≡ NoMemory) }
+{
+    let table = Table::build(alloc, rows)?;
+    SharedTable::with_rows(alloc, number, table)
+}
+
+/// The tables of rows in the order of listings.
+fn tables_of_rows(alloc: Global, rows: &[Route]) -> Result<Vec<SharedTable>, Refusal>
+    requires { IsRising is_listed_before rows.now }
+    ensures tables { IfOk result (λ tables. AreTables tables.items) }
+    ensures value { IfOk result (λ tables. all_rows tables.items ≡ rows.now) }
+    ensures reason { IfErr result (λ reason. reason ≡ NoMemory) }
+{
+    let mut tables = Vec::new(alloc);
+    let mut rest = rows;
+    while let Some(first) = rest.first() {
+        let (own, others) = split_table(rest, first.table);
+        let table = table_of_rows(alloc, first.table, own)?;
+        let Ok(()) = tables.push(table) else {
+            return Err(Refusal::NoMemory);
+        };
+        rest = others;
+    }
+    Ok(tables)
+}
+
 impl Tables {
     /// No routes.
     pub(crate) fn new(alloc: Global) -> Tables
@@ -250,6 +295,21 @@ impl Tables {
     {
         let len = count_rows(&tables);
         Tables { tables, len }
+    }
+
+    /// The routes of these rows, which stand in the order of listings.
+    ///
+    /// # Errors
+    ///
+    /// `NoMemory` alone.
+    pub(crate) fn from_sorted(alloc: Global, rows: &[Route]) -> Result<Tables, Refusal>
+        requires rising { IsRising is_listed_before rows.now }
+        requires room { length rows.now ≤ MOST_ROUTES }
+        ensures value { IfOk result (λ tables. tables ≡ rows.now) }
+        ensures reason { IfErr result (λ reason. reason ≡ NoMemory) }
+    {
+        let tables = tables_of_rows(alloc, rows)?;
+        Ok(Tables::from_tables(tables))
     }
 
     /// The table of this number, if it has routes.

@@ -1,13 +1,15 @@
-ghost use Rattle.std.specs.Prelude.{◌≡◌, IfErr, IfOk, None};
+ghost use Rattle.std.specs.Prelude.{◌≡◌, ◌⊎◌, IfErr, IfOk, None};
 ghost use Rattle.std.specs.Arc.{arc_value};
-ghost use Rattle.prt_addr.specs.declared.refusal.Refusal.TheVariants.{NoMemory};
+ghost use Rattle.prt_addr.specs.declared.refusal.Refusal.TheVariants.{Damaged, NoMemory};
 ghost use Rattle.prt_rule.specs.Sound.{IsInOrder};
 ghost use Rattle.prt_version.specs.Change.{IsChecked, check, put, rule_of};
 ghost use Rattle.prt_version.specs.Listing.{listing};
+ghost use Rattle.prt_version.specs.RowsSpell.{RowsSpell, RowsSpellNone};
 ghost use Rattle.prt_version.specs.Select.{select};
 ghost use Rattle.prt_version.specs.State.{opening_state, table_rule};
 
 use crate::checks::change_of;
+use crate::from_rows::{ordered_routes, ordered_rules};
 use crate::owners::{first_owner, share};
 use crate::rows::{flushed_rules, with_rule, without_rule};
 use crate::select::verdict_of;
@@ -93,6 +95,39 @@ impl Version {
             count: 0,
             rules: first_owner(alloc, rules)?,
             routes: first_owner(alloc, Tables::new(alloc))?,
+        })
+    }
+
+    /// The version that the rows of rules and of routes spell after so many commands. They come in any order.
+    ///
+    /// # Errors
+    ///
+    /// `Damaged` where they spell none: the number or the rows are more than a database has ([`MOST_COMMANDS`],
+    /// [`MOST_RULES`], [`MOST_ROUTES`]), two routes have one key, two rules have one id or are equal in all but the id,
+    /// an id is not 1 to the number + 3, or a table may not hold one of them. `NoMemory` may come before that.
+    ///
+    /// [`MOST_COMMANDS`]: crate::MOST_COMMANDS
+    /// [`MOST_ROUTES`]: crate::MOST_ROUTES
+    /// [`MOST_RULES`]: crate::MOST_RULES
+    pub fn from_rows(
+        alloc: Global,
+        number: u64,
+        rules: Vec<Rule>,
+        routes: Vec<Route>,
+    ) -> Result<Version, Refusal>
+        ensures value { IfOk result (λ version. RowsSpell number rules.items routes.items version) }
+        ensures reason { IfErr result (λ reason. ((reason ≡ Damaged) × RowsSpellNone number rules.items routes.items) ⊎ (reason ≡ NoMemory)) }
+    {
+        if number > MOST_COMMANDS {
+            return Err(Refusal::Damaged);
+        }
+        let rules = ordered_rules(number, rules)?;
+        let routes = ordered_routes(routes)?;
+        let tables = Tables::from_sorted(alloc, &routes)?;
+        Ok(Version {
+            count: number,
+            rules: first_owner(alloc, rules)?,
+            routes: first_owner(alloc, tables)?,
         })
     }
 
