@@ -1,5 +1,5 @@
 -- A row is what stands in its columns.
-use Rattle.std.proofs.Common.{◌≡◌, ℕ, suc, List, [], ◌∷◌, length, refl}
+use Rattle.std.proofs.Common.{◌≡◌, ◌+◌, ℕ, suc, List, [], ◌∷◌, drop, length, refl, arith}
 use Rattle.std.specs.Prelude.{⊤}
 use Rattle.sqlite_value.specs.declared.value.Value.{Value}
 use Rattle.sqlite_value.specs.Order.{Row, column}
@@ -22,3 +22,8 @@ row_of_cells (c ∷ columns) x [] whole each = cc
 row_of_cells (c ∷ columns) x (v ∷ cells) whole each =
     let more : length cells ≡ length columns = cc in
     λ i. each.0 i ∷ row_of_cells columns x cells more (after_first columns x v cells 0 each.1) i
+
+-- the same of what stands after the first cell
+pub row_after_first : {X : Type 0} (columns : List (Column X)) (x : X) (cells : Row) → length cells ≡ length columns + 1 → HasCells columns x cells 1 → drop 1 cells ≡ row_of columns x
+row_after_first columns x [] whole each = absurd (omega arith)
+row_after_first columns x (v ∷ cells) whole each = row_of_cells columns x cells (omega arith) (after_first columns x v cells 0 each)

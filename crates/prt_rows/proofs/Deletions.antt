@@ -1,5 +1,5 @@
 -- What a DELETE from a table does, whatever its tests are.
-use Rattle.std.proofs.Common.{◌≡◌, ◌⊎◌, inl, inr, ℕ, true, false, List, [], ◌∷◌, Option, Some, None, Ok, Err, Result, refl, sym, ap, subst, ◌∙◌, true≢false, Ordering, Less, Equal, Greater}
+use Rattle.std.proofs.Common.{◌≡◌, ◌⊎◌, inl, inr, ℕ, true, false, List, [], ◌∷◌, Option, Some, None, Ok, Err, Result, sym, ap, subst, ◌∙◌, true≢false, Equal}
 use Rattle.std.proofs.lemmas.Bool.{false_from_ne_true}
 use Rattle.std.proofs.lemmas.Cmp.{tied_itself}
 use Rattle.std.specs.Ordering.{is_eq}
@@ -21,7 +21,7 @@ use Rattle.sqlite.specs.Tree.{Trees, rowid, has_rowid}
 use Rattle.sqlite.specs.declared.types.Value.TheVariants.{Int}
 use Rattle.sqlite_rules.proofs.ListLemmas.{all_has}
 use Rattle.sqlite_rules.proofs.ProbeLemmas.{has_mapped, mapped_has}
-use Rattle.sqlite_rules.proofs.TableLemmas.{int_is, without_all_has}
+use Rattle.sqlite_rules.proofs.TableLemmas.{int_is}
 use Rattle.sqlite_rules.specs.Action.{works}
 use Rattle.sqlite_rules.specs.Calls.{ids_of}
 use Rattle.sqlite_rules.specs.Edit.{taken_by}
@@ -30,6 +30,7 @@ use Rattle.sqlite_schema.specs.declared.schema.Keys.{Keys}
 use Rattle.sqlite_value.proofs.OrderLemmas.{value_cmp_total}
 use Rattle.sqlite_value.specs.Order.{Row, value_cmp}
 use Rattle.prt_rows.proofs.Found.{Finds, finds_passing, has_left, left_has}
+use Rattle.prt_rows.proofs.Keyed.{alone, equal_is, keyed-without_all}
 use Rattle.prt_rows.proofs.Texts.{Means}
 use Rattle.prt_rows.specs.Effects.{Deletes, IsKeyed, passes}
 use Rattle.prt_rows.specs.Meanings.{deletion, rowid_term}
@@ -41,11 +42,6 @@ went (inr on) = on
 
 pub same_value : {B E : Type 0} {a b : B} → ◌≡◌ {A = Result B E} (Ok a) (Ok b) → a ≡ b
 same_value e = cc
-
-equal_is : (o : Ordering) → is_eq o ≡ true → o ≡ Equal
-equal_is Less is = absurd (cc)
-equal_is Equal is = refl
-equal_is Greater is = absurd (cc)
 
 -- the rowids of the rows that pass are taken out, so those rows are
 module _ (tests : List Term) (params : Row) (rows found : List Row) (keyed : IsKeyed rows) (finds : Finds tests (rowid_term ∷ []) rows params found) where
@@ -69,14 +65,8 @@ module _ (tests : List Term) (params : Row) (rows found : List Row) (keyed : IsK
       let named : id ≡ id_in (rowid m.0) = r.2 ∙ ap (λ (q : Row). id_in (rowid q)) m.3 in
       false_from_ne_true _ (λ same.
       let tie : value_cmp (rowid x) (rowid m.0) ≡ Equal = rw (id_of m.0 m.1, ← named) (equal_is _ same) in
-      let one : x ≡ m.0 = keyed.alone x m.0 there m.1 tie in
+      let one : x ≡ m.0 = alone rows keyed x m.0 there m.1 tie in
       true≢false (sym (rw one m.2) ∙ fails)))
-
-  pub still_keyed : IsKeyed (without_all rows (ids_of found))
-  still_keyed = record {
-    ints = λ x there. keyed.ints x (without_all_has (ids_of found) rows x there);
-    alone = λ a b p q. keyed.alone a b (without_all_has (ids_of found) rows a p) (without_all_has (ids_of found) rows b q);
-  }
 
 -- for any text that deletes from a table to which no other refers
 module _ (schema : Schema) (place : ℕ) (table : Table) (there : slice_get schema.tables place ≡ Some table) (quiet : (keys : Keys) (olds news : List Row) → works schema keys 0 table.tree olds news ≡ [])
@@ -114,5 +104,5 @@ module _ (schema : Schema) (place : ℕ) (table : Table) (there : slice_get sche
         };
         sound = λ x stays. none_passes tests params (db tree) given.0 keyed finds x (subst (λ l. Has l x) rows stays);
         complete = λ x was fails. subst (λ l. Has l x) (sym rows) (others_stay tests params (db tree) given.0 keyed finds x was fails);
-        keyed = subst IsKeyed (sym rows) (still_keyed tests params (db tree) given.0 keyed finds);
+        keyed = subst IsKeyed (sym rows) (keyed-without_all (ids_of given.0) (db tree) keyed);
       }

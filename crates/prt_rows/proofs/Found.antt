@@ -27,7 +27,7 @@ pub record Finds (tests shows : List Term) (rows : List Row) (params : Row) (fou
   pub sound : (x : Row) → Has found x → (row : Row) × Has rows row × (passes tests params row ≡ true) × (x ≡ projection shows params row)
   pub complete : (row : Row) → Has rows row → passes tests params row ≡ true → Has found (projection shows params row)
 
-has_permuted : {X : Type 0} (xs ys : List X) (x : X) → IsPermutation xs ys → Has ys x → Has xs x
+pub has_permuted : {X : Type 0} (xs ys : List X) (x : X) → IsPermutation xs ys → Has ys x → Has xs x
 has_permuted xs ys x same = all_has (Has xs) ys x (all-permutation (Has xs) xs ys same (all_from (Has xs) xs (λ e there. there)))
 
 -- the environments of the rows that pass

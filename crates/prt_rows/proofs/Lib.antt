@@ -17,4 +17,5 @@ pub mod Counting
 pub mod RouteKeys
 pub mod Replacing
 pub mod Putting
+pub mod Rising
 pub mod Reading

@@ -1,39 +1,123 @@
 -- What the statements that read a table answer.
-use Rattle.std.proofs.Common.{◌≡◌, ℕ, false, List, [], ◌∷◌, map, flat_map, IsPermutation, refl, sym, ap, subst₂, ◌∙◌}
-use Rattle.std.proofs.lemmas.List.Sorted.{IsPermutation-map}
+use Rattle.std.proofs.Common.{◌≡◌, ℕ, suc, Bool, false, List, [], ◌∷◌, map, flat_map, IsPermutation, refl, sym, ap, subst, subst₂, ◌∙◌, arith, add-one}
+use Rattle.std.proofs.lemmas.List.Sorted.{IsPermutation-map, IsPermutation-sym}
+use Rattle.std.specs.List.{AllByRecursion, IsDistinct}
+use Rattle.std.specs.List.Sorted.{IsSorted, IsSortedBy}
+use Rattle.std.specs.Ordering.{is_lt}
 use Rattle.sqlite.proofs.Callers.{reads_as}
 use Rattle.sqlite.specs.Effect.{Database, Answers}
 use Rattle.sqlite.specs.Listing.{reads_listing, understood}
 use Rattle.sqlite.specs.Program.{overlay}
-use Rattle.sqlite.specs.Query.{Output, output}
+use Rattle.sqlite.specs.Query.{Output, Query, output, output_cmp}
 use Rattle.sqlite.specs.Schema.{Schema}
 use Rattle.sqlite.specs.State.{State, Shown}
 use Rattle.sqlite.specs.Table.{Table}
-use Rattle.sqlite.specs.Term.{Term}
+use Rattle.sqlite.specs.Term.{Env, Term}
+use Rattle.sqlite.specs.Tree.{rowid}
+use Rattle.sqlite.specs.View.{is_int}
 use Rattle.sqlite.specs.declared.types.Value.TheVariants.{Null}
+use Rattle.sqlite_rules.proofs.ListLemmas.{all_from, all_has}
+use Rattle.sqlite_rules.proofs.ProbeLemmas.{has_mapped, mapped_has}
 use Rattle.sqlite_schema.specs.declared.schema.Index.{Index}
 use Rattle.sqlite_schema.specs.declared.schema.View.{View}
 use Rattle.sqlite_tied.specs.Compute.{everything}
-use Rattle.sqlite_value.specs.Order.{Row}
-use Rattle.prt_rows.proofs.Found.{projection}
+use Rattle.sqlite_trees.proofs.ListLemmas.{all-permutation}
+use Rattle.sqlite_value.proofs.OrderLemmas.{then-Equal}
+use Rattle.sqlite_value.specs.Order.{Row, column, value_cmp}
+use Rattle.prt_rows.proofs.Found.{has_permuted, projection}
+use Rattle.prt_rows.proofs.Keyed.{keyed-permutation}
+use Rattle.prt_rows.proofs.Rising.{NeverFall, keyed_if_rising, rises_if_keyed}
 use Rattle.prt_rows.proofs.Texts.{read_meta_is, read_routes_is, read_rules_is}
-use Rattle.prt_rows.specs.Meanings.{over_tree, program, read_meta_terms, read_route_terms, read_rule_terms}
+use Rattle.prt_rows.specs.Effects.{IsKeyed, has_same_rowid}
+use Rattle.prt_rows.specs.Meanings.{listing, read_meta_terms, read_route_terms, read_rule_terms, rowid_term}
+use Rattle.prt_rows.specs.Rowids.{rowids_rise}
 use Rattle.prt_rows.specs.Statements.{read_meta, read_routes, read_rules}
 use Rattle.prt_rows.specs.Tables.{schema_with}
+use Rattle.std.specs.Prelude.{true}
 
-all_shown : (tree : ℕ) (shows : List Term) (rows : List Row)
-    → map (λ (o : Output). o.1) (map (output (over_tree tree [] shows)) (flat_map (λ row. ([] ∷ row ∷ []) ∷ []) rows)) ≡ map (projection shows []) rows
-all_shown tree shows [] = refl
-all_shown tree shows (row ∷ rows) = ap (λ rest. projection shows [] row ∷ rest) (all_shown tree shows rows)
+-- SELECT of the rowid and of these terms, in the order of the rowids
+module _ (tree : ℕ) (terms : List Term) where
+  abbrev shows : List Term
+  shows = rowid_term ∷ terms
 
--- the rows that are read are what is shown of the table's rows, in some order
-pub answers_all : (tree : ℕ) (shows : List Term) (db : Database) (rows : List Row) → overlay db.trees [] tree ≡ db.trees tree → Answers db (program tree [] shows) [] rows
-    → IsPermutation (map (projection shows []) (db.trees tree)) rows
-answers_all tree shows db rows is answers =
-    let query = over_tree tree [] shows in
-    let a = answers.answer Null in
-    let same = IsPermutation-map (λ (o : Output). o.1) a.kept a.ordered a.same in
-    subst₂ IsPermutation (ap (map (λ (o : Output). o.1)) (a.distinct ∙ ap (map (output query)) a.grouped) ∙ all_shown tree shows (overlay db.trees [] tree) ∙ ap (map (projection shows [])) is) (sym a.shown) same
+  abbrev query : Query
+  query = (listing tree terms).body
+
+  -- what is shown of each of these rows is read, and no rowid is below the one before it
+  pub record Lists (table rows : List Row) : Type 0 where
+    pub same : IsPermutation (map (projection shows []) table) rows
+    pub never_falls : NeverFall rows
+
+  all_shown : (rows : List Row) → map (λ (o : Output). o.1) (map (output query) (flat_map (λ row. ([] ∷ row ∷ []) ∷ []) rows)) ≡ map (projection shows []) rows
+  all_shown [] = refl
+  all_shown (row ∷ rows) = ap (λ rest. projection shows [] row ∷ rest) (all_shown rows)
+
+  -- an output is ordered by the rowid that it shows
+  abbrev ShowsKey : Output → Type 0
+  ShowsKey o = column o.0 0 ≡ rowid o.1
+
+  keys_shown : (envs : List Env) → AllByRecursion ShowsKey (map (output query) envs)
+  keys_shown [] = tt
+  keys_shown (env ∷ envs) = (refl, keys_shown envs)
+
+  sorted_tail : {X : Type 0} (lt : X → X → Bool) (x : X) (xs : List X) → IsSortedBy lt (x ∷ xs) → IsSortedBy lt xs
+  sorted_tail lt x xs sorted k d low high = simp add-one (simp add-one at sorted (suc k) d (omega arith) (omega arith))
+
+  never_falls : (outputs : List Output) → AllByRecursion ShowsKey outputs → IsSorted (output_cmp query) outputs → NeverFall (map (λ (o : Output). o.1) outputs)
+  never_falls [] keys sorted = tt
+  never_falls (o ∷ []) keys sorted = (tt, tt)
+  never_falls (o ∷ (p ∷ outputs)) keys sorted = (
+    (λ i. is_lt (value_cmp (sym keys.1.0 i) (sym keys.0 i))) ∙ ap is_lt (sym (then-Equal (value_cmp (column p.0 0) (column o.0 0)))) ∙ sorted 0 o (omega arith) (omega arith),
+    never_falls (p ∷ outputs) keys.1 (sorted_tail (λ a b. is_lt (output_cmp query a b)) o (p ∷ outputs) sorted),
+  )
+
+  pub lists_all : (db : Database) (rows : List Row) → overlay db.trees [] tree ≡ db.trees tree → Answers db (listing tree terms) [] rows → Lists (db.trees tree) rows
+  lists_all db rows is answers =
+      let a = answers.answer Null in
+      let same = IsPermutation-map (λ (o : Output). o.1) a.kept a.ordered a.same in
+      let staged = a.distinct ∙ ap (map (output query)) a.grouped in
+      let keys = all-permutation ShowsKey a.kept a.ordered a.same (subst (AllByRecursion ShowsKey) (sym staged) (keys_shown (flat_map (λ row. ([] ∷ row ∷ []) ∷ []) (overlay db.trees [] tree)))) in
+      record {
+        same = subst₂ IsPermutation (ap (map (λ (o : Output). o.1)) staged ∙ all_shown (overlay db.trees [] tree) ∙ ap (map (projection shows [])) is) (sym a.shown) same;
+        never_falls = subst NeverFall (sym a.shown) (never_falls a.ordered keys a.sorted);
+      }
+
+  -- ---- the table has the rowids that are read
+
+  once_shown : (table : List Row) → IsDistinct has_same_rowid table → IsDistinct has_same_rowid (map (projection shows []) table)
+  unfolding IsDistinct
+  once_shown [] once = tt
+  once_shown (x ∷ table) once = (
+    all_from (λ y. has_same_rowid x y ≡ false) (map (projection shows []) table) (λ y there.
+        let m = has_mapped (projection shows []) table y there in
+        ap (has_same_rowid x) m.2 ∙ all_has (λ y. has_same_rowid x y ≡ false) table m.0 once.0 m.1),
+    once_shown table once.1,
+  )
+
+  once_if_shown : (table : List Row) → IsDistinct has_same_rowid (map (projection shows []) table) → IsDistinct has_same_rowid table
+  unfolding IsDistinct
+  once_if_shown [] once = tt
+  once_if_shown (x ∷ table) once = (
+    all_from (λ y. has_same_rowid x y ≡ false) table (λ y there. all_has (λ y. has_same_rowid x y ≡ false) (map (projection shows []) table) (projection shows [] y) once.0 (mapped_has (projection shows []) table y there)),
+    once_if_shown table once.1,
+  )
+
+  module _ (table rows : List Row) (lists : Lists table rows) where
+    -- rowids that rise as they are read name one row of the table each
+    pub keyed_if_read_rising : rowids_rise rows ≡ true → IsKeyed table
+    keyed_if_read_rising rise =
+        let back = IsPermutation-sym _ rows lists.same in
+        let shown = keyed-permutation rows (map (projection shows []) table) back (λ x there. has_permuted rows _ x back there) (keyed_if_rising rows rise) in
+        record { ints = λ x there. shown.ints (projection shows [] x) (mapped_has (projection shows []) table x there); once = once_if_shown table shown.once }
+
+    -- and where each names one row of the table, they rise
+    pub read_rising_if_keyed : IsKeyed table → rowids_rise rows ≡ true
+    read_rising_if_keyed keyed =
+        let shown : IsKeyed (map (projection shows []) table) = record {
+          ints = λ x there. let m = has_mapped (projection shows []) table x there in ap (λ r. is_int (rowid r)) m.2 ∙ keyed.ints m.0 m.1;
+          once = once_shown table keyed.once;
+        } in
+        rises_if_keyed rows lists.never_falls (keyed-permutation _ rows lists.same (λ x there. has_permuted _ rows x lists.same there) shown)
 
 module _ (tables : List Table) (indexes : List Index) (views : List View) where
   abbrev schema : Schema
@@ -52,17 +136,17 @@ module _ (tables : List Table) (indexes : List Index) (views : List View) where
   meta_listed = refl
 
   module _ (old new : State) (has : old.now.schema ≡ schema) (rows : List Row) where
-    pub reads_rules : Shown read_rules [] old new rows → IsPermutation (map (projection read_rule_terms []) (old.now.trees 0)) rows
+    pub reads_rules : Shown read_rules [] old new rows → Lists 0 read_rule_terms (old.now.trees 0) rows
     reads_rules ran =
         let is = read_rules_is tables indexes views in
-        answers_all 0 read_rule_terms old.now rows refl (reads_as read_rules [] old new schema has _ is.0 is.1 rules_listed rows ran)
+        lists_all 0 read_rule_terms old.now rows refl (reads_as read_rules [] old new schema has _ is.0 is.1 rules_listed rows ran)
 
-    pub reads_routes : Shown read_routes [] old new rows → IsPermutation (map (projection read_route_terms []) (old.now.trees 1)) rows
+    pub reads_routes : Shown read_routes [] old new rows → Lists 1 read_route_terms (old.now.trees 1) rows
     reads_routes ran =
         let is = read_routes_is tables indexes views in
-        answers_all 1 read_route_terms old.now rows refl (reads_as read_routes [] old new schema has _ is.0 is.1 routes_listed rows ran)
+        lists_all 1 read_route_terms old.now rows refl (reads_as read_routes [] old new schema has _ is.0 is.1 routes_listed rows ran)
 
-    pub reads_meta : Shown read_meta [] old new rows → IsPermutation (map (projection read_meta_terms []) (old.now.trees 3)) rows
+    pub reads_meta : Shown read_meta [] old new rows → Lists 3 read_meta_terms (old.now.trees 3) rows
     reads_meta ran =
         let is = read_meta_is tables indexes views in
-        answers_all 3 read_meta_terms old.now rows refl (reads_as read_meta [] old new schema has _ is.0 is.1 meta_listed rows ran)
+        lists_all 3 read_meta_terms old.now rows refl (reads_as read_meta [] old new schema has _ is.0 is.1 meta_listed rows ran)

@@ -16,7 +16,7 @@ use Rattle.sqlite.specs.declared.types.Value.TheVariants.{Int}
 use Rattle.sqlite_rules.proofs.ListLemmas.{all_has, some_from}
 use Rattle.sqlite_rules.proofs.PlaceLemmas.{given}
 use Rattle.sqlite_rules.proofs.ProbeLemmas.{has_mapped, mapped_has}
-use Rattle.sqlite_rules.proofs.TableLemmas.{int_is, put_all_adds, put_all_has, put_all_keeps, without_all_has}
+use Rattle.sqlite_rules.proofs.TableLemmas.{int_is, put_all_adds, put_all_has, put_all_keeps}
 use Rattle.sqlite_rules.specs.Calls.{ids_of}
 use Rattle.sqlite_rules.specs.Keys.{AreConflicts, conflicts}
 use Rattle.sqlite_rules.specs.Lists.{Has}
@@ -30,8 +30,8 @@ use Rattle.sqlite_value.specs.Order.{Row, value_cmp}
 use Rattle.prt_route.specs.declared.route.Route.{Route}
 use Rattle.prt_rows.proofs.Casts.{cast_int, cast_route}
 use Rattle.prt_rows.proofs.Found.{Finds, has_left, left_has}
-use Rattle.prt_rows.proofs.Keyed.{keyed-put_all}
-use Rattle.prt_rows.proofs.RouteKeys.{agree_is, conflict_is, equal_if_int, equal_is, keys_equal, row_has_key, same_back, same_key, split, tied_if_equal, tied_if_same}
+use Rattle.prt_rows.proofs.Keyed.{alone, equal_is, keyed-put_all, keyed-without_all}
+use Rattle.prt_rows.proofs.RouteKeys.{agree_is, conflict_is, equal_if_int, keys_equal, row_has_key, same_back, same_key, split, tied_if_equal, tied_if_same}
 use Rattle.prt_rows.specs.Effects.{AreRouteRows, IsKeyed, has_key_of}
 use Rattle.prt_rows.specs.Kept.{kept_route}
 use Rattle.prt_rows.specs.Meanings.{replaced_terms, same_rowid}
@@ -95,7 +95,7 @@ module _ (tables : List Table) (indexes : List Index) (views : List View) (free 
     edit = edit_of db route_table (ids_of found) Given 1 found
 
     matches_one : (x : Row) → Has (db 1) x → list_all (holds (params ∷ x ∷ [])) same_rowid ≡ true → x ≡ old
-    matches_one x was pass = distinct.alone x old was there (tied_if_equal (rowid x) (rowid old) _ _ (id_of x was) (id_of old there) (and_parts _ _ pass).0)
+    matches_one x was pass = alone (db 1) distinct x old was there (tied_if_equal (rowid x) (rowid old) _ _ (id_of x was) (id_of old there) (and_parts _ _ pass).0)
 
     old_matches : list_all (holds (params ∷ old ∷ [])) same_rowid ≡ true
     old_matches = and_from _ _ (equal_if_int (rowid old) _ (id_of old there)) refl
@@ -143,8 +143,8 @@ module _ (tables : List Table) (indexes : List Index) (views : List View) (free 
     ]
 
     -- of two rows with one key, the other has the same rowid
-    alone : (x : Row) → Has (next 1) x → (p : Route) → drop 1 x ≡ route_row p → same_key p route ≡ true → value_cmp (rowid new) (rowid x) ≡ Equal
-    alone x h p spells key =
+    tied : (x : Row) → Has (next 1) x → (p : Route) → drop 1 x ≡ route_row p → same_key p route ≡ true → value_cmp (rowid new) (rowid x) ≡ Equal
+    tied x h p spells key =
         let rules = (step.fits.rules Unique (λ e. absurd (let no = e in cc))).1.0 in
         let row = all_has _ (next 1) x rules h in
         let clash : clashes (record { digits = 0 }) key_places (next 1) x ≡ false = not-true _ (and_parts _ _ row).0 in
@@ -165,7 +165,7 @@ module _ (tables : List Table) (indexes : List Index) (views : List View) (free 
             inr (
               was.0,
               false_from_ne_true _ (λ pass. absurd (
-                  let tie = alone x h p.0 p.1 (sym (row_has_key x p.0 route p.1) ∙ pass) in
+                  let tie = tied x h p.0 p.1 (sym (row_has_key x p.0 route p.1) ∙ pass) in
                   let apart = was.1 (id_in (rowid old)) old_gone in
                   let hit : has_rowid (id_in (rowid old)) x ≡ true = ap (λ v. is_eq (value_cmp (rowid x) v)) (sym (id_of old there)) ∙ ap is_eq (tied_back value_cmp_total (rowid old) (rowid x) tie) in
                   true≢false (sym hit ∙ apart))),
@@ -175,14 +175,9 @@ module _ (tables : List Table) (indexes : List Index) (views : List View) (free 
       complete = λ x was fails.
           let stays = has_left (ids_of found) (db 1) x was (λ i gone. false_from_ne_true _ (λ hit. absurd (
           let tie : value_cmp (rowid x) (rowid old) ≡ Equal = rw (id_of old there, ← gone_is i gone) (equal_is _ hit) in
-          let one = distinct.alone x old was there tie in
+          let one = alone (db 1) distinct x old was there tie in
           let pass : has_key_of route x ≡ true = rw one (row_has_key old q route is ∙ same) in
           true≢false (sym pass ∙ fails)))) in
           subst (λ l. Has l x) (sym step.rows) (put_all_keeps edit.news (left_by db edit) x step.fresh stays);
-      keyed =
-          let left : IsKeyed (left_by db edit) = record {
-            ints = λ x h. distinct.ints x (without_all_has (ids_of found) (db 1) x h);
-            alone = λ a b p q. distinct.alone a b (without_all_has (ids_of found) (db 1) a p) (without_all_has (ids_of found) (db 1) b q);
-          } in
-          subst IsKeyed (sym step.rows) (keyed-put_all edit.news (left_by db edit) step.keyed step.fresh left);
+      keyed = subst IsKeyed (sym step.rows) (keyed-put_all edit.news (left_by db edit) step.keyed step.fresh (keyed-without_all (ids_of found) (db 1) distinct));
     }

@@ -19,6 +19,7 @@ use Rattle.sqlite_value.specs.Keys.{first_key}
 use Rattle.sqlite_value.specs.Order.{Row, value_cmp}
 use Rattle.prt_route.specs.Route.{is_same_key, key_of}
 use Rattle.prt_route.specs.declared.route.Route.{Route}
+use Rattle.prt_rows.proofs.Keyed.{equal_is}
 use Rattle.prt_rows.proofs.RowTests.{and_key, eq_test, passes_key, truth_again}
 use Rattle.prt_rows.specs.Effects.{has_key_of}
 use Rattle.prt_rows.specs.Kept.{kept_route}
@@ -70,11 +71,6 @@ none_shares (index ∷ indexes) free new row = rw (free index (inl refl)) (none_
 
 pub conflict_is : (indexes : List Index) → AreNotOfRoutes indexes → (id other : Value) (a b : Route) → conflicts (Some key_places) (route_key ∷ indexes) route_table (kept_route other b) (kept_route id a) ≡ same_key a b
 conflict_is indexes free id other a b = rw (none_shares indexes free (kept_route other b) (kept_route id a)) (or_end _ ∙ agree_is id other a b)
-
-pub equal_is : (o : Ordering) → is_eq o ≡ true → o ≡ Equal
-equal_is Less is = absurd (cc)
-equal_is Equal is = refl
-equal_is Greater is = absurd (cc)
 
 not_other : (o : Ordering) → is_ne o ≡ false → o ≡ Equal
 not_other Less is = absurd (cc)

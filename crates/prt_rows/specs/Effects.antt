@@ -1,7 +1,7 @@
 -- What the statements do to the rows.
 use Rattle.std.specs.Prelude.{◌≡◌, ◌≢◌, ◌⊎◌, Bool, true, false, List, [], ◌∷◌, drop}
-use Rattle.std.specs.List.{list_all}
-use Rattle.std.specs.declared.cmp.Ordering.TheVariants.{Equal}
+use Rattle.std.specs.List.{IsDistinct, list_all}
+use Rattle.std.specs.Ordering.{is_eq}
 use Rattle.sqlite.specs.Effect.{Database}
 use Rattle.sqlite.specs.Table.{Table}
 use Rattle.sqlite.specs.Term.{Term, holds}
@@ -16,10 +16,13 @@ use Rattle.prt_rows.specs.Meanings.{has_key}
 use Rattle.prt_rows.specs.RouteRow.{route_row}
 use Rattle.prt_rows.specs.Tables.{route_table}
 
--- each rowid is an integer, and names one row
+abbrev pub has_same_rowid : Row → Row → Bool
+has_same_rowid a b = is_eq (value_cmp (rowid a) (rowid b))
+
+-- each rowid is an integer, and stands once
 pub record IsKeyed (rows : List Row) : Type 0 where
   pub ints : (row : Row) → Has rows row → is_int (rowid row) ≡ true
-  pub alone : (a b : Row) → Has rows a → Has rows b → value_cmp (rowid a) (rowid b) ≡ Equal → a ≡ b
+  pub once : IsDistinct has_same_rowid rows
 
 -- the row passes each test
 abbrev pub passes : List Term → Row → Row → Bool

@@ -10,3 +10,4 @@ pub mod Meanings
 pub mod Others
 pub mod Effects
 pub mod Kept
+pub mod Rowids

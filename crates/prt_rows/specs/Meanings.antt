@@ -1,5 +1,5 @@
 -- What the texts that read and write mean, as commands over terms. `col 0 n` is parameter n + 1; `col 1 n` is the value at place n of a row, whose rowid has place 0.
-use Rattle.std.specs.Prelude.{ℕ, pos, negsuc, false, List, [], ◌∷◌, None, Some, map}
+use Rattle.std.specs.Prelude.{ℕ, pos, negsuc, false, List, [], ◌∷◌, None, Some, codes, map}
 use Rattle.sqlite.specs.Collation.TheVariants.{Binary}
 use Rattle.sqlite.specs.Command.{Command}
 use Rattle.sqlite.specs.Command.TheVariants.{Delete, Insert, InsertOr, Select, Update}
@@ -12,6 +12,7 @@ use Rattle.sqlite_schema.specs.declared.command.Upsert.{Upsert}
 use Rattle.sqlite_schema.specs.declared.program.Program.{Program}
 use Rattle.sqlite_sql.specs.declared.ops.BinaryOp.TheVariants.{Compare}
 use Rattle.sqlite_sql.specs.declared.ops.CompareOp.TheVariants.{Eq, Ne}
+use Rattle.sqlite_value.specs.Keys.{ascending}
 use Rattle.prt_addr.specs.Word.{Word}
 use Rattle.prt_rows.specs.Columns.{Column}
 use Rattle.prt_rows.specs.MetaRow.{meta_columns}
@@ -98,21 +99,25 @@ set_count_command = Update 2 (program 3 [] (col 1 0 ∷ col 1 0 ∷ lit Null ∷
 abbrev pub names_of : {X : Type 0} → List (Column X) → List Word
 names_of columns = map (λ column. column.0) columns
 
--- all columns; the id of a rule and of the row of `meta` is the rowid
+-- SELECT the rowid, shows FROM the tree ORDER BY its rowid
+abbrev pub listing : ℕ → List Term → Program
+listing tree shows = record { lets = []; body = record (over_tree tree [] (rowid_term ∷ shows)) { order = (rowid_term, ascending Binary) ∷ [] } }
+
+-- the columns after the rowid, which is the id of a rule and of the row of `meta`
 abbrev pub read_rule_terms : List Term
-read_rule_terms = col 1 0 ∷ col 1 2 ∷ col 1 3 ∷ col 1 4 ∷ col 1 5 ∷ col 1 6 ∷ col 1 7 ∷ col 1 8 ∷ col 1 9 ∷ col 1 10 ∷ col 1 11 ∷ col 1 12 ∷ []
+read_rule_terms = col 1 2 ∷ col 1 3 ∷ col 1 4 ∷ col 1 5 ∷ col 1 6 ∷ col 1 7 ∷ col 1 8 ∷ col 1 9 ∷ col 1 10 ∷ col 1 11 ∷ col 1 12 ∷ []
 
 abbrev pub read_route_terms : List Term
 read_route_terms = col 1 1 ∷ col 1 2 ∷ col 1 3 ∷ col 1 4 ∷ col 1 5 ∷ col 1 6 ∷ col 1 7 ∷ col 1 8 ∷ col 1 9 ∷ col 1 10 ∷ []
 
 abbrev pub read_meta_terms : List Term
-read_meta_terms = col 1 0 ∷ col 1 2 ∷ col 1 3 ∷ []
+read_meta_terms = col 1 2 ∷ col 1 3 ∷ []
 
 abbrev pub read_rules_command : Command
-read_rules_command = Select (program 0 [] read_rule_terms) (names_of rule_columns)
+read_rules_command = Select (listing 0 read_rule_terms) (names_of rule_columns)
 
 abbrev pub read_routes_command : Command
-read_routes_command = Select (program 1 [] read_route_terms) (names_of route_columns)
+read_routes_command = Select (listing 1 read_route_terms) (codes "rowid" ∷ names_of route_columns)
 
 abbrev pub read_meta_command : Command
-read_meta_command = Select (program 3 [] read_meta_terms) (names_of meta_columns)
+read_meta_command = Select (listing 3 read_meta_terms) (names_of meta_columns)

@@ -12,13 +12,13 @@ abbrev pub create_meta : Word
 create_meta = codes "CREATE TABLE IF NOT EXISTS meta (id INTEGER PRIMARY KEY NOT NULL, format INTEGER NOT NULL, count INTEGER NOT NULL) STRICT"
 
 abbrev pub read_rules : Word
-read_rules = codes "SELECT id, priority, inverted, src_net, src_len, dst_net, dst_len, iif, mark, mask, act, tbl FROM rule"
+read_rules = codes "SELECT id, priority, inverted, src_net, src_len, dst_net, dst_len, iif, mark, mask, act, tbl FROM rule ORDER BY id"
 
 abbrev pub read_routes : Word
-read_routes = codes "SELECT tbl, net, len, metric, kind, via, dev, src, proto, scope FROM route"
+read_routes = codes "SELECT rowid, tbl, net, len, metric, kind, via, dev, src, proto, scope FROM route ORDER BY rowid"
 
 abbrev pub read_meta : Word
-read_meta = codes "SELECT id, format, count FROM meta"
+read_meta = codes "SELECT id, format, count FROM meta ORDER BY id"
 
 abbrev pub put_route : Word
 put_route = codes "INSERT INTO route (tbl, net, len, metric, kind, via, dev, src, proto, scope) VALUES (?1, ?2, ?3, ?4, ?5, ?6, ?7, ?8, ?9, ?10) ON CONFLICT (tbl, net, len, metric) DO UPDATE SET kind = ?5, via = ?6, dev = ?7, src = ?8, proto = ?9, scope = ?10"

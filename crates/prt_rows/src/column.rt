@@ -1,8 +1,9 @@
-//! The columns of the tables. The place of a column, from 0 on, is `Column::Name as usize`.
+//! The columns of the tables, as they are read. The place of a column, from 0 on, is `Column::Name as usize`.
 
-/// A column of the table `route`, in their order.
+/// The rowid of a row of the table `route`, and its columns in their order.
 #[derive(Clone, Copy)]
 pub(crate) enum RouteColumn {
+    Rowid,
     Tbl,
     Net,
     Len,
@@ -14,6 +15,9 @@ pub(crate) enum RouteColumn {
     Proto,
     Scope,
 }
+
+/// The place of the rowid in a row that is read. The id of a rule is its rowid.
+pub(crate) const ROWID: usize = RouteColumn::Rowid as usize;
 
 /// How many columns the table `route` has.
 pub(crate) const ROUTE_COLUMNS: usize = 10;

@@ -1,6 +1,6 @@
 //! The row of a route.
 
-ghost use Rattle.std.specs.Prelude.{◌≡◌, ◌↔◌, ⊤, IsTrue};
+ghost use Rattle.std.specs.Prelude.{◌≡◌, ◌↔◌, ⊤, IsTrue, drop};
 ghost use Rattle.sqlite.specs.Values.{bound};
 ghost use Rattle.sqlite_value.specs.Order.{column};
 ghost use Rattle.prt_route.specs.Storable.{IsStorableRoute};
@@ -52,11 +52,11 @@ fn is_storable(route: &Route) -> bool
     route.table > 0 && suits
 }
 
-/// The route that the cells of a row spell, whether a table may hold it or not.
+/// The route that the cells after the rowid spell, whether a table may hold it or not.
 fn route_of_cells(row: &Row) -> Option<Route>
-    ensures { Decodes route_row IsInRange row.now result }
+    ensures { Decodes route_row IsInRange (drop 1 row.now) result }
 {
-    if row.column_count() != ROUTE_COLUMNS {
+    if row.column_count() != ROUTE_COLUMNS + 1 {
         return None;
     }
     Some(Route {
@@ -72,13 +72,13 @@ fn route_of_cells(row: &Row) -> Option<Route>
     })
 }
 
-/// The route that a row of the table `route` spells, if it spells one.
+/// The route that a row of the table `route`, its rowid first, spells, if it spells one.
 ///
-/// Its ten cells stand in the order of the columns, each in its range, and the route has what its kind asks for
+/// The ten cells after the rowid stand in the order of the columns, each in its range, and the route has what its kind asks for
 /// (`ip-route(8)`): a unicast route a gateway or an interface, a route of another kind neither, no source and scope 0.
 #[tactic(auto, using(crate::proofs::RouteRows::same_route))]
 pub fn route_of_row(row: &Row) -> Option<Route>
-    ensures { Decodes route_row IsRoute row.now result }
+    ensures { Decodes route_row IsRoute (drop 1 row.now) result }
 {
     let route = route_of_cells(row)?;
     if is_storable(&route) {

@@ -1,17 +1,46 @@
 //! The rows of a whole table.
 
-ghost use Rattle.std.specs.Prelude.{map, All, IfOk, IfErr, Some};
+ghost use Rattle.std.specs.Prelude.{◌≡◌, IsTrue, drop, map, All, IfOk, IfErr, Some};
 ghost use Rattle.sqlite_value.specs.Order.{Row as Values};
-ghost use Rattle.prt_rows.specs.Decodes.{Decodes, FailsToDecode};
+ghost use Rattle.prt_rows.specs.Decodes.{Decodes};
 ghost use Rattle.prt_rows.specs.RouteRow.{IsRoute, route_row};
+ghost use Rattle.prt_rows.specs.Rowids.{FailsToRead, is_above, rowids_rise};
 ghost use Rattle.prt_rows.specs.RuleRow.{IsRule, rule_row};
 
-use crate::{route_of_row, rule_of_row};
+use crate::column::ROWID;
+use crate::{cell, route_of_row, rule_of_row};
 use prt_addr::Refusal;
 use prt_route::Route;
 use prt_rule::Rule;
 use sqlite::Row;
 use std::alloc::Global;
+
+/// Whether the number is greater than the last one, if there is one.
+fn is_above(last: Option<i64>, id: i64) -> bool
+    ensures { result ≡ is_above last id }
+{
+    match last {
+        Some(last) => last < id,
+        None => true,
+    }
+}
+
+/// Whether each rowid is an integer greater than the one before it.
+fn rowids_rise(rows: &[Row]) -> bool
+    ensures { result ≡ rowids_rise rows.now }
+{
+    let mut last = None;
+    for row in rows {
+        let Some(id) = cell::integer(row, ROWID) else {
+            return false;
+        };
+        if !is_above(last, id) {
+            return false;
+        }
+        last = Some(id);
+    }
+    true
+}
 
 /// What reads the rows of one table.
 trait RowReader {
@@ -21,9 +50,12 @@ trait RowReader {
 
     ghost Fits: { Self → Self.Value → Type 0 };
 
+    // the cells of a row that spell its value
+    ghost part: { Values → Values };
+
     /// The value that a row spells, if it spells one.
     fn value_of_row(&self, row: &Row) -> Option<Self::Value>
-        ensures { Decodes row_of (Fits self.now) row.now result };
+        ensures { Decodes row_of (Fits self.now) (part row.now) result };
 }
 
 /// Reads the table `route`.
@@ -36,6 +68,8 @@ impl RowReader for RouteReader {
     ghost row_of = { route_row };
 
     ghost Fits = { λ _. IsRoute };
+
+    ghost part = { drop 1 };
 
     fn value_of_row(&self, row: &Row) -> Option<Route> {
         route_of_row(row)
@@ -55,20 +89,26 @@ impl RowReader for RuleReader {
 
     ghost Fits = { λ reader. IsRule reader.last };
 
+    ghost part = { λ row. row };
+
     fn value_of_row(&self, row: &Row) -> Option<Rule> {
         rule_of_row(row, self.last)
     }
 }
 
-/// The values that the rows spell, in the order of the rows.
+/// The values that the rows spell, in the order of the rows, where the rowids rise.
 fn values_of_rows<R: RowReader>(
     alloc: Global,
     rows: &[Row],
     reader: &R,
 ) -> Result<Vec<R::Value>, Refusal>
-    ensures ok { IfOk result (λ values. Decodes (map R.row_of) (All (R.Fits reader.now)) rows.now (Some values.items)) }
-    ensures err { IfErr result (FailsToDecode R.row_of (R.Fits reader.now) rows.now) }
+    ensures rise { IfOk result (λ _. IsTrue (rowids_rise rows.now)) }
+    ensures ok { IfOk result (λ values. Decodes (map R.row_of) (All (R.Fits reader.now)) (map R.part rows.now) (Some values.items)) }
+    ensures err { IfErr result (FailsToRead R.row_of (R.Fits reader.now) R.part rows.now) }
 {
+    if !rowids_rise(rows) {
+        return Err(Refusal::Damaged);
+    }
     let mut values = Vec::new(alloc);
     for row in rows {
         let Some(value) = reader.value_of_row(row) else {
@@ -81,27 +121,30 @@ fn values_of_rows<R: RowReader>(
     Ok(values)
 }
 
-/// The routes that the rows of the table `route` spell, in the order of the rows.
+/// The routes that the rows of the table `route` spell, their rowids first, in the order of the rowids.
 ///
 /// # Errors
 ///
-/// `Damaged` only where one of the rows spells no route. `NoMemory` where memory is refused, which may come first.
+/// `Damaged` only where the rowids aren't integers that rise, or one of the rows spells no route. `NoMemory` where memory is
+/// refused.
 pub fn routes_of_rows(alloc: Global, rows: &[Row]) -> Result<Vec<Route>, Refusal>
-    ensures ok { IfOk result (λ routes. Decodes (map route_row) (All IsRoute) rows.now (Some routes.items)) }
-    ensures err { IfErr result (FailsToDecode route_row IsRoute rows.now) }
+    ensures rise { IfOk result (λ _. IsTrue (rowids_rise rows.now)) }
+    ensures ok { IfOk result (λ routes. Decodes (map route_row) (All IsRoute) (map (drop 1) rows.now) (Some routes.items)) }
+    ensures err { IfErr result (FailsToRead route_row IsRoute (drop 1) rows.now) }
 {
     values_of_rows(alloc, rows, &RouteReader)
 }
 
-/// The rules that the rows of the table `rule` spell, in the order of the rows.
+/// The rules that the rows of the table `rule` spell, in the order of their ids.
 ///
 /// # Errors
 ///
-/// `Damaged` only where one of the rows spells no rule with an id of 1 to `last`. `NoMemory` where memory is refused, which
-/// may come first.
+/// `Damaged` only where the ids aren't integers that rise, or one of the rows spells no rule with an id of 1 to `last`.
+/// `NoMemory` where memory is refused.
 pub fn rules_of_rows(alloc: Global, rows: &[Row], last: u64) -> Result<Vec<Rule>, Refusal>
+    ensures rise { IfOk result (λ _. IsTrue (rowids_rise rows.now)) }
     ensures ok { IfOk result (λ rules. Decodes (map rule_row) (All (IsRule last)) rows.now (Some rules.items)) }
-    ensures err { IfErr result (FailsToDecode rule_row (IsRule last) rows.now) }
+    ensures err { IfErr result (FailsToRead rule_row (IsRule last) (λ row. row) rows.now) }
 {
     values_of_rows(alloc, rows, &RuleReader { last })
 }

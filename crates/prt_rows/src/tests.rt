@@ -21,6 +21,18 @@ fn row(alloc: Global, values: &[ValueRef<'_>]) -> Result<Row, AllocError> {
     Row::from_row(alloc, &cells)
 }
 
+/// A row of the table `route` of this rowid and these values.
+fn kept(alloc: Global, rowid: i64, values: &[ValueRef<'_>; 10]) -> Result<Row, AllocError> {
+    let [tbl, net, len, metric, kind, via, dev, src, proto, scope] = *values;
+    let rowid = ValueRef::Int(rowid);
+    row(
+        alloc,
+        &[
+            rowid, tbl, net, len, metric, kind, via, dev, src, proto, scope,
+        ],
+    )
+}
+
 /// `blackhole 10.0.0.0/8 table 100 metric 4294967295`.
 const BLACKHOLE: [ValueRef<'static>; 10] = [
     ValueRef::Int(100),
@@ -62,7 +74,7 @@ fn reads_back_what_it_writes(rt: HostRuntime) -> Result<(), Fail> {
         action: Action::Lookup(51820),
     };
     let alloc = rt.alloc();
-    let route_row = row(alloc, &route_values(&route))?;
+    let route_row = kept(alloc, -7, &route_values(&route))?;
     let rule_row = row(alloc, &rule_values(&rule))?;
     let meta_row = row(alloc, &meta_values(1_000_000_000_000_000))?;
     assert_eq!(rt; route_of_row(&route_row), Some(route));
@@ -89,9 +101,9 @@ fn refuses_routes_that_no_table_holds(rt: HostRuntime) -> Result<(), Fail> {
     ] {
         let mut values = BLACKHOLE;
         values[at] = value;
-        assert!(rt; route_of_row(&row(alloc, &values)?).is_none(), "{at}");
+        assert!(rt; route_of_row(&kept(alloc, 1, &values)?).is_none(), "{at}");
     }
-    assert!(rt; route_of_row(&row(alloc, &BLACKHOLE)?).is_some());
+    assert!(rt; route_of_row(&kept(alloc, 1, &BLACKHOLE)?).is_some());
     Ok(())
 }
 
@@ -137,12 +149,17 @@ fn refuses_rules_out_of_range(rt: HostRuntime) -> Result<(), Fail> {
 #[test]
 fn reads_whole_tables(rt: HostRuntime) -> Result<(), Fail> {
     let alloc = rt.alloc();
-    let routes = [row(alloc, &BLACKHOLE)?, row(alloc, &BLACKHOLE)?];
+    let routes = [kept(alloc, 4, &BLACKHOLE)?, kept(alloc, 9, &BLACKHOLE)?];
+    let repeated = [kept(alloc, 4, &BLACKHOLE)?, kept(alloc, 4, &BLACKHOLE)?];
     let rules = [row(alloc, &LOOKUP)?];
     let counts = [row(alloc, &meta_values(0))?, row(alloc, &meta_values(0))?];
     assert_eq!(rt; routes_of_rows(alloc, &routes)?.len(), 2);
     assert_eq!(rt; rules_of_rows(alloc, &rules, 4)?.len(), 1);
     assert_eq!(rt; routes_of_rows(alloc, &rules).err(), Some(Refusal::Damaged));
+    assert_eq!(rt;
+        routes_of_rows(alloc, &repeated).err(),
+        Some(Refusal::Damaged)
+    );
     assert_eq!(rt;
         rules_of_rows(alloc, &rules, 3).err(),
         Some(Refusal::Damaged)
