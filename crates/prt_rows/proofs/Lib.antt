@@ -19,3 +19,4 @@ pub mod Replacing
 pub mod Putting
 pub mod Rising
 pub mod Reading
+pub mod Shapes

@@ -10,8 +10,8 @@ use Rattle.sqlite_schema.specs.declared.schema.Index.{Index}
 use Rattle.sqlite_schema.specs.declared.schema.View.{View}
 use Rattle.sqlite_tied.specs.Compute.{everything}
 use Rattle.prt_addr.specs.Word.{Word}
-use Rattle.prt_rows.specs.Meanings.{delete_route_command, delete_rule_command, flush_rules_command, insert_rule_command, put_route_command, read_meta_command, read_routes_command, read_rules_command, set_count_command}
-use Rattle.prt_rows.specs.Statements.{create_meta, create_route, create_rule, delete_route, delete_rule, flush_rules, insert_rule, put_route, read_meta, read_routes, read_rules, set_count}
+use Rattle.prt_rows.specs.Meanings.{flush_routes_command, insert_meta_command, delete_route_command, delete_rule_command, flush_rules_command, insert_rule_command, put_route_command, read_meta_command, read_routes_command, read_rules_command, set_count_command}
+use Rattle.prt_rows.specs.Statements.{flush_routes, insert_meta, create_meta, create_route, create_rule, delete_route, delete_rule, flush_rules, insert_rule, put_route, read_meta, read_routes, read_rules, set_count}
 use Rattle.prt_rows.specs.Tables.{meta_table, route_table, rule_table, schema_with}
 
 -- the text is understood as the command, without more
@@ -53,6 +53,14 @@ module _ (tables : List Table) (indexes : List Index) (views : List View) where
   pub delete_route_is : Means schema delete_route delete_route_command
   unfolding understood everything
   delete_route_is = (refl, (refl, refl))
+
+  pub flush_routes_is : Means schema flush_routes flush_routes_command
+  unfolding understood everything
+  flush_routes_is = (refl, (refl, refl))
+
+  pub insert_meta_is : Means schema insert_meta insert_meta_command
+  unfolding understood everything
+  insert_meta_is = (refl, (refl, refl))
 
   pub insert_rule_is : Means schema insert_rule insert_rule_command
   unfolding understood everything

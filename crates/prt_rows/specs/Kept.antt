@@ -11,6 +11,11 @@ use Rattle.prt_rows.specs.MetaRow.{meta_row}
 use Rattle.prt_rows.specs.RouteRow.{route_row}
 use Rattle.prt_rows.specs.RuleRow.{rule_row}
 
+-- a row whose first value is its rowid and its id, as it is kept
+abbrev pub with_key_column : Row → Row
+with_key_column [] = []
+with_key_column (id ∷ row) = id ∷ Null ∷ row
+
 -- the rowid of a rule is its id, and NULL stands in the id's own column
 abbrev pub kept_rule : Rule → Row
 kept_rule rule = number rule.id ∷ Null ∷ drop 1 (rule_row rule)

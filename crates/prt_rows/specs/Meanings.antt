@@ -6,12 +6,16 @@ use Rattle.sqlite.specs.Command.TheVariants.{Delete, Insert, InsertOr, Select, U
 use Rattle.sqlite.specs.Query.{Query, inner, end}
 use Rattle.sqlite.specs.Source.TheVariants.{Values}
 use Rattle.sqlite.specs.Term.{Term, lit, col, op2}
-use Rattle.sqlite.specs.declared.types.Value.TheVariants.{Null, Int}
+use Rattle.sqlite.specs.declared.types.Value.{Value}
+use Rattle.sqlite.specs.declared.types.Value.TheVariants.{Null, Int, Text}
 use Rattle.sqlite_schema.specs.declared.command.Conflict.TheVariants.{Abort}
 use Rattle.sqlite_schema.specs.declared.command.Upsert.{Upsert}
 use Rattle.sqlite_schema.specs.declared.program.Program.{Program}
-use Rattle.sqlite_sql.specs.declared.ops.BinaryOp.TheVariants.{Compare}
-use Rattle.sqlite_sql.specs.declared.ops.CompareOp.TheVariants.{Eq, Ne}
+use Rattle.sqlite_sql.specs.declared.ops.BinaryOp.TheVariants.{Arith, Bits, Compare, Or}
+use Rattle.sqlite_sql.specs.declared.ops.ArithOp.TheVariants.{Add}
+use Rattle.sqlite_sql.specs.declared.ops.BitOp.TheVariants.{Shr}
+use Rattle.sqlite_sql.specs.declared.ops.CompareOp.{CompareOp}
+use Rattle.sqlite_sql.specs.declared.ops.CompareOp.TheVariants.{Eq, Ge, Gt, Le, Ne}
 use Rattle.sqlite_value.specs.Keys.{ascending}
 use Rattle.prt_addr.specs.Word.{Word}
 use Rattle.prt_rows.specs.Columns.{Column}
@@ -57,6 +61,26 @@ has_id = equals 0 0 ∷ []
 abbrev pub has_priority : List Term
 has_priority = op2 (Compare Ne Binary) (col 1 2) (lit (Int (pos 0))) ∷ []
 
+-- the parameter compares so with what the term gives of the row
+abbrev pub compares : CompareOp → Term → ℕ → Term
+compares op term parameter = op2 (Compare op Binary) term (col 0 parameter)
+
+-- the parameter is this mark, or the column of the row equals it
+abbrev pub equals_unless : Value → ℕ → ℕ → Term
+equals_unless mark place parameter = op2 Or (op2 (Compare Eq Binary) (col 0 parameter) (lit mark)) (equals place parameter)
+
+-- the address after the last one of a route's prefix
+abbrev pub end_term : Term
+end_term = op2 (Arith Add) (col 1 2) (op2 (Bits Shr) (lit (Int (pos 4294967296))) (col 1 3))
+
+abbrev pub is_flushed : List Term
+is_flushed =
+    equals_unless (Int (negsuc 0)) 1 0 ∷ compares Ge (col 1 2) 1 ∷ compares Le (col 1 2) 2 ∷ compares Ge (col 1 3) 3 ∷ compares Le (col 1 3) 4 ∷ compares Gt end_term 5
+    ∷ equals_unless (Int (negsuc 0)) 5 6 ∷ equals_unless (Int (negsuc 0)) 9 7 ∷ equals_unless (Int (negsuc 0)) 10 8 ∷ equals_unless (Text []) 7 9 ∷ []
+
+abbrev pub flush_routes_command : Command
+flush_routes_command = deletion 1 1 is_flushed
+
 abbrev pub delete_route_command : Command
 delete_route_command = deletion 1 1 has_key
 
@@ -76,6 +100,12 @@ rule_terms = col 0 0 ∷ lit Null ∷ col 0 1 ∷ col 0 2 ∷ col 0 3 ∷ col 0 
 
 abbrev pub insert_rule_command : Command
 insert_rule_command = Insert 0 (Values rule_terms 13)
+
+abbrev pub meta_terms : List Term
+meta_terms = col 0 0 ∷ lit Null ∷ col 0 1 ∷ col 0 2 ∷ []
+
+abbrev pub insert_meta_command : Command
+insert_meta_command = Insert 2 (Values meta_terms 4)
 
 -- the row whose rowid is parameter 11
 abbrev pub same_rowid : List Term
