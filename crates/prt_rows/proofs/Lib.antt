@@ -20,3 +20,4 @@ pub mod Putting
 pub mod Rising
 pub mod Reading
 pub mod Shapes
+pub mod Selecting

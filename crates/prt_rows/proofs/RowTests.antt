@@ -35,7 +35,7 @@ pub ne_test : (a b : ℕ) → is_true (binary (Compare Ne Binary) (Int (pos a)) 
 unfolding binary
 ne_test a b = truth_again _ ∙ ap is_ne (value_cmp-Int (pos a) (pos b)) ∙ ne_cmp a b
 
-and_end : (b : Bool) → (b && true) ≡ b
+pub and_end : (b : Bool) → (b && true) ≡ b
 and_end true = refl
 and_end false = refl
 

@@ -1,5 +1,5 @@
 -- A row of a live database has a value for each column of its table.
-use Rattle.std.proofs.Common.{◌≡◌, ◌≤◌, ◌<◌, ◌+◌, ℕ, zero, suc, Bool, true, false, not, ◌||◌, Option, Some, None, List, [], ◌∷◌, length, map, drop, IsPermutation, refl, sym, ap, subst, ◌∙◌, arith, true≢false}
+use Rattle.std.proofs.Common.{cond, ◌≡◌, ◌≤◌, ◌<◌, ◌+◌, ℕ, zero, suc, Bool, true, false, not, ◌||◌, Option, Some, None, List, [], ◌∷◌, length, map, drop, IsPermutation, refl, sym, ap, subst, ◌∙◌, arith, true≢false}
 use Rattle.std.proofs.lemmas.Bool.{and_parts, not-true}
 use Rattle.std.proofs.lemmas.List.Sorted.{IsPermutation-map}
 use Rattle.std.specs.List.{AllByRecursion}
@@ -11,7 +11,7 @@ use Rattle.sqlite.specs.declared.types.Value.{Value}
 use Rattle.sqlite.specs.declared.types.Value.TheVariants.{Null, Int, Real, Text, Blob}
 use Rattle.sqlite_rules.proofs.ProbeLemmas.{map_same}
 use Rattle.sqlite_schema.specs.Names.{is_key}
-use Rattle.sqlite_schema.specs.Rules.{Obeys, are_present, are_typed, has_computed, passes}
+use Rattle.sqlite_schema.specs.Rules.{Obeys, are_present, are_typed, has_computed, passes, suits}
 use Rattle.sqlite_schema.specs.declared.schema.Column.{Column}
 use Rattle.sqlite_schema.specs.declared.schema.Constraint.TheVariants.{Datatype, NotNull}
 use Rattle.sqlite_schema.specs.declared.schema.Index.{Index}
@@ -31,7 +31,7 @@ no_longer : (key : Option ℕ) (at : ℕ) (columns : List Column) (cells : Row) 
 no_longer key at [] [] typed = omega arith
 no_longer key at [] (v ∷ cells) typed = absurd (true≢false (sym typed))
 no_longer key at (c ∷ columns) [] typed = omega arith
-no_longer key at (c ∷ columns) (v ∷ cells) typed = let rest : length cells ≤ length columns = no_longer key (at + 1) columns cells (and_parts _ _ typed).1 in omega (arith, rest)
+no_longer key at (c ∷ columns) (v ∷ cells) typed = let rest : length cells ≤ length columns = no_longer key (at + 1) columns cells (and_parts (cond (is_key key at) (is_null v) (suits c v)) (are_typed key (at + 1) columns cells) typed).1 in omega (arith, rest)
 
 -- the last of these columns has a value, or need not have one
 abbrev has_last : Option ℕ → ℕ → List Column → Row → Bool

@@ -11,3 +11,4 @@ pub mod Others
 pub mod Effects
 pub mod Kept
 pub mod Rowids
+pub mod Selecting

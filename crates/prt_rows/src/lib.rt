@@ -8,6 +8,7 @@ mod meta_row;
 mod route_row;
 mod rows;
 mod rule_row;
+mod selector;
 #[cfg(test)]
 mod tests;
 mod value;
@@ -17,3 +18,4 @@ pub use meta_row::{count_of_rows, meta_values};
 pub use route_row::{route_of_row, route_values};
 pub use rows::{routes_of_rows, rules_of_rows};
 pub use rule_row::{rule_of_row, rule_values};
+pub use selector::selector_values;

@@ -29,7 +29,7 @@ fn kind(row: &Row, at: usize) -> Option<Kind>
 }
 
 /// The number that stands for a kind.
-fn kind_code(kind: Kind) -> u32
+pub(crate) fn kind_code(kind: Kind) -> u32
     ensures { result ≡ kind_code kind }
 {
     match kind {

@@ -1,0 +1,137 @@
+//! What the statement that deletes routes by a selector is told of the selector.
+
+ghost use Rattle.std.specs.Prelude.{◌≡◌, ◌<◌, ◌+◌, ◌-◌, ◌^◌, option_map, true};
+ghost use Rattle.sqlite.specs.Values.{bound, bound_value};
+ghost use Rattle.sqlite_value.specs.Value.{owned};
+ghost use Rattle.prt_route.specs.Name.{is_name};
+ghost use Rattle.prt_rows.specs.Cell.{IsOptionalName, optional_name, optional_number};
+ghost use Rattle.prt_rows.specs.RouteRow.{kind_code};
+ghost use Rattle.prt_rows.specs.Selecting.{HasPrefix, IsSelector, bounds_of, selector_row};
+
+use crate::route_row::kind_code;
+use crate::value;
+use prt_addr::Prefix;
+use prt_route::{Dev, Kind, Range, Selector};
+use sqlite::types::ValueRef;
+
+/// The addresses and lengths of the prefixes of a range.
+#[derive(Clone, Copy)]
+pub(crate) struct Bounds {
+    /// The least address.
+    low: u32,
+    /// The greatest address.
+    high: u64,
+    /// The least length, in bits.
+    shortest: u8,
+    /// The greatest length, in bits.
+    longest: u8,
+    /// An address that stands before the end of each.
+    inside: u32,
+}
+
+/// The last address of a prefix.
+fn last_addr(block: &Prefix) -> u64
+    ensures value { result ≡ block.now.bits + (2 ^ (32 - block.now.len) - 1) }
+    ensures fits { result < 2 ^ 63 }
+{
+    u64::from(block.bits()) + ((1u64 << (32 - block.len())) - 1)
+}
+
+/// The bounds of the prefixes of a range.
+fn bounds_of(range: &Range) -> Bounds
+    ensures value { result ≡ bounds_of range.now }
+    ensures fits { result.high < 2 ^ 63 }
+    ensures prefix { HasPrefix range.now }
+{
+    match range {
+        Range::All => Bounds {
+            low: 0,
+            high: u64::from(u32::MAX),
+            shortest: 0,
+            longest: 32,
+            inside: 0,
+        },
+        Range::Root(block) => Bounds {
+            low: block.bits(),
+            high: last_addr(block),
+            shortest: block.len(),
+            longest: 32,
+            inside: 0,
+        },
+        Range::Covering(block) => Bounds {
+            low: 0,
+            high: u64::from(block.bits()),
+            shortest: 0,
+            longest: block.len(),
+            inside: block.bits(),
+        },
+        Range::Exact(block) => Bounds {
+            low: block.bits(),
+            high: u64::from(block.bits()),
+            shortest: block.len(),
+            longest: block.len(),
+            inside: 0,
+        },
+    }
+}
+
+/// The cell of a kind that may be left out: -1 where it is.
+fn optional_kind(kind: Option<Kind>) -> ValueRef<'static>
+    ensures { bound_value (owned result) ≡ optional_number (option_map kind_code kind) }
+{
+    match kind {
+        Some(kind) => value::number(kind_code(kind)),
+        None => value::optional_number(None),
+    }
+}
+
+/// The cell of a number of 8 bits that may be left out: -1 where it is.
+fn optional_byte(n: Option<u8>) -> ValueRef<'static>
+    ensures { bound_value (owned result) ≡ optional_number n }
+{
+    match n {
+        Some(n) => value::number(u32::from(n)),
+        None => value::optional_number(None),
+    }
+}
+
+/// Says that the bytes of a `Dev` are a name, which its type keeps.
+fn has_name(dev: Dev)
+    ensures { is_name dev ≡ true }
+{
+    let _dev = dev;
+}
+
+/// The cell of a name that may be left out: the empty text where it is, which is no name.
+fn optional_name(dev: &Option<Dev>) -> ValueRef<'_>
+    ensures value { bound_value (owned result) ≡ optional_name dev.now }
+    ensures name { IsOptionalName dev.now }
+{
+    match dev {
+        Some(name) => {
+            has_name(*name);
+            ValueRef::Text(name.as_bytes())
+        }
+        None => ValueRef::Text(&[]),
+    }
+}
+
+/// The values that tell the statement that deletes routes by a selector which ones to delete, in the order of its parameters.
+pub fn selector_values(selector: &Selector) -> [ValueRef<'_>; 10]
+    ensures value { bound result ≡ selector_row selector.now }
+    ensures selector { IsSelector selector.now }
+{
+    let bounds = bounds_of(&selector.range);
+    [
+        value::optional_number(selector.table),
+        value::number(bounds.low),
+        value::large_number(bounds.high),
+        value::number(u32::from(bounds.shortest)),
+        value::number(u32::from(bounds.longest)),
+        value::number(bounds.inside),
+        optional_kind(selector.kind),
+        optional_byte(selector.proto),
+        optional_byte(selector.scope),
+        optional_name(&selector.dev),
+    ]
+}
