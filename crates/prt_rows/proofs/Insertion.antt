@@ -1,64 +1,68 @@
--- What the INSERT of a rule does.
-use Rattle.std.proofs.Common.{◌≡◌, inl, inr, ℕ, List, [], ◌∷◌, None, Ok, refl, sym, ap, subst, ◌∙◌}
-use Rattle.sqlite.proofs.Callers.{one_step, runs_as, statement_of}
-use Rattle.sqlite.specs.Does.{Does, Tally}
+-- What the INSERT of a rule, and of the row of `meta`, does.
+use Rattle.std.proofs.Common.{◌≡◌, ◌/◌, inl, inr, ℕ, List, [], ◌∷◌, length, Some, Ok, refl, sym, ap, subst, ◌∙◌}
+use Rattle.std.specs.Prelude.{codes, slice_get}
+use Rattle.sqlite.proofs.Callers.{one_step}
+use Rattle.sqlite.specs.Cast.{cast_row}
+use Rattle.sqlite.specs.Command.TheVariants.{Insert}
 use Rattle.sqlite.specs.Edit.{edit_of, edited, left_by, numbered}
-use Rattle.sqlite.specs.Effect.{Database}
-use Rattle.sqlite.specs.Listing.{understood}
-use Rattle.sqlite.specs.Rows.{Written}
+use Rattle.sqlite.specs.Effect.{Database, value_rows}
+use Rattle.sqlite.specs.Rows.{Written, stamped}
 use Rattle.sqlite.specs.Rowids.TheVariants.{Chosen}
 use Rattle.sqlite.specs.Schema.{Schema}
+use Rattle.sqlite.specs.Source.TheVariants.{Values}
 use Rattle.sqlite.specs.State.{State, mode_of, Executes}
 use Rattle.sqlite.specs.Table.{Table}
+use Rattle.sqlite.specs.Term.{Term}
 use Rattle.sqlite.specs.Tree.{Trees}
-use Rattle.sqlite_rules.proofs.ListLemmas.{all_has}
 use Rattle.sqlite_rules.proofs.TableLemmas.{put_all_has, put_all_keeps, put_all_adds}
+use Rattle.sqlite_rules.specs.Action.{works}
 use Rattle.sqlite_rules.specs.Edit.{taken_by}
 use Rattle.sqlite_rules.specs.Lists.{Has}
 use Rattle.sqlite_schema.specs.declared.schema.Index.{Index}
+use Rattle.sqlite_schema.specs.declared.schema.Keys.{Keys}
 use Rattle.sqlite_schema.specs.declared.schema.View.{View}
+use Rattle.sqlite_value.specs.Order.{Row}
+use Rattle.prt_addr.specs.Word.{Word}
 use Rattle.prt_rule.specs.declared.rule.Rule.{Rule}
-use Rattle.prt_rows.proofs.Casts.{cast_rule}
-use Rattle.prt_rows.proofs.Deletions.{went, same_value}
+use Rattle.prt_rows.proofs.Casts.{cast_count, cast_rule}
 use Rattle.prt_rows.proofs.Foreign.{no_works}
 use Rattle.prt_rows.proofs.Keyed.{keyed-put_all}
-use Rattle.prt_rows.proofs.Texts.{insert_rule_is}
+use Rattle.prt_rows.proofs.Texts.{Means, insert_meta_is, insert_rule_is}
+use Rattle.prt_rows.proofs.Writing.{changes_only, same_value, went, wrote}
+use Rattle.prt_rows.specs.Cell.{number}
+use Rattle.prt_rows.specs.Columns.{Column}
 use Rattle.prt_rows.specs.Effects.{Adds, IsKeyed}
-use Rattle.prt_rows.specs.Kept.{kept_rule}
-use Rattle.prt_rows.specs.Meanings.{insert_rule_command}
+use Rattle.prt_rows.specs.Kept.{kept_count, kept_rule}
+use Rattle.prt_rows.specs.Meanings.{meta_terms, rule_terms}
+use Rattle.prt_rows.specs.MetaRow.{meta_columns, meta_row}
 use Rattle.prt_rows.specs.Others.{AreOthers}
-use Rattle.prt_rows.specs.RuleRow.{rule_row}
-use Rattle.prt_rows.specs.Statements.{insert_rule}
-use Rattle.prt_rows.specs.Tables.{rule_table, schema_with}
+use Rattle.prt_rows.specs.RuleRow.{rule_columns, rule_row}
+use Rattle.prt_rows.specs.Statements.{insert_meta, insert_rule}
+use Rattle.prt_rows.specs.Tables.{meta_table, rule_table, schema_with, table_by_id}
 
-module _ (tables : List Table) (indexes : List Index) (views : List View) (others : AreOthers tables) where
-  abbrev schema : Schema
-  schema = schema_with tables indexes views
+-- a row that is put into a table by its id
+module _ {X : Type 0} (schema : Schema) (place : ℕ) (name : Word) (tree : ℕ) (columns : List (Column X)) (there : slice_get schema.tables place ≡ Some (table_by_id name tree columns))
+    (quiet : (keys : Keys) (olds news : List Row) → works schema keys 0 tree olds news ≡ []) (sql : List ℕ) (terms : List Term) (width : ℕ) (means : Means schema sql (Insert place (Values terms width))) where
+  abbrev table : Table
+  table = table_by_id name tree columns
 
-  pub adds_rule : (old new : State) (rule : Rule) (count : ℕ) → old.now.schema ≡ schema → Executes insert_rule (rule_row rule) old new (Ok count) → Adds rule_table (kept_rule rule) old.now new.now
-  adds_rule old new rule count has ran =
-      let params = rule_row rule in
-      let row = kept_rule rule in
+  adds : (old new : State) (params : Row) (id : ℕ) (rest : Row) (count : ℕ) → old.now.schema ≡ schema → value_rows (stamped table params) width (length terms / width) terms ≡ (number id ∷ rest) ∷ []
+      → cast_row table (number id ∷ rest) ≡ number id ∷ rest → Executes sql params old new (Ok count) → Adds table (number id ∷ rest) old.now new.now
+  adds old new params id rest count has is cast ran =
+      let row = number id ∷ rest in
       let db = old.now.trees in
-      let is = insert_rule_is tables indexes views in
-      let w = runs_as insert_rule params old new schema has insert_rule_command is.0 is.1 count ran in
-      let text = statement_of insert_rule (understood schema insert_rule) in
-      let done = went (subst (λ s. Does old.step_limit (mode_of old) params (record old.now { schema = s }) text None insert_rule_command (Ok (w.tally, new.now))) has w.changed) in
-      let now = ap (λ (p : Tally × Database). p.1) (same_value (went (went done.2).2).2) in
-      let given = went done.1 in
+      let w = wrote schema place table there sql (Insert place (Values terms width)) means (λ _ _ _ _ _ runs. runs) (λ _ _ _ _ _ _ _ does. does) old new params count has ran in
+      let given = went w.1 in
       let written = went (went given.2).2 in
       let counted = went written.2 in
-      let trees : done.0.trees ≡ written.0 = ap (λ (it : Written). it.trees) (same_value counted.2) ∙ same_value counted.1 in
-      let edit = edit_of db rule_table [] Chosen 0 given.0 in
-      let step = one_step schema (mode_of old).keys db written.0 edit (no_works 0 tables indexes views others.rule others.elsewhere (mode_of old).keys (taken_by db edit) edit.news) written.1 in
-      let all : new.now.trees ≡ written.0 = ap (λ (d : Database). d.trees) now ∙ trees in
-      let news : edit.news ≡ row ∷ [] = ap (λ rows. (edit_of db rule_table [] Chosen 0 rows).news) given.1.1 ∙ ap (λ row. numbered Chosen (left_by db edit) (row ∷ [])) (cast_rule rule) in
-      let rows : new.now.trees 0 ≡ edited db edit = ap (λ (t : Trees). t 0) all ∙ step.rows in
+      let trees : w.0.trees ≡ written.0 = ap (λ (it : Written). it.trees) (same_value counted.2) ∙ same_value counted.1 in
+      let edit = edit_of db table [] Chosen 0 given.0 in
+      let step = one_step schema (mode_of old).keys db written.0 edit (quiet (mode_of old).keys (taken_by db edit) edit.news) written.1 in
+      let now = w.2 ∙ ap (λ (t : Trees). record { schema = schema; trees = t }) trees in
+      let news : edit.news ≡ row ∷ [] = ap (λ rows. (edit_of db table [] Chosen 0 rows).news) (given.1.1 ∙ is) ∙ ap (λ row. numbered Chosen (left_by db edit) (row ∷ [])) cast in
+      let rows : new.now.trees tree ≡ edited db edit = ap (λ (d : Database). d.trees tree) now ∙ step.rows in
       record {
-        only = record {
-          schema = ap (λ (d : Database). d.schema) now ∙ sym has;
-          others = λ other among apart. ap (λ (t : Trees). t other.tree) all ∙ all_has _ schema.tables other step.tables (subst (λ (s : Schema). Has s.tables other) has among) apart;
-        };
+        only = changes_only schema table old.now new.now written.0 has now step.tables;
         sound = λ x there. elim (put_all_has edit.news (left_by db edit) x (subst (λ l. Has l x) rows there)) [
           | inl fresh ↦ elim (subst (λ l. Has l x) news fresh) [ inl same ↦ inl same | inr none ↦ absurd none ]
           | inr was ↦ inr was
@@ -67,3 +71,14 @@ module _ (tables : List Table) (indexes : List Index) (views : List View) (other
         complete = λ x was. subst (λ l. Has l x) (sym rows) (put_all_keeps edit.news (left_by db edit) x step.fresh was);
         keyed = λ keyed. subst IsKeyed (sym rows) (keyed-put_all edit.news (left_by db edit) step.keyed step.fresh keyed);
       }
+
+module _ (tables : List Table) (indexes : List Index) (views : List View) (others : AreOthers tables) (old new : State) (has : old.now.schema ≡ schema_with tables indexes views) (count : ℕ) where
+  pub adds_rule : (rule : Rule) → Executes insert_rule (rule_row rule) old new (Ok count) → Adds rule_table (kept_rule rule) old.now new.now
+  adds_rule rule =
+      adds (schema_with tables indexes views) 0 (codes "rule") 0 rule_columns refl (no_works 0 tables indexes views others.rule others.elsewhere) insert_rule rule_terms 13 (insert_rule_is tables indexes views)
+      old new (rule_row rule) rule.id _ count has refl (cast_rule rule)
+
+  pub adds_count : (commands : ℕ) → Executes insert_meta (meta_row commands) old new (Ok count) → Adds meta_table (kept_count commands) old.now new.now
+  adds_count commands =
+      adds (schema_with tables indexes views) 2 (codes "meta") 3 meta_columns refl (no_works 3 tables indexes views others.meta others.elsewhere) insert_meta meta_terms 4 (insert_meta_is tables indexes views)
+      old new (meta_row commands) 1 _ count has refl (cast_count commands)

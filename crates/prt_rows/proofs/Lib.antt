@@ -5,6 +5,7 @@ pub mod Codes
 pub mod RouteRows
 pub mod RuleRows
 pub mod Texts
+pub mod Writing
 pub mod Foreign
 pub mod Found
 pub mod Deletions
@@ -21,3 +22,4 @@ pub mod Rising
 pub mod Reading
 pub mod Shapes
 pub mod Selecting
+pub mod Creating

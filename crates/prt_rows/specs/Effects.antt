@@ -1,8 +1,10 @@
 -- What the statements do to the rows.
-use Rattle.std.specs.Prelude.{◌≡◌, ◌≢◌, ◌⊎◌, Bool, true, false, List, [], ◌∷◌, drop}
+use Rattle.std.specs.Prelude.{◌≡◌, ◌≢◌, ◌⊎◌, ℕ, Bool, true, false, List, [], ◌∷◌, drop}
 use Rattle.std.specs.List.{IsDistinct, list_all}
 use Rattle.std.specs.Ordering.{is_eq}
+use Rattle.sqlite.specs.Change.{KeepsRows}
 use Rattle.sqlite.specs.Effect.{Database}
+use Rattle.sqlite.specs.Schema.{Schema}
 use Rattle.sqlite.specs.Table.{Table}
 use Rattle.sqlite.specs.Term.{Term, holds}
 use Rattle.sqlite.specs.Tree.{rowid}
@@ -52,6 +54,12 @@ pub record Adds (table : Table) (row : Row) (old new : Database) : Type 0 where
 pub record Sets (table : Table) (row : Row) (old new : Database) : Type 0 where
   pub only : ChangesOnly table old new
   pub alone : new.trees table.tree ≡ row ∷ []
+
+-- a table was made: the schema is this one, its tree is empty, and each table that was there keeps its rows
+pub record Makes (after : Schema) (tree : ℕ) (old new : Database) : Type 0 where
+  pub schema : new.schema ≡ after
+  pub empty : new.trees tree ≡ []
+  pub kept : KeepsRows old.schema.tables old.trees new.trees
 
 -- each row is a route's
 abbrev pub AreRouteRows : List Row → Type 0

@@ -53,3 +53,13 @@ route_key = record { name = codes "sqlite_autoindex_route_1"; tree = 2; table = 
 -- the three tables, and others that were made later
 abbrev pub schema_with : List Table → List Index → List View → Schema
 schema_with tables indexes views = record { tables = rule_table ∷ route_table ∷ meta_table ∷ tables; indexes = route_key ∷ indexes; views = views }
+
+-- what stands in a file after none, one and two of the three tables were made
+abbrev pub no_tables : Schema
+no_tables = record { tables = []; indexes = []; views = [] }
+
+abbrev pub rule_alone : Schema
+rule_alone = record { tables = rule_table ∷ []; indexes = []; views = [] }
+
+abbrev pub rule_and_route : Schema
+rule_and_route = record { tables = rule_table ∷ route_table ∷ []; indexes = route_key ∷ []; views = [] }
