@@ -1,11 +1,9 @@
 -- What the UPDATE of the count does.
-use Rattle.std.proofs.Common.{◌≡◌, ℕ, pos, List, [], ◌∷◌, map, IsPermutation, None, Ok, sym, ap, subst, ◌∙◌}
+use Rattle.std.proofs.Common.{◌≡◌, ℕ, pos, List, [], ◌∷◌, map, IsPermutation, Ok, refl, ap, subst, ◌∙◌}
 use Rattle.std.proofs.lemmas.Cmp.{tied_itself}
-use Rattle.sqlite.proofs.Callers.{one_permutation, one_step, runs_as, statement_of}
-use Rattle.sqlite.specs.Does.{Does, Tally}
+use Rattle.sqlite.proofs.Callers.{one_permutation, one_step}
 use Rattle.sqlite.specs.Edit.{edit_of, edited}
 use Rattle.sqlite.specs.Effect.{Database}
-use Rattle.sqlite.specs.Listing.{understood}
 use Rattle.sqlite.specs.Program.{overlay}
 use Rattle.sqlite.specs.Query.{IsAnswer, Output, output, page}
 use Rattle.sqlite.specs.Rows.{Written}
@@ -16,16 +14,14 @@ use Rattle.sqlite.specs.Table.{Table}
 use Rattle.sqlite.specs.Term.{Term, lit, col}
 use Rattle.sqlite.specs.Tree.{Trees}
 use Rattle.sqlite.specs.declared.types.Value.TheVariants.{Null, Int}
-use Rattle.sqlite_rules.proofs.ListLemmas.{all_has}
 use Rattle.sqlite_rules.specs.Calls.{ids_of}
 use Rattle.sqlite_rules.specs.Edit.{taken_by}
-use Rattle.sqlite_rules.specs.Lists.{Has}
 use Rattle.sqlite_schema.specs.declared.schema.Index.{Index}
 use Rattle.sqlite_schema.specs.declared.schema.View.{View}
 use Rattle.sqlite_value.proofs.OrderLemmas.{value_cmp_total}
 use Rattle.sqlite_value.specs.Order.{Row}
 use Rattle.prt_rows.proofs.Casts.{cast_count}
-use Rattle.prt_rows.proofs.Deletions.{went, same_value}
+use Rattle.prt_rows.proofs.Writing.{changes_only, same_value, went, wrote}
 use Rattle.prt_rows.proofs.Foreign.{no_works}
 use Rattle.prt_rows.proofs.Texts.{set_count_is}
 use Rattle.prt_rows.specs.Cell.{number}
@@ -60,23 +56,17 @@ module _ (tables : List Table) (indexes : List Index) (views : List View) (other
       let db = old.now.trees in
       let params = count_values count in
       let is = set_count_is tables indexes views in
-      let w = runs_as set_count params old new schema has set_count_command is.0 is.1 changed ran in
-      let text = statement_of set_count (understood schema set_count) in
-      let done = went (subst (λ s. Does old.step_limit (mode_of old) params (record old.now { schema = s }) text None set_count_command (Ok (w.tally, new.now))) has w.changed) in
-      let now = ap (λ (p : Tally × Database). p.1) (same_value (went (went done.2).2).2) in
-      let given = went done.1 in
+      let w = wrote schema 2 meta_table refl set_count set_count_command is (λ _ _ _ _ _ runs. runs) (λ _ _ _ _ _ _ _ does. does) old new params changed has ran in
+      let given = went w.1 in
       let written = went given.2 in
-      let trees : done.0.trees ≡ written.0 = ap (λ (it : Written). it.trees) (same_value written.2) in
+      let trees : w.0.trees ≡ written.0 = ap (λ (it : Written). it.trees) (same_value written.2) in
+      let now = w.2 ∙ ap (λ (t : Trees). record { schema = schema; trees = t }) trees in
       let edit = edit_of db meta_table (ids_of given.0) Given 1 given.0 in
       let step = one_step schema (mode_of old).keys db written.0 edit (no_works 3 tables indexes views others.meta others.elsewhere (mode_of old).keys (taken_by db edit) edit.news) written.1 in
-      let all : new.now.trees ≡ written.0 = ap (λ (d : Database). d.trees) now ∙ trees in
       let answer = one_row db before count given.0 row (given.1.answer Null) in
       let same = tied_itself value_cmp_total (Int (pos 1)) in
       let made : edited db edit ≡ kept_count count ∷ [] = ap (λ rows. edited db (edit_of db meta_table (ids_of rows) Given 1 rows)) answer ∙ rw (row, same, cast_count count) in
       record {
-        only = record {
-          schema = ap (λ (d : Database). d.schema) now ∙ sym has;
-          others = λ other among apart. ap (λ (t : Trees). t other.tree) all ∙ all_has _ schema.tables other step.tables (subst (λ (s : Schema). Has s.tables other) has among) apart;
-        };
-        alone = ap (λ (t : Trees). t 3) all ∙ step.rows ∙ made;
+        only = changes_only schema meta_table old.now new.now written.0 has now step.tables;
+        alone = ap (λ (d : Database). d.trees 3) now ∙ step.rows ∙ made;
       }

@@ -1,6 +1,6 @@
 -- What the statements that make the tables do.
-use Rattle.std.proofs.Common.{◌≡◌, ℕ, List, [], ◌∷◌, false, Ok, refl, sym, ap, subst, ◌∙◌}
-use Rattle.sqlite.proofs.Callers.{IsPlain, command_of, runs_as, statement_of}
+use Rattle.std.proofs.Common.{◌≡◌, ℕ, [], false, Ok, refl, sym, ap, subst, ◌∙◌}
+use Rattle.sqlite.proofs.Callers.{runs_as, statement_of}
 use Rattle.sqlite.specs.Change.{KeepsRows, created, next_tree}
 use Rattle.sqlite.specs.Command.TheVariants.{CreateTable, Nothing}
 use Rattle.sqlite.specs.Compile.{table_defined_by}

@@ -1,15 +1,13 @@
 -- What a DELETE from a table does, whatever its tests are.
-use Rattle.std.proofs.Common.{◌≡◌, ◌⊎◌, inl, inr, ℕ, true, false, List, [], ◌∷◌, Option, Some, None, Ok, Err, Result, sym, ap, subst, ◌∙◌, true≢false, Equal}
+use Rattle.std.proofs.Common.{◌≡◌, ℕ, true, false, List, [], ◌∷◌, Some, Ok, sym, ap, subst, ◌∙◌, true≢false, Equal}
 use Rattle.std.proofs.lemmas.Bool.{false_from_ne_true}
 use Rattle.std.proofs.lemmas.Cmp.{tied_itself}
 use Rattle.std.specs.Ordering.{is_eq}
 use Rattle.std.specs.Prelude.{slice_get}
-use Rattle.sqlite.proofs.Callers.{one_step, runs_as, statement_of}
+use Rattle.sqlite.proofs.Callers.{one_step}
 use Rattle.sqlite.specs.Command.{Command}
-use Rattle.sqlite.specs.Does.{AtPlace, Does, OnRows, Tally}
 use Rattle.sqlite.specs.Edit.{edit_of, id_in, without_all}
 use Rattle.sqlite.specs.Effect.{Database}
-use Rattle.sqlite.specs.Listing.{understood}
 use Rattle.sqlite.specs.Program.{overlay}
 use Rattle.sqlite.specs.Rows.{Written}
 use Rattle.sqlite.specs.Rowids.TheVariants.{Given}
@@ -19,7 +17,6 @@ use Rattle.sqlite.specs.Table.{Table}
 use Rattle.sqlite.specs.Term.{Term}
 use Rattle.sqlite.specs.Tree.{Trees, rowid, has_rowid}
 use Rattle.sqlite.specs.declared.types.Value.TheVariants.{Int}
-use Rattle.sqlite_rules.proofs.ListLemmas.{all_has}
 use Rattle.sqlite_rules.proofs.ProbeLemmas.{has_mapped, mapped_has}
 use Rattle.sqlite_rules.proofs.TableLemmas.{int_is}
 use Rattle.sqlite_rules.specs.Action.{works}
@@ -32,16 +29,9 @@ use Rattle.sqlite_value.specs.Order.{Row, value_cmp}
 use Rattle.prt_rows.proofs.Found.{Finds, finds_passing, has_left, left_has}
 use Rattle.prt_rows.proofs.Keyed.{alone, equal_is, keyed-without_all}
 use Rattle.prt_rows.proofs.Texts.{Means}
+use Rattle.prt_rows.proofs.Writing.{changes_only, same_value, went, wrote}
 use Rattle.prt_rows.specs.Effects.{Deletes, IsKeyed, passes}
 use Rattle.prt_rows.specs.Meanings.{deletion, rowid_term}
-
--- a part that gave a value did not stop on the way
-pub went : {B E R : Type 0} {b : B} {Stops : E → Type 0} → ((stop : E) × Stops stop × (Ok b ≡ Err stop)) ⊎ R → R
-went (inl stopped) = absurd (let e = stopped.2 in cc)
-went (inr on) = on
-
-pub same_value : {B E : Type 0} {a b : B} → ◌≡◌ {A = Result B E} (Ok a) (Ok b) → a ≡ b
-same_value e = cc
 
 -- the rowids of the rows that pass are taken out, so those rows are
 module _ (tests : List Term) (params : Row) (rows found : List Row) (keyed : IsKeyed rows) (finds : Finds tests (rowid_term ∷ []) rows params found) where
@@ -74,34 +64,22 @@ module _ (schema : Schema) (place : ℕ) (table : Table) (there : slice_get sche
   abbrev command : Command
   command = deletion place table.tree tests
 
-  -- the statement's work on the table at its place
-  abbrev Works : State → State → Row → Tally → Option Table → Type 0
-  Works old new params tally found =
-      AtPlace (λ t. OnRows (record { limit = old.step_limit; keys = (mode_of old).keys; schema = schema; table = t; params = params }) (mode_of old) None command old.now.trees) found (Ok (tally, new.now))
-
   pub deletes : (old new : State) (params : Row) (count : ℕ) → old.now.schema ≡ schema → overlay old.now.trees [] table.tree ≡ old.now.trees table.tree → IsKeyed (old.now.trees table.tree)
       → Executes sql params old new (Ok count) → Deletes table tests params old.now new.now
   deletes old new params count has shown keyed ran =
       let db = old.now.trees in
       let tree = table.tree in
-      let w = runs_as sql params old new schema has command means.0 means.1 count ran in
-      let text = statement_of sql (understood schema sql) in
-      let does = subst (λ s. Does old.step_limit (mode_of old) params (record old.now { schema = s }) text None command (Ok (w.tally, new.now))) has w.changed in
-      let done = went (subst (λ found. Works old new params w.tally found) there does) in
-      let now = ap (λ (p : Tally × Database). p.1) (same_value (went (went done.2).2).2) in
-      let given = went done.1 in
+      let w = wrote schema place table there sql command means (λ _ _ _ _ _ runs. runs) (λ _ _ _ _ _ _ _ does. does) old new params count has ran in
+      let given = went w.1 in
       let written = went given.2 in
-      let trees : done.0.trees ≡ written.0 = ap (λ (it : Written). it.trees) (same_value written.2) in
+      let trees : w.0.trees ≡ written.0 = ap (λ (it : Written). it.trees) (same_value written.2) in
+      let now = w.2 ∙ ap (λ (t : Trees). record { schema = schema; trees = t }) trees in
       let edit = edit_of db table (ids_of given.0) Given 0 [] in
       let step = one_step schema (mode_of old).keys db written.0 edit (quiet (mode_of old).keys (taken_by db edit) edit.news) written.1 in
-      let all : new.now.trees ≡ written.0 = ap (λ (d : Database). d.trees) now ∙ trees in
-      let rows : new.now.trees tree ≡ without_all (db tree) (ids_of given.0) = ap (λ (t : Trees). t tree) all ∙ step.rows in
+      let rows : new.now.trees tree ≡ without_all (db tree) (ids_of given.0) = ap (λ (d : Database). d.trees tree) now ∙ step.rows in
       let finds = finds_passing tree tests (rowid_term ∷ []) _ params given.0 shown given.1 in
       record {
-        only = record {
-          schema = ap (λ (d : Database). d.schema) now ∙ sym has;
-          others = λ other among apart. ap (λ (t : Trees). t other.tree) all ∙ all_has _ schema.tables other step.tables (subst (λ (s : Schema). Has s.tables other) has among) apart;
-        };
+        only = changes_only schema table old.now new.now written.0 has now step.tables;
         sound = λ x stays. none_passes tests params (db tree) given.0 keyed finds x (subst (λ l. Has l x) rows stays);
         complete = λ x was fails. subst (λ l. Has l x) (sym rows) (others_stay tests params (db tree) given.0 keyed finds x was fails);
         keyed = subst IsKeyed (sym rows) (keyed-without_all (ids_of given.0) (db tree) keyed);

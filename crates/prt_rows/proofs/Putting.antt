@@ -1,14 +1,12 @@
 -- What the statement that puts a route does to the rows.
 use Rattle.std.proofs.Common.{◌≡◌, inl, inr, ℕ, ℤ, List, [], ◌∷◌, Option, Some, None, Ok, refl, sym, ap, subst, ◌∙◌}
-use Rattle.sqlite.proofs.Callers.{one_step, runs_as, statement_of}
-use Rattle.sqlite.specs.Does.{Does, Tally}
+use Rattle.sqlite.proofs.Callers.{one_step}
 use Rattle.sqlite.specs.Edit.{edit_of, next_rowid}
 use Rattle.sqlite.specs.Effect.{Database}
-use Rattle.sqlite.specs.Listing.{understood}
 use Rattle.sqlite.specs.Rows.{Clears, Meets, Puts, Task, Tries, TriesEach, Upserts, Written, count_of, nothing}
 use Rattle.sqlite.specs.Rowids.TheVariants.{Chosen, Given}
 use Rattle.sqlite.specs.Schema.{Schema}
-use Rattle.sqlite.specs.State.{State, mode_of, Executes}
+use Rattle.sqlite.specs.State.{State, Executes}
 use Rattle.sqlite.specs.Table.{Table}
 use Rattle.sqlite.specs.Tree.{Trees, rowid}
 use Rattle.sqlite.specs.declared.types.Value.TheVariants.{Null}
@@ -24,7 +22,7 @@ use Rattle.sqlite_schema.specs.declared.schema.View.{View}
 use Rattle.sqlite_value.specs.Order.{Row}
 use Rattle.prt_route.specs.declared.route.Route.{Route}
 use Rattle.prt_rows.proofs.Casts.{cast_null, cast_route}
-use Rattle.prt_rows.proofs.Deletions.{went, same_value}
+use Rattle.prt_rows.proofs.Writing.{same_value, went, wrote}
 use Rattle.prt_rows.proofs.Foreign.{no_works}
 use Rattle.prt_rows.proofs.Found.{Finds, finds_passing}
 use Rattle.prt_rows.proofs.Replacing.{PutsRow, puts_new, puts_in_place, update_values}
@@ -97,11 +95,8 @@ module _ (tables : List Table) (indexes : List Index) (views : List View) (other
       let params = route_row route in
       let task = task_of old.step_limit route in
       let is = put_route_is tables indexes views in
-      let w = runs_as put_route params old new schema has put_route_command is.0 is.1 count ran in
-      let text = statement_of put_route (understood schema put_route) in
-      let done = went (subst (λ s. Does old.step_limit (mode_of old) params (record old.now { schema = s }) text None put_route_command (Ok (w.tally, new.now))) has w.changed) in
-      let now = ap (λ (p : Tally × Database). p.1) (same_value (went (went done.2).2).2) in
-      let sourced = went done.1 in
+      let w = wrote schema 1 route_table refl put_route put_route_command is (λ _ _ _ _ _ runs. runs) (λ _ _ _ _ _ _ _ does. does) old new params count has ran in
+      let sourced = went w.1 in
       let counter = went sourced.2 in
       let each = went counter.2 in
       let next = went each.2 in
@@ -111,12 +106,12 @@ module _ (tables : List Table) (indexes : List Index) (views : List View) (other
       let made = tried old.step_limit route db routes distinct id one.0 tries in
       let first : each.0.0.trees ≡ one.0.trees = ap (λ (p : Written × ℤ). p.0.trees) (same_value one.2) in
       let then : next.0 ≡ each.0.0.trees = same_value next.1 in
-      let last : done.0.trees ≡ next.0 = ap (λ (it : Written). it.trees) (same_value next.2) in
-      let all : new.now.trees ≡ one.0.trees = ap (λ (d : Database). d.trees) now ∙ last ∙ then ∙ first in
+      let last : w.0.trees ≡ next.0 = ap (λ (it : Written). it.trees) (same_value next.2) in
+      let all : new.now.trees ≡ one.0.trees = ap (λ (d : Database). d.trees) w.2 ∙ last ∙ then ∙ first in
       let it = subst (λ t. PutsRow tables indexes views free route db t routes distinct × ((other : Table) → Has schema.tables other → (other.tree ≡ 1 → ⊥) → t other.tree ≡ db other.tree)) (sym all) made in
       record {
         only = record {
-          schema = ap (λ (d : Database). d.schema) now ∙ sym has;
+          schema = ap (λ (d : Database). d.schema) w.2 ∙ sym has;
           others = λ other among apart. it.1 other (subst (λ (s : Schema). Has s.tables other) has among) apart;
         };
         sound = it.0.sound;
