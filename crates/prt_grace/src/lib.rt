@@ -1,0 +1,12 @@
+//! Grace periods: which retired versions no looker can hold any more.
+//!
+//! The quiescent-state form of user-level RCU (Desnoyers et al. 2012): a looker announces the number of the version that
+//! it fetched, and so says that it holds no earlier one. The registry keeps what was announced, and gives up a retired
+//! version once each online looker has announced a later number.
+#![tactic(auto)]
+
+mod limits;
+mod place;
+
+pub use limits::{MOST_RETIRED, PLACES};
+pub use place::{Place, PlaceState};
