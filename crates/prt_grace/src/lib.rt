@@ -7,6 +7,9 @@
 
 mod limits;
 mod place;
+mod registry;
+mod retired;
 
 pub use limits::{MOST_RETIRED, PLACES};
 pub use place::{Place, PlaceState};
+pub use registry::Registry;

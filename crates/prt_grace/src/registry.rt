@@ -1,0 +1,174 @@
+//! The registry of grace periods.
+ghost use Rattle.std.specs.Prelude.{◌≡◌, ◌+◌, ◌<◌, ◌≤◌, ◌↔◌, ◌||◌, ℕ, IfNone, IfSome, IsSome, IsTrue, None, Some, length, map, position, unwrap_or};
+ghost use Rattle.std.specs.Arc.{arc_value};
+ghost use Rattle.std.specs.List.{list_any};
+ghost use Rattle.prt_grace.specs.GracePeriod.{may_hold};
+ghost use Rattle.prt_grace.specs.Registry.{HasPlace, announced, is_free, new_registry, reclaimed, with_noted, with_place};
+ghost use Rattle.prt_grace.specs.declared.place.PlaceState.TheVariants.{Free, Offline, Online};
+
+use crate::retired::RetiredVersions;
+use crate::{MOST_RETIRED, PLACES, Place, PlaceState};
+use prt_version::Version;
+use std::marker::Model;
+use std::sync::Arc;
+
+/// The version noted last, the retired versions that lookers may still hold, and what the lookers have announced.
+#[derive(Drop)]
+pub struct Registry {
+    noted: Arc<Version>,
+    retired: RetiredVersions,
+    places: [PlaceState; PLACES],
+}
+
+impl Model for Registry {
+    ghost use Rattle.std.specs.Arc.{arc_value};
+    ghost use Rattle.prt_grace.specs.Registry.{IsOrderly, RegistryState};
+
+    ghost Value = { RegistryState };
+
+    ghost view = { λ r. record { noted = arc_value r.noted; retired = r.retired; places = r.places } };
+
+    ghost invariant = { λ r. IsOrderly (record { noted = arc_value r.noted; retired = r.retired; places = r.places }) };
+}
+
+impl Registry {
+    /// A registry in which this version is noted, with no version retired and all places free.
+    pub fn new(version: Arc<Version>) -> Registry
+        ensures { result ≡ new_registry (arc_value version) }
+    {
+        Registry {
+            noted: version,
+            retired: RetiredVersions::new(),
+            places: [PlaceState::Free; PLACES],
+        }
+    }
+
+    /// Writes what is known of one place.
+    fn put(&mut self, index: usize, state: PlaceState)
+        requires { index < PLACES }
+        ensures { self.new ≡ with_place self.old index state }
+    {
+        self.places[index] = state;
+    }
+
+    /// Gives a new looker a place, offline. `None` where all [`PLACES`] are taken, and then nothing changes.
+    pub fn join(&mut self) -> Option<Place>
+        ensures taken { IfNone result ((position is_free self.old.places ≡ None) × (self.new ≡ self.old)) }
+        ensures place { IfSome result (λ place. (position is_free self.old.places ≡ Some place.index) × (place.announced ≡ None)) }
+        ensures registry { IfSome result (λ place. self.new ≡ with_place self.old place.index Offline) }
+    {
+        let index = first_free(&self.places)?;
+        self.put(index, PlaceState::Offline);
+        Some(Place {
+            index,
+            announced: None,
+        })
+    }
+
+    /// Frees the place of a looker, with what it has announced.
+    pub fn part(&mut self, place: Place)
+        requires { HasPlace self.old place }
+        ensures { self.new ≡ with_place self.old place.index Free }
+    {
+        self.put(place.index, PlaceState::Free);
+    }
+
+    /// Brings a looker online: it announces the noted number, unless it is online already. The number that it has
+    /// announced then.
+    pub fn online(&mut self, place: &mut Place) -> u64
+        requires { HasPlace self.old place.old }
+        ensures number { result ≡ unwrap_or place.old.announced self.old.noted.count }
+        ensures place { place.new ≡ record place.old { announced = Some result } }
+        ensures registry { self.new ≡ with_place self.old place.old.index (Online result) }
+        ensures known { HasPlace self.new place.new }
+    {
+        let number = place.announced.unwrap_or(self.noted.number());
+        place.announced = Some(number);
+        self.put(place.index, PlaceState::Online(number));
+        number
+    }
+
+    /// Announces that the looker holds no version below this number. The looker is online, and the number is at least
+    /// the one that it has announced.
+    pub fn announce(&mut self, place: &mut Place, number: u64)
+        requires known { HasPlace self.old place.old }
+        requires online { IsSome place.old.announced }
+        requires later { IfSome place.old.announced (λ before. before ≤ number) }
+        ensures place { place.new ≡ record place.old { announced = Some number } }
+        ensures registry { self.new ≡ with_place self.old place.old.index (Online number) }
+        ensures known { HasPlace self.new place.new }
+    {
+        place.announced = Some(number);
+        self.put(place.index, PlaceState::Online(number));
+    }
+
+    /// Takes a looker offline: it holds no version.
+    pub fn offline(&mut self, place: &mut Place)
+        requires { HasPlace self.old place.old }
+        ensures place { place.new ≡ record place.old { announced = None } }
+        ensures registry { self.new ≡ with_place self.old place.old.index Offline }
+        ensures known { HasPlace self.new place.new }
+    {
+        place.announced = None;
+        self.put(place.index, PlaceState::Offline);
+    }
+
+    /// Whether one more version can be retired: false exactly where [`MOST_RETIRED`] are.
+    pub fn has_room(&self) -> bool
+        ensures { IsTrue result ↔ (length self.now.retired < MOST_RETIRED) }
+    {
+        self.retired.has_room()
+    }
+
+    /// Notes a version, and retires the one that was noted before. There is room, and the number is greater than the
+    /// noted one.
+    pub fn note(&mut self, version: Arc<Version>)
+        requires room { length self.old.retired < MOST_RETIRED }
+        requires later { self.old.noted.count < (arc_value version).count }
+        ensures { self.new ≡ with_noted self.old (arc_value version) }
+    {
+        let before = std::mem::replace(&mut self.noted, version);
+        self.retired.push(before);
+    }
+
+    /// Gives up each retired version that no looker can hold any more: no online one has announced its number or less.
+    /// How many went.
+    pub fn reclaim(&mut self) -> usize
+        ensures registry { self.new ≡ reclaimed self.old }
+        ensures number { result + length self.new.retired ≡ length self.old.retired }
+    {
+        let before = self.retired.len();
+        self.retired.keep_from(lowest_announced(&self.places));
+        before - self.retired.len()
+    }
+}
+
+/// The index of the first free place.
+fn first_free(places: &[PlaceState]) -> Option<usize>
+    ensures value { result ≡ position is_free places.now }
+    ensures within { IfSome result (λ index. index < length places.now) }
+{
+    places.iter().position(|place| place.is_free())
+}
+
+/// The lowest number that an online looker has announced: it holds back exactly the versions that some place does.
+fn lowest_announced(places: &[PlaceState]) -> Option<u64>
+    ensures { (n : ℕ) → may_hold n result ≡ list_any (may_hold n) (map announced places.now) }
+{
+    let mut lowest = None;
+    for place in places {
+        lowest = lower(lowest, place.announced());
+    }
+    lowest
+}
+
+/// The lower of two announced numbers, or the only one.
+fn lower(first: Option<u64>, second: Option<u64>) -> Option<u64>
+    ensures { (n : ℕ) → may_hold n result ≡ (may_hold n first || may_hold n second) }
+{
+    match (first, second) {
+        (Some(first), Some(second)) => Some(first.min(second)),
+        (Some(only), None) | (None, Some(only)) => Some(only),
+        (None, None) => None,
+    }
+}
