@@ -50,7 +50,9 @@ with_noted registry version = record { noted = version; retired = registry.retir
 abbrev pub reclaimed : RegistryState → RegistryState
 reclaimed registry = record registry { retired = after_reclaim (λ version. version.count) registry.noted.count (map announced registry.places) registry.retired }
 
--- what holds of every registry: the numbers of the retired versions rise and lie below the noted one, and they fit
+-- what holds of every registry
 pub record IsOrderly (registry : RegistryState) : Type 0 where
+  -- the numbers of the retired versions rise, and lie below the noted one
   pub rising : IsRising (λ version other. nat_lt version.count other.count) (registry.retired ++ registry.noted ∷ [])
   pub fits : length registry.retired ≤ MOST_RETIRED
+  pub places : length registry.places ≡ PLACES

@@ -56,6 +56,7 @@ impl Registry {
         ensures taken { IfNone result ((position is_free self.old.places ≡ None) × (self.new ≡ self.old)) }
         ensures place { IfSome result (λ place. (position is_free self.old.places ≡ Some place.index) × (place.announced ≡ None)) }
         ensures registry { IfSome result (λ place. self.new ≡ with_place self.old place.index Offline) }
+        ensures known { IfSome result (λ place. HasPlace self.new place) }
     {
         let index = first_free(&self.places)?;
         self.put(index, PlaceState::Offline);

@@ -6,7 +6,7 @@ use Rattle.prt_grace.proofs.Slots.{kept_full, versions_kept}
 use Rattle.prt_grace.proofs.retired.RetiredVersions.keep_from.Goals as goal
 
 pub invariant_of-self : goal.invariant_of-self
-invariant_of-self c = rw c.keep_slots.ensures (kept_full c.args.lowest c.self.inside.slots.items)
+invariant_of-self c = rw c.keep_slots.ensures (kept_full _ c.self.inside.slots.items)
 
 pub returns : goal.returns
 returns c =
