@@ -3,7 +3,7 @@ ghost use Rattle.std.specs.Prelude.{◌≡◌, ◌+◌, ◌<◌, ◌≤◌, ◌�
 ghost use Rattle.std.specs.Arc.{arc_value};
 ghost use Rattle.std.specs.List.{list_any};
 ghost use Rattle.prt_grace.specs.GracePeriod.{may_hold};
-ghost use Rattle.prt_grace.specs.Registry.{HasPlace, announced, is_free, new_registry, reclaimed, with_noted, with_place};
+ghost use Rattle.prt_grace.specs.Registry.{HasPlace, announced, announcing, is_free, new_registry, reclaimed, with_noted, with_place};
 ghost use Rattle.prt_grace.specs.declared.place.PlaceState.TheVariants.{Free, Offline, Online};
 
 use crate::retired::RetiredVersions;
@@ -51,6 +51,23 @@ impl Registry {
         self.places[index] = state;
     }
 
+    /// Writes what a looker has announced, in its place and in the registry: `None` takes it offline.
+    fn set_announced(&mut self, place: &mut Place, announced: Option<u64>)
+        requires { HasPlace self.old place.old }
+        ensures place { place.new ≡ record place.old { announced = announced } }
+        ensures registry { self.new ≡ with_place self.old place.old.index (announcing announced) }
+        ensures known { HasPlace self.new place.new }
+    {
+        place.announced = announced;
+        self.put(
+            place.index,
+            match announced {
+                Some(number) => PlaceState::Online(number),
+                None => PlaceState::Offline,
+            },
+        );
+    }
+
     /// Gives a new looker a place, offline. `None` where all [`PLACES`] are taken, and then nothing changes.
     pub fn join(&mut self) -> Option<Place>
         ensures taken { IfNone result ((position is_free self.old.places ≡ None) × (self.new ≡ self.old)) }
@@ -83,10 +100,9 @@ impl Registry {
         ensures registry { self.new ≡ with_place self.old place.old.index (Online result) }
         ensures known { HasPlace self.new place.new }
     {
-        let number = place.announced.unwrap_or(self.noted.number());
-        place.announced = Some(number);
-        self.put(place.index, PlaceState::Online(number));
-        number
+        let announced = place.announced.unwrap_or(self.noted.number());
+        self.set_announced(place, Some(announced));
+        announced
     }
 
     /// Announces that the looker holds no version below this number. The looker is online, and the number is at least
@@ -99,8 +115,7 @@ impl Registry {
         ensures registry { self.new ≡ with_place self.old place.old.index (Online number) }
         ensures known { HasPlace self.new place.new }
     {
-        place.announced = Some(number);
-        self.put(place.index, PlaceState::Online(number));
+        self.set_announced(place, Some(number));
     }
 
     /// Takes a looker offline: it holds no version.
@@ -110,8 +125,7 @@ impl Registry {
         ensures registry { self.new ≡ with_place self.old place.old.index Offline }
         ensures known { HasPlace self.new place.new }
     {
-        place.announced = None;
-        self.put(place.index, PlaceState::Offline);
+        self.set_announced(place, None);
     }
 
     /// Whether one more version can be retired: false exactly where [`MOST_RETIRED`] are.
