@@ -2,7 +2,7 @@
 ghost use Rattle.std.specs.Prelude.{◌≡◌, ◌<◌, ◌++◌, ◌∷◌, [], filter, nat_lt, length};
 ghost use Rattle.std.specs.Arc.{arc_value};
 ghost use Rattle.prt_grace.specs.GracePeriod.{may_hold};
-ghost use Rattle.prt_grace.specs.Retired.{slot_may_be_held};
+ghost use Rattle.prt_grace.specs.Retired.{slot_may_be_held, versions_in};
 
 use crate::MOST_RETIRED;
 use arrayvec::ArrayVec;
@@ -69,9 +69,10 @@ impl RetiredVersions {
     }
 }
 
-/// Keeps the slots whose version a looker who announced `lowest` may hold.
+/// Keeps the slots whose version a looker who announced `lowest` may hold, and no empty one.
 fn keep_slots(slots: &mut ArrayVec<Option<Arc<Version>>, MOST_RETIRED>, lowest: Option<u64>)
-    ensures { slots.new.items ≡ filter (slot_may_be_held lowest) slots.old.items }
+    ensures kept { slots.new.items ≡ filter (slot_may_be_held lowest) slots.old.items }
+    ensures full { length slots.new.items ≡ length (versions_in slots.new.items) }
 {
     slots.retain(
         move |slot: &mut Option<Arc<Version>>| -> bool
