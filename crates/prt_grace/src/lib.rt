@@ -5,6 +5,8 @@
 //! version once each online looker has announced a later number.
 #![tactic(auto)]
 
+pub mod examples;
+pub mod laws;
 mod limits;
 mod place;
 mod registry;
