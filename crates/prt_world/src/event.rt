@@ -1,0 +1,92 @@
+ghost use Rattle.std.specs.Prelude.{◌≡◌, ◌<◌};
+ghost use Rattle.std.specs.Option.{SomeIff};
+
+use prt_command::{Command, Packet};
+use std::marker::Model;
+
+/// How many lookers a world has places for.
+pub const MOST_LOOKERS: u32 = 64;
+
+/// The number of a looker: 0 to 63.
+#[derive(Clone, Copy, Debug, PartialEq, Eq)]
+pub struct LookerNumber {
+    number: u8,
+}
+
+impl Model for LookerNumber {
+    ghost use Rattle.std.specs.Prelude.{ℕ, ◌<◌};
+
+    ghost Value = { ℕ };
+
+    ghost view = { λ looker. looker.number };
+
+    ghost invariant = { λ looker. looker.number < 64 };
+
+    ghost inverse = { λ number. record { number = number } };
+}
+
+impl LookerNumber {
+    /// The looker of this number, if one may have it.
+    pub fn new(number: u32) -> Option<LookerNumber>
+        ensures { SomeIff result (number < 64) number }
+    {
+        if number >= MOST_LOOKERS {
+            return None;
+        }
+        Some(LookerNumber {
+            number: number as u8,
+        })
+    }
+
+    /// The number, 0 to 63.
+    pub fn get(self) -> u8
+        ensures value { result ≡ self }
+        ensures low { result < 64 }
+    {
+        self.number
+    }
+}
+
+/// What a failure or a stop makes of a transaction whose commit it cuts short.
+#[derive(Clone, Copy, Debug, PartialEq, Eq)]
+pub enum Fate {
+    /// What it wrote is durable.
+    Kept,
+    /// Nothing of it is there.
+    Lost,
+}
+
+/// One atomic step of publisher, store, lookers and registry.
+#[derive(Clone, Copy, Debug, PartialEq, Eq)]
+pub enum Event {
+    /// A command is checked and prepared.
+    Submit(Command),
+    /// The next store call succeeds.
+    Call,
+    /// The next store call fails.
+    Fail(Fate),
+    /// The committed version is published.
+    Publish,
+    /// The publication is refused.
+    PublishFail,
+    /// The registry notes the published version.
+    Note,
+    /// The command is acknowledged.
+    Ack,
+    /// A looker announces the noted version.
+    Online(LookerNumber),
+    /// A looker takes hold of the published version.
+    Fetch(LookerNumber),
+    /// A looker announces the version that it holds.
+    Announce(LookerNumber),
+    /// A looker lets go of its version and goes offline.
+    Offline(LookerNumber),
+    /// A looker asks the version that it holds what becomes of a packet.
+    Look(LookerNumber, Packet),
+    /// The versions that no looker can hold any more are given up.
+    Reclaim,
+    /// Everything stops.
+    Stop(Fate),
+    /// The database is opened again.
+    Reopen,
+}

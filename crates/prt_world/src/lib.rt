@@ -1,0 +1,13 @@
+//! The world of interleavings: events, what each of them does, and replays of lists of them.
+#![tactic(auto)]
+
+mod event;
+mod outcome;
+mod trace;
+
+pub use event::{Event, Fate, LookerNumber, MOST_LOOKERS};
+pub use outcome::Outcome;
+pub use prt_addr::{Refusal, StoreCall};
+pub use prt_command::{Command, Packet};
+pub use prt_version::Answer;
+pub use trace::Trace;
