@@ -1,0 +1,5 @@
+pub mod KeptVersions
+pub mod Folds
+pub mod History
+pub mod Phases
+pub mod Claims

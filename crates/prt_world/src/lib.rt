@@ -2,11 +2,15 @@
 #![tactic(auto)]
 
 mod event;
+mod laws;
 mod outcome;
+mod phase;
 mod trace;
 
 pub use event::{Event, Fate, LookerNumber, MOST_LOOKERS};
+pub use laws::every_run;
 pub use outcome::Outcome;
+pub use phase::Phase;
 pub use prt_addr::{Refusal, StoreCall};
 pub use prt_command::{Command, Packet};
 pub use prt_version::Answer;

@@ -1,0 +1,372 @@
+-- What every event keeps.
+use Rattle.std.proofs.Common.{◌≡◌, ℕ, ◌+◌, ◌-◌, ◌<◌, ◌≤◌, Bool, true, false, List, [], ◌∷◌, ◌++◌, Option, Some, None, length, take, refl, sym, ap, ◌∙◌, subst, arith, cond}
+use Rattle.std.specs.Prelude.{slice_get, unwrap_or}
+use Rattle.std.proofs.lemmas.List.{length-append, length-take-le, take-append-le}
+use Rattle.prt_addr.specs.declared.refusal.Refusal.{Refusal}
+use Rattle.prt_addr.specs.declared.refusal.StoreCall.{StoreCall}
+use Rattle.prt_addr.specs.declared.refusal.StoreCall.TheVariants.{Begin, Write, Count, Commit}
+use Rattle.prt_addr.proofs.Each.{each_append}
+use Rattle.prt_command.specs.declared.request.Command.{Command}
+use Rattle.prt_rule.specs.declared.packet.Packet.{Packet}
+use Rattle.prt_version.specs.Change.{apply, refusal}
+use Rattle.prt_version.specs.Select.{select}
+use Rattle.prt_version.specs.State.{State, opening_state}
+use Rattle.prt_world.specs.Durability.{state_after}
+use Rattle.prt_world.specs.World as world
+use Rattle.prt_world.specs.World.{Ack, Lookup, LookerState, World, announced_by, kept, offline, online, published_version, start, step, stopped, run_from, version, with_count}
+use Rattle.prt_world.specs.declared.event.Event.{Event}
+use Rattle.prt_world.specs.declared.event.Event.TheVariants as events
+use Rattle.prt_world.specs.declared.event.Fate.{Fate}
+use Rattle.prt_world.specs.declared.event.Fate.TheVariants.{Kept, Lost}
+use Rattle.prt_world.specs.declared.phase.Phase.{Phase}
+use Rattle.prt_world.specs.declared.phase.Phase.TheVariants.{Ready, Prepared, Committed, Published, Noted, Closed, Stopped}
+use Rattle.prt_world.proofs.Folds.{apply_count, state_after_more, written_twice}
+use Rattle.prt_world.proofs.History.{Agree, IsAcked, IsAnswer, IsHeld, IsHistory, IsServed, history_on, history_published, history_reclaimed, history_reopened, same_state}
+use Rattle.prt_grace.specs.declared.limits.TheConstants.{PLACES}
+use Rattle.prt_world.proofs.KeptVersions.{each_get, each_replicate, each_set, kept_alone, kept_count, slice_get-push}
+
+-- ---- the invariant
+
+-- How many commands were accepted, are durable, published and noted.
+pub record IsCounted (accepted : List Command) (disk : State) (published noted : ℕ) : Type 0 where
+  pub published_low : published ≤ disk.count
+  pub durable_low : disk.count ≤ length accepted
+  pub accepted_low : length accepted ≤ disk.count + 1
+  pub noted_low : noted ≤ published
+  pub one_more : published ≤ noted + 1
+  pub prefix : disk ≡ state_after accepted disk.count
+
+-- all accepted commands are durable, published and noted
+pub record IsSettled (accepted : List Command) (disk : State) (published noted : ℕ) : Type 0 where
+  pub all : length accepted ≡ disk.count
+  pub shown : published ≡ disk.count
+  pub known : noted ≡ published
+
+-- the transaction of the last accepted command is open
+pub record IsOpen (accepted : List Command) (disk : State) (published noted : ℕ) (command : Command) : Type 0 where
+  pub ends : accepted ≡ take disk.count accepted ++ command ∷ []
+  pub one : length accepted ≡ disk.count + 1
+  pub shown : published ≡ disk.count
+  pub known : noted ≡ published
+  pub allowed : refusal disk command ≡ None
+
+-- the last accepted command is durable, and not published
+pub record IsStored (accepted : List Command) (disk : State) (published noted : ℕ) (command : Command) : Type 0 where
+  pub all : length accepted ≡ disk.count
+  pub next : disk.count ≡ published + 1
+  pub known : noted ≡ published
+  pub after : disk ≡ apply (state_after accepted published) command
+  pub last : slice_get accepted published ≡ Some command
+
+-- the last accepted command is published
+pub record IsShown (accepted : List Command) (disk : State) (published : ℕ) (command : Command) : Type 0 where
+  pub all : length accepted ≡ disk.count
+  pub shown : published ≡ disk.count
+  pub positive : 1 ≤ published
+  pub last : slice_get accepted (published - 1) ≡ Some command
+
+abbrev pub IsInPhase : List Command → State → State → ℕ → ℕ → Phase → Type 0
+IsInPhase accepted disk pending published noted Ready = IsSettled accepted disk published noted
+IsInPhase accepted disk pending published noted (Prepared command Begin) = IsSettled accepted disk published noted × (refusal disk command ≡ None)
+IsInPhase accepted disk pending published noted (Prepared command Write) = IsOpen accepted disk published noted command
+IsInPhase accepted disk pending published noted (Prepared command Count) = IsOpen accepted disk published noted command × (pending ≡ with_count disk.count (apply disk command))
+IsInPhase accepted disk pending published noted (Prepared command Commit) = IsOpen accepted disk published noted command × (pending ≡ apply disk command)
+IsInPhase accepted disk pending published noted (Committed command) = IsStored accepted disk published noted command
+IsInPhase accepted disk pending published noted (Published command) = IsShown accepted disk published command × (published ≡ noted + 1)
+IsInPhase accepted disk pending published noted (Noted command) = IsShown accepted disk published command × (published ≡ noted)
+IsInPhase accepted disk pending published noted Closed = Unit {0}
+IsInPhase accepted disk pending published noted Stopped = Unit {0}
+
+abbrev pub Phased : World → Phase → Type 0
+Phased w phase = IsInPhase w.accepted w.disk w.pending w.published w.noted phase
+
+pub record Holds (w : World) : Type 0 where
+  pub counts : IsCounted w.accepted w.disk w.published w.noted
+  pub history : IsHistory w.accepted w.published w.versions w.lookers w.acks w.answers
+  pub phased : Phased w w.phase
+
+-- ---- a command
+
+pub shown_version : (w : World) → Holds w → published_version w ≡ state_after w.accepted w.published
+shown_version w h = ap (λ found. unwrap_or found opening_state) h.history.top_kept
+
+-- where all is settled, the published version is what is on disk
+settled_version : (w : World) → Holds w → IsSettled w.accepted w.disk w.published w.noted → published_version w ≡ w.disk
+settled_version w h settled = shown_version w h ∙ ap (state_after w.accepted) settled.shown ∙ sym h.counts.prefix
+
+prepare_holds : (w : World) (command : Command) (reason : Option Refusal) (room : Bool) → refusal (published_version w) command ≡ reason → Holds w → IsSettled w.accepted w.disk w.published w.noted → Holds (world.prepare w command reason room).world
+prepare_holds w command (Some reason) room asked h settled = h
+prepare_holds w command None false asked h settled = h
+prepare_holds w command None true asked h settled = record { counts = h.counts; history = h.history; phased = (settled, ap (λ state. refusal state command) (sym (settled_version w h settled)) ∙ asked) }
+
+submit_holds : (w : World) (command : Command) (phase : Phase) → Holds w → Phased w phase → Holds (world.submit w command phase).world
+submit_holds w command Ready h phased = prepare_holds w command (refusal (published_version w) command) (world.has_room w) refl h phased
+submit_holds w command Closed h phased = h
+submit_holds w command phase h phased = h
+
+-- ---- a store call
+
+-- one command more is accepted
+pub begin_holds : (w : World) (command : Command) → Holds w → IsSettled w.accepted w.disk w.published w.noted → refusal w.disk command ≡ None → Holds (world.begun w command)
+begin_holds w command h settled allowed =
+    let longer : length (w.accepted ++ command ∷ []) ≡ length w.accepted + 1 = length-append w.accepted (command ∷ []) in
+    let all : length w.accepted ≡ w.disk.count = settled.all in
+    let agree : Agree w.disk.count w.accepted (w.accepted ++ command ∷ []) = λ n within. take-append-le n w.accepted (command ∷ []) (omega arith) in
+    let shown : w.published ≡ w.disk.count = settled.shown in
+    let whole : take w.disk.count (w.accepted ++ command ∷ []) ≡ w.accepted = ap (λ n. take n (w.accepted ++ command ∷ [])) (sym all) ∙ taken w.accepted command in
+    record {
+      counts = record {
+        published_low = h.counts.published_low;
+        durable_low = omega (arith, h.counts.durable_low);
+        accepted_low = omega arith;
+        noted_low = h.counts.noted_low;
+        one_more = h.counts.one_more;
+        prefix = h.counts.prefix ∙ sym (same_state w.disk.count w.accepted (w.accepted ++ command ∷ []) agree w.disk.count (omega arith));
+      };
+      history = history_on w.published w.accepted (w.accepted ++ command ∷ []) w.versions w.lookers w.acks w.answers (λ n within. agree n (omega arith)) h.history;
+      phased = record { ends = ap (λ xs. xs ++ command ∷ []) (sym whole); one = omega arith; shown = settled.shown; known = settled.known; allowed = allowed };
+    }
+  where
+    taken : (accepted : List Command) (command : Command) → take (length accepted) (accepted ++ command ∷ []) ≡ accepted
+    taken [] command = refl
+    taken (first ∷ rest) command = ap (λ xs. first ∷ xs) (taken rest command)
+
+-- the disk after the commit call
+commit_counts : (w : World) (command : Command) → Holds w → IsOpen w.accepted w.disk w.published w.noted command → w.pending ≡ apply w.disk command → IsCounted w.accepted w.pending w.published w.noted
+commit_counts w command h opened made =
+    let one : length w.accepted ≡ w.disk.count + 1 = opened.one in
+    let shown : w.published ≡ w.disk.count = opened.shown in
+    let counted : w.pending.count ≡ w.disk.count + 1 = ap (λ state. state.count) made ∙ apply_count w.disk command opened.allowed in
+    record {
+      published_low = omega arith;
+      durable_low = omega arith;
+      accepted_low = omega arith;
+      noted_low = h.counts.noted_low;
+      one_more = h.counts.one_more;
+      prefix = made ∙ state_after_more w.disk w.accepted command h.counts.prefix opened.ends one opened.allowed ∙ ap (λ state. state_after w.accepted state.count) (sym made);
+    }
+
+commit_holds : (w : World) (command : Command) → Holds w → IsOpen w.accepted w.disk w.published w.noted command → w.pending ≡ apply w.disk command → Holds (world.committed w command)
+commit_holds w command h opened made =
+    let one : length w.accepted ≡ w.disk.count + 1 = opened.one in
+    let counted : w.pending.count ≡ w.disk.count + 1 = ap (λ state. state.count) made ∙ apply_count w.disk command opened.allowed in
+    let shown : w.published ≡ w.disk.count = opened.shown in
+    let before : length (take w.disk.count w.accepted) ≡ w.published = length-take-le w.disk.count w.accepted h.counts.durable_low ∙ sym shown in
+    record {
+      counts = commit_counts w command h opened made;
+      history = h.history;
+      phased = record {
+        all = omega arith;
+        next = omega arith;
+        known = opened.known;
+        after = made ∙ ap (λ state. apply state command) (h.counts.prefix ∙ ap (state_after w.accepted) (sym shown));
+        last = ap (λ xs. slice_get xs w.published) opened.ends ∙ ap (slice_get (take w.disk.count w.accepted ++ command ∷ [])) (sym before) ∙ slice_get-push (take w.disk.count w.accepted) command;
+      };
+    }
+
+call_holds : (w : World) (phase : Phase) → Holds w → Phased w phase → Holds (world.call w phase).world
+call_holds w (Prepared command Begin) h phased = begin_holds w command h phased.0 phased.1
+call_holds w (Prepared command Write) h phased = record { counts = h.counts; history = h.history; phased = (phased, refl) }
+call_holds w (Prepared command Count) h phased = record { counts = h.counts; history = h.history; phased = (phased.0, ap (with_count (w.disk.count + 1)) phased.1 ∙ written_twice w.disk command phased.0.allowed) }
+call_holds w (Prepared command Commit) h phased = commit_holds w command h phased.0 phased.1
+call_holds w phase h phased = h
+
+-- ---- a stop
+
+stopped_counts : (w : World) (fate : Fate) (phase : Phase) → Holds w → Phased w phase → IsCounted w.accepted (stopped w fate phase) w.published w.noted
+stopped_counts w Kept (Prepared command Commit) h phased = commit_counts w command h phased.0 phased.1
+stopped_counts w fate phase h phased = h.counts
+
+fail_holds : (w : World) (fate : Fate) (phase : Phase) → Holds w → Phased w phase → Holds (world.fail w fate phase).world
+fail_holds w fate (Prepared command next) h phased = record { counts = stopped_counts w fate (Prepared command next) h phased; history = h.history; phased = tt }
+fail_holds w fate phase h phased = h
+
+stop_holds : (w : World) (fate : Fate) → Holds w → Holds (world.stop w fate).world
+stop_holds w fate h = record { counts = stopped_counts w fate w.phase h h.phased; history = h.history; phased = tt }
+
+pub reopened_holds : (w : World) → Holds w → Holds (world.reopened w)
+reopened_holds w h =
+    let long : length (take w.disk.count w.accepted) ≡ w.disk.count = length-take-le w.disk.count w.accepted h.counts.durable_low in
+    let history : IsHistory (take w.disk.count w.accepted) w.disk.count (w.disk ∷ []) (world.reopened w).lookers w.acks w.answers = history_reopened w.accepted w.published w.versions w.lookers w.acks w.answers w.disk h.counts.published_low h.counts.prefix h.history in
+    record {
+      counts = record {
+        published_low = omega arith;
+        durable_low = omega arith;
+        accepted_low = omega arith;
+        noted_low = omega arith;
+        one_more = omega arith;
+        prefix = some_same w.disk (state_after (take w.disk.count w.accepted) w.disk.count) (sym (kept_alone w.disk) ∙ history.top_kept);
+      };
+      history = history;
+      phased = record { all = long; shown = refl; known = refl };
+    }
+  where
+    some_same : (a b : State) → Some a ≡ Some b → a ≡ b
+    some_same a b e = cc
+
+reopen_holds : (w : World) (phase : Phase) → Holds w → Holds (world.reopen w phase).world
+reopen_holds w Closed h = reopened_holds w h
+reopen_holds w Stopped h = reopened_holds w h
+reopen_holds w phase h = h
+
+-- ---- the version of a committed command
+
+publish_holds : (w : World) (phase : Phase) → Holds w → Phased w phase → Holds (world.publish w phase).world
+publish_holds w (Committed command) h phased =
+    let all : length w.accepted ≡ w.disk.count = phased.all in
+    let next : w.disk.count ≡ w.published + 1 = phased.next in
+    let known : w.noted ≡ w.published = phased.known in
+    let made : apply (published_version w) command ≡ w.disk = ap (λ state. apply state command) (shown_version w h) ∙ sym phased.after in
+    let history : IsHistory w.accepted w.disk.count (w.versions ++ w.disk ∷ []) w.lookers w.acks w.answers = history_published w.accepted w.published w.versions w.lookers w.acks w.answers w.disk (omega arith) h.counts.prefix h.history in
+    record {
+      counts = record {
+        published_low = omega arith;
+        durable_low = h.counts.durable_low;
+        accepted_low = h.counts.accepted_low;
+        noted_low = omega arith;
+        one_more = omega arith;
+        prefix = h.counts.prefix;
+      };
+      history = subst (λ state. IsHistory w.accepted w.disk.count (w.versions ++ state ∷ []) w.lookers w.acks w.answers) (sym made) history;
+      phased = (record { all = all; shown = refl; positive = omega arith; last = ap (slice_get w.accepted) (omega arith) ∙ phased.last }, omega arith);
+    }
+publish_holds w phase h phased = h
+
+fail_publication_holds : (w : World) (phase : Phase) → Holds w → Holds (world.fail_publication w phase).world
+fail_publication_holds w (Committed command) h = record { counts = h.counts; history = h.history; phased = tt }
+fail_publication_holds w phase h = h
+
+note_holds : (w : World) (phase : Phase) → Holds w → Phased w phase → Holds (world.note w phase).world
+note_holds w (Published command) h phased = record {
+  counts = record {
+    published_low = h.counts.published_low;
+    durable_low = h.counts.durable_low;
+    accepted_low = h.counts.accepted_low;
+    noted_low = omega arith;
+    one_more = omega arith;
+    prefix = h.counts.prefix;
+  };
+  history = h.history;
+  phased = (phased.0, refl);
+}
+note_holds w phase h phased = h
+
+ack_holds : (w : World) (phase : Phase) → Holds w → Phased w phase → Holds (world.acknowledge w phase).world
+ack_holds w (Noted command) h phased = record {
+  counts = h.counts;
+  history = record {
+    bounded = h.history.bounded;
+    top_kept = h.history.top_kept;
+    served = h.history.served;
+    acked = each_append (IsAcked w.accepted w.published) w.acks (record { number = w.published; command = command } ∷ []) h.history.acked (record { counted = phased.0.positive; within = omega arith; command = phased.0.last }, tt);
+    answered = h.history.answered;
+  };
+  phased = record { all = phased.0.all; shown = phased.0.shown; known = sym phased.1 };
+}
+ack_holds w phase h phased = h
+
+-- ---- lookers
+
+-- one looker changes
+looker_holds : (w : World) (looker : ℕ) (state : LookerState) → Holds w → IsServed w.accepted w.published w.versions state → Holds (world.with_looker w looker state)
+looker_holds w looker state h served = record {
+  counts = h.counts;
+  history = record {
+    bounded = h.history.bounded;
+    top_kept = h.history.top_kept;
+    served = each_set (IsServed w.accepted w.published w.versions) w.lookers looker state served h.history.served;
+    acked = h.history.acked;
+    answered = h.history.answered;
+  };
+  phased = h.phased;
+}
+
+abbrev Served : World → LookerState → Type 0
+Served w state = IsServed w.accepted w.published w.versions state
+
+online_holds : (w : World) (looker : ℕ) (state : LookerState) → Holds w → Holds (world.go_online w looker state).world
+online_holds w looker offline h = looker_holds w looker (online w.noted None) h h.counts.noted_low
+online_holds w looker (online announced held) h = h
+
+announced_low : (w : World) (announced : ℕ) (held : Option ℕ) → Served w (online announced held) → announced ≤ w.published
+announced_low w announced None served = served
+announced_low w announced (Some held) served = omega (arith, served.low, served.within)
+
+fetch_holds : (w : World) (looker : ℕ) (state : LookerState) → Holds w → Served w state → Holds (world.fetch w looker state).world
+fetch_holds w looker offline h served = h
+fetch_holds w looker (online announced held) h served = looker_holds w looker (online announced (Some w.published)) h (record { low = announced_low w announced held served; within = omega arith; is_kept = h.history.top_kept })
+
+announce_holds : (w : World) (looker : ℕ) (state : LookerState) → Holds w → Served w state → Holds (world.announce w looker state).world
+announce_holds w looker offline h served = h
+announce_holds w looker (online announced None) h served = h
+announce_holds w looker (online announced (Some held)) h served = looker_holds w looker (online held (Some held)) h (record { low = omega arith; within = served.within; is_kept = served.is_kept })
+
+offline_holds : (w : World) (looker : ℕ) (state : LookerState) → Holds w → Holds (world.go_offline w looker state).world
+offline_holds w looker offline h = h
+offline_holds w looker (online announced held) h = looker_holds w looker offline h tt
+
+-- the version that is kept under a number
+version_kept : (w : World) (number : ℕ) (state : State) → kept w.versions number ≡ Some state → version w number ≡ state
+version_kept w number state is = ap (λ found. unwrap_or found opening_state) is
+
+look_holds : (w : World) (packet : Packet) (state : LookerState) → Holds w → Served w state → Holds (world.look w packet state).world
+look_holds w packet offline h served = h
+look_holds w packet (online announced None) h served = h
+look_holds w packet (online announced (Some held)) h served =
+    let is : version w held ≡ state_after w.accepted held = version_kept w held (state_after w.accepted held) served.is_kept in
+    let number : (version w held).count ≡ held = ap (λ state. state.count) is ∙ kept_count w.versions held (state_after w.accepted held) served.is_kept in
+    let within : held ≤ w.published = served.within in
+    record {
+      counts = h.counts;
+      history = record {
+        bounded = h.history.bounded;
+        top_kept = h.history.top_kept;
+        served = h.history.served;
+        acked = h.history.acked;
+        answered = each_append (IsAnswer w.accepted w.published) w.answers (record { packet = packet; answer = world.answer_by (version w held) packet } ∷ []) h.history.answered (record { within = omega arith; verdict = ap (λ state. select state packet) (is ∙ ap (state_after w.accepted) (sym number)) }, tt);
+      };
+      phased = h.phased;
+    }
+
+reclaim_holds : (w : World) → Holds w → Holds (world.reclaim w).world
+reclaim_holds w h = record { counts = h.counts; history = history_reclaimed w.accepted w.published w.noted w.versions w.lookers w.acks w.answers h.counts.noted_low h.history; phased = h.phased }
+
+-- ---- one event, and many
+
+unless_holds : (w : World) (after : world.Step) (b : Bool) → Holds w → Holds after.world → Holds (cond b (world.unmet w) after).world
+unless_holds w after true h later = h
+unless_holds w after false h later = later
+
+looker_served : (w : World) (looker : ℕ) → Holds w → Served w (world.looker_state w looker)
+looker_served w looker h = each_get (IsServed w.accepted w.published w.versions) w.lookers looker offline tt h.history.served
+
+pub step_holds : (w : World) (event : Event) → Holds w → Holds (step w event).world
+step_holds w (events.Submit command) h = submit_holds w command w.phase h h.phased
+step_holds w events.Call h = call_holds w w.phase h h.phased
+step_holds w (events.Fail fate) h = fail_holds w fate w.phase h h.phased
+step_holds w events.Publish h = publish_holds w w.phase h h.phased
+step_holds w events.PublishFail h = fail_publication_holds w w.phase h
+step_holds w events.Note h = note_holds w w.phase h h.phased
+step_holds w events.Ack h = ack_holds w w.phase h h.phased
+step_holds w (events.Online looker) h = unless_holds w (world.go_online w looker (world.looker_state w looker)) (world.is_stopped w.phase) h (online_holds w looker (world.looker_state w looker) h)
+step_holds w (events.Fetch looker) h = unless_holds w (world.fetch w looker (world.looker_state w looker)) (world.is_stopped w.phase) h (fetch_holds w looker (world.looker_state w looker) h (looker_served w looker h))
+step_holds w (events.Announce looker) h = unless_holds w (world.announce w looker (world.looker_state w looker)) (world.is_stopped w.phase) h (announce_holds w looker (world.looker_state w looker) h (looker_served w looker h))
+step_holds w (events.Offline looker) h = unless_holds w (world.go_offline w looker (world.looker_state w looker)) (world.is_stopped w.phase) h (offline_holds w looker (world.looker_state w looker) h)
+step_holds w (events.Look looker packet) h = unless_holds w (world.look w packet (world.looker_state w looker)) (world.is_stopped w.phase) h (look_holds w packet (world.looker_state w looker) h (looker_served w looker h))
+step_holds w events.Reclaim h = unless_holds w (world.reclaim w) (world.is_stopped w.phase) h (reclaim_holds w h)
+step_holds w (events.Stop fate) h = unless_holds w (world.stop w fate) (world.is_stopped w.phase) h (stop_holds w fate h)
+step_holds w events.Reopen h = reopen_holds w w.phase h
+
+start_holds : Holds start
+start_holds = record {
+  counts = record { published_low = omega arith; durable_low = omega arith; accepted_low = omega arith; noted_low = omega arith; one_more = omega arith; prefix = refl };
+  history = record { bounded = (omega arith, tt); top_kept = refl; served = each_replicate (IsServed [] 0 (opening_state ∷ [])) PLACES offline tt; acked = tt; answered = tt };
+  phased = record { all = refl; shown = refl; known = refl };
+}
+
+run_holds : (w : World) (events : List Event) → Holds w → Holds (run_from w events)
+run_holds w [] h = h
+run_holds w (event ∷ events) h = run_holds (step w event).world events (step_holds w event h)
+
+pub every_run_holds : (events : List Event) → Holds (run_from start events)
+every_run_holds events = run_holds start events start_holds

@@ -1,0 +1,39 @@
+-- What holds of the world after every list of events.
+use Rattle.std.specs.Prelude.{◌≡◌, ℕ, ◌+◌, ◌-◌, ◌≤◌, ◌<◌, ◌==◌, true, List, [], ◌∷◌, length, take, Option, Some, None, slice_get}
+use Rattle.std.specs.List.{list_any, AllByRecursion as Each}
+use Rattle.prt_command.specs.declared.request.Command.{Command}
+use Rattle.prt_version.specs.Change.{fold}
+use Rattle.prt_version.specs.Select.{select}
+use Rattle.prt_version.specs.State.{State, opening_state}
+use Rattle.prt_world.specs.World.{Ack, Lookup, LookerState, World, durable, kept, offline, online, published_version}
+
+-- the state of a new database after the first n of these commands
+abbrev pub state_after : List Command → ℕ → State
+state_after commands n = fold opening_state (take n commands)
+
+-- What is durable is a beginning of what was accepted, which lacks one command at most; what is published is durable, and the registry has noted it or all of it but the last version.
+pub record IsDurable (world : World) : Type 0 where
+  pub published_is_durable : world.published ≤ durable world
+  pub durable_is_accepted : durable world ≤ length world.accepted
+  pub one_is_not_durable : length world.accepted ≤ durable world + 1
+  pub noted_is_published : world.noted ≤ world.published
+  pub one_is_not_noted : world.published ≤ world.noted + 1
+  pub disk_is_prefix : world.disk ≡ state_after world.accepted (durable world)
+  pub published_is_prefix : published_version world ≡ state_after world.accepted world.published
+
+-- The command was accepted under this number, counted from 1, and is durable.
+pub record IsAcknowledged (world : World) (ack : Ack) : Type 0 where
+  pub counted : 1 ≤ ack.number
+  pub is_durable : ack.number ≤ durable world
+  pub accepted : slice_get world.accepted (ack.number - 1) ≡ Some ack.command
+
+-- The answer is that of a beginning of the accepted commands which is durable.
+pub record IsAnswered (world : World) (lookup : Lookup) : Type 0 where
+  pub is_durable : lookup.answer.number ≤ durable world
+  pub verdict : lookup.answer.verdict ≡ select (state_after world.accepted lookup.answer.number) lookup.packet
+
+-- What a looker holds is kept, and it has announced that number or a lower one.
+abbrev pub IsRetained : World → LookerState → Type 0
+IsRetained world offline = Unit {0}
+IsRetained world (online announced None) = Unit {0}
+IsRetained world (online announced (Some held)) = (announced ≤ held) × (kept world.versions held ≡ Some (state_after world.accepted held))
