@@ -1,2 +1,6 @@
+pub mod EventWords
+pub mod ReadEvents
+pub mod TraceText
+pub mod Example
 pub mod World
 pub mod Durability

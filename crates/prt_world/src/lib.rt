@@ -2,16 +2,21 @@
 #![tactic(auto)]
 
 mod event;
+mod event_examples;
 mod laws;
 mod outcome;
 mod phase;
+mod text;
 mod trace;
+mod words;
 
 pub use event::{Event, Fate, LookerNumber, MOST_LOOKERS};
+pub use event_examples::{event_lines, outcome_lines, refused_events};
 pub use laws::every_run;
 pub use outcome::Outcome;
 pub use phase::Phase;
 pub use prt_addr::{Refusal, StoreCall};
 pub use prt_command::{Command, Packet};
 pub use prt_version::Answer;
+pub use text::trace_text;
 pub use trace::Trace;
