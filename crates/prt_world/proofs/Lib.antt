@@ -3,3 +3,6 @@ pub mod Folds
 pub mod History
 pub mod Phases
 pub mod Claims
+pub mod Texts
+pub mod FileLines
+pub mod EventSteps

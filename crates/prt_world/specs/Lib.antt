@@ -1,5 +1,7 @@
 pub mod EventWords
 pub mod ReadEvents
+pub mod Text
+pub mod Steps
 pub mod TraceText
 pub mod Example
 pub mod World

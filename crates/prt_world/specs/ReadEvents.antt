@@ -36,41 +36,51 @@ abbrev pub value_word : List Word → Result (Word × List Word) Refusal
 value_word [] = Err MissingValue
 value_word (w ∷ ws) = Ok (w, ws)
 
--- a looker's number, and the words after it
-abbrev pub looker : List Word → Result (ℕ × List Word) Refusal
-looker ws = value_word ws >>= λ t. ok_or (at_most 63 (number t.0)) BadNumber >>= λ n. Ok (n, t.1)
+-- a looker's number
+abbrev pub looker : Word → Result ℕ Refusal
+looker w = ok_or (at_most 63 (number w)) BadNumber
 
 -- a looker's number alone
 abbrev pub lone_looker : List Word → Result ℕ Refusal
-lone_looker ws = looker ws >>= λ t. at_end t.0 t.1
+lone_looker ws = value_word ws >>= λ t. looker t.0 >>= λ n. at_end n t.1
 
 -- `kept` or `lost`
-abbrev pub fate_of : Word → Option Fate
-fate_of w = if bytes_eq (codes "kept") w then Some Kept else if bytes_eq (codes "lost") w then Some Lost else None
+abbrev pub fate : Word → Result Fate Refusal
+fate w = if bytes_eq (codes "kept") w then Ok Kept else if bytes_eq (codes "lost") w then Ok Lost else Err UnknownWord
 
 -- `kept` or `lost` alone
 abbrev pub lone_fate : List Word → Result Fate Refusal
-lone_fate ws = value_word ws >>= λ t. ok_or (fate_of t.0) UnknownWord >>= λ fate. at_end fate t.1
+lone_fate ws = value_word ws >>= λ t. fate t.0 >>= λ fate. at_end fate t.1
 
 -- what the words ask for as a line of the command language
 abbrev pub line_request : List Word → Result Request Refusal
 line_request ws = words_request ws >>= λ asked. ok_or asked MissingDestination
 
--- a command
 abbrev pub command_of : Request → Result Command Refusal
 command_of (requests.Command command) = Ok command
 command_of (requests.Query query) = Err UnknownVerb
 
--- the packet of `route get`
+-- a command
+abbrev pub command : List Word → Result Command Refusal
+command ws = line_request ws >>= command_of
+
 abbrev pub packet_of : Request → Result Packet Refusal
 packet_of (requests.Query (Get packet)) = Ok packet
 packet_of other = Err UnknownVerb
+
+-- the packet of a `route get`
+abbrev pub packet : List Word → Result Packet Refusal
+packet ws = line_request ws >>= packet_of
+
+-- a looker, and the packet of a `route get`
+abbrev pub look : List Word → Result (ℕ × Packet) Refusal
+look ws = value_word ws >>= λ t. looker t.0 >>= λ n. map_ok (λ packet. (n, packet)) (packet t.1)
 
 -- ---- one event
 
 -- the event of an event word and the words after it
 abbrev pub event_of : EventWord → List Word → Result Event Refusal
-event_of Submit ws = map_ok events.Submit (line_request ws >>= command_of)
+event_of Submit ws = map_ok events.Submit (command ws)
 event_of Call ws = at_end events.Call ws
 event_of Fail ws = map_ok events.Fail (lone_fate ws)
 event_of Publish ws = at_end events.Publish ws
@@ -81,7 +91,7 @@ event_of Online ws = map_ok events.Online (lone_looker ws)
 event_of Fetch ws = map_ok events.Fetch (lone_looker ws)
 event_of Announce ws = map_ok events.Announce (lone_looker ws)
 event_of Offline ws = map_ok events.Offline (lone_looker ws)
-event_of Look ws = looker ws >>= λ t. map_ok (events.Look t.0) (line_request t.1 >>= packet_of)
+event_of Look ws = map_ok (λ t. events.Look t.0 t.1) (look ws)
 event_of Reclaim ws = at_end events.Reclaim ws
 event_of Stop ws = map_ok events.Stop (lone_fate ws)
 event_of Reopen ws = at_end events.Reopen ws
@@ -91,12 +101,16 @@ abbrev pub words_event : List Word → Result (Option Event) Refusal
 words_event [] = Ok None
 words_event (w ∷ ws) = ok_or (event_word w) UnknownWord >>= λ first. map_ok Some (event_of first ws)
 
--- the event of a line
-unfoldable pub line_event : List ℕ → Result (Option Event) Refusal
-line_event line =
+-- the words of a line
+abbrev pub line_words : List ℕ → Result (List Word) Refusal
+line_words line =
     refuse_if (nat_lt longest_line (length line)) LineTooLong >>= λ _.
     refuse_if (not (list_all is_text_byte (before_comment line))) NotAscii >>= λ _.
-    words_event (words (before_comment line))
+    Ok (words (before_comment line))
+
+-- the event of a line
+unfoldable pub line_event : List ℕ → Result (Option Event) Refusal
+line_event line = line_words line >>= words_event
 
 -- ---- the events of a file
 
