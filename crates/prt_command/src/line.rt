@@ -61,7 +61,11 @@ fn read_words(word: &[u8], rest: &[u8]) -> Result<Request, Refusal>
 }
 
 /// Reads the text of a line: what it asks for, or None where it has no words.
-fn read_text(text: &[u8]) -> Result<Option<Request>, Refusal>
+///
+/// # Errors
+///
+/// The first fault of its words, from left to right, then what the items lack.
+pub fn read_text(text: &[u8]) -> Result<Option<Request>, Refusal>
     ensures { result ≡ words_request (words text.now) }
 {
     match next_word(text) {

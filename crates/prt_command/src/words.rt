@@ -56,7 +56,7 @@ fn before_comment(line: &[u8]) -> &[u8]
 
 /// Takes the text of a line before its comment; None where that has a byte which is neither white space nor printable
 /// ASCII.
-pub(crate) fn text_of(line: &[u8]) -> Option<&[u8]>
+pub fn text_of(line: &[u8]) -> Option<&[u8]>
     ensures { MatchOption result (list_all is_text_byte (before_comment line.now) ≡ false)
         (λ text. (text.now ≡ before_comment line.now) × (list_all is_text_byte (before_comment line.now) ≡ true)) }
 {
@@ -72,7 +72,7 @@ pub(crate) fn text_of(line: &[u8]) -> Option<&[u8]>
 }
 
 /// Tells whether the word is this text.
-pub(crate) fn is(word: &[u8], text: &[u8]) -> bool
+pub fn is(word: &[u8], text: &[u8]) -> bool
     ensures { result ≡ bytes_eq text.now word.now }
 {
     text == word
@@ -107,7 +107,7 @@ fn word_len(text: &[u8]) -> usize
 }
 
 /// Takes the first word of a text: the word, and the text after it.
-pub(crate) fn next_word(text: &[u8]) -> Option<(&[u8], &[u8])>
+pub fn next_word(text: &[u8]) -> Option<(&[u8], &[u8])>
     ensures { MatchOption result (words text.now ≡ [])
         (λ next. (words text.now ≡ next.0.now ∷ words next.1.now) × (length next.1.now < length text.now)) }
 {
