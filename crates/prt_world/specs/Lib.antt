@@ -1,6 +1,5 @@
 pub mod EventWords
 pub mod ReadEvents
-pub mod Text
 pub mod Steps
 pub mod TraceText
 pub mod Example

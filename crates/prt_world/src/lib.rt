@@ -8,7 +8,6 @@ mod outcome;
 mod phase;
 mod read;
 mod replay;
-mod split;
 mod text;
 mod trace;
 mod words;

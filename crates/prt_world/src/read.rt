@@ -1,20 +1,19 @@
 //! The event of a line.
 ghost use Rattle.std.specs.Prelude.{◌≡◌, Err, MatchResult, Ok};
-ghost use Rattle.prt_command.specs.Reading.{words, words_request};
-ghost use Rattle.prt_world.specs.ReadEvents.{at_end, command, event_of, fate, line_event, line_request, lone_fate, lone_looker, look, looker, packet, value_word};
-ghost use Rattle.prt_world.specs.Text.{IsText};
+ghost use Rattle.prt_command.specs.Reading.{words};
+ghost use Rattle.prt_world.specs.ReadEvents.{at_end, command, event_of, fate, line_event, line_request, line_words, lone_fate, lone_looker, look, looker, packet, value_word};
 
-use crate::split::{line_text, next_word};
 use crate::words::{EventWord, event_word};
 use crate::{Event, Fate, LookerNumber};
 use prt_addr::{Refusal, read_number};
-use prt_command::{Command, Packet, Query, Request, read_line};
+use prt_command::{
+    Command, LONGEST_LINE, Packet, Query, Request, is, next_word, read_text, text_of,
+};
 
 /// Takes a value, which has to be there: its word, and the text after it.
 fn value_word(text: &[u8]) -> Result<(&[u8], &[u8]), Refusal>
-    requires { IsText text.now }
     ensures { MatchResult result
-        (λ next. (value_word (words text.now) ≡ Ok (next.0.now, words next.1.now)) × IsText next.1.now)
+        (λ next. value_word (words text.now) ≡ Ok (next.0.now, words next.1.now))
         (λ e. value_word (words text.now) ≡ Err e) }
 {
     next_word(text).ok_or(Refusal::MissingValue)
@@ -22,7 +21,6 @@ fn value_word(text: &[u8]) -> Result<(&[u8], &[u8]), Refusal>
 
 /// Gives this back where no word stands after it.
 fn at_end<T: Copy>(value: T, text: &[u8]) -> Result<T, Refusal>
-    requires { IsText text.now }
     ensures { result ≡ at_end value (words text.now) }
 {
     match next_word(text) {
@@ -41,7 +39,6 @@ fn read_looker(word: &[u8]) -> Result<LookerNumber, Refusal>
 
 /// Reads the number of a looker and nothing after it.
 fn read_lone_looker(text: &[u8]) -> Result<LookerNumber, Refusal>
-    requires { IsText text.now }
     ensures { result ≡ lone_looker (words text.now) }
 {
     let (word, rest) = value_word(text)?;
@@ -52,9 +49,9 @@ fn read_lone_looker(text: &[u8]) -> Result<LookerNumber, Refusal>
 fn read_fate(word: &[u8]) -> Result<Fate, Refusal>
     ensures { result ≡ fate word.now }
 {
-    if word == b"kept".as_slice() {
+    if is(word, b"kept") {
         Ok(Fate::Kept)
-    } else if word == b"lost".as_slice() {
+    } else if is(word, b"lost") {
         Ok(Fate::Lost)
     } else {
         Err(Refusal::UnknownWord)
@@ -63,24 +60,14 @@ fn read_fate(word: &[u8]) -> Result<Fate, Refusal>
 
 /// Reads `kept` or `lost` and nothing after it.
 fn read_lone_fate(text: &[u8]) -> Result<Fate, Refusal>
-    requires { IsText text.now }
     ensures { result ≡ lone_fate (words text.now) }
 {
     let (word, rest) = value_word(text)?;
     at_end(read_fate(word)?, rest)
 }
 
-/// Reads a text as a line of the command language: what it asks for, or None where it has no words.
-fn read_text(text: &[u8]) -> Result<Option<Request>, Refusal>
-    requires { IsText text.now }
-    ensures { result ≡ words_request (words text.now) }
-{
-    read_line(text)
-}
-
 /// Reads what a text asks for as a line of the command language.
 fn read_request(text: &[u8]) -> Result<Request, Refusal>
-    requires { IsText text.now }
     ensures { result ≡ line_request (words text.now) }
 {
     match read_text(text) {
@@ -92,7 +79,6 @@ fn read_request(text: &[u8]) -> Result<Request, Refusal>
 
 /// Reads a command.
 fn read_command(text: &[u8]) -> Result<Command, Refusal>
-    requires { IsText text.now }
     ensures { result ≡ command (words text.now) }
 {
     match read_request(text) {
@@ -104,7 +90,6 @@ fn read_command(text: &[u8]) -> Result<Command, Refusal>
 
 /// Reads the packet of `route get`.
 fn read_packet(text: &[u8]) -> Result<Packet, Refusal>
-    requires { IsText text.now }
     ensures { result ≡ packet (words text.now) }
 {
     match read_request(text) {
@@ -116,7 +101,6 @@ fn read_packet(text: &[u8]) -> Result<Packet, Refusal>
 
 /// Reads a looker, and the packet that it asks about.
 fn read_look(text: &[u8]) -> Result<(LookerNumber, Packet), Refusal>
-    requires { IsText text.now }
     ensures { result ≡ look (words text.now) }
 {
     let (word, rest) = value_word(text)?;
@@ -127,7 +111,6 @@ fn read_look(text: &[u8]) -> Result<(LookerNumber, Packet), Refusal>
 
 /// Reads a command as the event that submits it.
 fn read_submit(text: &[u8]) -> Result<Event, Refusal>
-    requires { IsText text.now }
     ensures { result ≡ event_of EventWord.Submit (words text.now) }
 {
     match read_command(text) {
@@ -138,7 +121,6 @@ fn read_submit(text: &[u8]) -> Result<Event, Refusal>
 
 /// Reads the event that this word begins.
 fn read_event(first: EventWord, text: &[u8]) -> Result<Event, Refusal>
-    requires { IsText text.now }
     ensures { result ≡ event_of first (words text.now) }
 {
     match first {
@@ -161,6 +143,18 @@ fn read_event(first: EventWord, text: &[u8]) -> Result<Event, Refusal>
         EventWord::Stop => read_lone_fate(text).map(Event::Stop),
         EventWord::Reopen => at_end(Event::Reopen, text),
     }
+}
+
+/// Takes the text of a line.
+fn line_text(line: &[u8]) -> Result<&[u8], Refusal>
+    ensures { MatchResult result
+        (λ text. line_words line.now ≡ Ok (words text.now))
+        (λ e. line_words line.now ≡ Err e) }
+{
+    if line.len() > LONGEST_LINE {
+        return Err(Refusal::LineTooLong);
+    }
+    text_of(line).ok_or(Refusal::NotAscii)
 }
 
 /// Reads the event of a line; None where the line is blank or a comment.

@@ -2,6 +2,8 @@
 ghost use Rattle.std.specs.Prelude.{◌≡◌, map};
 ghost use Rattle.prt_world.specs.EventWords.{event_word, word_in};
 
+use prt_command::is;
+
 /// The first word of an event's line.
 #[derive(Clone, Copy)]
 pub enum EventWord {
@@ -45,7 +47,7 @@ fn word_in(words: &[(&str, EventWord)], word: &[u8]) -> Option<EventWord>
     ensures { result ≡ word_in (map (λ row. (row.0.now, row.1)) words.now) word.now }
 {
     for (text, first) in words {
-        if text.as_bytes() == word {
+        if is(word, text.as_bytes()) {
             return Some(*first);
         }
     }
