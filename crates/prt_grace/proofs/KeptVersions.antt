@@ -4,7 +4,7 @@ use Rattle.std.specs.Prelude.{◌==◌, filter, nat_lt}
 use Rattle.std.specs.List.{list_any, AllByRecursion as Each}
 use Rattle.std.proofs.lemmas.Bool.Decides.{nat_tests}
 use Rattle.prt_addr.proofs.Each.{each_implies}
-use Rattle.prt_addr.specs.Order.{IsRising}
+use Rattle.prt_addr.specs.Rising.{IsRising}
 use Rattle.prt_grace.specs.GracePeriod.{after_reclaim, is_retired, may_hold}
 
 module _ {Version : Type 0} (number : Version → ℕ) where

@@ -18,7 +18,8 @@ use Rattle.sqlite_sql.specs.declared.ops.BitOp.TheVariants.{Shr}
 use Rattle.sqlite_sql.specs.declared.ops.CompareOp.TheVariants.{Eq, Ge, Gt, Le}
 use Rattle.sqlite_value.proofs.OrderLemmas.{value_cmp-Int, value_cmp-Text}
 use Rattle.sqlite_value.specs.Order.{value_cmp}
-use Rattle.prt_addr.specs.Block.{Block, IsPrefix}
+use Rattle.prt_addr.specs.Block.{Block}
+use Rattle.prt_addr.specs.Sound.{IsPrefix}
 use Rattle.prt_addr.specs.Given.{agrees, agrees_there}
 use Rattle.prt_addr.specs.Prefix.{contains}
 use Rattle.prt_addr.specs.Word.{Word}
@@ -37,7 +38,7 @@ use Rattle.prt_rows.specs.Meanings.{is_flushed}
 use Rattle.prt_rows.specs.RouteRow.{kind_code}
 use Rattle.prt_rows.specs.Selecting.{HasPrefix, IsSelector, bounds_of, selector_row}
 use Rattle.prt_rows.specs.declared.selector.Bounds.{Bounds}
-use Rattle.prt_trie.proofs.Blocks.{contains_from, contains_tells}
+use Rattle.prt_addr.proofs.Ranges.{contains_from, contains_tells}
 
 -- ---- one test
 

@@ -1,7 +1,7 @@
 -- What the statement that deletes routes by a selector is told of the selector.
 use Rattle.std.specs.Prelude.{◌+◌, ◌-◌, ◌^◌, [], ◌∷◌, option_map}
 use Rattle.sqlite_value.specs.Order.{Row}
-use Rattle.prt_addr.specs.Block.{IsPrefix}
+use Rattle.prt_addr.specs.Sound.{IsPrefix}
 use Rattle.prt_route.specs.declared.choice.Range.{Range}
 use Rattle.prt_route.specs.declared.choice.Range.TheVariants.{All, Root, Covering, Exact}
 use Rattle.prt_route.specs.declared.choice.Selector.{Selector}

@@ -8,14 +8,14 @@ use Rattle.std.proofs.lemmas.List.Elements.{All-from_recursion, recursion_from_A
 use Rattle.std.proofs.lemmas.List.Sorted.{All-permutation, IsPermutation-sym, IsPermutation-trans, length_permutation}
 use Rattle.std.proofs.lemmas.List.Sums.{AllPass-from_list_all, list_all-from_AllPass}
 use Rattle.std.proofs.lemmas.Map.Keys.{IsDistinct-IsPermutation}
-use Rattle.prt_addr.specs.Order.{IsRising}
+use Rattle.prt_addr.specs.Rising.{IsRising}
 use Rattle.prt_addr.proofs.Each.{each_implies}
 use Rattle.prt_addr.specs.declared.refusal.Refusal.{Refusal}
 use Rattle.prt_addr.specs.declared.refusal.Refusal.TheVariants.{Damaged, NoMemory}
 use Rattle.prt_route.specs.Route.{is_listed_before}
 use Rattle.prt_route.specs.Storable.{IsStorableRoute}
 use Rattle.prt_route.specs.declared.route.Route.{Route}
-use Rattle.prt_rule.specs.Rule.{IsInOrder}
+use Rattle.prt_rule.specs.Sound.{IsInOrder}
 use Rattle.prt_rule.specs.Same.{is_same_rule}
 use Rattle.prt_rule.specs.Storable.{IsStorableAction}
 use Rattle.prt_rule.specs.declared.rule.Action.{Action}

@@ -2,10 +2,10 @@
 ghost use Rattle.std.specs.Prelude.{◌≡◌, ◌≤◌, ◌↔◌, IfErr, IfOk, IsPermutation, IsTrue};
 ghost use Rattle.std.specs.Bool.{OnTrue};
 ghost use Rattle.std.specs.List.{IsDistinct, list_all};
-ghost use Rattle.prt_addr.specs.Order.{IsRising};
+ghost use Rattle.prt_addr.specs.Rising.{IsRising};
 ghost use Rattle.prt_addr.specs.declared.refusal.Refusal.TheVariants.{Damaged};
 ghost use Rattle.prt_route.specs.Route.{is_listed_before};
-ghost use Rattle.prt_rule.specs.Rule.{IsInOrder};
+ghost use Rattle.prt_rule.specs.Sound.{IsInOrder};
 ghost use Rattle.prt_rule.specs.Same.{is_same_rule};
 ghost use Rattle.prt_trie.specs.Table.{has_same_key};
 ghost use Rattle.prt_version.specs.Content.{action_pair, content_cmp, selector_cmp};

@@ -1,7 +1,7 @@
 use Rattle.std.proofs.Common.{◌∙◌, List, ap, arith, length, subst, sym}
 use Rattle.std.specs.Option.{option_copied}
 use Rattle.std.proofs.lemmas.List.{length-append}
-use Rattle.prt_addr.specs.Order.{IsRising}
+use Rattle.prt_addr.specs.Rising.{IsRising}
 use Rattle.prt_route.specs.Route.{is_listed_before}
 use Rattle.prt_version.specs.Tables.{TableRows}
 use Rattle.prt_version.proofs.Runs.{IsCut, all_cut, cut_more, none_cut}

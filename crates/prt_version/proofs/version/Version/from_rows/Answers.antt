@@ -1,8 +1,8 @@
 use Rattle.std.proofs.Common.{◌∙◌, Global, IsPermutation, List, Vec, ap, arith, rules, subst, sym}
-use Rattle.prt_addr.specs.Order.{IsRising}
+use Rattle.prt_addr.specs.Rising.{IsRising}
 use Rattle.prt_route.specs.Route.{is_listed_before}
 use Rattle.prt_route.specs.declared.route.Route.{Route}
-use Rattle.prt_rule.specs.Rule.{IsInOrder}
+use Rattle.prt_rule.specs.Sound.{IsInOrder}
 use Rattle.prt_rule.specs.declared.rule.Rule.{Rule}
 use Rattle.prt_version.specs.Ordered.{AreRoutes, AreRules}
 use Rattle.prt_version.proofs.FromRows.{ordered_sound, ordered_spelled, routes_damaged, rules_damaged}
