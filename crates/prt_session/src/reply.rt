@@ -1,5 +1,5 @@
-ghost use Rattle.std.specs.Prelude.{◌≡◌, ◌≢◌, ◌<◌, ◌≤◌, ◌++◌, [], IfSome, MatchOption, codes, decimal, false, length, take, ⊤};
-ghost use Rattle.std.specs.Io.KnownBytes.{Appends};
+ghost use Rattle.std.specs.Prelude.{◌≡◌, ◌≢◌, ◌<◌, ◌≤◌, ◌++◌, IfSome, MatchOption, codes, decimal, false, length, take, ⊤};
+ghost use Rattle.std.specs.Io.KnownBytes.{Appends, Keeps};
 ghost use Rattle.prt_addr.specs.Refusal.{refusal_text};
 ghost use Rattle.prt_session.specs.Reply.{reply_text};
 ghost use Rattle.prt_session.specs.Steps.{Written};
@@ -83,7 +83,7 @@ fn refused_line(refusal: Refusal) -> ArrayString<32>
 /// Writes some of these bytes by one call, and tells how many; none where the writer takes none or fails.
 fn write_some<W: Write>(writer: &mut W, bytes: &[u8]) -> Option<usize>
     ensures some { IfSome result (λ count. (0 < count) × (count ≤ length bytes.now) × Appends (W.contents writer.old) (W.contents writer.new) (take count bytes.now)) }
-    ensures none { MatchOption result (Appends (W.contents writer.old) (W.contents writer.new) []) (λ _. ⊤) }
+    ensures none { MatchOption result (Keeps (W.contents writer.old) (W.contents writer.new)) (λ _. ⊤) }
 {
     match writer.write(bytes) {
         Ok(0) => None,

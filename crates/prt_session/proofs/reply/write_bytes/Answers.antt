@@ -1,5 +1,5 @@
 use Rattle.std.proofs.Common.{drop, take}
-use Rattle.prt_session.proofs.Known.{appends_then_nothing, split_at, wrote_more, within_more}
+use Rattle.prt_session.proofs.Known.{appends_then_keeps, split_at, wrote_more, within_more}
 use Rattle.prt_session.proofs.reply.write_bytes.Goals as goal
 
 pub loop-written-preserved : goal.loop-written-preserved
@@ -13,5 +13,5 @@ returns-in-None g c = (
   take c.loop-written.written c.args.bytes.now,
   drop c.loop-written.written c.args.bytes.now,
   split_at c.args.bytes.now c.loop-written.written,
-  appends_then_nothing (g.W.Write.contents c.args.writer.now) (g.W.Write.contents c.loop-written.writer) (g.W.Write.contents c.write_some.new.writer) _ c.loop-written.invariant.wrote c.in-None.ensures.none,
+  appends_then_keeps (g.W.Write.contents c.args.writer.now) (g.W.Write.contents c.loop-written.writer) (g.W.Write.contents c.write_some.new.writer) _ c.loop-written.invariant.wrote c.in-None.ensures.none,
 )
