@@ -171,6 +171,7 @@ fn have_distinct_keys(routes: &mut Vec<Route>) -> bool
 /// # Errors
 ///
 /// `Damaged` otherwise.
+#[tactic(auto, using(crate::proofs::FromRows::passed_routes, crate::proofs::FromRows::same_keys))]
 pub(crate) fn ordered_routes(mut routes: Vec<Route>) -> Result<Vec<Route>, Refusal>
     ensures same { IfOk result (λ ordered. IsPermutation routes.items ordered.items) }
     ensures value { IfOk result (λ ordered. AreRoutes ordered.items × IsRising is_listed_before ordered.items) }
