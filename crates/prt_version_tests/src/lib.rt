@@ -4,6 +4,8 @@
 #![tactic(auto)]
 
 #[cfg(test)]
+mod from_rows;
+#[cfg(test)]
 mod lines;
 #[cfg(test)]
 mod script;
