@@ -72,13 +72,16 @@ module _ {X : Type 0} (schema : Schema) (place : ℕ) (name : Word) (tree : ℕ)
         keyed = λ keyed. subst IsKeyed (sym rows) (keyed-put_all edit.news (left_by db edit) step.keyed step.fresh keyed);
       }
 
-module _ (tables : List Table) (indexes : List Index) (views : List View) (others : AreOthers tables) (old new : State) (has : old.now.schema ≡ schema_with tables indexes views) (count : ℕ) where
-  pub adds_rule : (rule : Rule) → Executes insert_rule (rule_row rule) old new (Ok count) → Adds rule_table (kept_rule rule) old.now new.now
-  adds_rule rule =
-      adds (schema_with tables indexes views) 0 (codes "rule") 0 rule_columns refl (no_works 0 tables indexes views others.rule others.elsewhere) insert_rule rule_terms 13 (insert_rule_is tables indexes views)
+module _ (tables : List Table) (indexes : List Index) (views : List View) (others : AreOthers tables) where
+  abbrev schema : Schema
+  schema = schema_with tables indexes views
+
+  pub adds_rule : (old new : State) (rule : Rule) (count : ℕ) → old.now.schema ≡ schema → Executes insert_rule (rule_row rule) old new (Ok count) → Adds rule_table (kept_rule rule) old.now new.now
+  adds_rule old new rule count has =
+      adds schema 0 (codes "rule") 0 rule_columns refl (no_works 0 tables indexes views others.rule others.elsewhere) insert_rule rule_terms 13 (insert_rule_is tables indexes views)
       old new (rule_row rule) rule.id _ count has refl (cast_rule rule)
 
-  pub adds_count : (commands : ℕ) → Executes insert_meta (meta_row commands) old new (Ok count) → Adds meta_table (kept_count commands) old.now new.now
-  adds_count commands =
-      adds (schema_with tables indexes views) 2 (codes "meta") 3 meta_columns refl (no_works 3 tables indexes views others.meta others.elsewhere) insert_meta meta_terms 4 (insert_meta_is tables indexes views)
+  pub adds_count : (old new : State) (commands count : ℕ) → old.now.schema ≡ schema → Executes insert_meta (meta_row commands) old new (Ok count) → Adds meta_table (kept_count commands) old.now new.now
+  adds_count old new commands count has =
+      adds schema 2 (codes "meta") 3 meta_columns refl (no_works 3 tables indexes views others.meta others.elsewhere) insert_meta meta_terms 4 (insert_meta_is tables indexes views)
       old new (meta_row commands) 1 _ count has refl (cast_count commands)

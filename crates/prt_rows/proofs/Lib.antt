@@ -23,3 +23,5 @@ pub mod Reading
 pub mod Shapes
 pub mod Selecting
 pub mod Creating
+pub mod Formats
+pub mod Opening

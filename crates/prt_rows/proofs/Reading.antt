@@ -1,6 +1,7 @@
 -- What the statements that read a table answer.
 use Rattle.std.proofs.Common.{◌≡◌, ℕ, suc, Bool, false, List, [], ◌∷◌, map, flat_map, IsPermutation, refl, sym, ap, subst, subst₂, ◌∙◌, arith, add-one}
-use Rattle.std.proofs.lemmas.List.Sorted.{IsPermutation-map, IsPermutation-sym}
+use Rattle.std.proofs.lemmas.List.Sorted.{IsPermutation-map, IsPermutation-sym, length_permutation}
+use Rattle.std.proofs.lemmas.List.{length-map, nil_from_length}
 use Rattle.std.specs.List.{AllByRecursion, IsDistinct}
 use Rattle.std.specs.List.Sorted.{IsSorted, IsSortedBy}
 use Rattle.std.specs.Ordering.{is_lt}
@@ -118,6 +119,14 @@ module _ (tree : ℕ) (terms : List Term) where
           once = once_shown table keyed.once;
         } in
         rises_if_keyed rows lists.never_falls (keyed-permutation _ rows lists.same (λ x there. has_permuted _ rows x lists.same there) shown)
+
+  -- ---- a table without rows
+
+  pub empty_if_none_read : (table : List Row) → Lists table [] → table ≡ []
+  empty_if_none_read table lists = nil_from_length table (sym (length-map table (projection shows [])) ∙ sym (length_permutation (map (projection shows []) table) [] lists.same))
+
+  pub none_read_if_empty : (rows : List Row) → Lists [] rows → rows ≡ []
+  none_read_if_empty rows lists = nil_from_length rows (length_permutation [] rows lists.same)
 
 module _ (tables : List Table) (indexes : List Index) (views : List View) where
   abbrev schema : Schema

@@ -35,7 +35,7 @@ task_at schema table old params = record { limit = old.step_limit; keys = (mode_
 module _ (schema : Schema) (place : ℕ) (table : Table) (there : slice_get schema.tables place ≡ Some table) (sql : List ℕ) (command : Command) (means : Means schema sql command)
     (writes : (old new : State) (text : List ℕ) (params : Row) (count : ℕ) → Runs old new None command text params count → Writes old new None command text params count)
     (on_rows : (limit : Option ℕ) (mode : Mode) (params : Row) (db : Database) (text : List ℕ) (tally : Tally) (after : Database) → Does limit mode params db text None command (Ok (tally, after))
-      → OnTable limit mode params db place (λ task. OnRows task mode None command db.trees) (Ok (tally, after))) where
+    → OnTable limit mode params db place (λ task. OnRows task mode None command db.trees) (Ok (tally, after))) where
   abbrev Works : State → State → Row → Tally → Option Table → Type 0
   Works old new params tally found = AtPlace (λ t. OnRows (task_at schema t old params) (mode_of old) None command old.now.trees) found (Ok (tally, new.now))
 

@@ -61,6 +61,11 @@ pub record Makes (after : Schema) (tree : ℕ) (old new : Database) : Type 0 whe
   pub empty : new.trees tree ≡ []
   pub kept : KeepsRows old.schema.tables old.trees new.trees
 
+-- the same rows, in any order
+pub record HasSame (rows others : List Row) : Type 0 where
+  pub sound : (row : Row) → Has rows row → Has others row
+  pub complete : (row : Row) → Has others row → Has rows row
+
 -- each row is a route's
 abbrev pub AreRouteRows : List Row → Type 0
 AreRouteRows rows = (x : Row) → Has rows x → (route : Route) × (drop 1 x ≡ route_row route)

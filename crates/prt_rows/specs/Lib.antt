@@ -12,3 +12,4 @@ pub mod Effects
 pub mod Kept
 pub mod Rowids
 pub mod Selecting
+pub mod Format

@@ -14,6 +14,13 @@ pub record IsElsewhere (reference : Reference) : Type 0 where
   pub route : same_name (codes "route") reference.parent ≡ false
   pub meta : same_name (codes "meta") reference.parent ≡ false
 
+-- the table keeps its rows apart from ours, and refers to none of our tables
+pub record IsOther (table : Table) : Type 0 where
+  pub rule : (table.tree == 0) ≡ false
+  pub route : (table.tree == 1) ≡ false
+  pub meta : (table.tree == 3) ≡ false
+  pub elsewhere : (reference : Reference) → Has table.references reference → IsElsewhere reference
+
 -- these tables keep their rows apart from ours, and refer to none of our tables
 pub record AreOthers (tables : List Table) : Type 0 where
   pub rule : (table : Table) → Has tables table → (table.tree == 0) ≡ false

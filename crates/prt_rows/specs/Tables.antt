@@ -1,5 +1,6 @@
 -- The three tables, as the store makes them in an empty file.
 use Rattle.std.specs.Prelude.{ℕ, true, false, List, [], ◌∷◌, Some, None, codes, map}
+use Rattle.sqlite.specs.Kind.{Kind}
 use Rattle.sqlite.specs.Collation.TheVariants.{Binary}
 use Rattle.sqlite.specs.Schema.{Schema}
 use Rattle.sqlite.specs.Table.{Table}
@@ -14,15 +15,18 @@ use Rattle.prt_rows.specs.RouteRow.{route_columns}
 use Rattle.prt_rows.specs.RuleRow.{rule_columns}
 
 -- a column of a STRICT table that takes no NULL
-abbrev pub declaration : {X : Type 0} → Column X → Declared
-declaration column = record { name = column.0; kind = column.1; is_strict = true; not_null = true; default = Null; collation = Binary }
+abbrev pub strict_column : Word → Kind → Declared
+strict_column name kind = record { name = name; kind = kind; is_strict = true; not_null = true; default = Null; collation = Binary }
 
--- a table whose primary key is its column `id`
-abbrev pub table_by_id : {X : Type 0} → Word → ℕ → List (Column X) → Table
-table_by_id name tree columns = record {
+abbrev pub declaration : {X : Type 0} → Column X → Declared
+declaration column = strict_column column.0 column.1
+
+-- a table whose primary key is its first column, and of which nothing else is said
+abbrev pub plain_table : Word → ℕ → List Declared → Table
+plain_table name tree columns = record {
   name = name;
   tree = tree;
-  columns = map declaration columns;
+  columns = columns;
   key = Some 0;
   primary = 0 ∷ [];
   uniques = [];
@@ -33,6 +37,10 @@ table_by_id name tree columns = record {
   stamps = record { places = []; terms = []; formats = [] };
   is_counted = false;
 }
+
+-- a table whose primary key is its column `id`
+abbrev pub table_by_id : {X : Type 0} → Word → ℕ → List (Column X) → Table
+table_by_id name tree columns = plain_table name tree (map declaration columns)
 
 abbrev pub rule_table : Table
 rule_table = table_by_id (codes "rule") 0 rule_columns

@@ -3,6 +3,7 @@
 
 mod cell;
 mod column;
+mod format;
 mod laws;
 mod meta_row;
 mod route_row;
@@ -13,6 +14,7 @@ mod selector;
 mod tests;
 mod value;
 
+pub use format::{is_format_1, is_meta_table, is_route_table, is_rule_table};
 pub use laws::rows_read_back;
 pub use meta_row::{count_of_rows, meta_values};
 pub use route_row::{route_of_row, route_values};

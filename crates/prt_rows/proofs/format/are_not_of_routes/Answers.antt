@@ -1,0 +1,11 @@
+use Rattle.std.proofs.Common.{◌≡◌, rules, false}
+use Rattle.sqlite_schema.specs.Rules.{guards}
+use Rattle.prt_rows.specs.Tables.{route_table}
+use Rattle.prt_rows.proofs.Formats.{each_more, each_of_all}
+use Rattle.prt_rows.proofs.format.are_not_of_routes.Goals as goal
+
+pub loop-index-preserved : goal.loop-index-preserved
+loop-index-preserved c = each_more (λ index. guards index route_table ≡ false) c.args.indexes.now c.loop-index.index-index c.index-item.result c.loop-index-test.true c.index-item.is (c.is_not_of_routes.ensures c.if-not-is_not_of_routes.false) c.loop-index.invariant
+
+pub returns : goal.returns
+returns c _ = each_of_all (λ index. guards index route_table ≡ false) c.args.indexes.now c.loop-index.index-index (search rules) c.loop-index.invariant

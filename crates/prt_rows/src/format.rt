@@ -1,0 +1,272 @@
+//! Whether a file has the tables of format 1.
+
+ghost use Rattle.std.specs.Prelude.{◌≡◌, ◌==◌, [], ◌∷◌, None, Some, codes, false, map, IsTrue};
+ghost use Rattle.sqlite_rules.specs.Lists.{Has};
+ghost use Rattle.sqlite_schema.specs.Rules.{guards};
+ghost use Rattle.sqlite_schema.specs.declared.schema.Reference.{Reference as Referring};
+ghost use Rattle.prt_rows.specs.Format.{IsFormat1};
+ghost use Rattle.prt_rows.specs.Others.{AreNotOfRoutes, AreOthers, IsElsewhere, IsOther};
+ghost use Rattle.prt_rows.specs.Tables.{key_places, meta_table, plain_table, route_key, route_table, rule_table, strict_column};
+
+use sqlite_schema::names::same_name;
+use sqlite_schema::schema::{Column, Index, Kind, Reference, Schema, Table};
+use sqlite_value::keys::Collation;
+use sqlite_value::value::Value;
+
+/// The name and the type of each column of `rule`.
+const RULE: [(&str, Kind); 12] = [
+    ("id", Kind::Integer),
+    ("priority", Kind::Integer),
+    ("inverted", Kind::Integer),
+    ("src_net", Kind::Integer),
+    ("src_len", Kind::Integer),
+    ("dst_net", Kind::Integer),
+    ("dst_len", Kind::Integer),
+    ("iif", Kind::Text),
+    ("mark", Kind::Integer),
+    ("mask", Kind::Integer),
+    ("act", Kind::Integer),
+    ("tbl", Kind::Integer),
+];
+
+/// The same of `route`.
+const ROUTE: [(&str, Kind); 10] = [
+    ("tbl", Kind::Integer),
+    ("net", Kind::Integer),
+    ("len", Kind::Integer),
+    ("metric", Kind::Integer),
+    ("kind", Kind::Integer),
+    ("via", Kind::Integer),
+    ("dev", Kind::Text),
+    ("src", Kind::Integer),
+    ("proto", Kind::Integer),
+    ("scope", Kind::Integer),
+];
+
+/// The same of `meta`.
+const META: [(&str, Kind); 3] = [
+    ("id", Kind::Integer),
+    ("format", Kind::Integer),
+    ("count", Kind::Integer),
+];
+
+/// Whether it is a column of this name and type of a STRICT table, and takes no NULL.
+fn is_column(column: &Column, name: &str, kind: Kind) -> bool
+    ensures { IsTrue result → column.now ≡ strict_column name.now kind }
+{
+    column.name.as_slice() == name.as_bytes()
+        && column.kind == kind
+        && column.is_strict
+        && column.not_null
+        && matches!(column.default, Value::Null)
+        && column.collation == Collation::Binary
+}
+
+/// Whether they are columns of these names and types.
+fn are_columns(columns: &[Column], wanted: &[(&str, Kind)]) -> bool
+    ensures { IsTrue result → columns.now ≡ map (λ w. strict_column w.0.now w.1) wanted.now }
+{
+    if columns.len() != wanted.len() {
+        return false;
+    }
+    for at in 0..columns.len() {
+        let (name, kind) = wanted[at];
+        if !is_column(&columns[at], name, kind) {
+            return false;
+        }
+    }
+    true
+}
+
+/// Whether nothing is said of the table but its name, columns and keys.
+fn is_plain(table: &Table) -> bool
+    ensures checks { IsTrue result → table.now.checks ≡ [] }
+    ensures references { IsTrue result → table.now.references ≡ [] }
+    ensures computed { IsTrue result → table.now.computed ≡ [] }
+    ensures stamps { IsTrue result → table.now.stamps ≡ record { places = []; terms = []; formats = [] } }
+    ensures counted { IsTrue result → table.now.is_counted ≡ false }
+{
+    table.checks.roots.is_empty()
+        && table.references.is_empty()
+        && table.computed.is_empty()
+        && table.stamps.places.is_empty()
+        && table.stamps.terms.roots.is_empty()
+        && table.stamps.formats.is_empty()
+        && !table.is_counted
+}
+
+/// Whether the primary key of the table is its first column, and it has no other key.
+fn is_keyed_by_first(table: &Table) -> bool
+    ensures key { IsTrue result → table.now.key ≡ Some 0 }
+    ensures primary { IsTrue result → table.now.primary ≡ 0 ∷ [] }
+    ensures uniques { IsTrue result → table.now.uniques ≡ [] }
+    ensures orders { IsTrue result → table.now.orders ≡ [] }
+{
+    table.key == Some(0)
+        && table.primary.as_slice() == [0usize].as_slice()
+        && table.uniques.is_empty()
+        && table.orders.is_empty()
+}
+
+/// Whether it is a plain table of this name and these columns.
+fn is_table_by_id(table: &Table, name: &str, columns: &[(&str, Kind)]) -> bool
+    ensures { IsTrue result → table.now ≡ plain_table name.now table.now.tree (map (λ w. strict_column w.0.now w.1) columns.now) }
+{
+    table.name.as_slice() == name.as_bytes()
+        && are_columns(table.columns.as_slice(), columns)
+        && is_keyed_by_first(table)
+        && is_plain(table)
+}
+
+/// Whether it is the table of rules, in whatever tree.
+pub fn is_rule_table(table: &Table) -> bool
+    ensures { IsTrue result → table.now ≡ record rule_table { tree = table.now.tree } }
+{
+    is_table_by_id(table, "rule", &RULE)
+}
+
+/// Whether it is the table `meta`, in whatever tree.
+pub fn is_meta_table(table: &Table) -> bool
+    ensures { IsTrue result → table.now ≡ record meta_table { tree = table.now.tree } }
+{
+    is_table_by_id(table, "meta", &META)
+}
+
+/// Whether the places are those of table, address, length and metric.
+fn are_key_places(places: &[usize]) -> bool
+    ensures { IsTrue result → places.now ≡ key_places }
+{
+    places == [1usize, 2, 3, 4].as_slice()
+}
+
+/// Whether the only UNIQUE of the table is the key of routes, in the default order.
+fn has_route_key(table: &Table) -> bool
+    ensures uniques { IsTrue result → table.now.uniques ≡ key_places ∷ [] }
+    ensures orders { IsTrue result → table.now.orders ≡ (record { digits = 0 }) ∷ [] }
+{
+    match (table.uniques.as_slice(), table.orders.as_slice()) {
+        ([unique], [order]) => are_key_places(unique.as_slice()) && order.digits == 0,
+        _ => false,
+    }
+}
+
+/// Whether it is the table of routes, in whatever tree.
+pub fn is_route_table(table: &Table) -> bool
+    ensures { IsTrue result → table.now ≡ record route_table { tree = table.now.tree } }
+{
+    table.name.as_slice() == b"route".as_slice()
+        && are_columns(table.columns.as_slice(), &ROUTE)
+        && table.key.is_none()
+        && are_key_places(table.primary.as_slice())
+        && has_route_key(table)
+        && is_plain(table)
+}
+
+/// Whether it is the index of the key of routes, in its place.
+fn is_route_index(index: &Index) -> bool
+    ensures { IsTrue result → index.now ≡ route_key }
+{
+    index.name.as_slice() == b"sqlite_autoindex_route_1".as_slice()
+        && index.tree == 2
+        && index.table == 1
+        && are_key_places(index.columns.as_slice())
+        && index.order.digits == 0
+        && index.is_unique
+}
+
+/// Whether the reference names none of the three tables.
+fn is_elsewhere(reference: &Reference) -> bool
+    ensures { IsTrue result → IsElsewhere reference.now }
+{
+    let parent = reference.parent.as_slice();
+    !same_name(b"rule".as_slice(), parent)
+        && !same_name(b"route".as_slice(), parent)
+        && !same_name(b"meta".as_slice(), parent)
+}
+
+/// Whether none of the references names one of the three tables.
+fn are_elsewhere(references: &[Reference]) -> bool
+    ensures { IsTrue result → (reference : Referring) → Has references.now reference → IsElsewhere reference }
+{
+    for reference in references {
+        if !is_elsewhere(reference) {
+            return false;
+        }
+    }
+    true
+}
+
+/// Whether the table is apart from the three tables, and refers to none of them.
+fn is_other(table: &Table) -> bool
+    ensures { IsTrue result → IsOther table.now }
+{
+    table.tree != 0
+        && table.tree != 1
+        && table.tree != 3
+        && are_elsewhere(table.references.as_slice())
+}
+
+/// Whether each of the tables is apart from the three tables, and refers to none of them.
+fn are_others(tables: &[Table]) -> bool
+    ensures { IsTrue result → AreOthers tables.now }
+{
+    for table in tables {
+        if !is_other(table) {
+            return false;
+        }
+    }
+    true
+}
+
+/// Whether the index is no unique one of the table of routes.
+fn is_not_of_routes(index: &Index) -> bool
+    ensures { IsTrue result → guards index.now route_table ≡ false }
+{
+    !(index.is_unique && index.table == 1)
+}
+
+/// Whether none of the indexes is a unique one of the table of routes.
+fn are_not_of_routes(indexes: &[Index]) -> bool
+    ensures { IsTrue result → AreNotOfRoutes indexes.now }
+{
+    for index in indexes {
+        if !is_not_of_routes(index) {
+            return false;
+        }
+    }
+    true
+}
+
+/// Whether they are the three tables and the index of the key of routes, each in its place.
+fn are_ours(rule: &Table, route: &Table, meta: &Table, key: &Index) -> bool
+    ensures rule { IsTrue result → rule.now ≡ rule_table }
+    ensures route { IsTrue result → route.now ≡ route_table }
+    ensures meta { IsTrue result → meta.now ≡ meta_table }
+    ensures key { IsTrue result → key.now ≡ route_key }
+{
+    let are_placed = rule.tree == 0 && route.tree == 1 && meta.tree == 3;
+    are_placed
+        && is_rule_table(rule)
+        && is_route_table(route)
+        && is_meta_table(meta)
+        && is_route_index(key)
+}
+
+/// Whether the first tables of the file are those of format 1, as the first opening makes them in an empty file, and no
+/// other table refers to them and no other unique index is on the table of routes.
+pub fn is_format_1(schema: &Schema) -> bool
+    ensures { IsTrue result → IsFormat1 schema.now }
+{
+    let tables = schema.tables.as_slice();
+    let indexes = schema.indexes.as_slice();
+    if tables.len() < 3 || indexes.is_empty() {
+        return false;
+    }
+    if !are_ours(&tables[0], &tables[1], &tables[2], &indexes[0]) {
+        return false;
+    }
+    if !are_others(&tables[3..]) {
+        return false;
+    }
+    are_not_of_routes(&indexes[1..])
+}
