@@ -1,6 +1,6 @@
 -- The registry of grace periods, as contracts see it.
 use Rattle.std.specs.Prelude.{◌≡◌, ◌<◌, ◌≤◌, ℕ, Bool, true, false, nat_lt, List, [], ◌∷◌, ◌++◌, length, map, replicate, slice_get, slice_set, Option, None, Some}
-use Rattle.prt_addr.specs.Rising.{IsRising}
+use Rattle.prt_addr.specs.Order.{IsRising}
 use Rattle.prt_version.specs.State.{State}
 use Rattle.prt_grace.specs.declared.limits.TheConstants.{MOST_RETIRED, PLACES}
 use Rattle.prt_grace.specs.declared.place.Place.{Place}
@@ -34,11 +34,11 @@ announced Free = None
 announced Offline = None
 announced (Online number) = Some number
 
--- the place is one of the registry's, which knows what it has announced
+-- the place is one of this registry's, whose entry for it is what its looker has announced
 abbrev pub HasPlace : RegistryState → Place → Type 0
 HasPlace registry place = (place.index < PLACES) × (slice_get registry.places place.index ≡ Some (announcing place.announced))
 
--- one place changes
+-- the entry of one place changes
 abbrev pub with_place : RegistryState → ℕ → PlaceState → RegistryState
 with_place registry index place = record registry { places = slice_set registry.places index place }
 
@@ -46,7 +46,7 @@ with_place registry index place = record registry { places = slice_set registry.
 abbrev pub with_noted : RegistryState → State → RegistryState
 with_noted registry version = record { noted = version; retired = registry.retired ++ registry.noted ∷ []; places = registry.places }
 
--- what can be reclaimed is given up
+-- the retired versions that no looker can hold any more are given up
 abbrev pub reclaimed : RegistryState → RegistryState
 reclaimed registry = record registry { retired = after_reclaim (λ version. version.count) registry.noted.count (map announced registry.places) registry.retired }
 

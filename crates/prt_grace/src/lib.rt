@@ -16,4 +16,5 @@ mod tests;
 
 pub use limits::{MOST_RETIRED, PLACES};
 pub use place::{Place, PlaceState};
+pub use prt_version::Version;
 pub use registry::Registry;

@@ -7,8 +7,7 @@ ghost use Rattle.prt_grace.specs.Registry.{HasPlace, announced, announcing, is_f
 ghost use Rattle.prt_grace.specs.declared.place.PlaceState.TheVariants.{Free, Offline, Online};
 
 use crate::retired::RetiredVersions;
-use crate::{MOST_RETIRED, PLACES, Place, PlaceState};
-use prt_version::Version;
+use crate::{MOST_RETIRED, PLACES, Place, PlaceState, Version};
 use std::marker::Model;
 use std::sync::Arc;
 

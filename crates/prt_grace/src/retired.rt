@@ -4,15 +4,14 @@ ghost use Rattle.std.specs.Arc.{arc_value};
 ghost use Rattle.prt_grace.specs.GracePeriod.{may_hold};
 ghost use Rattle.prt_grace.specs.Retired.{slot_may_be_held, versions_in};
 
-use crate::MOST_RETIRED;
+use crate::{MOST_RETIRED, Version};
 use arrayvec::ArrayVec;
-use prt_version::Version;
 use std::marker::Model;
 use std::sync::Arc;
 
 /// The retired versions that were not given up yet, the oldest first.
 ///
-/// No slot is empty: it is an `Option` because an `ArrayVec` fills its room with a default value, which an `Arc` has not.
+/// No slot is empty. It is an `Option` because an `ArrayVec` fills its free room with a default value, and an `Arc` has none.
 #[derive(Drop)]
 pub(crate) struct RetiredVersions {
     slots: ArrayVec<Option<Arc<Version>>, MOST_RETIRED>,

@@ -1,5 +1,5 @@
-use crate::Registry;
-use prt_version::{Command, Refusal, Version};
+use crate::{Registry, Version};
+use prt_version::{Command, Refusal};
 use std::sync::Arc;
 use std::test::Fail;
 
