@@ -10,7 +10,6 @@ use Rattle.prt_world.specs.World.{Ack, Lookup, LookerState, World, offline, onli
 use Rattle.prt_world.proofs.History.{IsAcked, IsAnswer, IsServed}
 use Rattle.prt_world.proofs.Phases.{Holds, reopened_holds, shown_version}
 
-
 pub durable_of : (w : World) → Holds w → IsDurable w
 durable_of w h = record {
   published_is_durable = h.counts.published_low;

@@ -10,7 +10,7 @@ use Rattle.prt_command.specs.Lines.{limits}
 use Rattle.prt_command.specs.Requests.{refuse_if}
 use Rattle.prt_command.specs.Then.{◌>>=◌, map_ok}
 use Rattle.prt_world.specs.ReadEvents.{and_events, contents, events_of, events_of_lines, line_event, longest_replay, most_events}
-use Rattle.prt_world.specs.Steps.{with_lines}
+use Rattle.prt_world.specs.ReadSteps.{with_lines}
 use Rattle.prt_world.specs.declared.event.Event.{Event}
 
 abbrev Events : Type 0

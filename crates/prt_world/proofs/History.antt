@@ -116,7 +116,7 @@ history_reopened accepted top versions lookers acks answers disk low is h =
 abbrev pub stays : ℕ → List (Option ℕ) → ℕ → Bool
 stays noted announced n = not (is_reclaimable noted announced n)
 
-not_retired : (noted n : ℕ) (announced : List (Option ℕ)) → noted ≤ n → stays noted announced n ≡ true
+pub not_retired : (noted n : ℕ) (announced : List (Option ℕ)) → noted ≤ n → stays noted announced n ≡ true
 not_retired noted n announced up =
     let above : nat_lt n noted ≡ false = grind (arith, nat_tests) in
     ap (λ b. not (b && not (list_any (may_hold n) announced))) above
@@ -125,7 +125,7 @@ stays_by : (b : Bool) → not (b && false) ≡ true
 stays_by true = refl
 stays_by false = refl
 
-held_back : (noted n : ℕ) (announced : List (Option ℕ)) → list_any (may_hold n) announced ≡ true → stays noted announced n ≡ true
+pub held_back : (noted n : ℕ) (announced : List (Option ℕ)) → list_any (may_hold n) announced ≡ true → stays noted announced n ≡ true
 held_back noted n announced held = ap (λ b. not (nat_lt n noted && not b)) held ∙ stays_by (nat_lt n noted)
 
 or_later : (b c : Bool) → c ≡ true → (b || c) ≡ true
@@ -142,8 +142,9 @@ served_reclaimed accepted top noted versions announced (online number (Some held
 lookers_reclaimed : (accepted : List Command) (top noted : ℕ) (versions : List State) (announced : List (Option ℕ)) (lookers : List LookerState) → ((n : ℕ) → list_any (may_hold n) (map announced_by lookers) ≡ true → list_any (may_hold n) announced ≡ true) → Each (IsServed accepted top versions) lookers → Each (IsServed accepted top (after_reclaim (λ state. state.count) noted announced versions)) lookers
 lookers_reclaimed accepted top noted versions announced [] among h = tt
 lookers_reclaimed accepted top noted versions announced (looker ∷ lookers) among h = (
-    served_reclaimed accepted top noted versions announced looker (λ n here. among n (ap (λ b. b || list_any (may_hold n) (map announced_by lookers)) here)) h.0,
-    lookers_reclaimed accepted top noted versions announced lookers (λ n later. among n (or_later (may_hold n (announced_by looker)) (list_any (may_hold n) (map announced_by lookers)) later)) h.1)
+  served_reclaimed accepted top noted versions announced looker (λ n here. among n (ap (λ b. b || list_any (may_hold n) (map announced_by lookers)) here)) h.0,
+  lookers_reclaimed accepted top noted versions announced lookers (λ n later. among n (or_later (may_hold n (announced_by looker)) (list_any (may_hold n) (map announced_by lookers)) later)) h.1,
+)
 
 pub history_reclaimed : (accepted : List Command) (top noted : ℕ) (versions : List State) (lookers : List LookerState) (acks : List Ack) (answers : List Lookup) → noted ≤ top → IsHistory accepted top versions lookers acks answers → IsHistory accepted top (after_reclaim (λ state. state.count) noted (map announced_by lookers) versions) lookers acks answers
 history_reclaimed accepted top noted versions lookers acks answers low h = record {

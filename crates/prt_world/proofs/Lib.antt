@@ -3,6 +3,11 @@ pub mod Folds
 pub mod History
 pub mod Phases
 pub mod Claims
-pub mod Texts
+pub mod Seats
+pub mod Joins
+pub mod SideBySide
+pub mod Simulation
+pub mod LookersFollow
+pub mod WholeRuns
 pub mod FileLines
 pub mod EventSteps

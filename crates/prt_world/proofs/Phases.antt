@@ -91,7 +91,7 @@ pub shown_version : (w : World) → Holds w → published_version w ≡ state_af
 shown_version w h = ap (λ found. unwrap_or found opening_state) h.history.top_kept
 
 -- where all is settled, the published version is what is on disk
-settled_version : (w : World) → Holds w → IsSettled w.accepted w.disk w.published w.noted → published_version w ≡ w.disk
+pub settled_version : (w : World) → Holds w → IsSettled w.accepted w.disk w.published w.noted → published_version w ≡ w.disk
 settled_version w h settled = shown_version w h ∙ ap (state_after w.accepted) settled.shown ∙ sym h.counts.prefix
 
 prepare_holds : (w : World) (command : Command) (reason : Option Refusal) (room : Bool) → refusal (published_version w) command ≡ reason → Holds w → IsSettled w.accepted w.disk w.published w.noted → Holds (world.prepare w command reason room).world
@@ -306,7 +306,7 @@ offline_holds w looker offline h = h
 offline_holds w looker (online announced held) h = looker_holds w looker offline h tt
 
 -- the version that is kept under a number
-version_kept : (w : World) (number : ℕ) (state : State) → kept w.versions number ≡ Some state → version w number ≡ state
+pub version_kept : (w : World) (number : ℕ) (state : State) → kept w.versions number ≡ Some state → version w number ≡ state
 version_kept w number state is = ap (λ found. unwrap_or found opening_state) is
 
 look_holds : (w : World) (packet : Packet) (state : LookerState) → Holds w → Served w state → Holds (world.look w packet state).world
@@ -337,7 +337,7 @@ unless_holds : (w : World) (after : world.Step) (b : Bool) → Holds w → Holds
 unless_holds w after true h later = h
 unless_holds w after false h later = later
 
-looker_served : (w : World) (looker : ℕ) → Holds w → Served w (world.looker_state w looker)
+pub looker_served : (w : World) (looker : ℕ) → Holds w → Served w (world.looker_state w looker)
 looker_served w looker h = each_get (IsServed w.accepted w.published w.versions) w.lookers looker offline tt h.history.served
 
 pub step_holds : (w : World) (event : Event) → Holds w → Holds (step w event).world
@@ -357,7 +357,7 @@ step_holds w events.Reclaim h = unless_holds w (world.reclaim w) (world.is_stopp
 step_holds w (events.Stop fate) h = unless_holds w (world.stop w fate) (world.is_stopped w.phase) h (stop_holds w fate h)
 step_holds w events.Reopen h = reopen_holds w w.phase h
 
-start_holds : Holds start
+pub start_holds : Holds start
 start_holds = record {
   counts = record { published_low = omega arith; durable_low = omega arith; accepted_low = omega arith; noted_low = omega arith; one_more = omega arith; prefix = refl };
   history = record { bounded = (omega arith, tt); top_kept = refl; served = each_replicate (IsServed [] 0 (opening_state ∷ [])) PLACES offline tt; acked = tt; answered = tt };

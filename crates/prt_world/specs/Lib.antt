@@ -1,7 +1,9 @@
 pub mod EventWords
 pub mod ReadEvents
-pub mod Steps
+pub mod ReadSteps
 pub mod TraceText
 pub mod Example
 pub mod World
 pub mod Durability
+pub mod Replay
+pub mod Machine

@@ -4,10 +4,16 @@
 mod event;
 mod event_examples;
 mod laws;
+mod lookers;
+mod machine;
 mod outcome;
 mod phase;
-mod read;
 mod replay;
+pub mod replays;
+mod read;
+mod replay_file;
+#[cfg(test)]
+mod tests;
 mod text;
 mod trace;
 mod words;
@@ -20,6 +26,7 @@ pub use phase::Phase;
 pub use prt_addr::{Refusal, StoreCall};
 pub use prt_command::{Command, Packet};
 pub use prt_version::Answer;
-pub use replay::{LONGEST_REPLAY, MOST_EVENTS, read_events};
+pub use replay::run;
+pub use replay_file::{LONGEST_REPLAY, MOST_EVENTS, read_events};
 pub use text::trace_text;
 pub use trace::Trace;

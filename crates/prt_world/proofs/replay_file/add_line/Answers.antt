@@ -1,7 +1,7 @@
 use Rattle.std.proofs.Common.{ap, inl, sym, ◌∙◌}
 use Rattle.prt_command.proofs.Results.{ok_result}
 use Rattle.prt_world.proofs.EventSteps.{added, no_event, refused_line}
-use Rattle.prt_world.proofs.replay.add_line.Goals as goal
+use Rattle.prt_world.proofs.replay_file.add_line.Goals as goal
 
 pub returns-in-Ok-Some : goal.returns-in-Ok-Some
 returns-in-Ok-Some c =

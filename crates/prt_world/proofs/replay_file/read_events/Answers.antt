@@ -1,6 +1,6 @@
 use Rattle.std.proofs.Common.{inl}
 use Rattle.prt_world.proofs.EventSteps.{all_read, line_read, line_refused, none_read, too_many_lines}
-use Rattle.prt_world.proofs.replay.read_events.Goals as goal
+use Rattle.prt_world.proofs.replay_file.read_events.Goals as goal
 
 pub lines-init : goal.lines-init
 lines-init c = none_read c.args.bytes.now _ c.new-events.ensures.items

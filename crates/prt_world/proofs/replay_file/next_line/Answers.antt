@@ -1,7 +1,7 @@
 use Rattle.std.proofs.Common.{sym, ◌∙◌}
 use Rattle.prt_command.proofs.Splitting.{some_of, zero_of}
 use Rattle.prt_world.proofs.FileLines.{last_line, line_at, no_lines}
-use Rattle.prt_world.proofs.replay.next_line.Goals as goal
+use Rattle.prt_world.proofs.replay_file.next_line.Goals as goal
 
 pub returns-in-Some : goal.returns-in-Some
 returns-in-Some c = line_at c.args.bytes.now c.in-Some.at (sym c.in-Some.ensures)

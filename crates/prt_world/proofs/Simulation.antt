@@ -1,0 +1,226 @@
+-- What a replay keeps stands for the world of its events.
+use Rattle.std.proofs.Common.{◌≡◌, ℕ, zero, suc, ◌+◌, ◌-◌, ◌<◌, ◌≤◌, Bool, true, false, not, ◌&&◌, List, [], ◌∷◌, ◌++◌, Option, Some, None, Result, Ok, Err, length, map, take, get_or, set, replicate, refl, sym, ap, ◌∙◌, subst, arith, cond}
+use Rattle.std.specs.Prelude.{◌==◌, filter, nat_lt, slice_index_or, slice_set, unwrap_or}
+use Rattle.std.specs.List.{AllZip, AllByRecursion as Each}
+use Rattle.std.specs.Result.{result_err}
+use Rattle.std.proofs.lemmas.Bool.Decides.{nat_tests}
+use Rattle.std.proofs.lemmas.List.{append-nil, append_assoc, length-append, map-set, take-append-le}
+use Rattle.prt_addr.specs.declared.refusal.Refusal.{Refusal}
+use Rattle.prt_addr.specs.declared.refusal.StoreCall.TheVariants.{Begin, Write, Count, Commit}
+use Rattle.prt_addr.proofs.Each.{each_append, each_filtered, each_implies}
+use Rattle.prt_command.specs.declared.request.Command.{Command}
+use Rattle.prt_grace.specs.GracePeriod.{after_reclaim, is_retired}
+use Rattle.prt_grace.specs.Registry.{announced, announcing, reclaimed, with_noted}
+use Rattle.prt_grace.specs.declared.limits.TheConstants.{MOST_RETIRED, PLACES}
+use Rattle.prt_rule.specs.declared.packet.Packet.{Packet}
+use Rattle.prt_version.specs.Change.{apply, check, put, put_if, refusal}
+use Rattle.prt_version.specs.State.{State, opening_state}
+use Rattle.prt_version.specs.declared.change.Change.{Change}
+use Rattle.prt_world.specs.Durability.{state_after}
+use Rattle.prt_world.specs.Machine as machine
+use Rattle.prt_world.specs.Machine.{LookersState, MachineState, MachineStep, SeatState, machine_outcomes, machine_step, opened}
+use Rattle.prt_world.specs.World as world
+use Rattle.prt_world.specs.World.{LookerState, Step, World, announced_by, kept, offline, online, outcomes_from, published_version, start, step, version}
+use Rattle.prt_world.specs.declared.event.Event.{Event}
+use Rattle.prt_world.specs.declared.event.Event.TheVariants as events
+use Rattle.prt_world.specs.declared.event.Fate.{Fate}
+use Rattle.prt_world.specs.declared.event.Fate.TheVariants.{Kept, Lost}
+use Rattle.prt_world.specs.declared.outcome.Outcome.TheVariants as outcomes
+use Rattle.prt_world.specs.declared.phase.Phase.{Phase}
+use Rattle.prt_world.specs.declared.phase.Phase.TheVariants.{Ready, Prepared, Committed, Published, Noted, Closed, Stopped}
+use Rattle.prt_world.proofs.Folds.{apply_count}
+use Rattle.prt_world.proofs.History.{IsServed, same_state, stays}
+use Rattle.prt_world.proofs.KeptVersions.{kept_count}
+use Rattle.prt_world.proofs.SideBySide.{all_pass, filter_append, map_set_same, none_pass, zip_get, zip_implies, zip_set}
+use Rattle.prt_world.proofs.Phases.{Holds, IsOpen, Phased, settled_version, shown_version, start_holds, step_holds}
+
+-- ---- the relation
+
+-- a seat is that of the looker
+abbrev pub IsSeatOf : List Command → SeatState → LookerState → Type 0
+IsSeatOf accepted seat offline = (seat.place.announced ≡ None) × (seat.held ≡ None)
+IsSeatOf accepted seat (online number None) = (seat.place.announced ≡ Some number) × (seat.held ≡ None)
+IsSeatOf accepted seat (online number (Some held)) = (seat.place.announced ≡ Some number) × (seat.held ≡ Some (state_after accepted held))
+
+-- the version that is published and not noted
+abbrev pub unnoted : Bool → State → List State
+unnoted true state = []
+unnoted false state = state ∷ []
+
+-- the next version is that of the command that is under way, and there is room to retire one more
+abbrev pub IsUnderWay : State → List State → State → Phase → Type 0
+IsUnderWay next retired disk (Prepared command call) = (next ≡ apply disk command) × (length retired < MOST_RETIRED)
+IsUnderWay next retired disk (Committed command) = length retired < MOST_RETIRED
+IsUnderWay next retired disk (Published command) = length retired < MOST_RETIRED
+IsUnderWay next retired disk Ready = Unit {0}
+IsUnderWay next retired disk (Noted command) = Unit {0}
+IsUnderWay next retired disk Closed = Unit {0}
+IsUnderWay next retired disk Stopped = Unit {0}
+
+pub record Stands (m : MachineState) (w : World) : Type 0 where
+  pub phase : m.phase ≡ w.phase
+  pub disk : m.disk ≡ w.disk
+  pub published : m.published ≡ state_after w.accepted w.published
+  pub noted : m.lookers.registry.noted.count ≡ w.noted
+  pub below : Each (λ state. state.count < w.noted) m.lookers.registry.retired
+  pub versions : w.versions ≡ m.lookers.registry.retired ++ m.lookers.registry.noted ∷ unnoted (w.noted == w.published) m.published
+  pub told : map announced m.lookers.registry.places ≡ map announced_by w.lookers
+  pub seats : AllZip (IsSeatOf w.accepted) m.lookers.seats w.lookers
+  pub under_way : IsUnderWay m.next m.lookers.registry.retired w.disk w.phase
+
+-- the replay and the world show the same, and the replay stands for the world again
+pub record Follows (m : MachineStep) (w : Step) : Type 0 where
+  pub shows : m.outcome ≡ w.outcome
+  pub stands : Stands m.machine w.world
+
+-- ---- what stands for the published version
+
+shown_is : (m : MachineState) (w : World) → Holds w → Stands m w → m.published ≡ published_version w
+shown_is m w h s = s.published ∙ sym (shown_version w h)
+
+pub shown_count : (m : MachineState) (w : World) → Holds w → Stands m w → m.published.count ≡ w.published
+shown_count m w h s = ap (λ state. state.count) s.published ∙ kept_count w.versions w.published (state_after w.accepted w.published) h.history.top_kept
+
+pub each_unnoted : (P : State → Type 0) (b : Bool) (state : State) → P state → Each P (unnoted b state)
+each_unnoted P true state here = tt
+each_unnoted P false state here = (here, tt)
+
+abbrev pub tops : MachineState → World → List State
+tops m w = m.lookers.registry.noted ∷ unnoted (w.noted == w.published) m.published
+
+-- the versions that are not retired have the noted number or a later one
+pub tops_high : (m : MachineState) (w : World) → Holds w → Stands m w → Each (λ state. w.noted ≤ state.count) (tops m w)
+tops_high m w h s =
+    let noted : m.lookers.registry.noted.count ≡ w.noted = s.noted in
+    let shown : m.published.count ≡ w.published = shown_count m w h s in
+    let low : w.noted ≤ w.published = h.counts.noted_low in
+    (omega arith, each_unnoted (λ state. w.noted ≤ state.count) (w.noted == w.published) m.published (omega arith))
+
+is_low : (noted count : ℕ) → count < noted → nat_lt count noted ≡ true
+is_low noted count low = grind (arith, nat_tests)
+
+is_high : (noted count : ℕ) → noted ≤ count → nat_lt count noted ≡ false
+is_high noted count high = grind (arith, nat_tests)
+
+retired_only : (m : MachineState) (w : World) → Holds w → Stands m w → filter (λ state. is_retired w.noted state.count) w.versions ≡ m.lookers.registry.retired
+retired_only m w h s =
+    let p = λ (state : State). is_retired w.noted state.count in
+    ap (filter p) s.versions
+    ∙ filter_append p m.lookers.registry.retired (tops m w)
+    ∙ ap (λ xs. filter p m.lookers.registry.retired ++ xs) (none_pass p (tops m w) (each_implies (λ state. w.noted ≤ state.count) (λ state. p state ≡ false) (λ state high. is_high w.noted state.count high) (tops m w) (tops_high m w h s)))
+    ∙ append-nil (filter p m.lookers.registry.retired)
+    ∙ all_pass p m.lookers.registry.retired (each_implies (λ state. state.count < w.noted) (λ state. p state ≡ true) (λ state low. is_low w.noted state.count low) m.lookers.registry.retired s.below)
+
+room_is : (m : MachineState) (w : World) → Holds w → Stands m w → world.has_room w ≡ nat_lt (length m.lookers.registry.retired) MOST_RETIRED
+room_is m w h s = ap (λ xs. nat_lt (length xs) MOST_RETIRED) (retired_only m w h s)
+
+pub stays_put : (m : MachineState) (w : World) → Stands m w → Follows (machine.idle m) (world.unmet w)
+stays_put m w s = record { shows = refl; stands = s }
+
+-- ---- a command
+
+put_counted : (state : State) (command : Command) (made : Change) → check state command ≡ Ok made → put state made ≡ apply state command
+put_counted state command made e = ap (put_if state) (sym e)
+
+allowed_by : (state : State) (command : Command) (made : Change) → check state command ≡ Ok made → refusal state command ≡ None
+allowed_by state command made e = ap result_err e
+
+prepare_follows : (m : MachineState) (w : World) (command : Command) (r : Result Change Refusal) (room : Bool) → check m.published command ≡ r → nat_lt (length m.lookers.registry.retired) MOST_RETIRED ≡ room → m.published ≡ w.disk → m.published.count ≡ w.published → Stands m w → Follows (machine.prepare_next m command r room) (world.prepare w command (result_err r) room)
+prepare_follows m w command (Err reason) room checked roomy on_disk count s = record { shows = refl; stands = s }
+prepare_follows m w command (Ok made) false checked roomy on_disk count s = record { shows = refl; stands = s }
+prepare_follows m w command (Ok made) true checked roomy on_disk count s =
+    let counted : (put m.published made).count ≡ w.published + 1 = ap (λ state. state.count) (put_counted m.published command made checked) ∙ apply_count m.published command (allowed_by m.published command made checked) ∙ ap (λ n. n + 1) count in
+    record {
+      shows = ap outcomes.Prepared counted;
+      stands = record {
+        phase = refl;
+        disk = s.disk;
+        published = s.published;
+        noted = s.noted;
+        below = s.below;
+        versions = s.versions;
+        told = s.told;
+        seats = s.seats;
+        under_way = (put_counted m.published command made checked ∙ ap (λ state. apply state command) on_disk, grind (arith, nat_tests));
+      };
+    }
+
+pub submit_follows : (m : MachineState) (w : World) (command : Command) (phase : Phase) → Holds w → Phased w phase → Stands m w → Follows (machine.submit_by m command phase) (world.submit w command phase)
+submit_follows m w command Ready h phased s =
+    let shown : m.published ≡ published_version w = shown_is m w h s in
+    let follows : Follows (machine.submit_by m command Ready) (world.prepare w command (refusal m.published command) (nat_lt (length m.lookers.registry.retired) MOST_RETIRED)) = prepare_follows m w command (check m.published command) (nat_lt (length m.lookers.registry.retired) MOST_RETIRED) refl refl (shown ∙ settled_version w h phased) (shown_count m w h s) s in
+    subst (λ room. Follows (machine.submit_by m command Ready) (world.prepare w command (refusal (published_version w) command) room)) (sym (room_is m w h s))
+    (subst (λ state. Follows (machine.submit_by m command Ready) (world.prepare w command (refusal state command) (nat_lt (length m.lookers.registry.retired) MOST_RETIRED))) shown follows)
+submit_follows m w command Closed h phased s = record { shows = refl; stands = s }
+submit_follows m w command phase h phased s = stays_put m w s
+
+-- ---- a store call
+
+seat_on : (top : ℕ) (accepted others : List Command) → ((n : ℕ) → n ≤ top → take n others ≡ take n accepted) → (versions : List State) → (seat : SeatState) (looker : LookerState) → IsServed accepted top versions looker → IsSeatOf accepted seat looker → IsSeatOf others seat looker
+seat_on top accepted others agree versions seat offline served h = h
+seat_on top accepted others agree versions seat (online number None) served h = h
+seat_on top accepted others agree versions seat (online number (Some held)) served h = (h.0, h.1 ∙ ap Some (sym (same_state top accepted others agree held served.within)))
+
+seats_on : (top : ℕ) (accepted others : List Command) → ((n : ℕ) → n ≤ top → take n others ≡ take n accepted) → (versions : List State) → (seats : List SeatState) (lookers : List LookerState) → Each (IsServed accepted top versions) lookers → AllZip (IsSeatOf accepted) seats lookers → AllZip (IsSeatOf others) seats lookers
+seats_on top accepted others agree versions [] [] served h = tt
+seats_on top accepted others agree versions (seat ∷ seats) (looker ∷ lookers) served h = (seat_on top accepted others agree versions seat looker served.0 h.0, seats_on top accepted others agree versions seats lookers served.1 h.1)
+seats_on top accepted others agree versions [] (looker ∷ lookers) served h = absurd h
+seats_on top accepted others agree versions (seat ∷ seats) [] served h = absurd h
+
+begin_follows : (m : MachineState) (w : World) (command : Command) → Holds w → Stands m w → IsUnderWay m.next m.lookers.registry.retired w.disk (Prepared command Begin) → Follows (machine.call_by m (Prepared command Begin)) (world.call w (Prepared command Begin))
+begin_follows m w command h s under_way =
+    let low : w.published ≤ w.disk.count = h.counts.published_low in
+    let long : w.disk.count ≤ length w.accepted = h.counts.durable_low in
+    let agree : (n : ℕ) → n ≤ w.published → take n (w.accepted ++ command ∷ []) ≡ take n w.accepted = λ n within. take-append-le n w.accepted (command ∷ []) (omega arith) in
+    record {
+      shows = refl;
+      stands = record {
+        phase = refl;
+        disk = s.disk;
+        published = s.published ∙ sym (same_state w.published w.accepted (w.accepted ++ command ∷ []) agree w.published (omega arith));
+        noted = s.noted;
+        below = s.below;
+        versions = s.versions;
+        told = s.told;
+        seats = seats_on w.published w.accepted (w.accepted ++ command ∷ []) agree w.versions m.lookers.seats w.lookers h.history.served s.seats;
+        under_way = under_way;
+      };
+    }
+
+-- the world with another disk, pending state and phase
+moved : (m : MachineState) (w : World) (disk pending next state : State) (phase : Phase) → state ≡ disk → IsUnderWay next m.lookers.registry.retired disk phase → Stands m w → Stands (record { lookers = m.lookers; published = m.published; disk = state; next = next; phase = phase }) (record w { disk = disk; pending = pending; phase = phase })
+moved m w disk pending next state phase same under_way s = record {
+  phase = refl;
+  disk = same;
+  published = s.published;
+  noted = s.noted;
+  below = s.below;
+  versions = s.versions;
+  told = s.told;
+  seats = s.seats;
+  under_way = under_way;
+}
+
+pub call_follows : (m : MachineState) (w : World) (phase : Phase) → Holds w → Phased w phase → IsUnderWay m.next m.lookers.registry.retired w.disk phase → Stands m w → Follows (machine.call_by m phase) (world.call w phase)
+call_follows m w (Prepared command Begin) h phased under_way s = begin_follows m w command h s under_way
+call_follows m w (Prepared command Write) h phased under_way s = record { shows = refl; stands = moved m w w.disk (world.written w command).pending m.next m.disk (Prepared command Count) s.disk under_way s }
+call_follows m w (Prepared command Count) h phased under_way s = record { shows = refl; stands = moved m w w.disk (world.counted w command).pending m.next m.disk (Prepared command Commit) s.disk under_way s }
+call_follows m w (Prepared command Commit) h phased under_way s = record { shows = refl; stands = moved m w w.pending w.pending m.next m.next (Committed command) (under_way.0 ∙ sym phased.1) under_way.1 s }
+call_follows m w phase h phased under_way s = stays_put m w s
+
+-- ---- a stop
+
+left_is : (m : MachineState) (w : World) (fate : Fate) (phase : Phase) → Phased w phase → IsUnderWay m.next m.lookers.registry.retired w.disk phase → m.disk ≡ w.disk → machine.left_by m fate phase ≡ world.stopped w fate phase
+left_is m w Kept (Prepared command Commit) phased under_way same = under_way.0 ∙ sym phased.1
+left_is m w fate phase phased under_way same = same
+
+pub fail_follows : (m : MachineState) (w : World) (fate : Fate) (phase : Phase) → Phased w phase → IsUnderWay m.next m.lookers.registry.retired w.disk phase → Stands m w → Follows (machine.fail_by m fate phase) (world.fail w fate phase)
+fail_follows m w fate (Prepared command next) phased under_way s =
+    let disk = world.stopped w fate (Prepared command next) in
+    record { shows = refl; stands = moved m w disk disk m.next (machine.left_by m fate (Prepared command next)) Closed (left_is m w fate (Prepared command next) phased under_way s.disk) tt s }
+fail_follows m w fate phase phased under_way s = stays_put m w s
+
+pub stop_follows : (m : MachineState) (w : World) (fate : Fate) → Holds w → Stands m w → Follows (machine.stop_by m fate) (world.stop w fate)
+stop_follows m w fate h s =
+    let disk = world.stopped w fate w.phase in
+    record { shows = refl; stands = moved m w disk disk m.next (machine.left_by m fate m.phase) Stopped (ap (machine.left_by m fate) s.phase ∙ left_is m w fate w.phase h.phased s.under_way s.disk) tt s }

@@ -1,0 +1,226 @@
+-- What a replay keeps, and what it computes: the registry and the lookers' places in it, and versions.
+use Rattle.std.specs.Prelude.{◌≡◌, ℕ, zero, suc, ◌-◌, ◌<◌, ◌&&◌, ◌++◌, nat_lt, Bool, true, false, if◌then◌else◌, List, [], ◌∷◌, length, map, replicate, slice_get, slice_index_or, slice_set, Option, Some, None, Result, Ok, Err, is_some, option_map}
+use Rattle.prt_addr.specs.declared.refusal.Refusal.{Refusal}
+use Rattle.prt_addr.specs.declared.refusal.Refusal.TheVariants as refusals
+use Rattle.prt_addr.specs.declared.refusal.StoreCall.{StoreCall}
+use Rattle.prt_addr.specs.declared.refusal.StoreCall.TheVariants as calls
+use Rattle.prt_command.specs.declared.request.Command.{Command}
+use Rattle.prt_grace.specs.Registry.{RegistryState, announcing, new_registry, reclaimed, with_noted, with_place}
+use Rattle.prt_grace.specs.declared.limits.TheConstants.{MOST_RETIRED, PLACES}
+use Rattle.prt_grace.specs.declared.place.Place.{Place}
+use Rattle.prt_grace.specs.declared.place.PlaceState.TheVariants as places
+use Rattle.prt_rule.specs.declared.packet.Packet.{Packet}
+use Rattle.prt_version.specs.Change.{check, put}
+use Rattle.prt_version.specs.State.{State}
+use Rattle.prt_version.specs.declared.change.Change.{Change}
+use Rattle.prt_world.specs.World.{answer_by, is_stopped}
+use Rattle.prt_world.specs.declared.event.Event.{Event}
+use Rattle.prt_world.specs.declared.event.Event.TheVariants as events
+use Rattle.prt_world.specs.declared.event.Fate.{Fate}
+use Rattle.prt_world.specs.declared.event.Fate.TheVariants.{Kept, Lost}
+use Rattle.prt_world.specs.declared.outcome.Outcome.{Outcome}
+use Rattle.prt_world.specs.declared.outcome.Outcome.TheVariants as outcomes
+use Rattle.prt_world.specs.declared.phase.Phase.{Phase}
+use Rattle.prt_world.specs.declared.phase.Phase.TheVariants.{Ready, Prepared, Committed, Published, Noted, Closed, Stopped}
+
+-- ---- lookers
+
+-- A looker's place in the registry, and the version that it holds.
+pub record SeatState : Type 0 where
+  pub place : Place
+  pub held : Option State
+
+pub record LookersState : Type 0 where
+  pub registry : RegistryState
+  pub seats : List SeatState
+
+-- each looker has the place of its number
+pub record AreSeated (registry : RegistryState) (seats : List SeatState) : Type 0 where
+  pub all : length seats ≡ PLACES
+  pub placed : registry.places ≡ map (λ seat. announcing seat.place.announced) seats
+  pub numbered : (i : ℕ) (past : SeatState) → i < PLACES → (slice_index_or seats i past).place.index ≡ i
+
+abbrev pub offline_place : ℕ → Place
+offline_place index = record { index = index; announced = None }
+
+abbrev pub empty_seat : ℕ → SeatState
+empty_seat index = record { place = offline_place index; held = None }
+
+abbrev pub seat_of : LookersState → ℕ → SeatState
+seat_of lookers looker = slice_index_or lookers.seats looker (empty_seat looker)
+
+-- the number that a looker has announced
+abbrev pub announced_at : LookersState → ℕ → Option ℕ
+announced_at lookers looker = (seat_of lookers looker).place.announced
+
+-- the looker announces this, and holds that
+abbrev pub sit : LookersState → ℕ → Option ℕ → Option State → LookersState
+sit lookers looker announced held = record {
+  registry = with_place lookers.registry looker (announcing announced);
+  seats = slice_set lookers.seats looker (record { place = record (seat_of lookers looker).place { announced = announced }; held = held });
+}
+
+-- the looker holds that
+abbrev pub hold : LookersState → ℕ → Option State → LookersState
+hold lookers looker held = record { registry = lookers.registry; seats = slice_set lookers.seats looker (record { place = (seat_of lookers looker).place; held = held }) }
+
+abbrev pub with_registry : LookersState → RegistryState → LookersState
+with_registry lookers registry = record { registry = registry; seats = lookers.seats }
+
+-- the number of the version that the looker holds, which it can announce where it is online with that number or a lower one
+abbrev pub announceable : Option ℕ → Option State → Option ℕ
+announceable None held = None
+announceable (Some before) None = None
+announceable (Some before) (Some state) = if nat_lt state.count before then None else Some state.count
+
+abbrev pub can_announce : LookersState → ℕ → Option ℕ
+can_announce lookers looker = announceable (announced_at lookers looker) (seat_of lookers looker).held
+
+-- so many lookers, offline
+unfoldable pub seats_below : ℕ → List SeatState
+seats_below zero = []
+seats_below (suc n) = seats_below n ++ empty_seat n ∷ []
+
+-- all lookers, offline, beside a registry in which this version is noted
+abbrev pub new_lookers : State → LookersState
+new_lookers state = record {
+  registry = record { noted = state; retired = []; places = replicate PLACES places.Offline };
+  seats = seats_below PLACES;
+}
+
+-- ---- the replay
+
+pub record MachineState : Type 0 where
+  pub lookers : LookersState
+  pub published : State
+  pub disk : State
+  -- the version after the command that is under way
+  pub next : State
+  pub phase : Phase
+
+pub record MachineStep : Type 0 where
+  pub machine : MachineState
+  pub outcome : Outcome
+
+abbrev pub opened : State → MachineState
+opened state = record { lookers = new_lookers state; published = state; disk = state; next = state; phase = Ready }
+
+abbrev pub idle : MachineState → MachineStep
+idle machine = record { machine = machine; outcome = outcomes.Nothing }
+
+abbrev pub prepare_next : MachineState → Command → Result Change Refusal → Bool → MachineStep
+prepare_next machine command (Err reason) room = record { machine = machine; outcome = outcomes.Refused reason }
+prepare_next machine command (Ok made) false = record { machine = machine; outcome = outcomes.Refused refusals.Busy }
+prepare_next machine command (Ok made) true = record { machine = record machine { next = put machine.published made; phase = Prepared command calls.Begin }; outcome = outcomes.Prepared (put machine.published made).count }
+
+abbrev pub submit_by : MachineState → Command → Phase → MachineStep
+submit_by machine command Ready = prepare_next machine command (check machine.published command) (nat_lt (length machine.lookers.registry.retired) MOST_RETIRED)
+submit_by machine command Closed = record { machine = machine; outcome = outcomes.Refused refusals.Closed }
+submit_by machine command phase = idle machine
+
+abbrev pub in_phase : MachineState → Phase → Outcome → MachineStep
+in_phase machine phase outcome = record { machine = record machine { phase = phase }; outcome = outcome }
+
+abbrev pub call_by : MachineState → Phase → MachineStep
+call_by machine (Prepared command calls.Begin) = in_phase machine (Prepared command calls.Write) (outcomes.Called calls.Begin)
+call_by machine (Prepared command calls.Write) = in_phase machine (Prepared command calls.Count) (outcomes.Called calls.Write)
+call_by machine (Prepared command calls.Count) = in_phase machine (Prepared command calls.Commit) (outcomes.Called calls.Count)
+call_by machine (Prepared command calls.Commit) = record { machine = record machine { disk = machine.next; phase = Committed command }; outcome = outcomes.Called calls.Commit }
+call_by machine phase = idle machine
+
+-- what a stop leaves on the disk
+abbrev pub left_by : MachineState → Fate → Phase → State
+left_by machine Kept (Prepared command calls.Commit) = machine.next
+left_by machine fate phase = machine.disk
+
+abbrev pub fail_by : MachineState → Fate → Phase → MachineStep
+fail_by machine fate (Prepared command next) = record { machine = record machine { disk = left_by machine fate (Prepared command next); phase = Closed }; outcome = outcomes.Refused (refusals.StoreFailed next) }
+fail_by machine fate phase = idle machine
+
+abbrev pub stop_by : MachineState → Fate → MachineStep
+stop_by machine fate = record { machine = record machine { disk = left_by machine fate machine.phase; phase = Stopped }; outcome = outcomes.Stopped }
+
+abbrev pub reopen_by : MachineState → Phase → MachineStep
+reopen_by machine Closed = record { machine = opened machine.disk; outcome = outcomes.Reopened machine.disk.count }
+reopen_by machine Stopped = record { machine = opened machine.disk; outcome = outcomes.Reopened machine.disk.count }
+reopen_by machine phase = idle machine
+
+abbrev pub publish_by : MachineState → Phase → MachineStep
+publish_by machine (Committed command) = record { machine = record machine { published = machine.disk; phase = Published command }; outcome = outcomes.Published machine.disk.count }
+publish_by machine phase = idle machine
+
+abbrev pub fail_publication_by : MachineState → Phase → MachineStep
+fail_publication_by machine (Committed command) = in_phase machine Closed (outcomes.Refused refusals.NotPublished)
+fail_publication_by machine phase = idle machine
+
+-- there is room for one more retired version, and the published version is later than the noted one
+abbrev pub can_note : MachineState → Bool
+can_note machine = nat_lt (length machine.lookers.registry.retired) MOST_RETIRED && nat_lt machine.lookers.registry.noted.count machine.published.count
+
+abbrev pub note_if : MachineState → Command → Bool → MachineStep
+note_if machine command true = record { machine = record machine { lookers = with_registry machine.lookers (with_noted machine.lookers.registry machine.published); phase = Noted command }; outcome = outcomes.Noted machine.published.count }
+note_if machine command false = idle machine
+
+abbrev pub note_by : MachineState → Phase → MachineStep
+note_by machine (Published command) = note_if machine command (can_note machine)
+note_by machine phase = idle machine
+
+abbrev pub acknowledge_by : MachineState → Phase → MachineStep
+acknowledge_by machine (Noted command) = in_phase machine Ready (outcomes.Acknowledged machine.published.count)
+acknowledge_by machine phase = idle machine
+
+abbrev pub with_lookers : MachineState → LookersState → Outcome → MachineStep
+with_lookers machine lookers outcome = record { machine = record machine { lookers = lookers }; outcome = outcome }
+
+abbrev pub online_by : MachineState → ℕ → Option ℕ → MachineStep
+online_by machine looker None = with_lookers machine (sit machine.lookers looker (Some machine.lookers.registry.noted.count) None) (outcomes.Online looker machine.lookers.registry.noted.count)
+online_by machine looker (Some announced) = idle machine
+
+abbrev pub fetch_by : MachineState → ℕ → Option ℕ → MachineStep
+fetch_by machine looker None = idle machine
+fetch_by machine looker (Some announced) = with_lookers machine (hold machine.lookers looker (Some machine.published)) (outcomes.Fetched looker machine.published.count)
+
+abbrev pub announce_by : MachineState → ℕ → Option ℕ → MachineStep
+announce_by machine looker None = idle machine
+announce_by machine looker (Some number) = with_lookers machine (sit machine.lookers looker (Some number) (seat_of machine.lookers looker).held) (outcomes.Announced looker number)
+
+abbrev pub offline_by : MachineState → ℕ → Option ℕ → MachineStep
+offline_by machine looker None = idle machine
+offline_by machine looker (Some announced) = with_lookers machine (sit machine.lookers looker None None) (outcomes.Offline looker)
+
+abbrev pub look_by : MachineState → Packet → Option State → MachineStep
+look_by machine packet None = idle machine
+look_by machine packet (Some state) = record { machine = machine; outcome = outcomes.Answered (answer_by state packet) }
+
+abbrev pub reclaim_by : MachineState → MachineStep
+reclaim_by machine = with_lookers machine (with_registry machine.lookers (reclaimed machine.lookers.registry)) (outcomes.Reclaimed (length machine.lookers.registry.retired - length (reclaimed machine.lookers.registry).retired))
+
+abbrev pub while_running : MachineState → MachineStep → MachineStep
+while_running machine step = if is_stopped machine.phase then idle machine else step
+
+-- an event of a looker, a reclaim or a stop
+abbrev pub running_step : MachineState → Event → MachineStep
+running_step machine (events.Online looker) = online_by machine looker (announced_at machine.lookers looker)
+running_step machine (events.Fetch looker) = fetch_by machine looker (announced_at machine.lookers looker)
+running_step machine (events.Announce looker) = announce_by machine looker (can_announce machine.lookers looker)
+running_step machine (events.Offline looker) = offline_by machine looker (announced_at machine.lookers looker)
+running_step machine (events.Look looker packet) = look_by machine packet (seat_of machine.lookers looker).held
+running_step machine events.Reclaim = reclaim_by machine
+running_step machine (events.Stop fate) = stop_by machine fate
+running_step machine event = idle machine
+
+abbrev pub machine_step : MachineState → Event → MachineStep
+machine_step machine (events.Submit command) = submit_by machine command machine.phase
+machine_step machine events.Call = call_by machine machine.phase
+machine_step machine (events.Fail fate) = fail_by machine fate machine.phase
+machine_step machine events.Publish = publish_by machine machine.phase
+machine_step machine events.PublishFail = fail_publication_by machine machine.phase
+machine_step machine events.Note = note_by machine machine.phase
+machine_step machine events.Ack = acknowledge_by machine machine.phase
+machine_step machine events.Reopen = reopen_by machine machine.phase
+machine_step machine event = while_running machine (running_step machine event)
+
+-- what each event shows
+unfoldable pub machine_outcomes : MachineState → List Event → List Outcome
+machine_outcomes machine [] = []
+machine_outcomes machine (event ∷ events) = (machine_step machine event).outcome ∷ machine_outcomes (machine_step machine event).machine events
