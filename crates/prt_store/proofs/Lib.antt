@@ -1,0 +1,6 @@
+pub mod Members
+pub mod Once
+pub mod Spelling
+pub mod Changes
+pub mod Commits
+pub mod Nexts

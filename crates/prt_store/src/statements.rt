@@ -1,0 +1,101 @@
+//! The statements that write, each with its parameters.
+
+ghost use Rattle.std.specs.Prelude.{◌≡◌, ◌≤◌, ◌<◌, ◌^◌, []};
+ghost use Rattle.sqlite.specs.Held.{state};
+ghost use Rattle.prt_rows.specs.Kept.{count_values, id_values, key_values};
+ghost use Rattle.prt_rows.specs.RouteRow.{IsInRange, route_row};
+ghost use Rattle.prt_rows.specs.RuleRow.{IsRule, rule_row};
+ghost use Rattle.prt_rows.specs.Statements.{delete_route, delete_rule, flush_rules, insert_rule, put_route, set_count};
+ghost use Rattle.prt_rule.specs.Storable.{IsStorableAction};
+ghost use Rattle.prt_store.specs.Written.{CommitsNothing, RunsInside};
+
+use crate::ranges::{route_range, rule_range};
+use prt_route::{Route, RouteKey};
+use prt_rows::{route_values, rule_values};
+use prt_rule::Rule;
+use sqlite::types::ValueRef;
+use sqlite::{Alter, Error, Transaction, params};
+
+/// Puts a route in the place of the one that has its key, or beside the others.
+pub(crate) fn put_route<S: Alter>(
+    tx: &mut Transaction<'_, S>,
+    route: &Route,
+) -> Result<usize, Error>
+    ensures same_reference { tx.new.conn.ghost_name ≡ tx.old.conn.ghost_name }
+    ensures runs { RunsInside S.Store put_route (route_row route.now) tx.old.conn.now tx.new.conn.now result }
+    ensures survives { CommitsNothing S.Store tx.old.conn.now tx.new.conn.now }
+    ensures typed { IsInRange route.now }
+{
+    route_range(route);
+    tx.execute(
+        "INSERT INTO route (tbl, net, len, metric, kind, via, dev, src, proto, scope) VALUES (?1, ?2, ?3, ?4, ?5, ?6, ?7, ?8, ?9, ?10) ON CONFLICT (tbl, net, len, metric) DO UPDATE SET kind = ?5, via = ?6, dev = ?7, src = ?8, proto = ?9, scope = ?10",
+        &route_values(route),
+    )
+}
+
+/// Deletes the route that has this key.
+pub(crate) fn delete_route<S: Alter>(
+    tx: &mut Transaction<'_, S>,
+    key: &RouteKey,
+) -> Result<usize, Error>
+    ensures same_reference { tx.new.conn.ghost_name ≡ tx.old.conn.ghost_name }
+    ensures runs { RunsInside S.Store delete_route (key_values key.now) tx.old.conn.now tx.new.conn.now result }
+    ensures survives { CommitsNothing S.Store tx.old.conn.now tx.new.conn.now }
+{
+    tx.execute(
+        "DELETE FROM route WHERE tbl = ?1 AND net = ?2 AND len = ?3 AND metric = ?4",
+        params![
+            key.table,
+            key.prefix.bits(),
+            u32::from(key.prefix.len()),
+            key.metric
+        ],
+    )
+}
+
+/// Inserts a rule, whose id is new.
+pub(crate) fn insert_rule<S: Alter>(
+    tx: &mut Transaction<'_, S>,
+    rule: &Rule,
+) -> Result<usize, Error>
+    requires { rule.now.id < 2 ^ 63 }
+    ensures same_reference { tx.new.conn.ghost_name ≡ tx.old.conn.ghost_name }
+    ensures runs { RunsInside S.Store insert_rule (rule_row rule.now) tx.old.conn.now tx.new.conn.now result }
+    ensures survives { CommitsNothing S.Store tx.old.conn.now tx.new.conn.now }
+    ensures typed { 1 ≤ rule.now.id → IsStorableAction rule.now.action → IsRule rule.now.id rule.now }
+{
+    rule_range(rule);
+    tx.execute(
+        "INSERT INTO rule (id, priority, inverted, src_net, src_len, dst_net, dst_len, iif, mark, mask, act, tbl) VALUES (?1, ?2, ?3, ?4, ?5, ?6, ?7, ?8, ?9, ?10, ?11, ?12)",
+        &rule_values(rule),
+    )
+}
+
+/// Deletes the rule that has this id.
+pub(crate) fn delete_rule<S: Alter>(tx: &mut Transaction<'_, S>, id: u64) -> Result<usize, Error>
+    requires { id < 2 ^ 63 }
+    ensures same_reference { tx.new.conn.ghost_name ≡ tx.old.conn.ghost_name }
+    ensures runs { RunsInside S.Store delete_rule (id_values id) tx.old.conn.now tx.new.conn.now result }
+    ensures survives { CommitsNothing S.Store tx.old.conn.now tx.new.conn.now }
+{
+    tx.execute("DELETE FROM rule WHERE id = ?1", params![id as i64])
+}
+
+/// Deletes the rules whose priority is not 0.
+pub(crate) fn flush_rules<S: Alter>(tx: &mut Transaction<'_, S>) -> Result<usize, Error>
+    ensures same_reference { tx.new.conn.ghost_name ≡ tx.old.conn.ghost_name }
+    ensures runs { RunsInside S.Store flush_rules [] tx.old.conn.now tx.new.conn.now result }
+    ensures survives { CommitsNothing S.Store tx.old.conn.now tx.new.conn.now }
+{
+    tx.execute("DELETE FROM rule WHERE priority <> 0", &[])
+}
+
+/// Sets the count of accepted commands.
+pub(crate) fn set_count<S: Alter>(tx: &mut Transaction<'_, S>, count: u64) -> Result<usize, Error>
+    requires { count < 2 ^ 63 }
+    ensures same_reference { tx.new.conn.ghost_name ≡ tx.old.conn.ghost_name }
+    ensures runs { RunsInside S.Store set_count (count_values count) tx.old.conn.now tx.new.conn.now result }
+    ensures survives { CommitsNothing S.Store tx.old.conn.now tx.new.conn.now }
+{
+    tx.execute("UPDATE meta SET count = ?1", params![count as i64])
+}
