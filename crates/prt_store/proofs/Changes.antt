@@ -18,7 +18,9 @@ use Rattle.sqlite_value.proofs.OrderLemmas.{value_cmp-Int}
 use Rattle.sqlite_value.specs.Order.{value_cmp}
 use Rattle.prt_addr.specs.Order.{insert_by}
 use Rattle.prt_route.specs.Route.{is_listed_before, is_same_key, key_of}
-use Rattle.prt_route.specs.declared.edit.RouteEdit.TheVariants.{Put, Remove}
+use Rattle.prt_route.specs.RouteChoice.{is_selected}
+use Rattle.prt_route.specs.declared.choice.Selector.{Selector}
+use Rattle.prt_route.specs.declared.edit.RouteEdit.TheVariants.{Put, Remove, Flush}
 use Rattle.prt_route.specs.declared.route.Route.{Route}
 use Rattle.prt_route.specs.declared.route.RouteKey.{RouteKey}
 use Rattle.prt_rows.proofs.Found.{has_permuted}
@@ -27,21 +29,25 @@ use Rattle.prt_rows.proofs.Keyed.{keyed-permutation}
 use Rattle.prt_rows.proofs.Putting.{puts_route}
 use Rattle.prt_rows.proofs.RouteKeys.{row_has_key, split}
 use Rattle.prt_rows.proofs.RowTests.{passes_id, passes_key, passes_priority}
-use Rattle.prt_rows.proofs.Statements.{deletes_route, deletes_rule, flushes_rules}
+use Rattle.prt_rows.proofs.Selecting.{passes_selector}
+use Rattle.prt_rows.proofs.Statements.{deletes_route, deletes_routes, deletes_rule, flushes_rules}
 use Rattle.prt_rows.specs.Effects.{ChangesOnly, IsKeyed, has_same_rowid, passes}
 use Rattle.prt_rows.specs.Kept.{id_values, kept_rule, key_values}
-use Rattle.prt_rows.specs.Meanings.{has_id, has_key, has_priority}
+use Rattle.prt_rows.specs.Meanings.{has_id, has_key, has_priority, is_flushed}
 use Rattle.prt_rows.specs.RouteRow.{route_row}
 use Rattle.prt_rows.specs.RuleRow.{rule_row}
-use Rattle.prt_rows.specs.Statements.{delete_route, delete_rule, flush_rules, insert_rule, put_route}
+use Rattle.prt_rows.specs.Selecting.{IsSelector, selector_row}
+use Rattle.prt_rows.specs.Statements.{delete_route, delete_rule, flush_routes, flush_rules, insert_rule, put_route}
 use Rattle.prt_rows.specs.Tables.{meta_table, route_table, rule_table}
 use Rattle.prt_rule.specs.Rule.{is_before}
 use Rattle.prt_rule.specs.declared.rule.Rule.{Rule}
 use Rattle.prt_version.specs.Change.{put}
 use Rattle.prt_version.specs.State.{State}
+use Rattle.prt_version.specs.declared.change.Change.{Change}
 use Rattle.prt_version.specs.declared.change.Change.TheVariants as change
 use Rattle.prt_store.proofs.Spelling.{Covers, IsRouteRow, IsRuleRow, covers_if_same, covers_left, covers_placed, filter_all, map_id}
 use Rattle.prt_store.specs.Stored.{Stores}
+use Rattle.prt_store.specs.Written.{IsTyped, text_of, values_of}
 
 -- the rules and routes are those of the next state, and the count is still to be set
 pub record IsChanged (old mid : Database) (next : State) : Type 0 where
@@ -135,42 +141,60 @@ module _ (old mid : Conn) (state : State) (held : Stores old.now state) (count :
         count = stays rule_table meta_table only (has_meta_table old.now state held) refl;
       }
 
-  pub puts : (route : Route) → Executes put_route (route_row route) old mid (Ok count) → IsChanged old.now mid.now (put state (change.Route (Put route)))
+  puts : (route : Route) → Executes put_route (route_row route) old mid (Ok count) → IsChanged old.now mid.now (put state (change.Route (Put route)))
   puts route ran =
       let t = held.tables in
       let made = puts_route t.tables t.indexes t.views t.others t.free old mid route count t.is (λ row there. let was = (routes_covered old.now state held).sound row there in (was.0, was.2)) held.keyed ran in
       routes_changed (put state (change.Route (Put route))) refl made.only made.keyed
       (covers_placed IsRouteRow (old.now.trees 1) (mid.now.trees 1) state.routes (routes_covered old.now state held) (passes has_key (key_values (key_of route))) (λ other. not (is_same_key (key_of other) (key_of route)))
-      (λ other row is. row_has_key row other route is ∙ not_not _) made.complete is_listed_before route made.sound made.here)
+      (λ other row there is. row_has_key row other route is ∙ not_not _) made.complete is_listed_before route made.sound made.here)
 
-  pub removes : (key : RouteKey) → Executes delete_route (key_values key) old mid (Ok count) → IsChanged old.now mid.now (put state (change.Route (Remove key)))
+  removes : (key : RouteKey) → Executes delete_route (key_values key) old mid (Ok count) → IsChanged old.now mid.now (put state (change.Route (Remove key)))
   removes key ran =
       let t = held.tables in
       let made = deletes_route t.tables t.indexes t.views t.others old mid t.is (key_values key) count held.keyed ran in
       routes_changed (put state (change.Route (Remove key))) refl made.only made.keyed
       (covers_left IsRouteRow (old.now.trees 1) (mid.now.trees 1) state.routes (routes_covered old.now state held) (passes has_key (key_values key)) (λ other. not (is_same_key (key_of other) key))
-      (λ other row is. ap (passes has_key (key_values key)) (split row other is) ∙ passes_key (rowid row) other key ∙ not_not _) made.complete made.sound)
+      (λ other row there is. ap (passes has_key (key_values key)) (split row other is) ∙ passes_key (rowid row) other key ∙ not_not _) made.complete made.sound)
 
-  pub inserts : (rule : Rule) → Executes insert_rule (rule_row rule) old mid (Ok count) → IsChanged old.now mid.now (put state (change.RulePut rule))
+  selects : (selector : Selector) → IsSelector selector → Executes flush_routes (selector_row selector) old mid (Ok count) → IsChanged old.now mid.now (put state (change.Route (Flush selector)))
+  selects selector is ran =
+      let t = held.tables in
+      let made = deletes_routes t.tables t.indexes t.views t.others old mid t.is (selector_row selector) count held.keyed ran in
+      routes_changed (put state (change.Route (Flush selector))) refl made.only made.keyed
+      (covers_left IsRouteRow (old.now.trees 1) (mid.now.trees 1) state.routes (routes_covered old.now state held) (passes is_flushed (selector_row selector)) (λ other. not (is_selected selector other))
+      (λ other row there same.
+      ap (passes is_flushed (selector_row selector)) (split row other same) ∙ passes_selector (rowid row) other selector (held.storable.routes other there).in_range.prefix is ∙ not_not _)
+      made.complete made.sound)
+
+  inserts : (rule : Rule) → Executes insert_rule (rule_row rule) old mid (Ok count) → IsChanged old.now mid.now (put state (change.RulePut rule))
   inserts rule ran =
       let t = held.tables in
       let made = adds_rule t.tables t.indexes t.views t.others old mid rule count t.is ran in
-      let placed = covers_placed IsRuleRow (old.now.trees 0) (mid.now.trees 0) state.rules (rules_covered old.now state held) (λ _. false) (λ _. true) (λ _ _ _. refl) (λ row was _. made.complete row was) is_before rule
+      let placed = covers_placed IsRuleRow (old.now.trees 0) (mid.now.trees 0) state.rules (rules_covered old.now state held) (λ _. false) (λ _. true) (λ _ _ _ _. refl) (λ row was _. made.complete row was) is_before rule
       (λ row there. elim (made.sound row there) [ inl is ↦ inl is | inr was ↦ inr (was, refl) ]) (kept_rule rule, made.here, refl) in
       rules_changed (put state (change.RulePut rule)) refl made.only (made.keyed (rules_keyed old.now state held)) (subst (λ rules. Covers IsRuleRow (mid.now.trees 0) (insert_by is_before rule rules)) (filter_all state.rules) placed)
 
-  pub drops : (id : ℕ) → Executes delete_rule (id_values id) old mid (Ok count) → IsChanged old.now mid.now (put state (change.RuleDrop id))
+  drops : (id : ℕ) → Executes delete_rule (id_values id) old mid (Ok count) → IsChanged old.now mid.now (put state (change.RuleDrop id))
   drops id ran =
       let t = held.tables in
       let made = deletes_rule t.tables t.indexes t.views t.others old mid t.is (id_values id) count (rules_keyed old.now state held) ran in
       rules_changed (put state (change.RuleDrop id)) refl made.only made.keyed
       (covers_left IsRuleRow (old.now.trees 0) (mid.now.trees 0) state.rules (rules_covered old.now state held) (passes has_id (id_values id)) (λ rule. not (rule.id == id))
-      (λ rule row is. ap (passes has_id (id_values id)) is ∙ passes_id rule id ∙ not_not _) made.complete made.sound)
+      (λ rule row there is. ap (passes has_id (id_values id)) is ∙ passes_id rule id ∙ not_not _) made.complete made.sound)
 
-  pub flushes : Executes flush_rules [] old mid (Ok count) → IsChanged old.now mid.now (put state change.RuleFlush)
+  flushes : Executes flush_rules [] old mid (Ok count) → IsChanged old.now mid.now (put state change.RuleFlush)
   flushes ran =
       let t = held.tables in
       let made = flushes_rules t.tables t.indexes t.views t.others old mid t.is [] count (rules_keyed old.now state held) ran in
       rules_changed (put state change.RuleFlush) refl made.only made.keyed
       (covers_left IsRuleRow (old.now.trees 0) (mid.now.trees 0) state.rules (rules_covered old.now state held) (passes has_priority []) (λ rule. rule.priority == 0)
-      (λ rule row is. ap (passes has_priority []) is ∙ passes_priority rule) made.complete made.sound)
+      (λ rule row there is. ap (passes has_priority []) is ∙ passes_priority rule) made.complete made.sound)
+
+  pub changed : (made : Change) → IsTyped made → Executes (text_of made) (values_of made) old mid (Ok count) → IsChanged old.now mid.now (put state made)
+  changed (change.Route (Put route)) typed ran = puts route ran
+  changed (change.Route (Remove key)) typed ran = removes key ran
+  changed (change.Route (Flush selector)) typed ran = selects selector typed ran
+  changed (change.RulePut rule) typed ran = inserts rule ran
+  changed (change.RuleDrop id) typed ran = drops id ran
+  changed change.RuleFlush typed ran = flushes ran

@@ -4,3 +4,4 @@ pub mod Spelling
 pub mod Changes
 pub mod Commits
 pub mod Nexts
+pub mod Calls

@@ -56,22 +56,22 @@ module _ {X : Type 0} (write : X → Row) (part : Row → Row) (rows : List Row)
       subst (Has (map part rows)) (sym (m.2 ∙ sym r.2)) (mapped_has part rows r.0 r.1))
 
 module _ {X : Type 0} (IsRowOf : X → Row → Type 0) (olds news : List Row) (values : List X) (held : Covers IsRowOf olds values)
-    (passes : Row → Bool) (stays : X → Bool) (agree : (value : X) (row : Row) → IsRowOf value row → passes row ≡ not (stays value))
+    (passes : Row → Bool) (stays : X → Bool) (agree : (value : X) (row : Row) → Has values value → IsRowOf value row → passes row ≡ not (stays value))
     (complete : (row : Row) → Has olds row → passes row ≡ false → Has news row) where
-  stays_if : (value : X) (row : Row) → IsRowOf value row → passes row ≡ false → stays value ≡ true
-  stays_if value row is fails = not-false (stays value) (sym (agree value row is) ∙ fails)
+  stays_if : (value : X) (row : Row) → Has values value → IsRowOf value row → passes row ≡ false → stays value ≡ true
+  stays_if value row there is fails = not-false (stays value) (sym (agree value row there is) ∙ fails)
 
   -- a value that stays keeps its row
   still_there : (value : X) → Has (filter stays values) value → (row : Row) × Has news row × IsRowOf value row
   still_there value there =
       let was = has_filtered stays values value there in
       let row = held.complete value was.0 in
-      (row.0, complete row.0 row.1 (agree value row.0 row.2 ∙ ap not was.1), row.2)
+      (row.0, complete row.0 row.1 (agree value row.0 was.0 row.2 ∙ ap not was.1), row.2)
 
   left_over : (row : Row) → Has olds row → passes row ≡ false → (value : X) × Has (filter stays values) value × IsRowOf value row
   left_over row was fails =
       let value = held.sound row was in
-      (value.0, has_kept stays values value.0 value.1 (stays_if value.0 row value.2 fails), value.2)
+      (value.0, has_kept stays values value.0 value.1 (stays_if value.0 row value.1 value.2 fails), value.2)
 
   -- the rows that pass are gone
   pub covers_left : ((row : Row) → Has news row → Has olds row × (passes row ≡ false)) → Covers IsRowOf news (filter stays values)

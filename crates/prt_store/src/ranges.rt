@@ -1,6 +1,7 @@
 //! The ranges that a route and a rule have by their types.
 
-ghost use Rattle.std.specs.Prelude.{◌≤◌, IfSome};
+ghost use Rattle.std.specs.Prelude.{◌≡◌, ◌≤◌, IfSome, true};
+ghost use Rattle.prt_route.specs.Name.{is_name};
 ghost use Rattle.prt_rows.specs.Cell.{IsByte, IsNumber, IsOptionalAddr, IsOptionalName};
 ghost use Rattle.prt_rows.specs.RouteRow.{IsInRange};
 ghost use Rattle.prt_rows.specs.RuleRow.{IsAction, IsOptionalMark, IsRule, action_table};
@@ -34,11 +35,18 @@ fn addr_range(addr: &Option<Addr>)
 }
 
 /// The name of an interface is a name.
-fn name_range(name: &Option<Dev>)
+fn name_range(name: Dev)
+    ensures { is_name name ≡ true }
+{
+    let _ = name;
+}
+
+/// So is one that may be absent.
+fn optional_name_range(name: &Option<Dev>)
     ensures { IsOptionalName name.now }
 {
     if let Some(name) = name {
-        let _bytes = name.as_bytes();
+        name_range(*name);
     }
 }
 
@@ -52,7 +60,7 @@ pub(crate) fn route_range(route: &Route)
     byte_range(route.scope);
     let _prefix = route.prefix.bits();
     addr_range(&route.via);
-    name_range(&route.dev);
+    optional_name_range(&route.dev);
     addr_range(&route.src);
 }
 
@@ -81,7 +89,7 @@ pub(crate) fn rule_range(rule: &Rule)
 {
     number_range(rule.priority);
     let _prefixes = (rule.from.bits(), rule.to.bits());
-    name_range(&rule.iif);
+    optional_name_range(&rule.iif);
     mark_range(&rule.mark);
     action_range(&rule.action);
 }

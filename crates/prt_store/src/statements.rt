@@ -5,13 +5,14 @@ ghost use Rattle.sqlite.specs.Held.{state};
 ghost use Rattle.prt_rows.specs.Kept.{count_values, id_values, key_values};
 ghost use Rattle.prt_rows.specs.RouteRow.{IsInRange, route_row};
 ghost use Rattle.prt_rows.specs.RuleRow.{IsRule, rule_row};
-ghost use Rattle.prt_rows.specs.Statements.{delete_route, delete_rule, flush_rules, insert_rule, put_route, set_count};
+ghost use Rattle.prt_rows.specs.Selecting.{IsSelector, selector_row};
+ghost use Rattle.prt_rows.specs.Statements.{delete_route, delete_rule, flush_routes, flush_rules, insert_rule, put_route, set_count};
 ghost use Rattle.prt_rule.specs.Storable.{IsStorableAction};
 ghost use Rattle.prt_store.specs.Written.{CommitsNothing, RunsInside};
 
 use crate::ranges::{route_range, rule_range};
-use prt_route::{Route, RouteKey};
-use prt_rows::{route_values, rule_values};
+use prt_route::{Route, RouteKey, Selector};
+use prt_rows::{route_values, rule_values, selector_values};
 use prt_rule::Rule;
 use sqlite::types::ValueRef;
 use sqlite::{Alter, Error, Transaction, params};
@@ -50,6 +51,22 @@ pub(crate) fn delete_route<S: Alter>(
             u32::from(key.prefix.len()),
             key.metric
         ],
+    )
+}
+
+/// Deletes the routes that the selector takes.
+pub(crate) fn flush_routes<S: Alter>(
+    tx: &mut Transaction<'_, S>,
+    selector: &Selector,
+) -> Result<usize, Error>
+    ensures same_reference { tx.new.conn.ghost_name ≡ tx.old.conn.ghost_name }
+    ensures runs { RunsInside S.Store flush_routes (selector_row selector.now) tx.old.conn.now tx.new.conn.now result }
+    ensures survives { CommitsNothing S.Store tx.old.conn.now tx.new.conn.now }
+    ensures typed { IsSelector selector.now }
+{
+    tx.execute(
+        "DELETE FROM route WHERE (?1 = -1 OR tbl = ?1) AND net >= ?2 AND net <= ?3 AND len >= ?4 AND len <= ?5 AND net + (4294967296 >> len) > ?6 AND (?7 = -1 OR kind = ?7) AND (?8 = -1 OR proto = ?8) AND (?9 = -1 OR scope = ?9) AND (?10 = '' OR dev = ?10)",
+        &selector_values(selector),
     )
 }
 

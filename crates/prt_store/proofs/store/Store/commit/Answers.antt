@@ -1,0 +1,29 @@
+use Rattle.std.proofs.Common.{inl, inr, sym, ap, subst}
+use Rattle.sqlite.specs.Effect.{Database}
+use Rattle.prt_addr.specs.declared.refusal.Refusal.TheVariants.{StoreFailed}
+use Rattle.prt_version.specs.Change.{put}
+use Rattle.prt_store.proofs.Calls.{written_stores}
+use Rattle.prt_store.proofs.Nexts.{small_ids, small_number}
+use Rattle.prt_store.specs.Stored.{Stores}
+use Rattle.prt_store.proofs.store.Store.commit.Goals as goal
+
+pub run-requires-clause-ids : goal.run-requires-clause-ids
+run-requires-clause-ids g c = small_ids c.requires.0 c.args.change.now c.args.number c.requires.1
+
+pub run-requires-clause-number : goal.run-requires-clause-number
+run-requires-clause-number g c = small_number c.requires.0 c.args.change.now c.args.number c.requires.1
+
+pub returns-in-Ok-clause-ok : goal.returns-in-Ok-clause-ok
+returns-in-Ok-clause-ok g c clean before next held =
+    let done = c.in-Ok.ensures.ok clean in
+    subst (λ (d : Database). Stores d (put before c.args.change.now)) (sym done.2)
+    (written_stores g.S.Store c.args.change.now c.args.number c.args.self.now.conn _ before next done.0 held done.1).1
+
+pub returns-in-Err-clause-crash_err : goal.returns-in-Err-clause-crash_err
+returns-in-Err-clause-crash_err g c clean before next held trees leaves = elim (c.in-Err.ensures.crash_err.crash clean trees leaves) [
+  | inl was ↦ inl was
+  | inr made ↦
+      let it = made.2 in
+      let now = written_stores g.S.Store c.args.change.now c.args.number c.args.self.now.conn it.0 before next made.1 held it.1 in
+      inr (ap StoreFailed made.0, subst (λ (d : Database). Stores d (put before c.args.change.now)) (λ i. record { schema = now.0 i; trees = sym it.2 i }) now.1)
+]

@@ -1,0 +1,67 @@
+//! One change in one transaction.
+
+ghost use Rattle.std.specs.Prelude.{◌≡◌, ◌<◌, ◌^◌, IfErr, IsTrue, OnErr, OnOk};
+ghost use Rattle.sqlite.specs.Held.{state};
+ghost use Rattle.sqlite.specs.State.{HasCleanDisk, Survives};
+ghost use Rattle.prt_store.specs.Written.{AreWritten, CommitsNothing, HasStorableIds, IsTyped, IsWritten, RunsInside, text_of, values_of};
+
+use crate::statements::{
+    delete_route, delete_rule, flush_routes, flush_rules, insert_rule, put_route, set_count,
+};
+use prt_addr::StoreCall;
+use prt_route::RouteEdit;
+use prt_version::Change;
+use sqlite::{Alter, Connection, Error, Transaction};
+
+/// Runs the statement that makes the change.
+fn write<S: Alter>(tx: &mut Transaction<'_, S>, change: &Change) -> Result<usize, Error>
+    requires { HasStorableIds change.now }
+    ensures same_reference { tx.new.conn.ghost_name ≡ tx.old.conn.ghost_name }
+    ensures runs { RunsInside S.Store (text_of change.now) (values_of change.now) tx.old.conn.now tx.new.conn.now result }
+    ensures survives { CommitsNothing S.Store tx.old.conn.now tx.new.conn.now }
+    ensures typed { IsTyped change.now }
+{
+    match change {
+        Change::Route(RouteEdit::Put(route)) => put_route(tx, route),
+        Change::Route(RouteEdit::Remove(key)) => delete_route(tx, key),
+        Change::Route(RouteEdit::Flush(selector)) => flush_routes(tx, selector),
+        Change::RulePut(rule) => insert_rule(tx, rule),
+        Change::RuleDrop(id) => delete_rule(tx, *id),
+        Change::RuleFlush => flush_rules(tx),
+    }
+}
+
+/// Makes the change and sets the count in one transaction: begin, write, count, commit.
+///
+/// # Errors
+///
+/// The call that failed. Nothing is changed then, unless the commit failed: it may have been made.
+pub(crate) fn run<S: Alter>(
+    conn: &mut Connection<S>,
+    change: &Change,
+    number: u64,
+) -> Result<(), StoreCall>
+    requires ids { HasStorableIds change.now }
+    requires number { number < 2 ^ 63 }
+    ensures ok { HasCleanDisk (state S.Store conn.new) → OnOk result (IsTyped change.now × IsWritten S.Store change.now number conn.old (state S.Store conn.new).committed
+        × ((state S.Store conn.new).now ≡ (state S.Store conn.new).committed) × IsTrue (state S.Store conn.new).is_open) }
+    ensures err { HasCleanDisk (state S.Store conn.new) → IsTrue (state S.Store conn.new).is_open →
+        OnErr result (((state S.Store conn.new).now ≡ (state S.Store conn.old).now) × ((state S.Store conn.new).committed ≡ (state S.Store conn.old).committed)) }
+    ensures crash_err { IfErr result (λ call. Survives (state S.Store conn.old) (state S.Store conn.new)
+        (λ trees. (call ≡ StoreCall.Commit) × IsTyped change.now × AreWritten S.Store change.now number conn.old trees)) }
+{
+    if !conn.is_autocommit() {
+        return Err(StoreCall::Begin);
+    }
+    let mut tx = conn.transaction();
+    if write(&mut tx, change).is_err() {
+        return Err(StoreCall::Write);
+    }
+    if set_count(&mut tx, number).is_err() {
+        return Err(StoreCall::Count);
+    }
+    if tx.commit().is_err() {
+        return Err(StoreCall::Commit);
+    }
+    Ok(())
+}

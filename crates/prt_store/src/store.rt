@@ -1,0 +1,77 @@
+//! The store as a type.
+
+ghost use Rattle.std.specs.Prelude.{◌≡◌, ◌⊎◌, IfErr, IfOk, IsTrue, OnErr, OnOk};
+ghost use Rattle.sqlite.specs.Held.{state};
+ghost use Rattle.sqlite.specs.State.{HasCleanDisk};
+ghost use Rattle.sqlite.specs.Tree.{Trees};
+ghost use Rattle.prt_addr.specs.declared.refusal.StoreCall.{StoreCall as FailedCall};
+ghost use Rattle.prt_addr.specs.declared.refusal.StoreCall.TheVariants.{Commit};
+ghost use Rattle.prt_addr.specs.declared.refusal.Refusal.TheVariants.{StoreFailed};
+ghost use Rattle.prt_version.specs.Change.{put};
+ghost use Rattle.prt_version.specs.State.{State};
+ghost use Rattle.prt_store.specs.Next.{IsNext};
+ghost use Rattle.prt_store.specs.Stored.{Stores};
+
+use crate::commit::run;
+use prt_addr::Refusal;
+use prt_version::Change;
+use sqlite::{Alter, Connection};
+
+/// Says that the command of this number was committed. A commit alone makes one.
+#[derive(Debug, Drop)]
+pub struct Stamp {
+    number: u64,
+}
+
+impl Stamp {
+    /// The number of commands that had been accepted with this one.
+    pub fn number(&self) -> u64
+        ensures { result ≡ self.now.number }
+    {
+        self.number
+    }
+}
+
+/// The rules and routes of a database file, on a connection of its own.
+#[derive(Drop)]
+pub struct Store<S: Alter + Drop> {
+    conn: Connection<S>,
+}
+
+impl<S: Alter + Drop> Store<S> {
+    /// The connection, with its tables as they are.
+    pub fn release(self) -> Connection<S>
+        ensures { result ≡ self.conn }
+    {
+        self.conn
+    }
+
+    /// Makes the change that a command makes of the stored state, whose next number this is, in one transaction.
+    ///
+    /// After `Ok` the tables spell the state after the change, and a crash leaves exactly that.
+    ///
+    /// # Errors
+    ///
+    /// `StoreFailed` names the call that failed. The tables are as they were, if the connection is still open; a crash
+    /// leaves what it could leave before or, only where the commit failed, possibly the state after the change.
+    pub fn commit(&mut self, change: &Change, number: u64) -> Result<Stamp, Refusal>
+        requires { (before : State) × IsNext before change.now number }
+        ensures stamp { IfOk result (λ stamp. stamp.number ≡ number) }
+        ensures reason { IfErr result (λ reason. (call : FailedCall) × (reason ≡ StoreFailed call)) }
+        ensures ok { HasCleanDisk (state S.Store self.new.conn) → OnOk result ((before : State) → IsNext before change.now number →
+            Stores (state S.Store self.old.conn).now before → Stores (state S.Store self.new.conn).now (put before change.now)) }
+        ensures crash_ok { HasCleanDisk (state S.Store self.new.conn) → OnOk result ((trees : Trees) →
+            (state S.Store self.new.conn).may_leave trees → trees ≡ (state S.Store self.new.conn).now.trees) }
+        ensures err { HasCleanDisk (state S.Store self.new.conn) → IsTrue (state S.Store self.new.conn).is_open →
+            OnErr result ((state S.Store self.new.conn).now ≡ (state S.Store self.old.conn).now) }
+        ensures crash_err { HasCleanDisk (state S.Store self.new.conn) → IfErr result (λ reason. (before : State) → IsNext before change.now number →
+            Stores (state S.Store self.old.conn).now before → (trees : Trees) → (state S.Store self.new.conn).may_leave trees →
+            (state S.Store self.old.conn).may_leave trees
+            ⊎ ((reason ≡ StoreFailed Commit) × Stores (record { schema = (state S.Store self.old.conn).now.schema; trees = trees }) (put before change.now))) }
+    {
+        match run(&mut self.conn, change, number) {
+            Ok(()) => Ok(Stamp { number }),
+            Err(call) => Err(Refusal::StoreFailed(call)),
+        }
+    }
+}
