@@ -1,7 +1,9 @@
 //! The values of items.
-ghost use Rattle.std.specs.Prelude.{◌≡◌};
+ghost use Rattle.std.specs.Prelude.{◌≡◌, false, true, Option};
 ghost use Rattle.std.specs.Option.{ok_or};
 ghost use Rattle.prt_addr.specs.declared.refusal.Refusal.TheVariants.{UnknownWord};
+ghost use Rattle.prt_command.specs.Steps.{is_of_queries, is_of_rules};
+ghost use Rattle.prt_command.specs.declared.item.PrefixWord.{PrefixWord};
 ghost use Rattle.prt_command.specs.Values.{kind_before, kind_of, lookup, range, target, value, which_tables};
 
 use crate::item::kind_of;
@@ -67,6 +69,81 @@ fn read_lookup(word: &[u8]) -> Result<Action, Refusal>
     Ok(Action::Lookup(read_table(word)?))
 }
 
+/// Tells whether it is an item of rules.
+fn is_of_rules(slot: Slot) -> bool
+    ensures { result ≡ is_of_rules slot }
+{
+    matches!(
+        slot,
+        Slot::Inverted | Slot::From | Slot::To | Slot::Fwmark | Slot::Priority | Slot::Action
+    )
+}
+
+/// Reads a word as the value of an item of rules.
+fn rule_value(slot: Slot, word: &[u8]) -> Result<Item, Refusal>
+    requires { is_of_rules slot ≡ true }
+    ensures { (before : Option PrefixWord) → result ≡ value slot before word.now }
+{
+    match slot {
+        Slot::From => Ok(Item::From(read_net(word)?)),
+        Slot::To => Ok(Item::To(read_net(word)?)),
+        Slot::Fwmark => Ok(Item::Fwmark(read_mark(word)?)),
+        Slot::Priority => Ok(Item::Priority(read_number(word)?)),
+        Slot::Action => Ok(Item::Action(read_lookup(word)?)),
+        _ => Ok(Item::Inverted),
+    }
+}
+
+/// Tells whether it is an item of lines that list or flush routes, or ask for one.
+fn is_of_queries(slot: Slot) -> bool
+    ensures { result ≡ is_of_queries slot }
+{
+    matches!(
+        slot,
+        Slot::Range
+            | Slot::Tables
+            | Slot::OfKind
+            | Slot::Address
+            | Slot::Source
+            | Slot::Iif
+            | Slot::Mark
+    )
+}
+
+/// Reads a word as the value of an item of such lines, after the word that stands before its prefix.
+fn query_value(slot: Slot, before: Option<PrefixWord>, word: &[u8]) -> Result<Item, Refusal>
+    requires { is_of_queries slot ≡ true }
+    ensures { result ≡ value slot before word.now }
+{
+    match slot {
+        Slot::Range => Ok(Item::Range(read_range(before, word)?)),
+        Slot::Tables => Ok(Item::Tables(read_tables(word)?)),
+        Slot::OfKind => Ok(Item::OfKind(read_kind(word)?)),
+        Slot::Address => Ok(Item::Address(read_addr(word)?)),
+        Slot::Source => Ok(Item::Source(read_addr(word)?)),
+        Slot::Iif => Ok(Item::Iif(read_dev(word)?)),
+        _ => Ok(Item::Mark(read_number(word)?)),
+    }
+}
+
+/// Reads a word as the value of an item of routes, after the word that stands before its prefix.
+fn route_value(slot: Slot, before: Option<PrefixWord>, word: &[u8]) -> Result<Item, Refusal>
+    requires rules { is_of_rules slot ≡ false }
+    requires queries { is_of_queries slot ≡ false }
+    ensures { result ≡ value slot before word.now }
+{
+    match slot {
+        Slot::Via => Ok(Item::Via(read_addr(word)?)),
+        Slot::Dev => Ok(Item::Dev(read_dev(word)?)),
+        Slot::Table => Ok(Item::Table(read_table(word)?)),
+        Slot::Proto => Ok(Item::Proto(read_protocol(word)?)),
+        Slot::Scope => Ok(Item::Scope(read_scope(word)?)),
+        Slot::Src => Ok(Item::Src(read_addr(word)?)),
+        Slot::Metric => Ok(Item::Metric(read_number(word)?)),
+        _ => Ok(Item::Destination(read_target(before, word)?)),
+    }
+}
+
 /// Reads a word as the value of an item, after the word that stands before its prefix.
 ///
 /// # Errors
@@ -76,27 +153,11 @@ fn read_lookup(word: &[u8]) -> Result<Action, Refusal>
 pub(crate) fn value(slot: Slot, before: Option<PrefixWord>, word: &[u8]) -> Result<Item, Refusal>
     ensures { result ≡ value slot before word.now }
 {
-    match slot {
-        Slot::Destination => Ok(Item::Destination(read_target(before, word)?)),
-        Slot::Via => Ok(Item::Via(read_addr(word)?)),
-        Slot::Dev => Ok(Item::Dev(read_dev(word)?)),
-        Slot::Table => Ok(Item::Table(read_table(word)?)),
-        Slot::Proto => Ok(Item::Proto(read_protocol(word)?)),
-        Slot::Scope => Ok(Item::Scope(read_scope(word)?)),
-        Slot::Src => Ok(Item::Src(read_addr(word)?)),
-        Slot::Metric => Ok(Item::Metric(read_number(word)?)),
-        Slot::Range => Ok(Item::Range(read_range(before, word)?)),
-        Slot::Tables => Ok(Item::Tables(read_tables(word)?)),
-        Slot::OfKind => Ok(Item::OfKind(read_kind(word)?)),
-        Slot::Address => Ok(Item::Address(read_addr(word)?)),
-        Slot::Source => Ok(Item::Source(read_addr(word)?)),
-        Slot::Iif => Ok(Item::Iif(read_dev(word)?)),
-        Slot::Mark => Ok(Item::Mark(read_number(word)?)),
-        Slot::Inverted => Ok(Item::Inverted),
-        Slot::From => Ok(Item::From(read_net(word)?)),
-        Slot::To => Ok(Item::To(read_net(word)?)),
-        Slot::Fwmark => Ok(Item::Fwmark(read_mark(word)?)),
-        Slot::Priority => Ok(Item::Priority(read_number(word)?)),
-        Slot::Action => Ok(Item::Action(read_lookup(word)?)),
+    if is_of_rules(slot) {
+        return rule_value(slot, word);
     }
+    if is_of_queries(slot) {
+        return query_value(slot, before, word);
+    }
+    route_value(slot, before, word)
 }
