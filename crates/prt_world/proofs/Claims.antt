@@ -5,7 +5,7 @@ use Rattle.std.proofs.lemmas.List.{take_all}
 use Rattle.prt_addr.proofs.Each.{each_implies}
 use Rattle.prt_version.specs.Change.{fold}
 use Rattle.prt_version.specs.State.{opening_state}
-use Rattle.prt_world.specs.Durability.{IsAcknowledged, IsAnswered, IsDurable, IsRetained, state_after}
+use Rattle.prt_world.specs.Durability.{IsAcknowledged, IsAnswered, IsDurable, IsRetained}
 use Rattle.prt_world.specs.World.{Ack, Lookup, LookerState, World, offline, online, published_version, reopened}
 use Rattle.prt_world.proofs.History.{IsAcked, IsAnswer, IsServed}
 use Rattle.prt_world.proofs.Phases.{Holds, reopened_holds, shown_version}

@@ -1,6 +1,6 @@
 -- What was published, acknowledged and answered, and what lookers hold.
-use Rattle.std.proofs.Common.{◌≡◌, ℕ, ◌+◌, ◌-◌, ◌<◌, ◌≤◌, Bool, true, false, not, ◌&&◌, ◌||◌, List, [], ◌∷◌, ◌++◌, Option, Some, None, length, take, replicate, refl, sym, ap, ◌∙◌, arith}
-use Rattle.std.specs.Prelude.{filter, map, nat_le, nat_lt, slice_get}
+use Rattle.std.proofs.Common.{◌≡◌, ℕ, ◌-◌, ◌<◌, ◌≤◌, Bool, true, false, not, ◌&&◌, ◌||◌, List, [], ◌∷◌, ◌++◌, Option, Some, None, take, replicate, refl, sym, ap, ◌∙◌, arith}
+use Rattle.std.specs.Prelude.{map, nat_le, nat_lt, slice_get}
 use Rattle.std.specs.List.{list_any, AllByRecursion as Each}
 use Rattle.std.proofs.lemmas.Bool.Decides.{nat_tests}
 use Rattle.std.proofs.lemmas.List.{take-take}

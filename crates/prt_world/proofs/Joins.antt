@@ -1,5 +1,5 @@
 -- Lookers that join a registry one after another.
-use Rattle.std.proofs.Common.{◌≡◌, ℕ, zero, suc, ◌+◌, ◌-◌, ◌<◌, ◌≤◌, Bool, true, false, not, List, [], ◌∷◌, ◌++◌, Option, Some, None, length, map, get_or, set, take, replicate, refl, sym, ap, ◌∙◌, subst, arith, inl, inr, cond}
+use Rattle.std.proofs.Common.{◌≡◌, ℕ, zero, suc, ◌+◌, ◌-◌, ◌<◌, true, List, [], ◌∷◌, ◌++◌, Some, None, length, map, get_or, set, replicate, refl, sym, ap, ◌∙◌, subst, arith, inl, inr, cond}
 use Rattle.std.specs.Prelude.{position, nat_lt}
 use Rattle.std.specs.List.{position_or_len}
 use Rattle.std.proofs.lemmas.Bool.{cases_eq}
@@ -8,7 +8,7 @@ use Rattle.std.proofs.lemmas.List.{append-nil, get_or_append_left, get_or_push, 
 use Rattle.prt_grace.specs.Registry.{announcing, is_free}
 use Rattle.prt_grace.specs.declared.limits.TheConstants.{PLACES}
 use Rattle.prt_grace.specs.declared.place.PlaceState.{PlaceState}
-use Rattle.prt_grace.specs.declared.place.PlaceState.TheVariants.{Free, Offline, Online}
+use Rattle.prt_grace.specs.declared.place.PlaceState.TheVariants.{Free, Offline}
 use Rattle.prt_grace.specs.Registry.{RegistryState, with_place}
 use Rattle.prt_grace.specs.declared.place.Place.{Place}
 use Rattle.prt_version.specs.State.{State}

@@ -3,6 +3,7 @@ pub mod Folds
 pub mod History
 pub mod Phases
 pub mod Claims
+pub mod Told
 pub mod Seats
 pub mod Joins
 pub mod SideBySide

@@ -1,35 +1,30 @@
 -- Publications, lookers and reclaims of a replay, and whole replays.
-use Rattle.std.proofs.Common.{◌≡◌, ℕ, zero, suc, ◌+◌, ◌-◌, ◌<◌, ◌≤◌, Bool, true, false, not, List, [], ◌∷◌, ◌++◌, Option, Some, None, length, map, get_or, set, replicate, refl, sym, ap, ◌∙◌, subst, arith, cond}
-use Rattle.std.specs.Prelude.{◌==◌, filter, nat_lt, if◌then◌else◌}
-use Rattle.std.specs.List.{AllZip, AllByRecursion as Each}
+use Rattle.std.proofs.Common.{◌≡◌, ℕ, zero, suc, ◌+◌, ◌<◌, ◌≤◌, true, false, List, [], ◌∷◌, ◌++◌, Option, Some, None, map, set, replicate, refl, sym, ap, ◌∙◌, subst, arith}
+use Rattle.std.specs.Prelude.{◌==◌, nat_lt, if◌then◌else◌}
+use Rattle.std.specs.List.{AllZip}
 use Rattle.std.proofs.lemmas.Bool.Decides.{nat_tests}
-use Rattle.std.proofs.lemmas.List.{append_assoc, length-append, map-set}
-use Rattle.prt_addr.proofs.Each.{each_append, each_filtered, each_implies, filtered_fit}
+use Rattle.std.proofs.lemmas.List.{append_assoc, map-set}
+use Rattle.prt_addr.proofs.Each.{each_append, each_implies}
 use Rattle.prt_command.specs.declared.request.Command.{Command}
-use Rattle.prt_grace.specs.GracePeriod.{after_reclaim}
-use Rattle.prt_grace.specs.Registry.{RegistryState, announced, announcing, reclaimed}
-use Rattle.prt_grace.specs.declared.limits.TheConstants.{MOST_RETIRED, PLACES}
-use Rattle.prt_grace.specs.declared.place.PlaceState.{PlaceState}
+use Rattle.prt_grace.specs.Registry.{announced, announcing}
+use Rattle.prt_grace.specs.declared.limits.TheConstants.{PLACES}
 use Rattle.prt_grace.specs.declared.place.PlaceState.TheVariants as places
 use Rattle.prt_rule.specs.declared.packet.Packet.{Packet}
 use Rattle.prt_version.specs.Change.{apply}
-use Rattle.prt_version.specs.State.{State, opening_state}
+use Rattle.prt_version.specs.State.{State}
 use Rattle.prt_world.specs.Durability.{state_after}
 use Rattle.prt_world.specs.Machine as machine
 use Rattle.prt_world.specs.Machine.{MachineState, MachineStep, SeatState, empty_seat, machine_outcomes, machine_step, opened, seat_of, seats_below}
 use Rattle.prt_world.specs.World as world
 use Rattle.prt_world.specs.World.{LookerState, Step, World, announced_by, kept, looker_state, offline, online, outcomes_from, published_version, start, step, version}
-use Rattle.prt_world.specs.declared.event.Event.{Event}
-use Rattle.prt_world.specs.declared.event.Event.TheVariants as events
-use Rattle.prt_world.specs.declared.outcome.Outcome.{Outcome}
 use Rattle.prt_world.specs.declared.outcome.Outcome.TheVariants as outcomes
 use Rattle.prt_world.specs.declared.phase.Phase.{Phase}
-use Rattle.prt_world.specs.declared.phase.Phase.TheVariants.{Ready, Prepared, Committed, Published, Noted, Closed, Stopped}
-use Rattle.prt_world.proofs.History.{IsServed, stays}
+use Rattle.prt_world.specs.declared.phase.Phase.TheVariants.{Committed, Published, Noted, Closed, Stopped}
+use Rattle.prt_world.proofs.History.{IsServed}
 use Rattle.prt_world.proofs.KeptVersions.{kept_count}
-use Rattle.prt_world.proofs.Phases.{Holds, Phased, looker_served, shown_version, start_holds, step_holds, version_kept}
-use Rattle.prt_world.proofs.SideBySide.{all_pass, filter_append, map_set_same, zip_get, zip_set}
-use Rattle.prt_world.proofs.Simulation.{Follows, IsSeatOf, IsUnderWay, Stands, call_follows, each_unnoted, fail_follows, shown_count, stays_put, stop_follows, submit_follows, tops, tops_high, unnoted}
+use Rattle.prt_world.proofs.Phases.{Holds, Phased, shown_version, version_kept}
+use Rattle.prt_world.proofs.SideBySide.{map_set_same, zip_get, zip_set}
+use Rattle.prt_world.proofs.Simulation.{Follows, IsSeatOf, IsUnderWay, Stands, shown_count, stays_put, unnoted}
 
 -- ---- opened again
 

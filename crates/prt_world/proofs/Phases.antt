@@ -1,9 +1,8 @@
 -- What every event keeps.
-use Rattle.std.proofs.Common.{◌≡◌, ℕ, ◌+◌, ◌-◌, ◌<◌, ◌≤◌, Bool, true, false, List, [], ◌∷◌, ◌++◌, Option, Some, None, length, take, refl, sym, ap, ◌∙◌, subst, arith, cond}
+use Rattle.std.proofs.Common.{◌≡◌, ℕ, ◌+◌, ◌-◌, ◌≤◌, Bool, true, false, List, [], ◌∷◌, ◌++◌, Option, Some, None, length, take, refl, sym, ap, ◌∙◌, subst, arith, cond}
 use Rattle.std.specs.Prelude.{slice_get, unwrap_or}
 use Rattle.std.proofs.lemmas.List.{length-append, length-take-le, take-append-le}
 use Rattle.prt_addr.specs.declared.refusal.Refusal.{Refusal}
-use Rattle.prt_addr.specs.declared.refusal.StoreCall.{StoreCall}
 use Rattle.prt_addr.specs.declared.refusal.StoreCall.TheVariants.{Begin, Write, Count, Commit}
 use Rattle.prt_addr.proofs.Each.{each_append}
 use Rattle.prt_command.specs.declared.request.Command.{Command}
@@ -17,11 +16,11 @@ use Rattle.prt_world.specs.World.{Ack, Lookup, LookerState, World, announced_by,
 use Rattle.prt_world.specs.declared.event.Event.{Event}
 use Rattle.prt_world.specs.declared.event.Event.TheVariants as events
 use Rattle.prt_world.specs.declared.event.Fate.{Fate}
-use Rattle.prt_world.specs.declared.event.Fate.TheVariants.{Kept, Lost}
+use Rattle.prt_world.specs.declared.event.Fate.TheVariants.{Kept}
 use Rattle.prt_world.specs.declared.phase.Phase.{Phase}
 use Rattle.prt_world.specs.declared.phase.Phase.TheVariants.{Ready, Prepared, Committed, Published, Noted, Closed, Stopped}
 use Rattle.prt_world.proofs.Folds.{apply_count, state_after_more, written_twice}
-use Rattle.prt_world.proofs.History.{Agree, IsAcked, IsAnswer, IsHeld, IsHistory, IsServed, history_on, history_published, history_reclaimed, history_reopened, same_state}
+use Rattle.prt_world.proofs.History.{Agree, IsAcked, IsAnswer, IsHistory, IsServed, history_on, history_published, history_reclaimed, history_reopened, same_state}
 use Rattle.prt_grace.specs.declared.limits.TheConstants.{PLACES}
 use Rattle.prt_world.proofs.KeptVersions.{each_get, each_replicate, each_set, kept_alone, kept_count, slice_get-push}
 

@@ -1,38 +1,35 @@
 -- What a replay keeps stands for the world of its events.
-use Rattle.std.proofs.Common.{◌≡◌, ℕ, zero, suc, ◌+◌, ◌-◌, ◌<◌, ◌≤◌, Bool, true, false, not, ◌&&◌, List, [], ◌∷◌, ◌++◌, Option, Some, None, Result, Ok, Err, length, map, take, get_or, set, replicate, refl, sym, ap, ◌∙◌, subst, arith, cond}
-use Rattle.std.specs.Prelude.{◌==◌, filter, nat_lt, slice_index_or, slice_set, unwrap_or}
+use Rattle.std.proofs.Common.{◌≡◌, ℕ, ◌+◌, ◌<◌, ◌≤◌, Bool, true, false, List, [], ◌∷◌, ◌++◌, Some, None, Result, Ok, Err, length, map, take, refl, sym, ap, ◌∙◌, subst, arith}
+use Rattle.std.specs.Prelude.{◌==◌, filter, nat_lt}
 use Rattle.std.specs.List.{AllZip, AllByRecursion as Each}
 use Rattle.std.specs.Result.{result_err}
 use Rattle.std.proofs.lemmas.Bool.Decides.{nat_tests}
-use Rattle.std.proofs.lemmas.List.{append-nil, append_assoc, length-append, map-set, take-append-le}
+use Rattle.std.proofs.lemmas.List.{append-nil, take-append-le}
 use Rattle.prt_addr.specs.declared.refusal.Refusal.{Refusal}
 use Rattle.prt_addr.specs.declared.refusal.StoreCall.TheVariants.{Begin, Write, Count, Commit}
-use Rattle.prt_addr.proofs.Each.{each_append, each_filtered, each_implies}
+use Rattle.prt_addr.proofs.Each.{each_implies}
 use Rattle.prt_command.specs.declared.request.Command.{Command}
-use Rattle.prt_grace.specs.GracePeriod.{after_reclaim, is_retired}
-use Rattle.prt_grace.specs.Registry.{announced, announcing, reclaimed, with_noted}
-use Rattle.prt_grace.specs.declared.limits.TheConstants.{MOST_RETIRED, PLACES}
-use Rattle.prt_rule.specs.declared.packet.Packet.{Packet}
+use Rattle.prt_grace.specs.GracePeriod.{is_retired}
+use Rattle.prt_grace.specs.Registry.{announced}
+use Rattle.prt_grace.specs.declared.limits.TheConstants.{MOST_RETIRED}
 use Rattle.prt_version.specs.Change.{apply, check, put, put_if, refusal}
-use Rattle.prt_version.specs.State.{State, opening_state}
+use Rattle.prt_version.specs.State.{State}
 use Rattle.prt_version.specs.declared.change.Change.{Change}
 use Rattle.prt_world.specs.Durability.{state_after}
 use Rattle.prt_world.specs.Machine as machine
 use Rattle.prt_world.specs.Machine.{LookersState, MachineState, MachineStep, SeatState, machine_outcomes, machine_step, opened}
 use Rattle.prt_world.specs.World as world
 use Rattle.prt_world.specs.World.{LookerState, Step, World, announced_by, kept, offline, online, outcomes_from, published_version, start, step, version}
-use Rattle.prt_world.specs.declared.event.Event.{Event}
-use Rattle.prt_world.specs.declared.event.Event.TheVariants as events
 use Rattle.prt_world.specs.declared.event.Fate.{Fate}
-use Rattle.prt_world.specs.declared.event.Fate.TheVariants.{Kept, Lost}
+use Rattle.prt_world.specs.declared.event.Fate.TheVariants.{Kept}
 use Rattle.prt_world.specs.declared.outcome.Outcome.TheVariants as outcomes
 use Rattle.prt_world.specs.declared.phase.Phase.{Phase}
 use Rattle.prt_world.specs.declared.phase.Phase.TheVariants.{Ready, Prepared, Committed, Published, Noted, Closed, Stopped}
 use Rattle.prt_world.proofs.Folds.{apply_count}
-use Rattle.prt_world.proofs.History.{IsServed, same_state, stays}
+use Rattle.prt_world.proofs.History.{IsServed, same_state}
 use Rattle.prt_world.proofs.KeptVersions.{kept_count}
-use Rattle.prt_world.proofs.SideBySide.{all_pass, filter_append, map_set_same, none_pass, zip_get, zip_implies, zip_set}
-use Rattle.prt_world.proofs.Phases.{Holds, IsOpen, Phased, settled_version, shown_version, start_holds, step_holds}
+use Rattle.prt_world.proofs.SideBySide.{all_pass, filter_append, none_pass}
+use Rattle.prt_world.proofs.Phases.{Holds, Phased, settled_version, shown_version}
 
 -- ---- the relation
 

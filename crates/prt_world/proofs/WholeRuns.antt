@@ -1,6 +1,6 @@
 -- Whole replays.
-use Rattle.std.proofs.Common.{◌≡◌, ℕ, ◌+◌, ◌-◌, ◌<◌, ◌≤◌, Bool, true, false, not, List, [], ◌∷◌, ◌++◌, Option, Some, None, length, map, get_or, drop, refl, sym, ap, ◌∙◌, subst, arith, cond}
-use Rattle.std.specs.Prelude.{◌==◌, filter}
+use Rattle.std.proofs.Common.{◌≡◌, ℕ, ◌+◌, ◌-◌, ◌<◌, ◌≤◌, Bool, true, false, List, [], ◌∷◌, ◌++◌, length, map, get_or, drop, refl, sym, ap, ◌∙◌, subst, arith, cond}
+use Rattle.std.specs.Prelude.{filter}
 use Rattle.std.specs.List.{AllByRecursion as Each}
 use Rattle.std.proofs.lemmas.List.{append-nil, append_assoc, drop_all, drop_more, length-append}
 use Rattle.prt_addr.proofs.Each.{each_filtered, each_implies, filtered_fit}
@@ -18,11 +18,11 @@ use Rattle.prt_world.specs.declared.outcome.Outcome.{Outcome}
 use Rattle.prt_world.specs.declared.outcome.Outcome.TheVariants as outcomes
 use Rattle.prt_world.specs.declared.phase.Phase.{Phase}
 use Rattle.prt_world.specs.declared.phase.Phase.TheVariants.{Ready, Prepared, Committed, Published, Noted, Closed, Stopped}
-use Rattle.prt_world.proofs.History.{held_back, not_retired, stays}
-use Rattle.prt_world.proofs.LookersFollow.{acknowledge_follows, all_offline, announce_follows, fail_publication_follows, fetch_follows, look_follows, note_follows, offline_follows, online_follows, publish_follows, reopen_follows, reopened_follows, seat_here, seats_offline, tells}
+use Rattle.prt_world.proofs.History.{not_retired, stays}
+use Rattle.prt_world.proofs.LookersFollow.{acknowledge_follows, all_offline, announce_follows, fail_publication_follows, fetch_follows, look_follows, note_follows, offline_follows, online_follows, publish_follows, reopen_follows, seat_here, seats_offline, tells}
 use Rattle.prt_world.proofs.Phases.{Holds, looker_served, reopened_holds, start_holds, step_holds}
 use Rattle.prt_world.proofs.SideBySide.{all_pass, filter_append}
-use Rattle.prt_world.proofs.Simulation.{Follows, IsSeatOf, IsUnderWay, Stands, call_follows, fail_follows, stays_put, stop_follows, submit_follows, tops, tops_high}
+use Rattle.prt_world.proofs.Simulation.{Follows, IsUnderWay, Stands, call_follows, fail_follows, stays_put, stop_follows, submit_follows, tops, tops_high}
 
 -- ---- reclaiming
 
@@ -44,9 +44,9 @@ reclaim_follows m w h s =
     let left = filter q retired in
     let same : (reclaimed m.lookers.registry).retired ≡ left = ap (λ n. after_reclaim (λ (state : State). state.count) n (map announced m.lookers.registry.places) retired) s.noted ∙ ap (λ ns. after_reclaim (λ (state : State). state.count) w.noted ns retired) s.told in
     let kept : world.kept_versions w ≡ left ++ tops m w =
-      ap (filter q) s.versions
-      ∙ filter_append q retired (tops m w)
-      ∙ ap (λ xs. left ++ xs) (all_pass q (tops m w) (each_implies (λ state. w.noted ≤ state.count) (λ state. q state ≡ true) (λ state high. not_retired w.noted state.count told high) (tops m w) (tops_high m w h s))) in
+    ap (filter q) s.versions
+    ∙ filter_append q retired (tops m w)
+    ∙ ap (λ xs. left ++ xs) (all_pass q (tops m w) (each_implies (λ state. w.noted ≤ state.count) (λ state. q state ≡ true) (λ state high. not_retired w.noted state.count told high) (tops m w) (tops_high m w h s))) in
     let before : length w.versions ≡ length retired + length (tops m w) = ap length s.versions ∙ length-append retired (tops m w) in
     let after : length (world.kept_versions w) ≡ length left + length (tops m w) = ap length kept ∙ length-append left (tops m w) in
     let number : length retired - length left ≡ length w.versions - length (world.kept_versions w) = omega arith in

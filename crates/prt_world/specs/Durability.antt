@@ -1,11 +1,13 @@
 -- What holds of the world after every list of events.
-use Rattle.std.specs.Prelude.{◌≡◌, ℕ, ◌+◌, ◌-◌, ◌≤◌, ◌<◌, ◌==◌, true, List, [], ◌∷◌, length, take, Option, Some, None, slice_get}
-use Rattle.std.specs.List.{list_any, AllByRecursion as Each}
+use Rattle.std.specs.Prelude.{◌≡◌, ℕ, ◌+◌, ◌-◌, ◌≤◌, List, length, take, Some, None, slice_get, ◌==◌, Bool, [], ◌∷◌}
 use Rattle.prt_command.specs.declared.request.Command.{Command}
 use Rattle.prt_version.specs.Change.{fold}
 use Rattle.prt_version.specs.Select.{select}
 use Rattle.prt_version.specs.State.{State, opening_state}
 use Rattle.prt_world.specs.World.{Ack, Lookup, LookerState, World, durable, kept, offline, online, published_version}
+use Rattle.std.specs.List.{list_any}
+use Rattle.prt_world.specs.declared.outcome.Outcome.{Outcome}
+use Rattle.prt_world.specs.declared.outcome.Outcome.TheVariants.{Reopened}
 
 -- the state of a new database after the first n of these commands
 abbrev pub state_after : List Command → ℕ → State
@@ -26,6 +28,20 @@ pub record IsAcknowledged (world : World) (ack : Ack) : Type 0 where
   pub counted : 1 ≤ ack.number
   pub is_durable : ack.number ≤ durable world
   pub accepted : slice_get world.accepted (ack.number - 1) ≡ Some ack.command
+
+-- a command of this number was acknowledged
+abbrev pub is_acknowledged : List Ack → ℕ → Bool
+is_acknowledged acks number = list_any (λ ack. ack.number == number) acks
+
+-- the number of commands when the database was opened last, after one more outcome
+abbrev pub opened_count : ℕ → Outcome → ℕ
+opened_count count (Reopened number) = number
+opened_count count outcome = count
+
+-- and after these outcomes
+abbrev pub last_opening : ℕ → List Outcome → ℕ
+last_opening count [] = count
+last_opening count (outcome ∷ outcomes) = last_opening (opened_count count outcome) outcomes
 
 -- The answer is that of a beginning of the accepted commands which is durable.
 pub record IsAnswered (world : World) (lookup : Lookup) : Type 0 where

@@ -8,10 +8,10 @@ mod lookers;
 mod machine;
 mod outcome;
 mod phase;
-mod replay;
-pub mod replays;
 mod read;
+mod replay;
 mod replay_file;
+pub mod replays;
 #[cfg(test)]
 mod tests;
 mod text;

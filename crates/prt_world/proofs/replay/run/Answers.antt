@@ -1,4 +1,4 @@
-use Rattle.std.proofs.Common.{[], ◌∷◌, ◌++◌, ◌+◌, ap, drop, ◌∙◌}
+use Rattle.std.proofs.Common.{◌++◌, ◌+◌, ap, drop, ◌∙◌}
 use Rattle.prt_world.specs.Machine.{machine_outcomes}
 use Rattle.prt_world.proofs.WholeRuns.{outcomes_done, outcomes_more}
 use Rattle.prt_world.proofs.replay.run.Goals as goal

@@ -1,6 +1,5 @@
-use Rattle.std.proofs.Common.{Some, None, ap, ◌∙◌}
-use Rattle.prt_world.specs.Machine.{sit}
-use Rattle.prt_world.proofs.Seats.{read, seated_after, sits}
+use Rattle.std.proofs.Common.{Some}
+use Rattle.prt_world.proofs.Seats.{read, seated_after}
 use Rattle.prt_world.proofs.lookers.Lookers.announce.Goals as goal
 
 pub invariant_of-self-2 : goal.invariant_of-self-2

@@ -1,5 +1,5 @@
 use Rattle.std.specs.Arc.{arc_value}
-use Rattle.std.proofs.Common.{Some, None, ap, ◌∙◌}
+use Rattle.std.proofs.Common.{Some, ap, ◌∙◌}
 use Rattle.prt_world.specs.Machine.{hold}
 use Rattle.prt_world.proofs.Seats.{held_after, holds, read}
 use Rattle.prt_world.proofs.lookers.Lookers.hold.Goals as goal

@@ -1,5 +1,4 @@
-use Rattle.std.proofs.Common.{◌≡◌, ◌∙◌, refl, arith, [], ap, sym}
-use Rattle.std.specs.Arc.{arc_value}
+use Rattle.std.proofs.Common.{◌≡◌, arith}
 use Rattle.prt_grace.specs.declared.limits.TheConstants.{PLACES}
 use Rattle.prt_world.specs.Machine.{seats_below}
 use Rattle.prt_world.proofs.Joins.{all_seated, all_sit, has_place, joins, sits_down}
