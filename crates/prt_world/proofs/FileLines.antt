@@ -1,6 +1,6 @@
 -- The first line of a file, and the lines after it.
-use Rattle.std.proofs.Common.{◌≡◌, ◌≤◌, ◌<◌, ◌+◌, ◌-◌, ℕ, zero, suc, Bool, true, false, List, [], ◌∷◌, length, take, drop, get_or, map, Some, None, refl, sym, ap, ◌∙◌, arith, ◌⊎◌, inl, inr}
-use Rattle.std.proofs.lemmas.Bool.{ltb-false}
+use Rattle.std.proofs.Common.{◌≡◌, ◌≤◌, ◌<◌, ◌+◌, ◌-◌, ℕ, zero, suc, Bool, true, false, List, [], ◌∷◌, length, take, drop, get_or, map, Some, None, refl, sym, ap, ◌∙◌, arith, inl, inr}
+use Rattle.std.proofs.lemmas.Bool.{cases_Bool, ltb-false}
 use Rattle.std.proofs.lemmas.List.{length-drop, take_all}
 use Rattle.std.proofs.lemmas.List.Quantifiers.{position-Some}
 use Rattle.std.specs.List.{position, position_or_len}
@@ -36,21 +36,13 @@ line_at bs at h =
       let l = ap length rest ∙ length-drop (at + 1) bs in let w : at < length bs = found.0 in omega (arith, l, w),
     )
 
--- the place of the newline is within the bytes
-pub line_within : (bs : List ℕ) (at : ℕ) → position is_newline bs ≡ Some at → at < length bs
-line_within bs at h = (position-Some is_newline bs at 0 h).0
-
-sides : (b : Bool) → (b ≡ true) ⊎ (b ≡ false)
-sides true = inl refl
-sides false = inr refl
-
 no_newline : (b : ℕ) (bs : List ℕ) → length (b ∷ bs) ≤ position_or_len is_newline (b ∷ bs) → contents (b ∷ bs) ≡ (b ∷ bs) ∷ []
 unfolding lines_of
-no_newline b [] h = elim (sides (is_newline b)) [
+no_newline b [] h = elim (cases_Bool (is_newline b)) [
   | inl e ↦ let l : 1 ≤ 0 = simp e at h in absurd (omega (arith, l))
   | inr e ↦ simp e refl
 ]
-no_newline b (c ∷ cs) h = elim (sides (is_newline b)) [
+no_newline b (c ∷ cs) h = elim (cases_Bool (is_newline b)) [
   | inl e ↦ let l : suc (suc (length cs)) ≤ 0 = simp e at h in absurd (omega (arith, l))
   | inr e ↦
       let l : suc (suc (length cs)) ≤ 1 + position_or_len is_newline (c ∷ cs) = simp e at h in
