@@ -1,7 +1,7 @@
 -- Routes one table after another: what one table tells of all, and what an edit makes of each.
 use Rattle.std.proofs.Common.{◌≡◌, ℕ, zero, suc, ◌+◌, ◌<◌, ◌≤◌, Bool, true, false, not, ◌&&◌, ◌||◌, eqb, ltb, List, [], ◌∷◌, ◌++◌, length, get_or, map, take, Option, None, refl, sym, ap, subst, ◌∙◌, append_assoc, arith, cond, ⊎_elim}
 use Rattle.std.specs.Cmp.{IsStrictWeakOrder}
-use Rattle.std.specs.Prelude.{All, IsPermutation, bytes_eq, unwrap_or}
+use Rattle.std.specs.Prelude.{All, bytes_eq, unwrap_or}
 use Rattle.std.specs.Ordering.{nat_cmp, ordering_index}
 use Rattle.std.specs.List.{filter, insert, list_any, position, AllByRecursion as Each}
 use Rattle.std.specs.List.Sorted.{IsNonDecreasingBy, IsPartitionPoint}
@@ -11,7 +11,6 @@ use Rattle.std.proofs.lemmas.Bool.Decides.{nat_tests}
 use Rattle.std.proofs.lemmas.Cmp.{ranked}
 use Rattle.std.proofs.lemmas.List.{append-nil, take_more, length-append}
 use Rattle.std.proofs.lemmas.List.Elements.{All-from_recursion, filter-append, recursion_from_All}
-use Rattle.std.proofs.lemmas.List.Sorted.{All-permutation, length_permutation}
 use Rattle.prt_addr.specs.Given.{agrees, agrees_there}
 use Rattle.prt_addr.specs.Order.{first_by, insert_by}
 use Rattle.prt_addr.specs.Rising.{IsRising}
@@ -502,20 +501,6 @@ nothing_selected selector table inside rows b is tested fails own =
     let none : filter (is_selected selector) table.rows ≡ [] =
     filter_none (is_selected selector) table.rows (each_implies (λ row. row.table ≡ table.number) (λ row. is_selected selector row ≡ false) (λ row h. unselected_row selector row (subst (λ n. agrees (λ a b. eqb a b) selector.table n ≡ false) (sym h) other)) table.rows own) in
     sym (append-nil rows) ∙ ap (λ rs. rows ++ rs) (sym none)
-
-one_is : (row : Route) → All (λ other. other ≡ row) (row ∷ [])
-one_is row = All-from_recursion (λ other. other ≡ row) (row ∷ []) (refl, tt)
-
-only_one : (row : Route) (rows : List Route) → length rows ≡ 1 → All (λ other. other ≡ row) rows → rows ≡ row ∷ []
-only_one row [] one all = absurd (omega arith)
-only_one row (first ∷ []) one all = ap (λ r. r ∷ []) (all zero row (omega arith))
-only_one row (first ∷ (second ∷ rows)) one all = absurd (omega arith)
-
--- a list of one route, in whatever order
-pub one_route : (row : Route) (given rows : List Route) → given ≡ row ∷ [] → IsPermutation given rows → rows ≡ row ∷ []
-one_route row given rows is moved =
-    only_one row rows (length_permutation given rows moved ∙ ap length is)
-    (All-permutation (λ other. other ≡ row) given rows moved (subst (All (λ other. other ≡ row)) (sym is) (one_is row)))
 
 pub put_table : (route : Route) (table : TableRows) (tables after : List TableRows) (place : Option ℕ) (at : ℕ) → table ≡ table_of route → after ≡ insert tables at table → place ≡ position (λ other. ltb route.table other.number) tables → at ≡ unwrap_or place (length tables) → after ≡ insert_by is_lower (table_of route) tables
 put_table route table tables after place at is inserts found at_is = inserts ∙ ap (insert tables at) is ∙ inserted_at is_lower (table_of route) tables place at found at_is

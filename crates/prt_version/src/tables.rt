@@ -180,13 +180,23 @@ fn tables_after(
     Ok(after)
 }
 
+/// A table of these rows.
+fn table_of_rows(alloc: Global, number: u32, rows: &[Route]) -> Result<SharedTable, Refusal>
+    requires own { Each (λ row. row.table ≡ number) rows.now }
+    requires rising { IsRising is_listed_before rows.now }
+    ensures value { IfOk result (λ table. table ≡ record { number = number; rows = rows.now }) }
+    ensures reason { IfErr result (λ reason. reason ≡ NoMemory) }
+{
+    let table = Table::build(alloc, rows)?;
+    SharedTable::with_rows(alloc, number, table)
+}
+
 /// A table of one route.
 fn table_of(alloc: Global, route: &Route) -> Result<SharedTable, Refusal>
     ensures value { IfOk result (λ table. table ≡ table_of route.now) }
     ensures reason { IfErr result (λ reason. reason ≡ NoMemory) }
 {
-    let table = Table::build(alloc, slice::from_ref(route))?;
-    SharedTable::with_rows(alloc, route.table, table)
+    table_of_rows(alloc, route.table, slice::from_ref(route))
 }
 
 /// The place of the first table whose number is higher.
@@ -243,17 +253,6 @@ fn split_table(rows: &[Route], number: u32) -> (&[Route], &[Route])
     ensures higher { Each (λ row. number < row.table) result.1.now }
 {
     rows.split_at(rows.partition_point(|row| row.table <= number))
-}
-
-/// A table of these rows.
-fn table_of_rows(alloc: Global, number: u32, rows: &[Route]) -> Result<SharedTable, Refusal>
-    requires own { Each (λ row. row.table ≡ number) rows.now }
-    requires rising { IsRising is_listed_before rows.now }
-    ensures value { IfOk result (λ table. table ≡ record { number = number; rows = rows.now }) }
-    ensures reason { IfErr result (λ reason. reason ≡ NoMemory) }
-{
-    let table = Table::build(alloc, rows)?;
-    SharedTable::with_rows(alloc, number, table)
 }
 
 /// The tables of rows in the order of listings.

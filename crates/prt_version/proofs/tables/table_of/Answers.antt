@@ -1,15 +1,12 @@
-use Rattle.std.proofs.Common.{◌≡◌, subst, sym}
-use Rattle.std.specs.Prelude.{IfOk}
-use Rattle.std.specs.List.{IsDistinct}
-use Rattle.prt_trie.specs.Table.{has_same_key}
-use Rattle.prt_version.specs.Tables.{TableRows}
-use Rattle.prt_version.proofs.ByTable.{one_route}
+use Rattle.std.proofs.Common.{◌≡◌, refl, subst, sym}
+use Rattle.std.specs.List.{AllByRecursion as Each}
+use Rattle.prt_addr.specs.Order.{IsRising}
+use Rattle.prt_route.specs.Route.{is_listed_before}
+use Rattle.prt_route.specs.declared.route.Route.{Route}
 use Rattle.prt_version.proofs.tables.table_of.Goals as goal
 
-pub build-requires-clause-distinct : goal.build-requires-clause-distinct
-unfolding IsDistinct
-build-requires-clause-distinct c = subst (IsDistinct has_same_key) (sym c.from_ref.ensures.value) (tt, tt)
+pub table_of_rows-requires-clause-own : goal.table_of_rows-requires-clause-own
+table_of_rows-requires-clause-own c = subst (Each (λ (row : Route). row.table ≡ c.args.route.now.table)) (sym c.from_ref.ensures.value) (refl, tt)
 
-pub returns-clause-value : goal.returns-clause-value
-returns-clause-value c =
-    subst (λ rows. IfOk c.with_rows.result (λ (table : TableRows). table ≡ record { number = c.args.route.now.table; rows = rows })) (one_route c.args.route.now _ _ c.from_ref.ensures.value c.in_ok-table.ensures.same) c.with_rows.ensures.value
+pub table_of_rows-requires-clause-rising : goal.table_of_rows-requires-clause-rising
+table_of_rows-requires-clause-rising c = subst (IsRising is_listed_before) (sym c.from_ref.ensures.value) (tt, tt)
