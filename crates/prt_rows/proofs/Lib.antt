@@ -25,3 +25,4 @@ pub mod Selecting
 pub mod Creating
 pub mod Formats
 pub mod Opening
+pub mod Loading

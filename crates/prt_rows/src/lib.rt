@@ -15,7 +15,7 @@ mod tests;
 mod value;
 
 pub use format::{is_format_1, is_meta_table, is_route_table, is_rule_table};
-pub use laws::rows_read_back;
+pub use laws::{rows_read_back, rows_selected};
 pub use meta_row::{count_of_rows, meta_values};
 pub use route_row::{route_of_row, route_values};
 pub use rows::{routes_of_rows, rules_of_rows};
