@@ -6,7 +6,7 @@ use Rattle.std.specs.List.{AllByRecursion}
 use Rattle.sqlite.specs.Effect.{Database, IsDatabase}
 use Rattle.sqlite.specs.Table.{Table}
 use Rattle.sqlite.specs.Term.{Term}
-use Rattle.sqlite.specs.Tree.{Trees}
+use Rattle.sqlite.specs.Tree.{Trees, rowid}
 use Rattle.sqlite.specs.declared.types.Value.{Value}
 use Rattle.sqlite.specs.declared.types.Value.TheVariants.{Null, Int, Real, Text, Blob}
 use Rattle.sqlite_rules.proofs.ProbeLemmas.{map_same}
@@ -52,26 +52,26 @@ is_there (v ∷ row) (suc n) there = let rest = is_there row n there in omega (a
 
 -- ---- a row is its values
 
-abbrev cells : Row → ℕ → ℕ → Row
-cells row at zero = []
-cells row at (suc n) = column row at ∷ cells row (suc at) n
+abbrev cells : ℕ → ℕ → Row → Row
+cells at zero row = []
+cells at (suc n) row = column row at ∷ cells (suc at) n row
 
-later_cells : (v : Value) (row : Row) (at n : ℕ) → cells (v ∷ row) (suc at) n ≡ cells row at n
+later_cells : (v : Value) (row : Row) (at n : ℕ) → cells (suc at) n (v ∷ row) ≡ cells at n row
 later_cells v row at zero = refl
 later_cells v row at (suc n) = ap (λ rest. column row at ∷ rest) (later_cells v row (suc at) n)
 
-all_cells : (row : Row) (n : ℕ) → length row ≡ n → row ≡ cells row 0 n
+all_cells : (row : Row) (n : ℕ) → length row ≡ n → row ≡ cells 0 n row
 all_cells [] zero whole = refl
 all_cells [] (suc n) whole = absurd (omega arith)
 all_cells (v ∷ row) zero whole = absurd (omega arith)
-all_cells (v ∷ row) (suc n) whole = let rest : length row ≡ n = omega arith in ap (λ rest. v ∷ rest) (all_cells row n rest ∙ sym (later_cells v row 0 n))
+all_cells (v ∷ row) (suc n) whole = let rest : length row ≡ n = omega arith in ap (λ rest. v ∷ rest) (all_cells row n rest ∙ sym (later_cells v row zero n))
 
 length_after : (row : Row) → 0 < length row → length row ≡ length (drop 1 row) + 1
 length_after [] some = absurd (omega arith)
 length_after (v ∷ row) some = omega arith
 
 -- no value stands after the last column, which has one
-whole_row : (key : Option ℕ) (columns : List Column) (row : Row) → are_typed key 0 columns (drop 1 row) ≡ true → is_null (column row (length columns)) ≡ false → row ≡ cells row 0 (length columns + 1)
+whole_row : (key : Option ℕ) (columns : List Column) (row : Row) → are_typed key 0 columns (drop 1 row) ≡ true → is_null (column row (length columns)) ≡ false → row ≡ cells 0 (length columns + 1) row
 whole_row key columns row typed last =
     let most : length (drop 1 row) ≤ length columns = no_longer key 0 columns (drop 1 row) typed in
     let least : length columns < length row = is_there row (length columns) last in
@@ -85,7 +85,7 @@ null_is (Text t) is = cc
 null_is (Blob b) is = cc
 
 -- NULL stands in the column that the rowid stands for
-key_is_null : (columns : List Column) (row : Row) → are_typed (Some 0) 0 columns (drop 1 row) ≡ true → column row 1 ≡ Null
+key_is_null : (columns : List Column) (x : Row) → are_typed (Some 0) 0 columns (drop 1 x) ≡ true → column x 1 ≡ Null
 key_is_null columns [] typed = refl
 key_is_null columns (v ∷ []) typed = refl
 key_is_null [] (v ∷ (w ∷ row)) typed = absurd (true≢false (sym typed))
@@ -102,12 +102,12 @@ module _ (schema : Schema) (db : Trees) where
   rule_as_shown : (row : Row) → passes Datatype schema db rule_table row ≡ true → passes NotNull schema db rule_table row ≡ true → row ≡ with_key_column (projection (rowid_term ∷ read_rule_terms) [] row)
   rule_as_shown row typed present =
       let it = parts rule_table row typed present in
-      whole_row (Some 0) rule_table.columns row it.0 (not-true _ it.1) ∙ ap (λ v. column row 0 ∷ v ∷ cells row 2 11) (key_is_null rule_table.columns row it.0)
+      whole_row (Some 0) rule_table.columns row it.0 (not-true _ it.1) ∙ ap (λ v. rowid row ∷ v ∷ cells 2 11 row) (key_is_null rule_table.columns row it.0)
 
   meta_as_shown : (row : Row) → passes Datatype schema db meta_table row ≡ true → passes NotNull schema db meta_table row ≡ true → row ≡ with_key_column (projection (rowid_term ∷ read_meta_terms) [] row)
   meta_as_shown row typed present =
       let it = parts meta_table row typed present in
-      whole_row (Some 0) meta_table.columns row it.0 (not-true _ it.1) ∙ ap (λ v. column row 0 ∷ v ∷ cells row 2 2) (key_is_null meta_table.columns row it.0)
+      whole_row (Some 0) meta_table.columns row it.0 (not-true _ it.1) ∙ ap (λ v. rowid row ∷ v ∷ cells 2 2 row) (key_is_null meta_table.columns row it.0)
 
   -- the rows of a table whose rows are what is kept of what they show
   table_as_shown : (table : Table) (shows : List Term) (keep : Row → Row) (rows : List Row) → ((row : Row) → passes Datatype schema db table row ≡ true → passes NotNull schema db table row ≡ true → row ≡ keep (projection shows [] row))
