@@ -68,4 +68,4 @@ written_stores g made number old db before next typed held w =
     let half = changed start (state g w.changed) before held w.rows.0 made typed w.change in
     let count = subst (λ n. Executes set_count (count_values n) (state g w.changed) (state g w.counted) (Ok w.rows.1)) (number_is before made number next) w.count in
     subst (λ (d : Database). (d.schema ≡ start.now.schema) × Stores d (put before made)) (sym w.is)
-    (counted start (state g w.changed) (state g w.counted) before (put before made) held half (next_storable before made number next held.storable typed) w.rows.1 count)
+    (counted start (state g w.changed) (state g w.counted) before (put before made) held half (next_storable before made number next held.fits typed) w.rows.1 count)

@@ -107,7 +107,7 @@ module _ (old : Database) (state : State) (held : Stores old state) where
   pub rules_keyed : IsKeyed (old.trees 0)
   rules_keyed =
       let back = IsPermutation-sym (old.trees 0) (map kept_rule state.rules) held.rules in
-      keyed-permutation (map kept_rule state.rules) (old.trees 0) back (λ row there. has_permuted (map kept_rule state.rules) (old.trees 0) row back there) (keyed_rules state.rules held.storable.sound.distinct_ids)
+      keyed-permutation (map kept_rule state.rules) (old.trees 0) back (λ row there. has_permuted (map kept_rule state.rules) (old.trees 0) row back there) (keyed_rules state.rules held.fits.sound.distinct_ids)
 
 module _ (old mid : Conn) (state : State) (held : Stores old.now state) (count : ℕ) where
   -- what was not the table of the statement stays
@@ -164,7 +164,7 @@ module _ (old mid : Conn) (state : State) (held : Stores old.now state) (count :
       routes_changed (put state (change.Route (Flush selector))) refl made.only made.keyed
       (covers_left IsRouteRow (old.now.trees 1) (mid.now.trees 1) state.routes (routes_covered old.now state held) (passes is_flushed (selector_row selector)) (λ other. not (is_selected selector other))
       (λ other row there same.
-      ap (passes is_flushed (selector_row selector)) (split row other same) ∙ passes_selector (rowid row) other selector (held.storable.routes other there).in_range.prefix is ∙ not_not _)
+      ap (passes is_flushed (selector_row selector)) (split row other same) ∙ passes_selector (rowid row) other selector (held.fits.routes other there).in_range.prefix is ∙ not_not _)
       made.complete made.sound)
 
   inserts : (rule : Rule) → Executes insert_rule (rule_row rule) old mid (Ok count) → IsChanged old.now mid.now (put state (change.RulePut rule))

@@ -29,7 +29,7 @@ use Rattle.prt_rows.specs.RouteRow.{route_row}
 use Rattle.prt_rows.specs.Statements.{set_count}
 use Rattle.prt_rows.specs.Tables.{key_places, route_table, rule_table, schema_with}
 use Rattle.prt_version.specs.State.{State}
-use Rattle.prt_store.specs.Stored.{HasTables, IsStorableState, Stores}
+use Rattle.prt_store.specs.Stored.{HasTables, FitsTables, Stores}
 use Rattle.prt_store.proofs.Changes.{IsChanged, keyed_rules}
 use Rattle.prt_store.proofs.Once.{IsOnce, once_mapped}
 use Rattle.prt_store.proofs.Spelling.{Covers, IsRouteRow, IsRuleRow, map_id, same_if_covers}
@@ -51,7 +51,7 @@ route_alone db tables sound keyed route row other there also is too =
     alone (db.trees 1) keyed row other there also (tied_if_same (rowid row) (rowid other) _ _ (int_is (rowid row) (keyed.ints row there)) (int_is (rowid other) (keyed.ints other also)) apart)
 
 -- no two rows are those of one route, and no two routes are one
-routes_spell : (db : Database) → HasTables db.schema → IsDatabase db → IsKeyed (db.trees 1) → (state : State) → IsStorableState state → Covers IsRouteRow (db.trees 1) state.routes
+routes_spell : (db : Database) → HasTables db.schema → IsDatabase db → IsKeyed (db.trees 1) → (state : State) → FitsTables state → Covers IsRouteRow (db.trees 1) state.routes
     → IsPermutation (map (drop 1) (db.trees 1)) (map route_row state.routes)
 routes_spell db tables sound keyed state storable covers = same_if_covers route_row (drop 1) (db.trees 1) state.routes covers
     (once_mapped (drop 1) has_same_rowid (db.trees 1) keyed.once (λ row other there also same.
@@ -62,14 +62,14 @@ routes_spell db tables sound keyed state storable covers = same_if_covers route_
     let one : route ≡ other = same_route route other (storable.routes route there).in_range (storable.routes other also).in_range same in
     ap (λ x. same_key route x) (sym one) ∙ same_itself route))
 
-rules_spell : (rows : List Row) → IsKeyed rows → (state : State) → IsStorableState state → Covers IsRuleRow rows state.rules → IsPermutation rows (map kept_rule state.rules)
+rules_spell : (rows : List Row) → IsKeyed rows → (state : State) → FitsTables state → Covers IsRuleRow rows state.rules → IsPermutation rows (map kept_rule state.rules)
 rules_spell rows keyed state storable covers =
     subst (λ rows. IsPermutation rows (map kept_rule state.rules)) (map_id rows) (same_if_covers kept_rule (λ row. row) rows state.rules covers
     (once_mapped (λ row. row) has_same_rowid rows keyed.once (λ row other there also same. ap (λ x. has_same_rowid row x) (sym same) ∙ ap is_eq (tied_itself value_cmp_total (rowid row))))
     (subst IsOnce (map_id (map kept_rule state.rules))
     (once_mapped (λ row. row) has_same_rowid (map kept_rule state.rules) (keyed_rules state.rules storable.sound.distinct_ids).once (λ row other there also same. ap (λ x. has_same_rowid row x) (sym same) ∙ ap is_eq (tied_itself value_cmp_total (rowid row))))))
 
-module _ (old mid last : Conn) (state next : State) (held : Stores old.now state) (made : IsChanged old.now mid.now next) (storable : IsStorableState next) where
+module _ (old mid last : Conn) (state next : State) (held : Stores old.now state) (made : IsChanged old.now mid.now next) (storable : FitsTables next) where
   tables_kept : HasTables mid.now.schema
   tables_kept = subst HasTables (sym made.schema) held.tables
 
@@ -91,6 +91,6 @@ module _ (old mid last : Conn) (state next : State) (held : Stores old.now state
           rules = rules_spell (last.now.trees 0) (subst IsKeyed (sym rules) made.rules_keyed) next storable (subst (λ rows. Covers IsRuleRow rows next.rules) (sym rules) made.rules);
           routes = routes_spell last.now tables w.sound keyed next storable (subst (λ rows. Covers IsRouteRow rows next.routes) (sym routes) made.routes);
           count = set.alone;
-          storable = storable;
+          fits = storable;
         },
       )

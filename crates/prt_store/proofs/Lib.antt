@@ -5,3 +5,4 @@ pub mod Changes
 pub mod Commits
 pub mod Nexts
 pub mod Calls
+pub mod Loads

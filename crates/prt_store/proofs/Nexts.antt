@@ -29,7 +29,7 @@ use Rattle.prt_version.specs.declared.change.Change.TheVariants as change
 use Rattle.prt_version.specs.declared.limits.TheConstants.{MOST_COMMANDS}
 use Rattle.prt_store.proofs.Members.{inserted_has}
 use Rattle.prt_store.specs.Next.{IsNext}
-use Rattle.prt_store.specs.Stored.{IsStorableState}
+use Rattle.prt_store.specs.Stored.{FitsTables}
 use Rattle.prt_store.specs.Written.{HasStorableIds, IsTyped}
 
 -- what a storable command puts may be stored, under the next id, and what it drops is there
@@ -109,7 +109,7 @@ module _ (state : State) (made : Change) (number : ℕ) (next : IsNext state mad
           omega (arith, fits.2, least, before)
       by_change change.RuleFlush fits = tt
 
-  module _ (storable : IsStorableState state) (typed : IsTyped made) where
+  module _ (storable : FitsTables state) (typed : IsTyped made) where
     older_rules : (rule : Rule) → Has state.rules rule → IsRule (state.count + 1 + 3) rule
     older_rules rule there = let is = storable.rules rule there in up_to (state.count + 3) (state.count + 1 + 3) rule (omega (arith, is.id.most)) is
 
@@ -135,5 +135,5 @@ module _ (state : State) (made : Change) (number : ℕ) (next : IsNext state mad
     routes_storable (change.RuleDrop id) fits typed route there = storable.routes route there
     routes_storable change.RuleFlush fits typed route there = storable.routes route there
 
-    pub next_storable : IsStorableState (put state made)
+    pub next_storable : FitsTables (put state made)
     next_storable = record { sound = next_is_sound; rules = rules_storable made suits typed; routes = routes_storable made suits typed }

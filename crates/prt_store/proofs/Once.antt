@@ -1,10 +1,13 @@
 -- Lists whose members stand once are permutations of one another where they have the same members.
-use Rattle.std.proofs.Common.{◌≡◌, ◌⊎◌, inl, inr, Bool, true, false, List, [], ◌∷◌, map, IsPermutation, refl, sym, subst, ◌∙◌, true≢false}
-use Rattle.std.proofs.lemmas.List.Sorted.{IsPermutation-cons, IsPermutation-middle, IsPermutation-refl, IsPermutation-sym, IsPermutation-trans}
-use Rattle.std.specs.List.{IsDistinct}
+use Rattle.std.proofs.Common.{◌≡◌, ◌⊎◌, inl, inr, Bool, true, false, List, [], ◌∷◌, map, IsPermutation, refl, sym, subst, ◌∙◌, true≢false, ℕ, length, set, get_or, arith, ap}
+use Rattle.std.proofs.lemmas.List.Sorted.{IsPermutation-cons, IsPermutation-keeps, IsPermutation-middle, IsPermutation-refl, IsPermutation-swap, IsPermutation-sym, IsPermutation-trans}
+use Rattle.std.proofs.Math.ListN.{get_or-map}
+use Rattle.std.proofs.lemmas.List.{length-map, map-set}
+use Rattle.std.specs.List.{IsDistinct, swap}
 use Rattle.sqlite_rules.proofs.ListLemmas.{all_has}
 use Rattle.sqlite_rules.proofs.ProbeLemmas.{has_mapped}
 use Rattle.sqlite_rules.specs.Lists.{Has}
+use Rattle.prt_rows.proofs.Found.{has_permuted}
 
 -- no member stands twice
 abbrev pub IsOnce : {X : Type 0} → List X → Type 0
@@ -67,3 +70,43 @@ once_mapped make same (x ∷ xs) distinct tells = (
       true≢false (sym (tells x m.0 (inl refl) (inr m.1) m.2) ∙ all_has (λ other. same x other ≡ false) xs m.0 distinct.0 m.1),
   once_mapped make same xs distinct.1 (λ a b first second. tells a b (inr first) (inr second)),
 )
+
+-- ---- what is made of a list, with its members in another order
+
+swap_map : {X Y : Type 0} (make : X → Y) (xs : List X) (i j : ℕ) → swap (map make xs) i j ≡ map make (swap xs i j)
+swap_map make [] i j = refl
+swap_map make (x ∷ xs) i j =
+    let all = x ∷ xs in
+    let at_i = get_or-map make all i x in
+    let at_j = get_or-map make all j x in
+    (λ t. set (set (map make all) i (at_j t)) j (at_i t)) ∙ (λ t. set (sym (map-set make all i (get_or all j x)) t) j (make (get_or all i x))) ∙ sym (map-set make (set all i (get_or all j x)) j (get_or all i x))
+
+record MadeOf {X Y : Type 0} (make : X → Y) (xs : List X) (ys : List Y) : Type 0 where
+  from : List X
+  same : IsPermutation xs from
+  is : ys ≡ map make from
+
+made_of : {X Y : Type 0} (make : X → Y) (xs : List X) (ys : List Y) → IsPermutation (map make xs) ys → MadeOf make xs ys
+made_of make xs = IsPermutation-keeps (map make xs) (MadeOf make xs) (record { from = xs; same = IsPermutation-refl xs; is = refl }) (λ ys i j low high made.
+    let long : length ys ≡ length made.from = ap length made.is ∙ length-map made.from make in
+    record {
+      from = swap made.from i j;
+      same = IsPermutation-trans xs made.from (swap made.from i j) made.same (IsPermutation-swap made.from (swap made.from i j) i j (omega (arith, long, low)) (omega (arith, long, high)) refl);
+      is = ap (λ l. swap l i j) made.is ∙ swap_map make made.from i j;
+    })
+
+same_by_members : {X Y : Type 0} (make : X → Y) (xs ys : List X) → map make xs ≡ map make ys → ((x y : X) → Has xs x → Has ys y → make x ≡ make y → x ≡ y) → xs ≡ ys
+same_by_members make [] [] is tells = refl
+same_by_members make [] (y ∷ ys) is tells = absurd (let e = is in cc)
+same_by_members make (x ∷ xs) [] is tells = absurd (let e = is in cc)
+same_by_members make (x ∷ xs) (y ∷ ys) is tells =
+    let first : make x ≡ make y = cc in
+    let rest : map make xs ≡ map make ys = cc in
+    λ i. tells x y (inl refl) (inl refl) first i ∷ same_by_members make xs ys rest (λ a b there also. tells a b (inr there) (inr also)) i
+
+-- lists are permutations of one another where what is made of them is, and tells its members
+pub unmapped : {X Y : Type 0} (make : X → Y) (xs ys : List X) → IsPermutation (map make xs) (map make ys) → ((x y : X) → Has xs x → Has ys y → make x ≡ make y → x ≡ y) → IsPermutation xs ys
+unmapped make xs ys same tells =
+    let made = made_of make xs (map make ys) same in
+    let is : made.from ≡ ys = same_by_members make made.from ys (sym made.is) (λ x y there also. tells x y (has_permuted xs made.from x made.same there) also) in
+    subst (IsPermutation xs) is made.same

@@ -1,3 +1,4 @@
 pub mod Stored
 pub mod Next
 pub mod Written
+pub mod Loaded

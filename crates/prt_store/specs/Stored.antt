@@ -27,7 +27,7 @@ pub record HasTables (schema : Schema) : Type 0 where
   pub free : AreNotOfRoutes indexes
 
 -- the state is one that a version may have, and each of its values is in the range of its column
-pub record IsStorableState (state : State) : Type 0 where
+pub record FitsTables (state : State) : Type 0 where
   pub sound : IsSound state
   pub rules : (rule : Rule) → Has state.rules rule → IsRule (state.count + 3) rule
   pub routes : (route : Route) → Has state.routes route → IsRoute route
@@ -39,4 +39,4 @@ pub record Stores (db : Database) (state : State) : Type 0 where
   pub routes : IsPermutation (map (drop 1) (db.trees route_table.tree)) (map route_row state.routes)
   pub keyed : IsKeyed (db.trees route_table.tree)
   pub count : db.trees meta_table.tree ≡ kept_count state.count ∷ []
-  pub storable : IsStorableState state
+  pub fits : FitsTables state

@@ -2,6 +2,7 @@
 #![tactic(auto)]
 
 mod commit;
+mod load;
 mod ranges;
 mod statements;
 mod store;

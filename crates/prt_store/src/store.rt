@@ -2,20 +2,23 @@
 
 ghost use Rattle.std.specs.Prelude.{◌≡◌, ◌⊎◌, IfErr, IfOk, IsTrue, OnErr, OnOk};
 ghost use Rattle.sqlite.specs.Held.{state};
-ghost use Rattle.sqlite.specs.State.{HasCleanDisk};
+ghost use Rattle.sqlite.specs.State.{HasCleanDisk, IsUnchanged};
 ghost use Rattle.sqlite.specs.Tree.{Trees};
 ghost use Rattle.prt_addr.specs.declared.refusal.StoreCall.{StoreCall as FailedCall};
 ghost use Rattle.prt_addr.specs.declared.refusal.StoreCall.TheVariants.{Commit};
-ghost use Rattle.prt_addr.specs.declared.refusal.Refusal.TheVariants.{StoreFailed};
+ghost use Rattle.prt_addr.specs.declared.refusal.Refusal.TheVariants.{Damaged, StoreFailed};
 ghost use Rattle.prt_version.specs.Change.{put};
 ghost use Rattle.prt_version.specs.State.{State};
 ghost use Rattle.prt_store.specs.Next.{IsNext};
-ghost use Rattle.prt_store.specs.Stored.{Stores};
+ghost use Rattle.prt_store.specs.Stored.{HasTables, Stores};
+ghost use Rattle.prt_store.specs.Written.{CommitsNothing};
 
 use crate::commit::run;
+use crate::load::load;
 use prt_addr::Refusal;
-use prt_version::Change;
+use prt_version::{Change, Version};
 use sqlite::{Alter, Connection};
+use std::alloc::Global;
 
 /// Says that the command of this number was committed. A commit alone makes one.
 #[derive(Debug, Drop)]
@@ -44,6 +47,24 @@ impl<S: Alter + Drop> Store<S> {
         ensures { result ≡ self.conn }
     {
         self.conn
+    }
+
+    /// The version that the tables spell. Nothing is changed, and a crash leaves what it could leave before.
+    ///
+    /// # Errors
+    ///
+    /// `Damaged` only where the tables spell no state; `OpenFailed` where a store call fails; `NoMemory`.
+    pub fn load(&mut self, alloc: Global) -> Result<Version, Refusal>
+        ensures ok { HasCleanDisk (state S.Store self.new.conn) → HasTables (state S.Store self.old.conn).now.schema →
+            IfOk result (Stores (state S.Store self.old.conn).now) }
+        ensures damaged { HasCleanDisk (state S.Store self.new.conn) → HasTables (state S.Store self.old.conn).now.schema →
+            IfErr result (λ reason. reason ≡ Damaged → (stored : State) → Stores (state S.Store self.old.conn).now stored → ⊥) }
+        ensures same { HasCleanDisk (state S.Store self.new.conn) → HasTables (state S.Store self.old.conn).now.schema →
+            OnOk result (IsUnchanged (state S.Store self.old.conn) (state S.Store self.new.conn)) }
+        ensures quiet { HasTables (state S.Store self.old.conn).now.schema → CommitsNothing S.Store self.old.conn self.new.conn }
+    {
+        let _live = self.conn.schema();
+        load(alloc, &mut self.conn)
     }
 
     /// Makes the change that a command makes of the stored state, whose next number this is, in one transaction.

@@ -1,0 +1,13 @@
+use Rattle.prt_store.proofs.store.Store.load.Goals as goal
+
+pub returns-clause-ok : goal.returns-clause-ok
+returns-clause-ok g c clean tables = c.load.ensures.ok clean (record { tables = tables; live = c.schema-live.ensures.live })
+
+pub returns-clause-damaged : goal.returns-clause-damaged
+returns-clause-damaged g c clean tables = c.load.ensures.damaged clean (record { tables = tables; live = c.schema-live.ensures.live })
+
+pub returns-clause-same : goal.returns-clause-same
+returns-clause-same g c clean tables = c.load.ensures.same clean tables
+
+pub returns-clause-quiet : goal.returns-clause-quiet
+returns-clause-quiet g c tables = c.load.ensures.quiet (λ _. tables)

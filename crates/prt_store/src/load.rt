@@ -1,0 +1,81 @@
+//! The state that the tables spell, read.
+
+ghost use Rattle.std.specs.Prelude.{IfOk};
+ghost use Rattle.prt_rows.specs.MetaRow.{IsCount};
+ghost use Rattle.prt_store.specs.Loaded.{Reads, SpellsCount, SpellsRoutes, SpellsRules};
+ghost use Rattle.prt_store.specs.Stored.{Stores};
+
+use prt_addr::Refusal;
+use prt_route::Route;
+use prt_rows::{count_of_rows, routes_of_rows, rules_of_rows};
+use prt_rule::Rule;
+use prt_version::Version;
+use sqlite::{Alter, Connection};
+use std::alloc::Global;
+
+/// The count that the table `meta` spells.
+fn read_count<S: Alter>(conn: &mut Connection<S>) -> Result<u64, Refusal>
+    ensures read { Reads S.Store (λ count. count) SpellsCount conn.old conn.new result }
+    ensures fits { IfOk result IsCount }
+{
+    let Ok(rows) = conn.query_all("SELECT id, format, count FROM meta ORDER BY id", &[]) else {
+        return Err(Refusal::OpenFailed);
+    };
+    match count_of_rows(rows.as_slice()) {
+        Some(count) => Ok(count),
+        None => Err(Refusal::Damaged),
+    }
+}
+
+/// The rules that the table `rule` spells, with ids of at most `last`.
+fn read_rules<S: Alter>(
+    alloc: Global,
+    conn: &mut Connection<S>,
+    last: u64,
+) -> Result<Vec<Rule>, Refusal>
+    ensures { Reads S.Store (λ (rules : _). rules.items) (SpellsRules last) conn.old conn.new result }
+{
+    let Ok(rows) = conn.query_all(
+        "SELECT id, priority, inverted, src_net, src_len, dst_net, dst_len, iif, mark, mask, act, tbl FROM rule ORDER BY id",
+        &[],
+    ) else {
+        return Err(Refusal::OpenFailed);
+    };
+    rules_of_rows(alloc, rows.as_slice(), last)
+}
+
+/// The routes that the table `route` spells.
+fn read_routes<S: Alter>(alloc: Global, conn: &mut Connection<S>) -> Result<Vec<Route>, Refusal>
+    ensures { Reads S.Store (λ (routes : _). routes.items) SpellsRoutes conn.old conn.new result }
+{
+    let Ok(rows) = conn.query_all(
+        "SELECT rowid, tbl, net, len, metric, kind, via, dev, src, proto, scope FROM route ORDER BY rowid",
+        &[],
+    ) else {
+        return Err(Refusal::OpenFailed);
+    };
+    routes_of_rows(alloc, rows.as_slice())
+}
+
+/// The version that the tables spell.
+///
+/// # Errors
+///
+/// `Damaged` only where the rows that were read spell none; `OpenFailed` where a store call fails; `NoMemory`.
+pub(crate) fn load<S: Alter>(alloc: Global, conn: &mut Connection<S>) -> Result<Version, Refusal>
+    ensures { Reads S.Store (λ version. version) Stores conn.old conn.new result }
+{
+    let count = match read_count(conn) {
+        Ok(count) => count,
+        Err(reason) => return Err(reason),
+    };
+    let rules = match read_rules(alloc, conn, count + 3) {
+        Ok(rules) => rules,
+        Err(reason) => return Err(reason),
+    };
+    let routes = match read_routes(alloc, conn) {
+        Ok(routes) => routes,
+        Err(reason) => return Err(reason),
+    };
+    Version::from_rows(alloc, count, rules, routes)
+}
