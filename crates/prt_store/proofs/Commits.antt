@@ -29,7 +29,8 @@ use Rattle.prt_rows.specs.RouteRow.{route_row}
 use Rattle.prt_rows.specs.Statements.{set_count}
 use Rattle.prt_rows.specs.Tables.{key_places, route_table, rule_table, schema_with}
 use Rattle.prt_version.specs.State.{State}
-use Rattle.prt_store.specs.Stored.{HasTables, FitsTables, Stores}
+use Rattle.prt_rows.specs.Format.{IsFormat1}
+use Rattle.prt_store.specs.Stored.{FitsTables, Stores}
 use Rattle.prt_store.proofs.Changes.{IsChanged, keyed_rules}
 use Rattle.prt_store.proofs.Once.{IsOnce, once_mapped}
 use Rattle.prt_store.proofs.Spelling.{Covers, IsRouteRow, IsRuleRow, map_id, same_if_covers}
@@ -38,7 +39,7 @@ same_itself : (route : Route) → same_key route route ≡ true
 same_itself route = and_from _ _ (and_from _ _ (eq-eqb route.table route.table refl) (and_from _ _ (eq-eqb route.prefix.bits route.prefix.bits refl) (eq-eqb route.prefix.len route.prefix.len refl))) (eq-eqb route.metric route.metric refl)
 
 -- rows with the values of one route are one row, since its key is unique
-pub route_alone : (db : Database) → HasTables db.schema → IsDatabase db → IsKeyed (db.trees 1) → (route : Route) (row other : Row) → Has (db.trees 1) row → Has (db.trees 1) other → IsRouteRow route row → IsRouteRow route other → row ≡ other
+pub route_alone : (db : Database) → IsFormat1 db.schema → IsDatabase db → IsKeyed (db.trees 1) → (route : Route) (row other : Row) → Has (db.trees 1) row → Has (db.trees 1) other → IsRouteRow route row → IsRouteRow route other → row ≡ other
 route_alone db tables sound keyed route row other there also is too =
     let obeys = subst (λ (s : Schema). IsDatabase (record { schema = s; trees = db.trees })) tables.is sound in
     let unique = all_has _ (db.trees 1) other (obeys.obeys.rules Unique).1.0 also in
@@ -51,7 +52,7 @@ route_alone db tables sound keyed route row other there also is too =
     alone (db.trees 1) keyed row other there also (tied_if_same (rowid row) (rowid other) _ _ (int_is (rowid row) (keyed.ints row there)) (int_is (rowid other) (keyed.ints other also)) apart)
 
 -- no two rows are those of one route, and no two routes are one
-routes_spell : (db : Database) → HasTables db.schema → IsDatabase db → IsKeyed (db.trees 1) → (state : State) → FitsTables state → Covers IsRouteRow (db.trees 1) state.routes
+routes_spell : (db : Database) → IsFormat1 db.schema → IsDatabase db → IsKeyed (db.trees 1) → (state : State) → FitsTables state → Covers IsRouteRow (db.trees 1) state.routes
     → IsPermutation (map (drop 1) (db.trees 1)) (map route_row state.routes)
 routes_spell db tables sound keyed state storable covers = same_if_covers route_row (drop 1) (db.trees 1) state.routes covers
     (once_mapped (drop 1) has_same_rowid (db.trees 1) keyed.once (λ row other there also same.
@@ -70,8 +71,8 @@ rules_spell rows keyed state storable covers =
     (once_mapped (λ row. row) has_same_rowid (map kept_rule state.rules) (keyed_rules state.rules storable.sound.distinct_ids).once (λ row other there also same. ap (λ x. has_same_rowid row x) (sym same) ∙ ap is_eq (tied_itself value_cmp_total (rowid row))))))
 
 module _ (old mid last : Conn) (state next : State) (held : Stores old.now state) (made : IsChanged old.now mid.now next) (storable : FitsTables next) where
-  tables_kept : HasTables mid.now.schema
-  tables_kept = subst HasTables (sym made.schema) held.tables
+  tables_kept : IsFormat1 mid.now.schema
+  tables_kept = subst IsFormat1 (sym made.schema) held.tables
 
   -- the count of the next state makes the tables spell it
   pub counted : (rows : ℕ) → Executes set_count (count_values next.count) mid last (Ok rows) → (last.now.schema ≡ old.now.schema) × Stores last.now next
@@ -80,7 +81,7 @@ module _ (old mid last : Conn) (state next : State) (held : Stores old.now state
       let is = set_count_is t.tables t.indexes t.views in
       let w = runs_as set_count (count_values next.count) mid last (schema_with t.tables t.indexes t.views) t.is set_count_command is.0 is.1 rows ran in
       let set = sets_count t.tables t.indexes t.views t.others mid last state.count next.count rows t.is (made.count ∙ held.count) ran in
-      let tables : HasTables last.now.schema = subst HasTables (sym set.only.schema) t in
+      let tables : IsFormat1 last.now.schema = subst IsFormat1 (sym set.only.schema) t in
       let rules : last.now.trees 0 ≡ mid.now.trees 0 = set.only.others rule_table (subst (λ (s : Schema). Has s.tables rule_table) (sym t.is) (inl refl)) (λ e. absurd (cc)) in
       let routes : last.now.trees 1 ≡ mid.now.trees 1 = set.only.others route_table (subst (λ (s : Schema). Has s.tables route_table) (sym t.is) (inr (inl refl))) (λ e. absurd (cc)) in
       let keyed : IsKeyed (last.now.trees 1) = subst IsKeyed (sym routes) made.routes_keyed in (

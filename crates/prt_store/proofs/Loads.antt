@@ -42,18 +42,19 @@ use Rattle.prt_version.specs.State.{State}
 use Rattle.prt_store.proofs.Changes.{rules_keyed}
 use Rattle.prt_store.proofs.Once.{unmapped}
 use Rattle.prt_store.specs.Loaded.{IsReadable, Reads, SpellsCount, SpellsRoutes, SpellsRules}
-use Rattle.prt_store.specs.Stored.{HasTables, Stores}
+use Rattle.prt_rows.specs.Format.{IsFormat1}
+use Rattle.prt_store.specs.Stored.{Stores}
 
 -- ---- what a statement that reads leaves
 
 -- our statements that read show no rows of a write
-plain_meta : (schema : Schema) → HasTables schema → IsPlain (understood schema read_meta)
+plain_meta : (schema : Schema) → IsFormat1 schema → IsPlain (understood schema read_meta)
 plain_meta schema t = subst (λ (s : Schema). IsPlain (understood s read_meta)) (sym t.is) (read_meta_is t.tables t.indexes t.views).1
 
-plain_rules : (schema : Schema) → HasTables schema → IsPlain (understood schema read_rules)
+plain_rules : (schema : Schema) → IsFormat1 schema → IsPlain (understood schema read_rules)
 plain_rules schema t = subst (λ (s : Schema). IsPlain (understood s read_rules)) (sym t.is) (read_rules_is t.tables t.indexes t.views).1
 
-plain_routes : (schema : Schema) → HasTables schema → IsPlain (understood schema read_routes)
+plain_routes : (schema : Schema) → IsFormat1 schema → IsPlain (understood schema read_routes)
 plain_routes schema t = subst (λ (s : Schema). IsPlain (understood s read_routes)) (sym t.is) (read_routes_is t.tables t.indexes t.views).1
 
 module _ (sql : Word) (old new : Conn) (plain : IsPlain (understood old.now.schema sql)) where
@@ -66,7 +67,7 @@ module _ (sql : Word) (old new : Conn) (plain : IsPlain (understood old.now.sche
 commits_nothing : (sql : Word) (old new : Conn) → (HasCleanDisk old → IsPlain (understood old.now.schema sql)) → Survives old new (CommitsShowing sql [] old) → Survives old new (λ _. ⊥)
 commits_nothing sql old new plain survives = survives_weaker old new _ _ (λ clean db. never_commits sql [] old db (plain (omega (arith, survives.clean)))) survives
 
-module _ (old new : Conn) (tables : HasTables old.now.schema) where
+module _ (old new : Conn) (tables : IsFormat1 old.now.schema) where
   pub count_unchanged : (rows : List Row) → Shown read_meta [] old new rows → IsUnchanged old new
   count_unchanged = unchanged read_meta old new (plain_meta old.now.schema tables)
 
@@ -76,7 +77,7 @@ module _ (old new : Conn) (tables : HasTables old.now.schema) where
   pub routes_unchanged : (rows : List Row) → Shown read_routes [] old new rows → IsUnchanged old new
   routes_unchanged = unchanged read_routes old new (plain_routes old.now.schema tables)
 
-module _ (old new : Conn) (tables : HasCleanDisk old → HasTables old.now.schema) where
+module _ (old new : Conn) (tables : HasCleanDisk old → IsFormat1 old.now.schema) where
   pub count_quiet : Survives old new (CommitsShowing read_meta [] old) → Survives old new (λ _. ⊥)
   count_quiet = commits_nothing read_meta old new (λ clean. plain_meta old.now.schema (tables clean))
 
@@ -121,7 +122,7 @@ meta_rows_of (row ∷ []) count is = let first : with_key_column row ≡ kept_co
 meta_rows_of (row ∷ (other ∷ rows)) count is = absurd (let e = is in cc)
 
 module _ (old new : Conn) (readable : IsReadable old) (rows : List Row) where
-  abbrev tables : HasTables old.now.schema
+  abbrev tables : IsFormat1 old.now.schema
   tables = readable.tables
 
   module _ (shown : Shown read_meta [] old new rows) where
@@ -192,32 +193,32 @@ module _ (old new : Conn) (readable : IsReadable old) (rows : List Row) where
 pub reads_of : {S X V : Type 0} (g : Ghosts S) (seen : X → V) (Spells : Database → V → Type 0) (old new : Held S) (result : Result X Refusal) (Rise Read : X → Type 0) (Fails : Refusal → Type 0) → IfOk result Rise → IfOk result Read → IfErr result Fails
     → (HasCleanDisk (state g new) → IsReadable (state g old) → (value : X) → Rise value → Read value → Spells (state g old).now (seen value))
     → (HasCleanDisk (state g new) → IsReadable (state g old) → (reason : Refusal) → Fails reason → reason ≡ Damaged → (value : V) → Spells (state g old).now value → ⊥)
-    → (HasCleanDisk (state g new) → HasTables (state g old).now.schema → IsUnchanged (state g old) (state g new)) → ((HasCleanDisk (state g old) → HasTables (state g old).now.schema) → Survives (state g old) (state g new) (λ _. ⊥)) → Reads g seen Spells old new result
+    → (HasCleanDisk (state g new) → IsFormat1 (state g old).now.schema → IsUnchanged (state g old) (state g new)) → ((HasCleanDisk (state g old) → IsFormat1 (state g old).now.schema) → Survives (state g old) (state g new) (λ _. ⊥)) → Reads g seen Spells old new result
 reads_of g seen Spells old new (Ok value) Rise Read Fails rise read fails spells none same quiet = record { ok = λ clean readable. spells clean readable value rise read; damaged = λ clean readable. tt; same = same; quiet = quiet }
 reads_of g seen Spells old new (Err reason) Rise Read Fails rise read fails spells none same quiet = record { ok = λ clean readable. tt; damaged = λ clean readable is. none clean readable reason fails is; same = λ clean tables. tt; quiet = quiet }
 
 -- ---- one read after another
 
 module _ {S X Y V W : Type 0} (g : Ghosts S) (seen : X → V) (seen_too : Y → W) (First : Database → V → Type 0) (Second : Database → W → Type 0) (a b c : Held S) (x : X) (one : Reads g seen First a b (Ok x)) where
-  tables_then : (HasCleanDisk (state g a) → HasTables (state g a).now.schema) → HasCleanDisk (state g b) → HasTables (state g b).now.schema
+  tables_then : (HasCleanDisk (state g a) → IsFormat1 (state g a).now.schema) → HasCleanDisk (state g b) → IsFormat1 (state g b).now.schema
   tables_then tables clean =
       let had = tables (omega (arith, (one.quiet tables).clean)) in
-      subst (λ (d : Database). HasTables d.schema) (sym (one.same clean had).0.now_is) had
+      subst (λ (d : Database). IsFormat1 d.schema) (sym (one.same clean had).0.now_is) had
 
   readable_then : HasCleanDisk (state g b) → IsReadable (state g a) → IsReadable (state g b)
   readable_then clean readable =
       let same = one.same clean readable.tables in
       let live = readable.live same.0.was_open in
       record {
-        tables = subst (λ (d : Database). HasTables d.schema) (sym same.0.now_is) readable.tables;
+        tables = subst (λ (d : Database). IsFormat1 d.schema) (sym same.0.now_is) readable.tables;
         live = λ _. (subst IsDatabase (sym same.0.now_is) live.0, subst IsDatabase (sym same.0.committed_is) live.1);
       }
 
   module _ (result : Result Y Refusal) (two : Reads g seen_too Second b c result) where
-    clean_before : (HasCleanDisk (state g a) → HasTables (state g a).now.schema) → HasCleanDisk (state g c) → HasCleanDisk (state g b)
+    clean_before : (HasCleanDisk (state g a) → IsFormat1 (state g a).now.schema) → HasCleanDisk (state g c) → HasCleanDisk (state g b)
     clean_before tables clean = omega (arith, (two.quiet (tables_then tables)).clean)
 
-    quiet_then : (HasCleanDisk (state g a) → HasTables (state g a).now.schema) → Survives (state g a) (state g c) (λ _. ⊥)
+    quiet_then : (HasCleanDisk (state g a) → IsFormat1 (state g a).now.schema) → Survives (state g a) (state g c) (λ _. ⊥)
     quiet_then tables = survives_then (state g a) (state g b) (state g c) _ _ (λ _. ⊥) (λ _ db none. none) (λ _ db none. none) (one.quiet tables) (two.quiet (tables_then tables))
 
   pub then_ok : (y : Y) → Reads g seen_too Second b c (Ok y) → Reads g (λ (u : Unit {0}). u) (λ db _. First db (seen x) × Second db (seen_too y)) a c (Ok tt)
@@ -246,14 +247,14 @@ module _ {S X Y V W : Type 0} (g : Ghosts S) (seen : X → V) (seen_too : Y → 
 
 -- what all reads together give
 pub in_all : {S X V : Type 0} (g : Ghosts S) (seen : X → V) (All : Database → V → Type 0) (a b : Held S) (x : X) → Reads g seen All a b (Ok x) → (result : Result State Refusal)
-    → IfOk result (λ stored. (db : Database) → HasTables db.schema → All db (seen x) → Stores db stored) → IfErr result (λ reason. reason ≡ Damaged → (db : Database) (stored : State) → All db (seen x) → Stores db stored → ⊥) → Reads g (λ stored. stored) Stores a b result
+    → IfOk result (λ stored. (db : Database) → IsFormat1 db.schema → All db (seen x) → Stores db stored) → IfErr result (λ reason. reason ≡ Damaged → (db : Database) (stored : State) → All db (seen x) → Stores db stored → ⊥) → Reads g (λ stored. stored) Stores a b result
 in_all g seen All a b x one (Ok made) spells none = record { ok = λ clean readable. spells (state g a).now readable.tables (one.ok clean readable); damaged = λ clean readable. tt; same = one.same; quiet = one.quiet }
 in_all g seen All a b x one (Err reason) spells none = record { ok = λ clean readable. tt; damaged = λ clean readable is stored held. none is (state g a).now stored (one.ok clean readable) held; same = λ clean tables. tt; quiet = one.quiet }
 
 -- ---- the whole state
 
 -- what the parts spell is the state that the tables spell
-pub stores_read : (db : Database) (count : ℕ) (rules : List Rule) (routes : List Route) (stored : State) → HasTables db.schema → SpellsCount db count → SpellsRules (count + 3) db rules → SpellsRoutes db routes → RowsSpell count rules routes stored
+pub stores_read : (db : Database) (count : ℕ) (rules : List Rule) (routes : List Route) (stored : State) → IsFormat1 db.schema → SpellsCount db count → SpellsRules (count + 3) db rules → SpellsRoutes db routes → RowsSpell count rules routes stored
     → Stores db stored
 stores_read db count rules routes stored tables one some more spells = record {
   tables = tables;
@@ -310,7 +311,7 @@ module _ (db : Database) (stored : State) (held : Stores db stored) where
       same_written rule other same = λ i. ap rowid same i ∷ ap (drop 2) same i
 
 pub rows_stored : (count : ℕ) (rules : List Rule) (routes : List Route) (result : Result State Refusal) → IfOk result (RowsSpell count rules routes)
-    → IfOk result (λ stored. (db : Database) → HasTables db.schema → (SpellsCount db count × SpellsRules (count + 3) db rules) × SpellsRoutes db routes → Stores db stored)
+    → IfOk result (λ stored. (db : Database) → IsFormat1 db.schema → (SpellsCount db count × SpellsRules (count + 3) db rules) × SpellsRoutes db routes → Stores db stored)
 rows_stored count rules routes (Ok stored) spells = λ db tables read. stores_read db count rules routes stored tables read.0.0 read.0.1 read.1 spells
 rows_stored count rules routes (Err reason) spells = tt
 

@@ -14,7 +14,7 @@ use Rattle.prt_rows.specs.RouteRow.{IsRoute, route_row}
 use Rattle.prt_rows.specs.RuleRow.{IsRule}
 use Rattle.prt_rows.specs.Tables.{meta_table, route_table, rule_table}
 use Rattle.prt_rule.specs.declared.rule.Rule.{Rule}
-use Rattle.prt_store.specs.Stored.{HasTables}
+use Rattle.prt_rows.specs.Format.{IsFormat1}
 
 -- the row of `meta` is that of this count
 pub record SpellsCount (db : Database) (count : ℕ) : Type 0 where
@@ -35,12 +35,12 @@ pub record SpellsRoutes (db : Database) (routes : List Route) : Type 0 where
 
 -- the connection has our tables, and its rows are as their schema says
 pub record IsReadable (conn : Conn) : Type 0 where
-  pub tables : HasTables conn.now.schema
+  pub tables : IsFormat1 conn.now.schema
   pub live : IsLive conn
 
 -- What was read is what the tables spell, and they are `Damaged` only where they spell no such thing. Nothing is changed, and a crash leaves what it could leave before.
 pub record Reads {S X V : Type 0} (g : Ghosts S) (seen : X → V) (Spells : Database → V → Type 0) (old new : Held S) (result : Result X Refusal) : Type 0 where
   pub ok : HasCleanDisk (state g new) → IsReadable (state g old) → IfOk result (λ value. Spells (state g old).now (seen value))
   pub damaged : HasCleanDisk (state g new) → IsReadable (state g old) → IfErr result (λ reason. reason ≡ Damaged → (value : V) → Spells (state g old).now value → ⊥)
-  pub same : HasCleanDisk (state g new) → HasTables (state g old).now.schema → OnOk result (IsUnchanged (state g old) (state g new))
-  pub quiet : (HasCleanDisk (state g old) → HasTables (state g old).now.schema) → Survives (state g old) (state g new) (λ _. ⊥)
+  pub same : HasCleanDisk (state g new) → IsFormat1 (state g old).now.schema → OnOk result (IsUnchanged (state g old) (state g new))
+  pub quiet : (HasCleanDisk (state g old) → IsFormat1 (state g old).now.schema) → Survives (state g old) (state g new) (λ _. ⊥)

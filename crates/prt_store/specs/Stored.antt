@@ -1,30 +1,17 @@
 -- The state that the tables of a database spell.
-use Rattle.std.specs.Prelude.{◌≡◌, ◌+◌, List, [], ◌∷◌, drop, map, IsPermutation}
+use Rattle.std.specs.Prelude.{◌≡◌, ◌+◌, [], ◌∷◌, drop, map, IsPermutation}
 use Rattle.sqlite.specs.Effect.{Database}
-use Rattle.sqlite.specs.Schema.{Schema}
-use Rattle.sqlite.specs.Table.{Table}
 use Rattle.sqlite_rules.specs.Lists.{Has}
-use Rattle.sqlite_schema.specs.declared.schema.Index.{Index}
-use Rattle.sqlite_schema.specs.declared.schema.View.{View}
 use Rattle.prt_route.specs.declared.route.Route.{Route}
 use Rattle.prt_rule.specs.declared.rule.Rule.{Rule}
 use Rattle.prt_rows.specs.Effects.{IsKeyed}
 use Rattle.prt_rows.specs.Kept.{kept_count, kept_rule}
-use Rattle.prt_rows.specs.Others.{AreNotOfRoutes, AreOthers}
+use Rattle.prt_rows.specs.Format.{IsFormat1}
 use Rattle.prt_rows.specs.RouteRow.{IsRoute, route_row}
 use Rattle.prt_rows.specs.RuleRow.{IsRule}
-use Rattle.prt_rows.specs.Tables.{meta_table, route_table, rule_table, schema_with}
+use Rattle.prt_rows.specs.Tables.{meta_table, route_table, rule_table}
 use Rattle.prt_version.specs.Sound.{IsSound}
 use Rattle.prt_version.specs.State.{State}
-
--- Ours are the first tables of the file, in the order in which a new file gets them, and what was made later keeps apart from them.
-pub record HasTables (schema : Schema) : Type 0 where
-  pub tables : List Table
-  pub indexes : List Index
-  pub views : List View
-  pub is : schema ≡ schema_with tables indexes views
-  pub others : AreOthers tables
-  pub free : AreNotOfRoutes indexes
 
 -- the state is one that a version may have, and each of its values is in the range of its column
 pub record FitsTables (state : State) : Type 0 where
@@ -34,7 +21,7 @@ pub record FitsTables (state : State) : Type 0 where
 
 -- The tables spell this state: in some order their rows are those of its rules, of its routes and of its count. The rowid of a rule is its id; a route has any.
 pub record Stores (db : Database) (state : State) : Type 0 where
-  pub tables : HasTables db.schema
+  pub tables : IsFormat1 db.schema
   pub rules : IsPermutation (db.trees rule_table.tree) (map kept_rule state.rules)
   pub routes : IsPermutation (map (drop 1) (db.trees route_table.tree)) (map route_row state.routes)
   pub keyed : IsKeyed (db.trees route_table.tree)

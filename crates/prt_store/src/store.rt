@@ -6,16 +6,18 @@ ghost use Rattle.sqlite.specs.State.{HasCleanDisk, IsUnchanged};
 ghost use Rattle.sqlite.specs.Tree.{Trees};
 ghost use Rattle.prt_addr.specs.declared.refusal.StoreCall.{StoreCall as FailedCall};
 ghost use Rattle.prt_addr.specs.declared.refusal.StoreCall.TheVariants.{Commit};
-ghost use Rattle.prt_addr.specs.declared.refusal.Refusal.TheVariants.{Damaged, StoreFailed};
+ghost use Rattle.prt_addr.specs.declared.refusal.Refusal.TheVariants.{Damaged, OpenFailed, StoreFailed};
 ghost use Rattle.prt_version.specs.Change.{put};
 ghost use Rattle.prt_version.specs.State.{State};
 ghost use Rattle.prt_store.specs.Next.{IsNext};
-ghost use Rattle.prt_store.specs.Stored.{HasTables, Stores};
+ghost use Rattle.prt_rows.specs.Format.{IsFormat1};
+ghost use Rattle.prt_store.specs.Stored.{Stores};
 ghost use Rattle.prt_store.specs.Written.{CommitsNothing};
 
 use crate::commit::run;
 use crate::load::load;
 use prt_addr::Refusal;
+use prt_rows::is_format_1;
 use prt_version::{Change, Version};
 use sqlite::{Alter, Connection};
 use std::alloc::Global;
@@ -42,6 +44,23 @@ pub struct Store<S: Alter + Drop> {
 }
 
 impl<S: Alter + Drop> Store<S> {
+    /// The store over a connection whose first tables are those of format 1. It makes no tables, and changes nothing.
+    ///
+    /// # Errors
+    ///
+    /// `OpenFailed`, with the connection, where the first tables are others.
+    pub fn over(conn: Connection<S>) -> Result<Store<S>, (Refusal, Connection<S>)>
+        ensures tables { IfOk result (λ store. IsFormat1 (state S.Store store.conn).now.schema) }
+        ensures same { IfOk result (λ store. store.conn ≡ conn) }
+        ensures refused { IfErr result (λ refused. (refused.0 ≡ OpenFailed) × (refused.1 ≡ conn)) }
+    {
+        if is_format_1(conn.schema()) {
+            Ok(Store { conn })
+        } else {
+            Err((Refusal::OpenFailed, conn))
+        }
+    }
+
     /// The connection, with its tables as they are.
     pub fn release(self) -> Connection<S>
         ensures { result ≡ self.conn }
@@ -55,13 +74,13 @@ impl<S: Alter + Drop> Store<S> {
     ///
     /// `Damaged` only where the tables spell no state; `OpenFailed` where a store call fails; `NoMemory`.
     pub fn load(&mut self, alloc: Global) -> Result<Version, Refusal>
-        ensures ok { HasCleanDisk (state S.Store self.new.conn) → HasTables (state S.Store self.old.conn).now.schema →
+        ensures ok { HasCleanDisk (state S.Store self.new.conn) → IsFormat1 (state S.Store self.old.conn).now.schema →
             IfOk result (Stores (state S.Store self.old.conn).now) }
-        ensures damaged { HasCleanDisk (state S.Store self.new.conn) → HasTables (state S.Store self.old.conn).now.schema →
+        ensures damaged { HasCleanDisk (state S.Store self.new.conn) → IsFormat1 (state S.Store self.old.conn).now.schema →
             IfErr result (λ reason. reason ≡ Damaged → (stored : State) → Stores (state S.Store self.old.conn).now stored → ⊥) }
-        ensures same { HasCleanDisk (state S.Store self.new.conn) → HasTables (state S.Store self.old.conn).now.schema →
+        ensures same { HasCleanDisk (state S.Store self.new.conn) → IsFormat1 (state S.Store self.old.conn).now.schema →
             OnOk result (IsUnchanged (state S.Store self.old.conn) (state S.Store self.new.conn)) }
-        ensures quiet { HasTables (state S.Store self.old.conn).now.schema → CommitsNothing S.Store self.old.conn self.new.conn }
+        ensures quiet { IsFormat1 (state S.Store self.old.conn).now.schema → CommitsNothing S.Store self.old.conn self.new.conn }
     {
         let _live = self.conn.schema();
         load(alloc, &mut self.conn)
