@@ -2,7 +2,7 @@
 
 ghost use Rattle.std.specs.Prelude.{◌≡◌, ℕ};
 ghost use Rattle.sqlite_value.specs.declared.value.Value.{Value};
-ghost use Rattle.prt_addr.specs.Block.{IsPrefix};
+ghost use Rattle.prt_addr.specs.Sound.{IsPrefix};
 ghost use Rattle.prt_route.specs.RouteChoice.{is_selected};
 ghost use Rattle.prt_route.specs.declared.choice.Selector.{Selector};
 ghost use Rattle.prt_route.specs.declared.route.Route.{Route};

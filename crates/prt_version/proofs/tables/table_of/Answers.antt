@@ -1,6 +1,6 @@
 use Rattle.std.proofs.Common.{◌≡◌, refl, subst, sym}
 use Rattle.std.specs.List.{AllByRecursion as Each}
-use Rattle.prt_addr.specs.Order.{IsRising}
+use Rattle.prt_addr.specs.Rising.{IsRising}
 use Rattle.prt_route.specs.Route.{is_listed_before}
 use Rattle.prt_route.specs.declared.route.Route.{Route}
 use Rattle.prt_version.proofs.tables.table_of.Goals as goal
