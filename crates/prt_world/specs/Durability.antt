@@ -1,11 +1,11 @@
 -- What holds of the world after every list of events.
-use Rattle.std.specs.Prelude.{◌≡◌, ℕ, ◌+◌, ◌-◌, ◌≤◌, List, length, take, Some, None, slice_get, ◌==◌, Bool, [], ◌∷◌}
+use Rattle.std.specs.Prelude.{◌≡◌, ℕ, ◌+◌, ◌-◌, ◌≤◌, ◌==◌, Bool, List, [], ◌∷◌, length, take, Some, None, slice_get}
+use Rattle.std.specs.List.{list_any}
 use Rattle.prt_command.specs.declared.request.Command.{Command}
 use Rattle.prt_version.specs.Change.{fold}
 use Rattle.prt_version.specs.Select.{select}
 use Rattle.prt_version.specs.State.{State, opening_state}
 use Rattle.prt_world.specs.World.{Ack, Lookup, LookerState, World, durable, kept, offline, online, published_version}
-use Rattle.std.specs.List.{list_any}
 use Rattle.prt_world.specs.declared.outcome.Outcome.{Outcome}
 use Rattle.prt_world.specs.declared.outcome.Outcome.TheVariants.{Reopened}
 
