@@ -1,4 +1,4 @@
--- Rules and routes that a state may have, in its order.
+-- The rules and the routes of a state, but for their order.
 use Rattle.std.specs.Prelude.{◌≤◌, ℕ, ◌+◌, ◌^◌, Bool, true, ◌&&◌, ◌==◌, nat_le, nat_lt, List, length, IsTrue}
 use Rattle.std.specs.List.{IsDistinct, list_all}
 use Rattle.prt_route.specs.Storable.{suits}
