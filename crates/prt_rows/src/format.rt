@@ -1,6 +1,6 @@
 //! Whether a file has the tables of format 1.
 
-ghost use Rattle.std.specs.Prelude.{◌≡◌, ◌==◌, [], ◌∷◌, None, Some, codes, false, map, IsTrue};
+ghost use Rattle.std.specs.Prelude.{◌≡◌, [], ◌∷◌, Some, false, map, IsTrue};
 ghost use Rattle.sqlite_rules.specs.Lists.{Has};
 ghost use Rattle.sqlite_schema.specs.Rules.{guards};
 ghost use Rattle.sqlite_schema.specs.declared.schema.Reference.{Reference as Referring};
