@@ -68,7 +68,7 @@ impl<S: Alter + Drop> Store<S> {
         self.conn
     }
 
-    /// The version that the tables spell. Nothing is changed, and a crash leaves what it could leave before.
+    /// The version that the tables spell. After `Ok` nothing is changed; a crash leaves in any case what it could leave before.
     ///
     /// # Errors
     ///
