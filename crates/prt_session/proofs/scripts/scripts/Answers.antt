@@ -93,6 +93,10 @@ pub returns-clause-throw_falls_through : goal.returns-clause-throw_falls_through
 unfolding session session_lines lines_of line_turn stops_after replies_text digits
 returns-clause-throw_falls_through c = refl
 
+pub returns-clause-two_uplinks : goal.returns-clause-two_uplinks
+unfolding session session_lines lines_of line_turn stops_after replies_text digits
+returns-clause-two_uplinks c = refl
+
 pub returns-clause-unended_line : goal.returns-clause-unended_line
 unfolding session session_lines lines_of line_turn stops_after replies_text digits
 returns-clause-unended_line c = refl
