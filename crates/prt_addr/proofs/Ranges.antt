@@ -56,8 +56,8 @@ is_in_reach block mask addr p whole fits =
     let distance : ℕ = (addr.0 + (4294967296 - block.bits)) % 4294967296 in
     both_ways (nat_le distance mask) (contains block addr)
     (λ h.
-        let near : distance ≤ mask = leb-true distance mask h in
-        contains_from block addr.0 p (omega arith) (omega arith))
+    let near : distance ≤ mask = leb-true distance mask h in
+    contains_from block addr.0 p (omega arith) (omega arith))
     (λ h.
-        let here : (block.bits ≤ addr.0) × (addr.0 < block.bits + g) = contains_tells block addr.0 p h in
-        le-leb distance mask (omega arith))
+    let here : (block.bits ≤ addr.0) × (addr.0 < block.bits + g) = contains_tells block addr.0 p h in
+    le-leb distance mask (omega arith))

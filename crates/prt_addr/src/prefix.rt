@@ -64,7 +64,11 @@ impl Prefix {
             return None;
         }
         let prefix = Prefix::masked(bits, len);
-        if prefix.bits == bits { Some(prefix) } else { None }
+        if prefix.bits == bits {
+            Some(prefix)
+        } else {
+            None
+        }
     }
 
     /// The prefix of this length, at most 32, with the host bits of `bits` cleared.
