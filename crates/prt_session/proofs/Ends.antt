@@ -33,7 +33,7 @@ pub record LineAnswered {D M : Type 0} (turn : TurnsOf D M) (may : Mishaps D M) 
   pub something : is_nothing_by stop (length content) ≡ false
   pub answer : AnswerIs turn may now.desk stop content reply later.desk
 
-pub answered_line : {D M : Type 0} (turn : TurnsOf D M) (may : Mishaps D M) (now later : Moment D) (kept : List ℕ) (line : LineRead) (reply : Reply) (is : LineIs now.reader later.reader kept line) → is_nothing line ≡ false → AnswerIs turn may now.desk line.stop is.content reply later.desk → LineAnswered turn may now later line.stop is.content reply
+answered_line : {D M : Type 0} (turn : TurnsOf D M) (may : Mishaps D M) (now later : Moment D) (kept : List ℕ) (line : LineRead) (reply : Reply) (is : LineIs now.reader later.reader kept line) → is_nothing line ≡ false → AnswerIs turn may now.desk line.stop is.content reply later.desk → LineAnswered turn may now later line.stop is.content reply
 answered_line turn may now later kept line reply is something answer = record { bare = is.bare; read = is.read; stopped = rw is.count is.stopped; something = rw is.count something; answer = answer }
 
 empty_list : (xs : List ℕ) → length xs ≡ 0 → xs ≡ []
@@ -261,3 +261,50 @@ line_served {D} {M} turn may mode left start now later end end' reply stops.Newl
       refused_is = rw all (refused_is ∙ ap (λ had. refused_after had reply) s.refused_is ∙ sym (one_refused (refused_in false told) reply) ∙ sym (refused_append told (reply ∷ []) false));
       fault_is = rw all (fault_is ∙ ap (λ last. fault_after last reply) s.fault_is ∙ sym (one_fault (fault_in None told) reply) ∙ sym (fault_append told (reply ∷ []) None));
     }
+
+-- ---- the desks that may stand before and after a line
+
+-- from a desk that may have stood at first, lines were served up to this one
+abbrev pub ServedTo : {D M : Type 0} → TurnsOf D M → Mishaps D M → OnRefusal → (D → Type 0) → (reader0 reader writer0 writer : Option (List ℕ)) → ℕ → ScriptEnd → D → Type 0
+ServedTo {D} {M} turn may mode stood reader0 reader writer0 writer left end desk = (first : D) × stood first × Served turn may mode (moment first reader0 writer0) (moment desk reader writer) left end
+
+-- the run is one from a desk that may have stood at first
+abbrev pub RunTo : {D M : Type 0} → TurnsOf D M → Mishaps D M → OnRefusal → (D → Type 0) → (reader0 reader writer0 writer : Option (List ℕ)) → ScriptEnd → D → Type 0
+RunTo {D} {M} turn may mode stood reader0 reader writer0 writer end desk = (first : D) × stood first × RunIs turn may mode first desk reader0 reader writer0 writer end
+
+module _ {D M : Type 0} (turn : TurnsOf D M) (may : Mishaps D M) (mode : OnRefusal) (stood stands : D → Type 0) (reader0 reader reader' writer0 writer writer' : Option (List ℕ)) (left : ℕ) (some_left : 0 < left) (end : ScriptEnd)
+  (served : (desk : D) → stands desk → ServedTo turn may mode stood reader0 reader writer0 writer left end desk)
+  (kept : List ℕ) (line : LineRead) (is : LineIs reader reader' kept line) (something : is_nothing line ≡ false) (reply : Reply) (after : D)
+  (answer : (before : D) × stands before × AnswerIs turn may before line.stop is.content reply after) (end' : ScriptEnd) where
+
+  abbrev first_moment : D → Moment D
+  first_moment first = moment first reader0 writer0
+
+  abbrev this_moment : Moment D
+  this_moment = moment answer.0 reader writer
+
+  abbrev next_moment : Moment D
+  next_moment = moment after reader' writer'
+
+  answered : LineAnswered turn may this_moment next_moment line.stop is.content reply
+  answered = answered_line turn may this_moment next_moment kept line reply is something answer.2
+
+  -- where the reply could not be written
+  pub ends_cut : reply ≢ Silent → Written false writer writer' (reply_text reply) → end'.refused ≡ refused_after end.refused reply → end'.fault ≡ Some WriteFault → RunTo turn may mode stood reader0 reader' writer0 writer' end' after
+  ends_cut told written refused_is fault_is =
+      let before = served answer.0 answer.1 in
+      let alone = closes_alone turn may mode left some_left this_moment next_moment reply line.stop is.content answered in
+      (before.0, before.1, cut_from turn may mode (first_moment before.0) this_moment next_moment left end before.2 end' reply alone told written refused_is fault_is)
+
+  -- where the session ends with the reply
+  pub ends_there : ends_after mode line.stop reply ≡ true → Appends writer writer' (reply_text reply) → end'.refused ≡ refused_after end.refused reply → end'.fault ≡ fault_after end.fault reply → RunTo turn may mode stood reader0 reader' writer0 writer' end' after
+  ends_there over wrote refused_is fault_is =
+      let before = served answer.0 answer.1 in
+      let last = closes turn may mode left some_left this_moment next_moment reply line.stop is.content answered over in
+      (before.0, before.1, ran_from turn may mode (first_moment before.0) this_moment next_moment left end before.2 end' reply last wrote refused_is fault_is)
+
+  -- where it goes on
+  pub goes_on : ends_after mode line.stop reply ≡ false → Appends writer writer' (reply_text reply) → end'.refused ≡ refused_after end.refused reply → end'.fault ≡ fault_after end.fault reply → ServedTo turn may mode stood reader0 reader' writer0 writer' (left - 1) end' after
+  goes_on over wrote refused_is fault_is =
+      let before = served answer.0 answer.1 in
+      (before.0, before.1, line_served turn may mode left (first_moment before.0) this_moment next_moment end end' reply line.stop is.content some_left before.2 answered over wrote refused_is fault_is)

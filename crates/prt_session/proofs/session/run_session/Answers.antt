@@ -1,9 +1,9 @@
-use Rattle.std.proofs.Common.{◌≡◌, ◌+◌, ◌-◌, ◌<◌, true, false, refl, arith}
+use Rattle.std.proofs.Common.{◌≡◌, ◌+◌, ◌-◌, true, refl, arith}
 use Rattle.prt_command.specs.Lines.{limits}
-use Rattle.prt_session.proofs.Ends.{after_last, answered_line, nothing_read, line_served, closes, closes_alone}
-use Rattle.prt_session.proofs.Served.{moment, served_at_first, ran_from, cut_from, ran_to_end}
+use Rattle.prt_session.proofs.Ends.{after_last, ends_cut, ends_there, goes_on, nothing_read}
+use Rattle.prt_session.proofs.Served.{moment, served_at_first, ran_to_end}
 use Rattle.prt_session.specs.Run.{refused_after}
-use Rattle.prt_session.specs.Steps.{is_nothing, ends_after}
+use Rattle.prt_session.specs.Steps.{is_nothing}
 use Rattle.prt_session.proofs.session.run_session.Goals as goal
 
 pub loop-count-init : goal.loop-count-init
@@ -27,66 +27,29 @@ returns-then-is_no_line-clause-run g c = λ after stands.
 
 pub returns-then-not-is_written-clause-run : goal.returns-then-not-is_written-clause-run
 returns-then-not-is_written-clause-run g c = λ after stands.
-    let turn = g.E.Executor.turn in
-    let may = g.E.Executor.may in
-    let read = c.next_line-read.result in
-    let reply = c.reply_to-reply.result in
     let is = c.next_line-read.ensures in
     let answer = c.reply_to-reply.ensures.turn is.content is.count (rw c.as_slice.ensures.value is.keeps) after stands in
-    let before = c.loop-count.invariant.served answer.0 answer.1 in
-    let start = moment before.0 (g.R.Read.remaining c.args.reader.now) (g.W.Write.contents c.args.writer.now) in
-    let now = moment answer.0 (g.R.Read.remaining c.loop-count.reader) (g.W.Write.contents c.loop-count.writer) in
-    let later = moment after (g.R.Read.remaining c.next_line-read.new.reader) (g.W.Write.contents c.write_reply-is_written.new.writer) in
-    let left = limits.lines - c.loop-count.count in
-    let some_left : 0 < left = omega arith in
-    let something : is_nothing read ≡ false = cc in
-    let line = answered_line turn may now later c.next_line-read.new.line.items read reply is something answer.2 in
-    let noted : c.with_write_fault.result.refused ≡ refused_after c.loop-count.end.refused reply = cc in
-    let alone = closes_alone turn may c.args.mode left some_left now later reply read.stop is.content line in
-    (before.0, before.1, cut_from turn may c.args.mode start now later left c.loop-count.end before.2 c.with_write_fault.result reply alone (c.if-not-is_written.ensures.told refl) c.if-not-is_written.ensures.written noted c.with_write_fault.ensures.fault)
+    let noted : c.with_write_fault.result.refused ≡ refused_after c.loop-count.end.refused c.reply_to-reply.result = cc in
+    ends_cut g.E.Executor.turn g.E.Executor.may c.args.mode _ _ _ _ _ _ _ _ _ (omega arith) c.loop-count.end c.loop-count.invariant.served _ c.next_line-read.result is (cc) c.reply_to-reply.result after answer c.with_write_fault.result
+    (c.if-not-is_written.ensures.told refl) c.if-not-is_written.ensures.written noted c.with_write_fault.ensures.fault
 
 pub returns-then-is_last-clause-run : goal.returns-then-is_last-clause-run
 returns-then-is_last-clause-run g c = λ after stands.
-    let turn = g.E.Executor.turn in
-    let may = g.E.Executor.may in
-    let read = c.next_line-read.result in
-    let reply = c.reply_to-reply.result in
     let is = c.next_line-read.ensures in
     let answer = c.reply_to-reply.ensures.turn is.content is.count (rw c.as_slice.ensures.value is.keeps) after stands in
-    let before = c.loop-count.invariant.served answer.0 answer.1 in
-    let start = moment before.0 (g.R.Read.remaining c.args.reader.now) (g.W.Write.contents c.args.writer.now) in
-    let now = moment answer.0 (g.R.Read.remaining c.loop-count.reader) (g.W.Write.contents c.loop-count.writer) in
-    let later = moment after (g.R.Read.remaining c.next_line-read.new.reader) (g.W.Write.contents c.write_reply-is_written.new.writer) in
-    let left = limits.lines - c.loop-count.count in
-    let some_left : 0 < left = omega arith in
-    let something : is_nothing read ≡ false = cc in
-    let over : ends_after c.args.mode read.stop reply ≡ true = cc in
-    let line = answered_line turn may now later c.next_line-read.new.line.items read reply is something answer.2 in
-    let last = closes turn may c.args.mode left some_left now later reply read.stop is.content line over in
-    (before.0, before.1, ran_from turn may c.args.mode start now later left c.loop-count.end before.2 c.with_reply-end.result reply last c.if-not-is_written.ensures.written c.with_reply-end.ensures.refused c.with_reply-end.ensures.fault)
+    ends_there g.E.Executor.turn g.E.Executor.may c.args.mode _ _ _ _ _ _ _ _ _ (omega arith) c.loop-count.end c.loop-count.invariant.served _ c.next_line-read.result is (cc) c.reply_to-reply.result after answer c.with_reply-end.result
+    (cc) c.if-not-is_written.ensures.written c.with_reply-end.ensures.refused c.with_reply-end.ensures.fault
 
 pub loop-count-preserved : goal.loop-count-preserved
 loop-count-preserved g c = record {
   fits = c.reply_to-reply.ensures.fits;
   left = λ stands. c.reply_to-reply.ensures.left (c.loop-count.invariant.left stands);
   served = λ after stands.
-      let turn = g.E.Executor.turn in
-      let may = g.E.Executor.may in
-      let read = c.next_line-read.result in
-      let reply = c.reply_to-reply.result in
       let is = c.next_line-read.ensures in
       let answer = c.reply_to-reply.ensures.turn is.content is.count (rw c.as_slice.ensures.value is.keeps) after stands in
-      let before = c.loop-count.invariant.served answer.0 answer.1 in
-      let start = moment before.0 (g.R.Read.remaining c.args.reader.now) (g.W.Write.contents c.args.writer.now) in
-      let now = moment answer.0 (g.R.Read.remaining c.loop-count.reader) (g.W.Write.contents c.loop-count.writer) in
-      let later = moment after (g.R.Read.remaining c.next_line-read.new.reader) (g.W.Write.contents c.write_reply-is_written.new.writer) in
-      let left = limits.lines - c.loop-count.count in
-      let some_left : 0 < left = omega arith in
-      let something : is_nothing read ≡ false = cc in
-      let over : ends_after c.args.mode read.stop reply ≡ false = cc in
-      let line = answered_line turn may now later c.next_line-read.new.line.items read reply is something answer.2 in
-      let less : limits.lines - (c.loop-count.count + 1) ≡ left - 1 = omega arith in
-      (before.0, before.1, rw less (line_served turn may c.args.mode left start now later c.loop-count.end c.with_reply-end.result reply read.stop is.content some_left before.2 line over c.if-not-is_written.ensures.written c.with_reply-end.ensures.refused c.with_reply-end.ensures.fault));
+      let less : limits.lines - (c.loop-count.count + 1) ≡ (limits.lines - c.loop-count.count) - 1 = omega arith in
+      rw less (goes_on g.E.Executor.turn g.E.Executor.may c.args.mode _ _ _ _ _ _ _ _ _ (omega arith) c.loop-count.end c.loop-count.invariant.served _ c.next_line-read.result is (cc) c.reply_to-reply.result after answer c.with_reply-end.result
+      (cc) c.if-not-is_written.ensures.written c.with_reply-end.ensures.refused c.with_reply-end.ensures.fault);
 }
 
 pub returns-clause-run : goal.returns-clause-run
