@@ -6,6 +6,7 @@ ghost use Rattle.prt_version.specs.Change.{IsChecked, check, put, rule_of};
 ghost use Rattle.prt_version.specs.Listing.{listing};
 ghost use Rattle.prt_version.specs.RowsSpell.{RowsSpell, RowsSpellNone};
 ghost use Rattle.prt_version.specs.Select.{select};
+ghost use Rattle.prt_version.specs.Sound.{IsSound};
 ghost use Rattle.prt_version.specs.State.{opening_state, table_rule};
 
 use crate::checks::change_of;
@@ -131,9 +132,11 @@ impl Version {
         })
     }
 
-    /// The number of commands that were accepted up to this version.
+    /// The number of commands that were accepted up to this version. Its contract also says what holds of each version,
+    /// which a store asks for before it commits a change.
     pub fn number(&self) -> u64
-        ensures { result ≡ self.now.count }
+        ensures value { result ≡ self.now.count }
+        ensures sound { IsSound self.now }
     {
         self.count
     }

@@ -18,4 +18,4 @@ pub returns-clause-turn : goal.returns-clause-turn
 returns-clause-turn c =
     let made : check c.args.self.now c.args.command.now ≡ Ok c.in-Ok.change = ap (λ state. check state c.args.command.now) (sym c.self.view_is) ∙ sym c.in-Ok.ensures.value in
     let next : c.in-Ok-next.next ≡ apply c.args.self.now c.args.command.now = c.in-Ok-next.ensures.value ∙ ap (λ state. put state c.in-Ok.change) c.self.view_is ∙ sym (ap (put_if c.args.self.now) made) in
-    rw c.number.ensures (accepted_turn c.args.self.now c.in-Ok-next.next c.args.command.now (ap result_err made) next)
+    rw c.number.ensures.value (accepted_turn c.args.self.now c.in-Ok-next.next c.args.command.now (ap result_err made) next)
