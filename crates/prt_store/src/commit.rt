@@ -45,6 +45,7 @@ pub(crate) fn run<S: Alter>(
     requires number { number < 2 ^ 63 }
     ensures ok { HasCleanDisk (state S.Store conn.new) → OnOk result (IsTyped change.now × IsWritten S.Store change.now number conn.old (state S.Store conn.new).committed
         × ((state S.Store conn.new).now ≡ (state S.Store conn.new).committed) × IsTrue (state S.Store conn.new).is_open) }
+    ensures clean { HasCleanDisk (state S.Store conn.new) → OnOk result (HasCleanDisk (state S.Store conn.old)) }
     ensures err { HasCleanDisk (state S.Store conn.new) → IsTrue (state S.Store conn.new).is_open →
         OnErr result (((state S.Store conn.new).now ≡ (state S.Store conn.old).now) × ((state S.Store conn.new).committed ≡ (state S.Store conn.old).committed)) }
     ensures crash_err { IfErr result (λ call. Survives (state S.Store conn.old) (state S.Store conn.new)

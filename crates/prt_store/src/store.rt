@@ -61,6 +61,13 @@ impl<S: Alter + Drop> Store<S> {
         }
     }
 
+    /// Tells whether our tables are the first of the file: what is said of a store rests on that.
+    pub fn is_format_1(&self) -> bool
+        ensures { IsTrue result → IsFormat1 (state S.Store self.now.conn).now.schema }
+    {
+        is_format_1(self.conn.schema())
+    }
+
     /// The connection, with its tables as they are.
     pub fn release(self) -> Connection<S>
         ensures { result ≡ self.conn }
@@ -98,6 +105,7 @@ impl<S: Alter + Drop> Store<S> {
         requires { (before : State) × IsNext before change.now number }
         ensures stamp { IfOk result (λ stamp. stamp.number ≡ number) }
         ensures reason { IfErr result (λ reason. (call : FailedCall) × (reason ≡ StoreFailed call)) }
+        ensures clean { HasCleanDisk (state S.Store self.new.conn) → HasCleanDisk (state S.Store self.old.conn) }
         ensures ok { HasCleanDisk (state S.Store self.new.conn) → OnOk result ((before : State) → IsNext before change.now number →
             Stores (state S.Store self.old.conn).now before → Stores (state S.Store self.new.conn).now (put before change.now)) }
         ensures crash_ok { HasCleanDisk (state S.Store self.new.conn) → OnOk result ((trees : Trees) →

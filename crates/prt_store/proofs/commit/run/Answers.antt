@@ -1,4 +1,4 @@
-use Rattle.std.proofs.Common.{◌≡◌, IsTrue, refl, sym, subst, rules, ◌∙◌}
+use Rattle.std.proofs.Common.{◌≡◌, IsTrue, refl, sym, subst, rules, ◌∙◌, arith}
 use Rattle.sqlite.proofs.StateLemmas.{survives_weaker}
 use Rattle.sqlite.specs.Held.{state}
 use Rattle.sqlite.specs.State.{HasCleanDisk, Survives}
@@ -29,3 +29,13 @@ returns-then-is_err-3-clause-crash_err g c =
     c.write.ensures.survives c.set_count.ensures.survives end c.commit.ensures.survives in
     let P = λ (trees : Trees). (Commit ≡ Commit) × IsTyped c.args.change.now × AreWritten g.S.Store c.args.change.now c.args.number c.args.conn.now trees in
     subst (λ h. Survives (state g.S.Store c.args.conn.now) (state g.S.Store h) P) same (survives_weaker _ _ _ P (λ _ db it. (refl, c.write.ensures.typed, it)) all)
+
+pub returns-clause-clean : goal.returns-clause-clean
+returns-clause-clean g c clean =
+    let end = c.commit.new.self.0 in
+    let same : end ≡ c.conn-2-1.given.0 = search rules in
+    let late : HasCleanDisk (state g.S.Store end) = subst (λ h. HasCleanDisk (state g.S.Store h)) (sym same) clean in
+    let all = crash_after g.S.Store c.args.change.now c.args.number c.args.conn.now c.transaction-tx.result.conn.now c.write.new.tx.conn.now c.set_count.new.tx.conn.now c.write.result c.set_count.result
+    c.transaction-tx.ensures.begun c.write.ensures.runs c.set_count.ensures.runs (sym c.is_err.ensures.value ∙ c.if-is_err.false) (sym c.is_err-2.ensures.value ∙ c.if-is_err-2.false)
+    c.write.ensures.survives c.set_count.ensures.survives end c.commit.ensures.survives in
+    omega (arith, all.clean, late)

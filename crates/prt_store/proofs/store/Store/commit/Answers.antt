@@ -1,4 +1,4 @@
-use Rattle.std.proofs.Common.{inl, inr, sym, ap, subst}
+use Rattle.std.proofs.Common.{inl, inr, sym, ap, subst, arith}
 use Rattle.sqlite.specs.Effect.{Database}
 use Rattle.prt_addr.specs.declared.refusal.Refusal.TheVariants.{StoreFailed}
 use Rattle.prt_version.specs.Change.{put}
@@ -27,3 +27,9 @@ returns-in-Err-clause-crash_err g c clean before next held trees leaves = elim (
       let now = written_stores g.S.Store c.args.change.now c.args.number c.args.self.now.conn it.0 before next made.1 held it.1 in
       inr (ap StoreFailed made.0, subst (λ (d : Database). Stores d (put before c.args.change.now)) (λ i. record { schema = now.0 i; trees = sym it.2 i }) now.1)
 ]
+
+pub returns-in-Ok-clause-clean : goal.returns-in-Ok-clause-clean
+returns-in-Ok-clause-clean g c clean = c.in-Ok.ensures.clean clean
+
+pub returns-in-Err-clause-clean : goal.returns-in-Err-clause-clean
+returns-in-Err-clause-clean g c clean = omega (arith, c.in-Err.ensures.crash_err.clean, clean)
