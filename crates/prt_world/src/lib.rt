@@ -12,8 +12,6 @@ mod read;
 mod replay;
 mod replay_file;
 pub mod replays;
-#[cfg(test)]
-mod tests;
 mod text;
 mod trace;
 mod words;
