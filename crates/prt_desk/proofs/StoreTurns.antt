@@ -1,0 +1,186 @@
+-- Turns of a desk over a store: what each state that it may stand for after a command is explained by.
+use Rattle.std.proofs.Common.{◌≡◌, ◌⊎◌, inl, inr, ℕ, Bool, true, false, Option, Some, None, Result, Ok, Err, IfSome, refl, sym, ap, subst, ◌∙◌}
+use Rattle.sqlite.specs.Held.{Held, state}
+use Rattle.sqlite.specs.State.{HasCleanDisk}
+use Rattle.sqlite.specs.Store.{Ghosts}
+use Rattle.sqlite.specs.Tree.{Trees}
+use Rattle.prt_addr.specs.declared.refusal.Refusal.{Refusal}
+use Rattle.prt_addr.specs.declared.refusal.Refusal.TheVariants.{Closed, NoMemory, StoreFailed}
+use Rattle.prt_addr.specs.declared.refusal.StoreCall.{StoreCall}
+use Rattle.prt_addr.specs.declared.refusal.StoreCall.TheVariants.{Commit}
+use Rattle.prt_command.specs.declared.request.Command.{Command}
+use Rattle.prt_session.proofs.Turns.{accepted_turn, memory_refused, refused_turn}
+use Rattle.prt_session.specs.Desk.{DeskState, IsNoMemory, Mishap, store_fails, commit_kept, command_or_refusal, settled, shut}
+use Rattle.prt_session.specs.Stands.{Explained}
+use Rattle.prt_session.specs.Steps.{CommandGives}
+use Rattle.prt_store.specs.Next.{IsNext}
+use Rattle.prt_store.specs.Stored.{Stores}
+use Rattle.prt_version.specs.Change.{apply, put, refusal}
+use Rattle.prt_version.specs.State.{State}
+use Rattle.prt_version.specs.declared.change.Change.{Change}
+use Rattle.prt_desk.specs.StoreDesk.{DeskOver, IsKept, IsKnown, IsPerhapsStored, IsStored, IsStoreMishap, Keeps, MayBeStored, Spells, StandsBy, StandsFor, desk_with}
+use Rattle.prt_desk.proofs.Spelled.{spelled_once}
+
+-- what may befall a desk over lists may befall this one
+more_may : (mishap : Option Mishap) → IfSome mishap IsNoMemory → IfSome mishap IsStoreMishap
+more_may None may = tt
+more_may (Some mishap) may = subst IsStoreMishap (sym may) tt
+
+gives_more : (before : DeskState) (command : Command) (result : Result ℕ Refusal) (after : DeskState) → CommandGives IsNoMemory before command result after → CommandGives IsStoreMishap before command result after
+gives_more before command result after gives = (gives.0, more_may gives.0 gives.1, gives.2, gives.3)
+
+-- a store call failed, and the change is not stored
+failed_turn : (published : State) (command : Command) (call : StoreCall) → refusal published command ≡ None → CommandGives IsStoreMishap (settled published) command (Err (StoreFailed call)) (shut (settled published) published)
+failed_turn published command call none = (
+  Some (store_fails call),
+  tt,
+  ap (λ r. (command_or_refusal (settled published) command false r (Some (store_fails call))).reply) (sym none),
+  ap (λ r. (command_or_refusal (settled published) command false r (Some (store_fails call))).desk) (sym none),
+)
+
+-- the commit failed, and yet the change is stored
+kept_turn : (published : State) (command : Command) → refusal published command ≡ None → CommandGives IsStoreMishap (settled published) command (Err (StoreFailed Commit)) (shut (settled published) (apply published command))
+kept_turn published command none = (
+  Some commit_kept,
+  tt,
+  ap (λ r. (command_or_refusal (settled published) command false r (Some commit_kept)).reply) (sym none),
+  ap (λ r. (command_or_refusal (settled published) command false r (Some commit_kept)).desk) (sym none),
+)
+
+-- a closed desk refuses
+closed_turn : (desk : DeskState) (command : Command) → desk.closed ≡ true → CommandGives IsStoreMishap desk command (Err Closed) desk
+closed_turn desk command is = (
+  None,
+  tt,
+  ap (λ closed. (command_or_refusal desk command closed (refusal desk.published command) None).reply) (sym is),
+  ap (λ closed. (command_or_refusal desk command closed (refusal desk.published command) None).desk) (sym is),
+)
+
+module _ {S : Type 0} (g : Ghosts S) (format_1 : Bool) (tables : Held S) (published : State) where
+  closed_by : (closed : Bool) (desk : DeskState) → StandsBy g format_1 tables published closed desk → desk.closed ≡ closed
+  closed_by false desk is = ap (λ (d : DeskState). d.closed) is
+  closed_by true desk is = is.1
+
+  published_by : (closed : Bool) (desk : DeskState) → StandsBy g format_1 tables published closed desk → desk.published ≡ published
+  published_by false desk is = ap (λ (d : DeskState). d.published) is
+  published_by true desk is = is.0
+
+  settled_by : (closed : Bool) (desk : DeskState) → closed ≡ false → StandsBy g format_1 tables published closed desk → desk ≡ settled published
+  settled_by closed desk is stands = subst (λ closed. StandsBy g format_1 tables published closed desk) is stands
+
+  opened : (closed : Bool) → closed ≡ false → StandsBy g format_1 tables published closed (settled published)
+  opened closed is = subst (λ closed. StandsBy g format_1 tables published closed (settled published)) (sym is) refl
+
+  something_by : (closed : Bool) → (desk : DeskState) × StandsBy g format_1 tables published closed desk
+  something_by false = (settled published, refl)
+  something_by true = (shut (settled published) published, (refl, refl, inl refl))
+
+  durable_by : (closed : Bool) → IsKnown g format_1 tables → Keeps g tables published closed → (trees : Trees) → (state g tables).may_leave trees
+      → (stored : State) × Spells trees stored × StandsBy g format_1 tables published closed (record { published = published; stored = stored; closed = closed })
+  durable_by false known kept trees may = (published, kept.durable trees may, refl)
+  durable_by true known kept trees may = let left = kept trees may in (left.0, left.1, (refl, refl, inr (known, (trees, may, left.1))))
+
+module _ {S : Type 0} (g : Ghosts S) (old : DeskOver (Held S)) where
+  -- queries are answered from the published state
+  pub published_is : (desk : DeskState) → StandsFor g old desk → desk.published ≡ old.published
+  published_is = published_by g old.format_1 old.tables old.published old.closed
+
+  -- a desk stands for something
+  pub something : (desk : DeskState) × StandsFor g old desk
+  something = something_by g old.format_1 old.tables old.published old.closed
+
+  -- what it stands for is told by what is stored
+  pub stands_with : (desk : DeskState) → StandsFor g old desk → desk ≡ desk_with old desk.stored
+  stands_with desk stands = λ i. record { published = published_is desk stands i; stored = desk.stored; closed = closed_by g old.format_1 old.tables old.published old.closed desk stands i }
+
+  -- whatever a crash leaves spells a state that may be stored
+  pub durable_is : IsKept g old → IsKnown g old.format_1 old.tables → (trees : Trees) → (state g old.tables).may_leave trees → (stored : State) × Spells trees stored × MayBeStored g old stored
+  durable_is kept known = durable_by g old.format_1 old.tables old.published old.closed known (kept known)
+
+  module _ (command : Command) where
+    abbrev Explains : DeskOver (Held S) → Result ℕ Refusal → Type 0
+    Explains new result = Explained (StandsFor g) old new (λ before after. CommandGives IsStoreMishap before command result after)
+
+    pub closed_explained : old.closed ≡ true → Explains old (Err Closed)
+    closed_explained is after stands = (after, stands, closed_turn after command (closed_by g old.format_1 old.tables old.published old.closed after stands ∙ is))
+
+    module _ (is_open : old.closed ≡ false) where
+      before : StandsFor g old (settled old.published)
+      before = opened g old.format_1 old.tables old.published old.closed is_open
+
+      as_settled : (result : Result ℕ Refusal) → CommandGives IsNoMemory (settled old.published) command result (settled old.published) → Explains old result
+      as_settled result gives after stands =
+          let is = settled_by g old.format_1 old.tables old.published old.closed after is_open stands in
+          (after, stands, subst (λ desk. CommandGives IsStoreMishap desk command result desk) (sym is) (gives_more (settled old.published) command result (settled old.published) gives))
+
+      pub refused_explained : (reason : Refusal) → refusal old.published command ≡ Some reason → Explains old (Err reason)
+      refused_explained reason is = as_settled (Err reason) (refused_turn old.published command reason is)
+
+      module _ (none : refusal old.published command ≡ None) where
+        pub memory_explained : Explains old (Err NoMemory)
+        memory_explained = as_settled (Err NoMemory) (memory_refused old.published command none)
+
+        pub accepted_explained : (new : DeskOver (Held S)) → new.closed ≡ false → new.published ≡ apply old.published command → Explains new (Ok new.published.count)
+        accepted_explained new still next after stands =
+            let is = settled_by g new.format_1 new.tables new.published new.closed after still stands in (
+              settled old.published,
+              before,
+              subst (λ desk. CommandGives IsStoreMishap (settled old.published) command (Ok new.published.count) desk) (sym is)
+                  (gives_more (settled old.published) command (Ok new.published.count) (settled new.published) (accepted_turn old.published new.published command none next)),
+            )
+
+        -- after a failed commit: closed, with the state before or, only where the commit call failed, possibly the one after the command
+        pub failed_explained : (new : Held S) (call : StoreCall)
+            → ((stored : State) → IsPerhapsStored g old.format_1 new old.published stored → (stored ≡ old.published) ⊎ ((call ≡ Commit) × (stored ≡ apply old.published command)))
+            → Explains (record { published = old.published; closed = true; format_1 = old.format_1; tables = new }) (Err (StoreFailed call))
+        failed_explained new call either after stands = (settled old.published, before, fails (either after.stored stands.2))
+          where
+            same : (stored : State) → after.stored ≡ stored → shut (settled old.published) stored ≡ after
+            same stored is = λ i. record { published = sym stands.0 i; stored = sym is i; closed = sym stands.1 i }
+
+            Fails : StoreCall → DeskState → Type 0
+            Fails call desk = CommandGives IsStoreMishap (settled old.published) command (Err (StoreFailed call)) desk
+
+            fails : (after.stored ≡ old.published) ⊎ ((call ≡ Commit) × (after.stored ≡ apply old.published command)) → Fails call after
+            fails (inl is) = subst (Fails call) (same old.published is) (failed_turn old.published command call none)
+            fails (inr made) = subst (Fails call) (same (apply old.published command) made.1) (subst (λ call. Fails call (shut (settled old.published) (apply old.published command))) (sym made.0) (kept_turn old.published command none))
+
+-- ---- a commit
+
+module _ {S : Type 0} (g : Ghosts S) (format_1 : Bool) (old new : Held S) (published : State) (made : Change) (number : ℕ) (next : IsNext published made number)
+    (clean : HasCleanDisk (state g new) → HasCleanDisk (state g old)) (kept : IsKnown g format_1 old → IsStored g old published) where
+  held : IsKnown g format_1 new → IsStored g old published
+  held known = kept (known.0, clean known.1)
+
+  -- the desk goes over to the next version
+  pub stored_after : (HasCleanDisk (state g new) → (before : State) → IsNext before made number → Stores (state g old).now before → Stores (state g new).now (put before made))
+      → (HasCleanDisk (state g new) → (trees : Trees) → (state g new).may_leave trees → trees ≡ (state g new).now.trees)
+      → IsKnown g format_1 new → IsStored g new (put published made)
+  stored_after stores leaves known =
+      let now = stores known.1 published next (held known).now in
+      record {
+        now = now;
+        durable = λ trees left. ((state g new).now.schema, subst (λ (t : Trees). Stores (record { schema = (state g new).now.schema; trees = t }) (put published made)) (sym (leaves known.1 trees left)) now);
+      }
+
+  module _ (call : StoreCall) (reason : Refusal) (is : reason ≡ StoreFailed call)
+      (leaves : HasCleanDisk (state g new) → (before : State) → IsNext before made number → Stores (state g old).now before → (trees : Trees) → (state g new).may_leave trees
+      → (state g old).may_leave trees ⊎ ((reason ≡ StoreFailed Commit) × Stores (record { schema = (state g old).now.schema; trees = trees }) (put before made))) where
+    -- whatever a crash leaves spells the state before or after
+    pub keeps_after : IsKnown g format_1 new → Keeps g new published true
+    keeps_after known trees may = elim (leaves known.1 published next (held known).now trees may) [
+      | inl was ↦ (published, (held known).durable trees was)
+      | inr more ↦ (put published made, ((state g old).now.schema, more.1))
+    ]
+
+    named : reason ≡ StoreFailed Commit → call ≡ Commit
+    named made = let both : StoreFailed call ≡ StoreFailed Commit = sym is ∙ made in cc
+
+    pub either_stored : (stored : State) → IsPerhapsStored g format_1 new published stored → (stored ≡ published) ⊎ ((call ≡ Commit) × (stored ≡ put published made))
+    either_stored stored (inl same) = inl same
+    either_stored stored (inr left) =
+        let trees = left.1.0 in
+        elim (leaves left.0.1 published next (held left.0).now trees left.1.1) [
+          | inl was ↦ inl (spelled_once trees stored published left.1.2 ((held left.0).durable trees was))
+          | inr more ↦ inr (named more.0, spelled_once trees stored (put published made) left.1.2 ((state g old).now.schema, more.1))
+        ]

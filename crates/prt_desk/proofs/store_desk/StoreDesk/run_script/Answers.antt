@@ -1,0 +1,19 @@
+use Rattle.std.proofs.Common.{subst}
+use Rattle.prt_session.specs.Desk.{Befalls, DeskState, request_turn}
+use Rattle.prt_session.specs.Run.{RunIs}
+use Rattle.prt_desk.specs.StoreDesk.{IsStoreMishap, StandsFor, desk_with}
+use Rattle.prt_desk.proofs.StoreTurns.{durable_is, stands_with}
+use Rattle.prt_desk.proofs.store_desk.StoreDesk.run_script.Goals as goal
+
+-- what the desk stands for at the end is explained by what it stood for before
+pub returns-clause-run : goal.returns-clause-run
+returns-clause-run g c = λ stored may.
+    let old = c.args.self.now in
+    let end = desk_with c.run_script-end.new.desk stored in
+    let ran = c.run_script-end.ensures.run end may in
+    let is = stands_with g.S.Store old ran.0 ran.1 in
+    let Runs = λ (before : DeskState). RunIs request_turn (Befalls IsStoreMishap) c.args.mode before end (g.R.Read.remaining c.args.reader.now) (g.R.Read.remaining c.run_script-end.new.reader) (g.W.Write.contents c.args.writer.now) (g.W.Write.contents c.run_script-end.new.writer) c.run_script-end.result in
+    (ran.0.stored, subst (λ (d : DeskState). StandsFor g.S.Store old d) is ran.1, subst Runs is ran.2)
+
+pub returns-clause-durable : goal.returns-clause-durable
+returns-clause-durable g c = durable_is g.S.Store c.run_script-end.new.desk c.is_closed-is_closed.ensures.kept

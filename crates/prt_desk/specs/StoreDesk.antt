@@ -1,0 +1,82 @@
+-- What a desk over a store stands for.
+use Rattle.std.specs.Prelude.{◌≡◌, ◌⊎◌, Bool, true, false, refl, ⊤}
+use Rattle.std.specs.Coded.{Coded, code_by, coded×, coded_bool}
+use Rattle.sqlite.specs.Held.{Held, state}
+use Rattle.sqlite.specs.Schema.{Schema}
+use Rattle.sqlite.specs.State.{HasCleanDisk}
+use Rattle.sqlite.specs.Store.{Ghosts}
+use Rattle.sqlite.specs.Tree.{Trees}
+use Rattle.prt_session.specs.Desk.{DeskState, Mishap, no_room, no_memory, store_fails, commit_kept, publication_fails, settled}
+use Rattle.prt_store.specs.Stored.{Stores}
+use Rattle.prt_version.specs.State.{State}
+use Rattle.prt_version.specs.contracts.version.Version as version
+
+-- What is seen of a desk over a store: the state that its queries are answered from, whether it is closed, whether its tables were found to be the first of their file, in format 1, and the connection to them.
+pub record DeskOver (T : Type 0) : Type 0 where
+  pub published : State
+  pub closed : Bool
+  pub format_1 : Bool
+  pub tables : T
+
+abbrev pub desk_code : {T : Type 0} → Coded T → Coded (DeskOver T)
+desk_code {T} tables =
+    code_by (State × (Bool × (Bool × T))) (coded× version.the_row.coded (coded× coded_bool (coded× coded_bool tables)))
+    (λ d. (d.published, (d.closed, (d.format_1, d.tables))))
+    (λ p. record { published = p.0; closed = p.1.0; format_1 = p.1.1.0; tables = p.1.1.1 })
+    (λ _. refl)
+
+-- these trees, as our tables, spell the state
+abbrev pub Spells : Trees → State → Type 0
+Spells trees stored = (schema : Schema) × Stores (record { schema = schema; trees = trees }) stored
+
+-- a crash may leave a file that spells the state
+abbrev pub MayLeave : {S : Type 0} → Ghosts S → Held S → State → Type 0
+MayLeave g tables left = (trees : Trees) × (state g tables).may_leave trees × Spells trees left
+
+-- nothing is pending: whatever a crash leaves spells what the tables spell
+abbrev pub HasNothingPending : {S : Type 0} → Ghosts S → Held S → Type 0
+HasNothingPending g tables = (stored : State) → Stores (state g tables).now stored → (trees : Trees) → (state g tables).may_leave trees → Spells trees stored
+
+-- The tables spell the state, and so does whatever a crash leaves.
+pub record IsStored {S : Type 0} (g : Ghosts S) (tables : Held S) (stored : State) : Type 0 where
+  pub now : Stores (state g tables).now stored
+  pub durable : (trees : Trees) → (state g tables).may_leave trees → Spells trees stored
+
+-- what is known of a file rests on this: its first tables are ours, and the disk has returned what was written
+abbrev pub IsKnown : {S : Type 0} → Ghosts S → Bool → Held S → Type 0
+IsKnown g format_1 tables = (format_1 ≡ true) × HasCleanDisk (state g tables)
+
+-- while a desk is open, its state is stored; once it is closed, whatever a crash leaves spells some state
+abbrev pub Keeps : {S : Type 0} → Ghosts S → Held S → State → Bool → Type 0
+Keeps g tables published false = IsStored g tables published
+Keeps g tables published true = (trees : Trees) → (state g tables).may_leave trees → (left : State) × Spells trees left
+
+abbrev pub IsKept : {S : Type 0} → Ghosts S → DeskOver (Held S) → Type 0
+IsKept g desk = IsKnown g desk.format_1 desk.tables → Keeps g desk.tables desk.published desk.closed
+
+-- what may be stored once a desk is closed: the state that is published, or one that a crash may leave
+abbrev pub IsPerhapsStored : {S : Type 0} → Ghosts S → Bool → Held S → State → State → Type 0
+IsPerhapsStored g format_1 tables published stored = (stored ≡ published) ⊎ (IsKnown g format_1 tables × MayLeave g tables stored)
+
+abbrev pub StandsBy : {S : Type 0} → Ghosts S → Bool → Held S → State → Bool → DeskState → Type 0
+StandsBy g format_1 tables published false desk = desk ≡ settled published
+StandsBy g format_1 tables published true desk = (desk.published ≡ published) × (desk.closed ≡ true) × IsPerhapsStored g format_1 tables published desk.stored
+
+-- what a desk stands for: while it is open, its state, published and stored; once it is closed, that state is published, and stored is what may be
+abbrev pub StandsFor : {S : Type 0} → Ghosts S → DeskOver (Held S) → DeskState → Type 0
+StandsFor g desk = StandsBy g desk.format_1 desk.tables desk.published desk.closed
+
+abbrev pub desk_with : {T : Type 0} → DeskOver T → State → DeskState
+desk_with desk stored = record { published = desk.published; stored = stored; closed = desk.closed }
+
+-- the desk may stand for this stored state
+abbrev pub MayBeStored : {S : Type 0} → Ghosts S → DeskOver (Held S) → State → Type 0
+MayBeStored g desk stored = StandsFor g desk (desk_with desk stored)
+
+-- what may befall it: memory or a store call may fail; old versions take no room, and a publication cannot fail
+abbrev pub IsStoreMishap : Mishap → Type 0
+IsStoreMishap no_room = ⊥
+IsStoreMishap no_memory = ⊤
+IsStoreMishap (store_fails call) = ⊤
+IsStoreMishap commit_kept = ⊤
+IsStoreMishap publication_fails = ⊥

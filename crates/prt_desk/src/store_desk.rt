@@ -1,0 +1,161 @@
+ghost use Rattle.std.specs.Prelude.{◌≡◌, IfErr, IfOk, false, true};
+ghost use Rattle.sqlite.specs.Held.{state};
+ghost use Rattle.sqlite.specs.State.{HasCleanDisk};
+ghost use Rattle.sqlite.specs.Tree.{Trees};
+ghost use Rattle.prt_desk.specs.StoreDesk.{HasNothingPending, IsKept, IsKnown, IsStored, IsStoreMishap, MayBeStored, Spells, desk_with};
+ghost use Rattle.prt_rows.specs.Format.{IsFormat1};
+ghost use Rattle.prt_session.specs.Desk.{Befalls, request_turn};
+ghost use Rattle.prt_session.specs.Run.{RunIs};
+ghost use Rattle.prt_store.specs.Stored.{Stores};
+ghost use Rattle.prt_version.specs.State.{State};
+
+use prt_listing::query_text;
+use prt_session::{Command, Desk, OnRefusal, Query, Refusal, ScriptEnd, run_script};
+use prt_store::Store;
+use prt_version::Version;
+use sqlite::{Alter, Connection};
+use std::alloc::Global;
+use std::io::{Read, Write};
+use std::marker::Model;
+
+/// A desk over a store, and the version after its last commit.
+///
+/// A command is checked, the version after it is made, the change is committed, and only then the desk goes over to that
+/// version and acknowledges the command. After a failed commit the desk is closed: it refuses each command, and goes on
+/// answering queries from the last version that it went over to.
+#[derive(Drop)]
+pub struct StoreDesk<S: Alter + Drop> {
+    store: Store<S>,
+    version: Version,
+    is_closed: bool,
+    /// Whether our tables are the first of their file: of other files nothing is known.
+    is_format_1: bool,
+}
+
+impl<S: Alter + Drop> Model for StoreDesk<S> {
+    ghost use Rattle.sqlite.specs.Held.{Held, held_code};
+    ghost use Rattle.prt_desk.specs.StoreDesk.{DeskOver, IsKept, desk_code};
+
+    ghost Value = { DeskOver (Held S) };
+
+    ghost coded = { desk_code (held_code S.code) };
+
+    ghost view = { λ d. record { published = d.version; closed = d.is_closed; format_1 = d.is_format_1; tables = d.store.conn } };
+
+    ghost invariant = { λ d. IsKept S.Store (record { published = d.version; closed = d.is_closed; format_1 = d.is_format_1; tables = d.store.conn }) };
+}
+
+impl<S: Alter + Drop> StoreDesk<S> {
+    /// Makes an open desk over a store and the version that its tables spell.
+    pub fn new(store: Store<S>, version: Version) -> StoreDesk<S>
+        requires { IsFormat1 (state S.Store store.conn).now.schema → HasCleanDisk (state S.Store store.conn) → IsStored S.Store store.conn version }
+        ensures open { result ≡ record { published = version; closed = false; format_1 = result.format_1; tables = store.conn } }
+        ensures format { result.format_1 ≡ true → IsFormat1 (state S.Store store.conn).now.schema }
+    {
+        let is_format_1 = store.is_format_1();
+        StoreDesk {
+            store,
+            version,
+            is_closed: false,
+            is_format_1,
+        }
+    }
+
+    /// Makes an open desk over a store, with the version that its tables spell. Nothing may be pending on its connection.
+    ///
+    /// # Errors
+    ///
+    /// Those of `Store::load`: `Damaged` only where the tables spell no state; `OpenFailed`, `NoMemory`.
+    pub fn load(alloc: Global, mut store: Store<S>) -> Result<StoreDesk<S>, Refusal>
+        requires { IsFormat1 (state S.Store store.conn).now.schema → HasCleanDisk (state S.Store store.conn) → HasNothingPending S.Store store.conn }
+        ensures open { IfOk result (λ desk. desk.closed ≡ false) }
+        ensures spelled { IfOk result (λ desk. IsKnown S.Store desk.format_1 desk.tables → Stores (state S.Store store.conn).now desk.published) }
+    {
+        let is_format_1 = store.is_format_1();
+        match store.load(alloc) {
+            Ok(version) => Ok(StoreDesk {
+                store,
+                version,
+                is_closed: false,
+                is_format_1,
+            }),
+            Err(reason) => Err(reason),
+        }
+    }
+
+    /// Tells whether a commit failed, after which no command is accepted.
+    pub fn is_closed(&self) -> bool
+        ensures value { result ≡ self.now.closed }
+        ensures kept { IsKept S.Store self.now }
+    {
+        self.is_closed
+    }
+
+    /// Gives the connection back, with its tables as they are.
+    pub fn release(self) -> Connection<S>
+        ensures tables { result ≡ self.tables }
+        ensures kept { IsKept S.Store self }
+    {
+        self.store.release()
+    }
+
+    /// Runs a script over this desk, as `run_script` does: nothing but memory and the store can fail it.
+    ///
+    /// Whatever may be stored at its end is what the session leaves, begun on what may have been stored before. A crash,
+    /// or the end of the program, leaves a file that spells such a state.
+    pub fn run_script<R: Read, W: Write>(
+        &mut self,
+        alloc: Global,
+        reader: &mut R,
+        writer: &mut W,
+        mode: OnRefusal,
+    ) -> ScriptEnd
+        ensures run { (stored : State) → MayBeStored S.Store self.new stored → (before : State) × MayBeStored S.Store self.old before
+            × RunIs request_turn (Befalls IsStoreMishap) mode (desk_with self.old before) (desk_with self.new stored) (R.remaining reader.old) (R.remaining reader.new)
+            (W.contents writer.old) (W.contents writer.new) result }
+        ensures durable { IsKnown S.Store self.new.format_1 self.new.tables → (trees : Trees) → (state S.Store self.new.tables).may_leave trees →
+            (stored : State) × Spells trees stored × MayBeStored S.Store self.new stored }
+    {
+        let end = run_script(alloc, self, reader, writer, mode);
+        let _is_closed = self.is_closed();
+        end
+    }
+}
+
+impl<S: Alter + Drop> Desk for StoreDesk<S> {
+    ghost use Rattle.prt_desk.specs.StoreDesk.{IsStoreMishap, StandsFor};
+
+    ghost stands = { StandsFor S.Store };
+
+    ghost may = { IsStoreMishap };
+
+    fn command(&mut self, command: &Command) -> Result<u64, Refusal> {
+        if self.is_closed {
+            return Err(Refusal::Closed);
+        }
+        let change = match self.version.check(command) {
+            Ok(change) => change,
+            Err(reason) => return Err(reason),
+        };
+        // The version is made first: after the commit nothing may be refused memory.
+        let next = match self.version.next(&change) {
+            Ok(next) => next,
+            Err(reason) => return Err(reason),
+        };
+        let number = self.version.number() + 1;
+        match self.store.commit(&change, number) {
+            Ok(_stamp) => {
+                self.version = next;
+                Ok(number)
+            }
+            Err(reason) => {
+                self.is_closed = true;
+                Err(reason)
+            }
+        }
+    }
+
+    fn answer(&mut self, query: &Query, out: &mut Vec<u8>) -> Result<(), Refusal> {
+        query_text(out, &self.version, query)
+    }
+}
