@@ -2,5 +2,11 @@
 #![tactic(auto)]
 
 mod caller;
+#[cfg(test)]
+mod damage;
+#[cfg(test)]
+mod database;
+#[cfg(test)]
+mod steps;
 
 pub use caller::submit;
