@@ -2,13 +2,13 @@
 use Rattle.std.proofs.Common.{◌≡◌, ℕ, [], false, Ok, refl, sym, ap, subst, ◌∙◌}
 use Rattle.sqlite.proofs.Callers.{runs_as, statement_of}
 use Rattle.sqlite.specs.Change.{KeepsRows, created, next_tree}
-use Rattle.sqlite.specs.Command.TheVariants.{CreateTable, Nothing}
+use Rattle.sqlite.specs.Command.TheVariants.{CreateTable}
 use Rattle.sqlite.specs.Compile.{table_defined_by}
 use Rattle.sqlite.specs.Does.{MakesTable, Tally, lacks_sequence}
 use Rattle.sqlite.specs.Effect.{Database}
 use Rattle.sqlite.specs.Listing.{understood}
 use Rattle.sqlite.specs.Schema.{Schema}
-use Rattle.sqlite.specs.State.{Executes, IsUnchanged, State}
+use Rattle.sqlite.specs.State.{Executes, State}
 use Rattle.sqlite.specs.Table.{Table}
 use Rattle.sqlite_tied.specs.Compute.{everything}
 use Rattle.prt_addr.specs.Word.{Word}
@@ -31,6 +31,7 @@ module _ (sql : Word) (from : Schema) (defined : Table) (means : Means from sql 
       let schema : first.0.schema ≡ after = made.is ∙ ap (λ s. created s made.table) has ∙ ap (created from) same ∙ becomes in
       let now : new.now ≡ first.0 = ap (λ (p : Tally × Database). p.1) (same_value all.2) ∙ same_value (rw (ap lacks_sequence schema ∙ counts) at first.2) in
       record {
+        sound = ran_as.sound;
         schema = ap (λ (d : Database). d.schema) now ∙ schema;
         empty = ap (λ (d : Database). d.trees tree) now ∙ subst (λ n. first.0.trees n ≡ []) place (subst (λ s. first.0.trees (next_tree s) ≡ []) has made.empty);
         kept = subst (λ (d : Database). KeepsRows old.now.schema.tables old.now.trees d.trees) (sym now) made.others;
@@ -62,51 +63,3 @@ module _ (old new : State) (count : ℕ) where
 
   pub makes_meta : old.now.schema ≡ rule_and_route → Executes create_meta [] old new (Ok count) → Makes (schema_with [] [] []) 3 old.now new.now
   makes_meta = makes create_meta rule_and_route (record meta_table { tree = 0 }) meta_made.0 meta_made.1 meta_is (schema_with [] [] []) refl 3 refl refl old new count
-
--- ---- tables that are there already
-
-there_again : (sql : Word) (schema : Schema) → Means schema sql Nothing → (old new : State) (count : ℕ) → old.now.schema ≡ schema → Executes sql [] old new (Ok count) → IsUnchanged old new
-there_again sql schema means old new count has ran = (runs_as sql [] old new schema has Nothing means.0 means.1 count ran).0
-
-rule_alone_has_rule : Means rule_alone create_rule Nothing
-unfolding understood everything
-rule_alone_has_rule = (refl, (refl, refl))
-
-both_have_rule : Means rule_and_route create_rule Nothing
-unfolding understood everything
-both_have_rule = (refl, (refl, refl))
-
-both_have_route : Means rule_and_route create_route Nothing
-unfolding understood everything
-both_have_route = (refl, (refl, refl))
-
-all_have_rule : Means (schema_with [] [] []) create_rule Nothing
-unfolding understood everything
-all_have_rule = (refl, (refl, refl))
-
-all_have_route : Means (schema_with [] [] []) create_route Nothing
-unfolding understood everything
-all_have_route = (refl, (refl, refl))
-
-all_have_meta : Means (schema_with [] [] []) create_meta Nothing
-unfolding understood everything
-all_have_meta = (refl, (refl, refl))
-
-module _ (old new : State) (count : ℕ) where
-  pub rule_stays_alone : old.now.schema ≡ rule_alone → Executes create_rule [] old new (Ok count) → IsUnchanged old new
-  rule_stays_alone = there_again create_rule rule_alone rule_alone_has_rule old new count
-
-  pub rule_stays_with_route : old.now.schema ≡ rule_and_route → Executes create_rule [] old new (Ok count) → IsUnchanged old new
-  rule_stays_with_route = there_again create_rule rule_and_route both_have_rule old new count
-
-  pub route_stays_with_rule : old.now.schema ≡ rule_and_route → Executes create_route [] old new (Ok count) → IsUnchanged old new
-  route_stays_with_rule = there_again create_route rule_and_route both_have_route old new count
-
-  pub rule_stays : old.now.schema ≡ schema_with [] [] [] → Executes create_rule [] old new (Ok count) → IsUnchanged old new
-  rule_stays = there_again create_rule (schema_with [] [] []) all_have_rule old new count
-
-  pub route_stays : old.now.schema ≡ schema_with [] [] [] → Executes create_route [] old new (Ok count) → IsUnchanged old new
-  route_stays = there_again create_route (schema_with [] [] []) all_have_route old new count
-
-  pub meta_stays : old.now.schema ≡ schema_with [] [] [] → Executes create_meta [] old new (Ok count) → IsUnchanged old new
-  meta_stays = there_again create_meta (schema_with [] [] []) all_have_meta old new count

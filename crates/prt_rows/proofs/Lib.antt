@@ -23,6 +23,8 @@ pub mod Reading
 pub mod Shapes
 pub mod Selecting
 pub mod Creating
+pub mod Keeping
+pub mod Looking
 pub mod Formats
 pub mod Opening
 pub mod Loading

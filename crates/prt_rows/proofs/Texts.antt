@@ -1,5 +1,6 @@
 -- The texts mean their commands, in a file whose first tables are ours.
 use Rattle.std.proofs.Common.{◌≡◌, List, Ok, refl}
+use Rattle.std.specs.Prelude.{codes}
 use Rattle.sqlite.proofs.Callers.{IsPlain, command_of}
 use Rattle.sqlite.specs.Command.{Command}
 use Rattle.sqlite.specs.Compile.{table_defined_by}
@@ -10,8 +11,8 @@ use Rattle.sqlite_schema.specs.declared.schema.Index.{Index}
 use Rattle.sqlite_schema.specs.declared.schema.View.{View}
 use Rattle.sqlite_tied.specs.Compute.{everything}
 use Rattle.prt_addr.specs.Word.{Word}
-use Rattle.prt_rows.specs.Meanings.{flush_routes_command, insert_meta_command, delete_route_command, delete_rule_command, flush_rules_command, insert_rule_command, put_route_command, read_meta_command, read_routes_command, read_rules_command, set_count_command}
-use Rattle.prt_rows.specs.Statements.{flush_routes, insert_meta, create_meta, create_route, create_rule, delete_route, delete_rule, flush_rules, insert_rule, put_route, read_meta, read_routes, read_rules, set_count}
+use Rattle.prt_rows.specs.Meanings.{flush_routes_command, insert_meta_command, delete_route_command, delete_rule_command, flush_rules_command, insert_rule_command, look_at, put_route_command, read_meta_command, read_routes_command, read_rules_command, set_count_command}
+use Rattle.prt_rows.specs.Statements.{flush_routes, insert_meta, create_meta, create_route, create_rule, delete_route, delete_rule, flush_rules, insert_rule, look_at_meta, look_at_routes, look_at_rules, put_route, read_meta, read_routes, read_rules, set_count}
 use Rattle.prt_rows.specs.Tables.{meta_table, route_table, rule_table, schema_with}
 
 -- the text is understood as the command, without more
@@ -45,6 +46,18 @@ module _ (tables : List Table) (indexes : List Index) (views : List View) where
   pub read_meta_is : Means schema read_meta read_meta_command
   unfolding understood everything
   read_meta_is = (refl, (refl, refl))
+
+  pub look_at_rules_is : Means schema look_at_rules (look_at 0 (codes "id"))
+  unfolding understood everything
+  look_at_rules_is = (refl, (refl, refl))
+
+  pub look_at_routes_is : Means schema look_at_routes (look_at 1 (codes "rowid"))
+  unfolding understood everything
+  look_at_routes_is = (refl, (refl, refl))
+
+  pub look_at_meta_is : Means schema look_at_meta (look_at 3 (codes "id"))
+  unfolding understood everything
+  look_at_meta_is = (refl, (refl, refl))
 
   pub put_route_is : Means schema put_route put_route_command
   unfolding understood everything

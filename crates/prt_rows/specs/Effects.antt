@@ -3,7 +3,7 @@ use Rattle.std.specs.Prelude.{◌≡◌, ◌≢◌, ◌⊎◌, ℕ, Bool, true, 
 use Rattle.std.specs.List.{IsDistinct, list_all}
 use Rattle.std.specs.Ordering.{is_eq}
 use Rattle.sqlite.specs.Change.{KeepsRows}
-use Rattle.sqlite.specs.Effect.{Database}
+use Rattle.sqlite.specs.Effect.{Database, IsDatabase}
 use Rattle.sqlite.specs.Schema.{Schema}
 use Rattle.sqlite.specs.Table.{Table}
 use Rattle.sqlite.specs.Term.{Term, holds}
@@ -16,7 +16,7 @@ use Rattle.prt_route.specs.declared.route.Route.{Route}
 use Rattle.prt_rows.specs.Kept.{key_values}
 use Rattle.prt_rows.specs.Meanings.{has_key}
 use Rattle.prt_rows.specs.RouteRow.{route_row}
-use Rattle.prt_rows.specs.Tables.{route_table}
+use Rattle.prt_rows.specs.Tables.{our_tables, route_table}
 
 abbrev pub has_same_rowid : Row → Row → Bool
 has_same_rowid a b = is_eq (value_cmp (rowid a) (rowid b))
@@ -57,9 +57,19 @@ pub record Sets (table : Table) (row : Row) (old new : Database) : Type 0 where
 
 -- a table was made: the schema is this one, its tree is empty, and each table that was there keeps its rows
 pub record Makes (after : Schema) (tree : ℕ) (old new : Database) : Type 0 where
+  pub sound : IsDatabase new
   pub schema : new.schema ≡ after
   pub empty : new.trees tree ≡ []
   pub kept : KeepsRows old.schema.tables old.trees new.trees
+
+-- each table that was there is there with its rows, and each other one has none
+pub record KeepsTables (old new : Database) : Type 0 where
+  pub kept : (table : Table) → Has old.schema.tables table → Has new.schema.tables table × (new.trees table.tree ≡ old.trees table.tree)
+  pub made : (table : Table) → Has new.schema.tables table → Has old.schema.tables table ⊎ (new.trees table.tree ≡ [])
+
+-- the three tables, as far as they are there, have no rows
+abbrev pub AreEmpty : Database → Type 0
+AreEmpty db = (table : Table) → Has our_tables table → Has db.schema.tables table → db.trees table.tree ≡ []
 
 -- the same rows, in any order
 pub record HasSame (rows others : List Row) : Type 0 where

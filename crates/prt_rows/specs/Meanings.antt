@@ -133,6 +133,10 @@ names_of columns = map (λ column. column.0) columns
 abbrev pub listing : ℕ → List Term → Program
 listing tree shows = record { lets = []; body = record (over_tree tree [] (rowid_term ∷ shows)) { order = (rowid_term, ascending Binary) ∷ [] } }
 
+-- SELECT the rowid, shown by this name, FROM the tree
+abbrev pub look_at : ℕ → Word → Command
+look_at tree name = Select (program tree [] (rowid_term ∷ [])) (name ∷ [])
+
 -- the columns after the rowid, which is the id of a rule and of the row of `meta`
 abbrev pub read_rule_terms : List Term
 read_rule_terms = col 1 2 ∷ col 1 3 ∷ col 1 4 ∷ col 1 5 ∷ col 1 6 ∷ col 1 7 ∷ col 1 8 ∷ col 1 9 ∷ col 1 10 ∷ col 1 11 ∷ col 1 12 ∷ []

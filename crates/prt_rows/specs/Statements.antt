@@ -11,6 +11,16 @@ create_route = codes "CREATE TABLE IF NOT EXISTS route (tbl INTEGER NOT NULL, ne
 abbrev pub create_meta : Word
 create_meta = codes "CREATE TABLE IF NOT EXISTS meta (id INTEGER PRIMARY KEY NOT NULL, format INTEGER NOT NULL, count INTEGER NOT NULL) STRICT"
 
+-- the ids of a table's rows
+abbrev pub look_at_rules : Word
+look_at_rules = codes "SELECT id FROM rule"
+
+abbrev pub look_at_routes : Word
+look_at_routes = codes "SELECT rowid FROM route"
+
+abbrev pub look_at_meta : Word
+look_at_meta = codes "SELECT id FROM meta"
+
 abbrev pub read_rules : Word
 read_rules = codes "SELECT id, priority, inverted, src_net, src_len, dst_net, dst_len, iif, mark, mask, act, tbl FROM rule ORDER BY id"
 

@@ -62,6 +62,10 @@ route_key = record { name = codes "sqlite_autoindex_route_1"; tree = 2; table = 
 abbrev pub schema_with : List Table → List Index → List View → Schema
 schema_with tables indexes views = record { tables = rule_table ∷ route_table ∷ meta_table ∷ tables; indexes = route_key ∷ indexes; views = views }
 
+-- the three tables
+abbrev pub our_tables : List Table
+our_tables = rule_table ∷ route_table ∷ meta_table ∷ []
+
 -- what stands in a file after none, one and two of the three tables were made
 abbrev pub no_tables : Schema
 no_tables = record { tables = []; indexes = []; views = [] }

@@ -1,10 +1,12 @@
 //! Whether a file has the tables of format 1.
 
-ghost use Rattle.std.specs.Prelude.{◌≡◌, [], ◌∷◌, Some, false, map, IsTrue};
+ghost use Rattle.std.specs.Prelude.{◌≡◌, [], ◌∷◌, Some, true, false, map, IsTrue, codes};
+ghost use Rattle.sqlite_schema.specs.Names.{same_name};
 ghost use Rattle.sqlite_rules.specs.Lists.{Has};
 ghost use Rattle.sqlite_schema.specs.Rules.{guards};
 ghost use Rattle.sqlite_schema.specs.declared.schema.Reference.{Reference as Referring};
-ghost use Rattle.prt_rows.specs.Format.{IsFormat1};
+ghost use Rattle.sqlite.specs.Table.{Table as Declared};
+ghost use Rattle.prt_rows.specs.Format.{HasFormat1, IsFormat1, SuitsName, has_table};
 ghost use Rattle.prt_rows.specs.Others.{AreNotOfRoutes, AreOthers, IsElsewhere, IsOther};
 ghost use Rattle.prt_rows.specs.Tables.{key_places, meta_table, plain_table, route_key, route_table, rule_table, strict_column};
 
@@ -119,14 +121,14 @@ fn is_table_by_id(table: &Table, name: &str, columns: &[(&str, Kind)]) -> bool
 }
 
 /// Whether it is the table of rules, in whatever tree.
-pub fn is_rule_table(table: &Table) -> bool
+fn is_rule_table(table: &Table) -> bool
     ensures { IsTrue result → table.now ≡ record rule_table { tree = table.now.tree } }
 {
     is_table_by_id(table, "rule", &RULE)
 }
 
 /// Whether it is the table `meta`, in whatever tree.
-pub fn is_meta_table(table: &Table) -> bool
+fn is_meta_table(table: &Table) -> bool
     ensures { IsTrue result → table.now ≡ record meta_table { tree = table.now.tree } }
 {
     is_table_by_id(table, "meta", &META)
@@ -151,7 +153,7 @@ fn has_route_key(table: &Table) -> bool
 }
 
 /// Whether it is the table of routes, in whatever tree.
-pub fn is_route_table(table: &Table) -> bool
+fn is_route_table(table: &Table) -> bool
     ensures { IsTrue result → table.now ≡ record route_table { tree = table.now.tree } }
 {
     table.name.as_slice() == b"route".as_slice()
@@ -269,4 +271,77 @@ pub fn is_format_1(schema: &Schema) -> bool
         return false;
     }
     are_not_of_routes(&indexes[1..])
+}
+
+/// Whether the file has a table of this name, in whatever case.
+pub fn has_table(schema: &Schema, name: &str) -> bool
+    ensures { result ≡ has_table name.now schema.now }
+{
+    schema
+        .tables
+        .as_slice()
+        .iter()
+        .any(|table| same_name(table.name.as_slice(), name.as_bytes()))
+}
+
+/// Whether a table that has the name `rule` is the table of rules, in whatever tree.
+fn is_rule_if_named(table: &Table) -> bool
+    ensures { IsTrue result → same_name (codes "rule") table.now.name ≡ true → table.now ≡ record rule_table { tree = table.now.tree } }
+{
+    if same_name(b"rule".as_slice(), table.name.as_slice()) {
+        is_rule_table(table)
+    } else {
+        true
+    }
+}
+
+/// Whether a table that has the name `route` is the table of routes, in whatever tree.
+fn is_route_if_named(table: &Table) -> bool
+    ensures { IsTrue result → same_name (codes "route") table.now.name ≡ true → table.now ≡ record route_table { tree = table.now.tree } }
+{
+    if same_name(b"route".as_slice(), table.name.as_slice()) {
+        is_route_table(table)
+    } else {
+        true
+    }
+}
+
+/// Whether a table that has the name `meta` is the table of the count, in whatever tree.
+fn is_meta_if_named(table: &Table) -> bool
+    ensures { IsTrue result → same_name (codes "meta") table.now.name ≡ true → table.now ≡ record meta_table { tree = table.now.tree } }
+{
+    if same_name(b"meta".as_slice(), table.name.as_slice()) {
+        is_meta_table(table)
+    } else {
+        true
+    }
+}
+
+/// Whether a table that has the name of one of the three tables is that one, in whatever tree.
+fn suits_name(table: &Table) -> bool
+    ensures { IsTrue result → SuitsName table.now }
+{
+    is_rule_if_named(table) && is_route_if_named(table) && is_meta_if_named(table)
+}
+
+/// Whether each of the tables that has the name of one of the three tables is that one.
+fn suit_names(tables: &[Table]) -> bool
+    ensures { IsTrue result → (table : Declared) → Has tables.now table → SuitsName table }
+{
+    for table in tables {
+        if !suits_name(table) {
+            return false;
+        }
+    }
+    true
+}
+
+/// Whether the file has the three tables of format 1, column by column, in whatever trees and order.
+pub fn has_format_1(schema: &Schema) -> bool
+    ensures { IsTrue result → HasFormat1 schema.now }
+{
+    has_table(schema, "rule")
+        && has_table(schema, "route")
+        && has_table(schema, "meta")
+        && suit_names(schema.tables.as_slice())
 }

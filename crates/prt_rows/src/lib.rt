@@ -14,7 +14,7 @@ mod selector;
 mod tests;
 mod value;
 
-pub use format::{is_format_1, is_meta_table, is_route_table, is_rule_table};
+pub use format::{has_format_1, has_table, is_format_1};
 pub use laws::{rows_read_back, rows_selected};
 pub use meta_row::{count_of_rows, meta_values};
 pub use route_row::{route_of_row, route_values};
