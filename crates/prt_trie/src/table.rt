@@ -10,7 +10,7 @@ ghost use Rattle.prt_route.specs.Edit.{after_edit, has_key};
 ghost use Rattle.prt_route.specs.Route.{key_of};
 ghost use Rattle.prt_route.specs.RouteChoice.{chosen_route, is_selected};
 ghost use Rattle.prt_route.specs.declared.route.Route.{Route};
-ghost use Rattle.prt_trie.specs.Pieces.{ArePieces, IsOfTheirTable, rows_of_pieces, piece_after, pieces_from, rows_of_piece};
+ghost use Rattle.prt_trie.specs.Pieces.{ArePieces, IsOfTheirTable, piece_after, piece_of_addr, pieces_from, rows_of_piece, rows_of_pieces};
 ghost use Rattle.prt_trie.specs.Table.{IsOfOneTable, IsOfTable, IsRising, IsTable, has_same_key};
 
 use crate::edit::rows_after;
@@ -227,13 +227,29 @@ impl Table {
         piece_at(self.pieces.as_slice(), number)
     }
 
+    /// The best of the routes of at least 8 bits for the address, which stand in the piece of its first octet.
+    fn find_long(&self, addr: Addr) -> Option<&Route>
+        ensures value { (table : ℕ) → IsOfTable table self.now → option_copied result ≡ best (rows_of_piece (piece_of_addr addr) self.now) table addr }
+        ensures table { IsTable self.now }
+    {
+        self.piece(piece_of_octet(addr.0)).find(addr)
+    }
+
+    /// The best of the shorter routes for the address.
+    fn find_short(&self, addr: Addr) -> Option<&Route>
+        ensures { (table : ℕ) → IsOfTable table self.now → option_copied result ≡ best (rows_of_piece 0 self.now) table addr }
+    {
+        self.piece(0).find(addr)
+    }
+
     /// The best route for the address, if one contains it (RFC 1812, section 5.2.4.3). It takes no memory.
+    #[tactic(auto, using(crate::proofs::Matches::best_in_piece, crate::proofs::Matches::best_in_short))]
     pub fn find(&self, addr: Addr) -> Option<&Route>
         ensures { (table : ℕ) → IsOfTable table self.now → option_copied result ≡ best self.now table addr }
     {
-        match self.piece(piece_of_octet(addr.0)).find(addr) {
+        match self.find_long(addr) {
             Some(route) => Some(route),
-            None => self.piece(0).find(addr),
+            None => self.find_short(addr),
         }
     }
 
