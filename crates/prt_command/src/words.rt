@@ -107,6 +107,7 @@ fn word_len(text: &[u8]) -> usize
 }
 
 /// Takes the first word of a text: the word, and the text after it.
+#[tactic(auto, using(crate::proofs::Splitting::next_of_words, crate::proofs::Splitting::some_of))]
 pub fn next_word(text: &[u8]) -> Option<(&[u8], &[u8])>
     ensures { MatchOption result (words text.now ≡ [])
         (λ next. (words text.now ≡ next.0.now ∷ words next.1.now) × (length next.1.now < length text.now)) }

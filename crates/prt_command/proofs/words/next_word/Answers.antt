@@ -1,6 +1,6 @@
 use Rattle.std.proofs.Common.{sym, ◌∙◌}
 use Rattle.prt_addr.specs.Word.{is_white}
-use Rattle.prt_command.proofs.Splitting.{is_black, place_within, no_words, next_of_words, zero_of, some_of}
+use Rattle.prt_command.proofs.Splitting.{is_black, place_within, no_words, zero_of}
 use Rattle.prt_command.proofs.words.next_word.Goals as goal
 
 pub slice_bounds-rest-count : goal.slice_bounds-rest-count
@@ -17,6 +17,3 @@ slice_bounds-result-count c = place_within is_white _ _ c.word_len-len.ensures
 
 pub slice_bounds-result-start : goal.slice_bounds-result-start
 slice_bounds-result-start c = place_within is_white _ _ c.word_len-len.ensures
-
-pub returns : goal.returns
-returns c = next_of_words c.args.text.now c.white_len.result c.word_len-len.result c.white_len.ensures (some_of _ (sym c.is_empty.ensures ∙ c.if-is_empty.false)) c.word_len-len.ensures
