@@ -6,3 +6,7 @@ pub mod Commits
 pub mod Nexts
 pub mod Calls
 pub mod Loads
+pub mod Transactions
+pub mod Looks
+pub mod Filling
+pub mod Openings

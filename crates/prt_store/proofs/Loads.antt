@@ -58,13 +58,13 @@ plain_routes : (schema : Schema) → IsFormat1 schema → IsPlain (understood sc
 plain_routes schema t = subst (λ (s : Schema). IsPlain (understood s read_routes)) (sym t.is) (read_routes_is t.tables t.indexes t.views).1
 
 module _ (sql : Word) (old new : Conn) (plain : IsPlain (understood old.now.schema sql)) where
-  unchanged : (rows : List Row) → Shown sql [] old new rows → IsUnchanged old new
+  pub unchanged : (rows : List Row) → Shown sql [] old new rows → IsUnchanged old new
   unfolding Shown
   unchanged rows shown =
       let bare = subst IsPlain shown.1.is plain in
       (rw (bare.0) at shown.2).3
 
-commits_nothing : (sql : Word) (old new : Conn) → (HasCleanDisk old → IsPlain (understood old.now.schema sql)) → Survives old new (CommitsShowing sql [] old) → Survives old new (λ _. ⊥)
+pub commits_nothing : (sql : Word) (old new : Conn) → (HasCleanDisk old → IsPlain (understood old.now.schema sql)) → Survives old new (CommitsShowing sql [] old) → Survives old new (λ _. ⊥)
 commits_nothing sql old new plain survives = survives_weaker old new _ _ (λ clean db. never_commits sql [] old db (plain (omega (arith, survives.clean)))) survives
 
 module _ (old new : Conn) (tables : IsFormat1 old.now.schema) where

@@ -2,3 +2,5 @@ pub mod Stored
 pub mod Next
 pub mod Written
 pub mod Loaded
+pub mod Adopted
+pub mod Openings

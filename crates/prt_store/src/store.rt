@@ -40,7 +40,7 @@ impl Stamp {
 /// The rules and routes of a database file, on a connection of its own.
 #[derive(Drop)]
 pub struct Store<S: Alter + Drop> {
-    conn: Connection<S>,
+    pub(crate) conn: Connection<S>,
 }
 
 impl<S: Alter + Drop> Store<S> {

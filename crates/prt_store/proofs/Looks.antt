@@ -1,0 +1,166 @@
+-- What the statements that look at the tables tell, one after the other.
+use Rattle.std.proofs.Common.{◌≡◌, inl, inr, ℕ, Bool, true, false, List, [], ◌∷◌, length, Ok, Err, Result, IsErr, IsTrue, true≢false, refl, sym, ap, subst, ◌∙◌, arith}
+use Rattle.std.proofs.lemmas.Bool.{ne_eqb}
+use Rattle.std.specs.Prelude.{◌==◌, MatchBool}
+use Rattle.sqlite.proofs.Callers.{IsPlain, unchanged_then}
+use Rattle.sqlite.proofs.StateLemmas.{survives_then}
+use Rattle.sqlite.specs.Effect.{Database}
+use Rattle.sqlite.specs.Held.{Held, state}
+use Rattle.sqlite.specs.Listing.{understood}
+use Rattle.sqlite.specs.Schema.{Schema}
+use Rattle.sqlite.specs.State.{CommitsShowing, FailsToQuery, HasCleanDisk, IsNotRun, Shown, State as Conn, Survives}
+use Rattle.sqlite.specs.Store.{Ghosts}
+use Rattle.sqlite.specs.Table.{Table}
+use Rattle.sqlite.specs.declared.error.Error.{Error}
+use Rattle.sqlite_rules.specs.Lists.{Has}
+use Rattle.sqlite_value.specs.Order.{Row}
+use Rattle.prt_addr.specs.Word.{Word}
+use Rattle.prt_addr.specs.declared.refusal.Refusal.{Refusal}
+use Rattle.prt_rows.proofs.Looking.{Looks}
+use Rattle.prt_rows.proofs.Texts.{look_at_meta_is, look_at_routes_is, look_at_rules_is}
+use Rattle.prt_rows.specs.Effects.{AreEmpty}
+use Rattle.prt_rows.specs.Format.{IsFormat1}
+use Rattle.prt_rows.specs.Statements.{look_at_meta, look_at_routes, look_at_rules}
+use Rattle.prt_rows.specs.Tables.{meta_table, our_tables, route_table, rule_table}
+use Rattle.prt_store.proofs.Loads.{commits_nothing, unchanged}
+use Rattle.prt_store.specs.Openings.{Sees}
+
+-- a query that fails leaves what was there, if the connection is still still_open
+failed_query : (sql : Word) (old new : Conn) (e : Error) → IsPlain (understood old.now.schema sql) → FailsToQuery sql [] old new e → IsTrue new.is_open → (IsTrue old.is_open → old.now ≡ old.committed) → new.now ≡ old.now
+unfolding FailsToQuery IsNotRun
+failed_query sql old new e plain (inl (inl refused)) still_open settled = refused.1.0.now_is
+failed_query sql old new e plain (inl (inr failed)) still_open settled = (failed.3.undone still_open).0 ∙ sym (settled (failed.3.was_open still_open))
+failed_query sql old new e plain (inr ran) still_open settled =
+    let bare = subst IsPlain ran.1.is plain in
+    (rw (bare.0) at ran.2).3.0.now_is
+
+no_length : (rows : List Row) → length rows ≡ 0 → rows ≡ []
+no_length [] none = refl
+no_length (row ∷ rows) none = absurd (omega (arith, none))
+
+-- whether nothing was found says whether there are rows
+tells : (rows found : List Row) (n : ℕ) (b : Bool) → Looks rows found → n ≡ length found → b ≡ (n == 0) → MatchBool b (rows ≡ []) (rows ≡ [] → ⊥)
+tells rows [] n b looks long is = subst (λ b. MatchBool b (rows ≡ []) (rows ≡ [] → ⊥)) (sym (is ∙ ap (λ n. n == 0) long)) (looks.none refl)
+tells rows (x ∷ found) n b looks long is = subst (λ b. MatchBool b (rows ≡ []) (rows ≡ [] → ⊥)) (sym (is ∙ ap (λ n. n == 0) long ∙ ne_eqb (length (x ∷ found)) 0 (λ zero. absurd (omega (arith, zero))))) (λ none. absurd (let e = looks.some none in cc))
+
+-- what one look tells
+module _ {S : Type 0} (g : Ghosts S) (sql : Word) (tree : ℕ) (old new : Held S) (plain : IsFormat1 (state g old).now.schema → IsPlain (understood (state g old).now.schema sql))
+    (survives : Survives (state g old) (state g new) (CommitsShowing sql [] (state g old))) where
+  abbrev IsEmptyTree : Database → Type 0
+  IsEmptyTree db = db.trees tree ≡ []
+
+  look_quiet : (HasCleanDisk (state g old) → IsFormat1 (state g old).now.schema) → Survives (state g old) (state g new) (λ _. ⊥)
+  look_quiet tables = commits_nothing sql (state g old) (state g new) (λ clean. plain (tables clean)) survives
+
+  pub look_fails : (e : Error) (reason : Refusal) → (HasCleanDisk (state g new) → FailsToQuery sql [] (state g old) (state g new) e) → Sees g IsEmptyTree old new (Err reason)
+  look_fails e reason fails = record {
+    ok = λ clean tables. tt;
+    err = λ clean tables still_open settled. failed_query sql (state g old) (state g new) e (plain tables) (fails clean) still_open settled;
+    quiet = look_quiet;
+  }
+
+  pub look_tells : (found : List Row) (n : ℕ) (b : Bool) → (HasCleanDisk (state g new) → Shown sql [] (state g old) (state g new) found) → n ≡ length found → b ≡ (n == 0)
+      → (IsFormat1 (state g old).now.schema → Shown sql [] (state g old) (state g new) found → Looks ((state g old).now.trees tree) found) → Sees g IsEmptyTree old new (Ok b)
+  look_tells found n b shown long is looks = record {
+    ok = λ clean tables. (tells ((state g old).now.trees tree) found n b (looks tables (shown clean)) long is, unchanged sql (state g old) (state g new) (plain tables) found (shown clean));
+    err = λ clean tables still_open settled. tt;
+    quiet = look_quiet;
+  }
+
+-- our statements that look show no rows of a write
+pub plain_meta : (schema : Schema) → IsFormat1 schema → IsPlain (understood schema look_at_meta)
+plain_meta schema t = subst (λ (s : Schema). IsPlain (understood s look_at_meta)) (sym t.is) (look_at_meta_is t.tables t.indexes t.views).1
+
+pub plain_rules : (schema : Schema) → IsFormat1 schema → IsPlain (understood schema look_at_rules)
+plain_rules schema t = subst (λ (s : Schema). IsPlain (understood s look_at_rules)) (sym t.is) (look_at_rules_is t.tables t.indexes t.views).1
+
+pub plain_routes : (schema : Schema) → IsFormat1 schema → IsPlain (understood schema look_at_routes)
+plain_routes schema t = subst (λ (s : Schema). IsPlain (understood s look_at_routes)) (sym t.is) (look_at_routes_is t.tables t.indexes t.views).1
+
+-- ---- one look after another
+
+module _ {S : Type 0} (g : Ghosts S) (P Q : Database → Type 0) (a b : Held S) where
+  pub sees_not : Sees g P a b (Ok false) → ((db : Database) → IsFormat1 db.schema → Q db → P db) → Sees g Q a b (Ok false)
+  sees_not one only = record {
+    ok = λ clean tables. let seen = one.ok clean tables in (λ it. seen.0 (only (state g a).now tables it), seen.1);
+    err = λ clean tables still_open settled. tt;
+    quiet = one.quiet;
+  }
+
+  pub sees_fails : (reason : Refusal) (result : Result Bool Refusal) → IsErr result → Sees g P a b (Err reason) → Sees g Q a b result
+  sees_fails reason (Ok x) bad one = absurd (true≢false (sym bad))
+  sees_fails reason (Err other) bad one = record { ok = λ clean tables. tt; err = one.err; quiet = one.quiet }
+
+  pub sees_same : (result : Result Bool Refusal) → ((db : Database) → IsFormat1 db.schema → P db → Q db) → ((db : Database) → IsFormat1 db.schema → Q db → P db) → Sees g P a b result → Sees g Q a b result
+  sees_same (Ok true) to back one = record { ok = λ clean tables. let seen = one.ok clean tables in (to (state g a).now tables seen.0, seen.1); err = one.err; quiet = one.quiet }
+  sees_same (Ok false) to back one = sees_not one back
+  sees_same (Err reason) to back one = sees_fails reason (Err reason) refl one
+
+  module _ (c : Held S) (one : Sees g P a b (Ok true)) where
+    tables_then : (HasCleanDisk (state g a) → IsFormat1 (state g a).now.schema) → HasCleanDisk (state g b) → IsFormat1 (state g b).now.schema
+    tables_then tables clean =
+        let had = tables (omega (arith, (one.quiet tables).clean)) in
+        subst (λ (d : Database). IsFormat1 d.schema) (sym (one.ok clean had).1.0.now_is) had
+
+    module _ (result : Result Bool Refusal) (two : Sees g Q b c result) where
+      clean_before : IsFormat1 (state g a).now.schema → HasCleanDisk (state g c) → HasCleanDisk (state g b)
+      clean_before tables clean = omega (arith, (two.quiet (tables_then (λ _. tables))).clean)
+
+      quiet_then : (HasCleanDisk (state g a) → IsFormat1 (state g a).now.schema) → Survives (state g a) (state g c) (λ _. ⊥)
+      quiet_then tables = survives_then (state g a) (state g b) (state g c) _ _ (λ _. ⊥) (λ _ db none. none) (λ _ db none. none) (one.quiet tables) (two.quiet (tables_then tables))
+
+    -- the second look is asked where the first one found it so
+    pub sees_both : (result : Result Bool Refusal) → Sees g Q b c result → Sees g (λ db. P db × Q db) a c result
+    sees_both (Ok true) two = record {
+      ok = λ clean tables.
+          let before = clean_before (Ok true) two tables clean in
+          let first = one.ok before tables in
+          let second = two.ok clean (tables_then (λ _. tables) before) in
+          ((first.0, subst Q first.1.0.now_is second.0), unchanged_then (state g a) (state g b) (state g c) first.1 second.1);
+      err = λ clean tables still_open settled. tt;
+      quiet = quiet_then (Ok true) two;
+    }
+    sees_both (Ok false) two = record {
+      ok = λ clean tables.
+          let before = clean_before (Ok false) two tables clean in
+          let first = one.ok before tables in
+          let second = two.ok clean (tables_then (λ _. tables) before) in
+          (λ both. second.0 (subst Q (sym first.1.0.now_is) both.1), unchanged_then (state g a) (state g b) (state g c) first.1 second.1);
+      err = λ clean tables still_open settled. tt;
+      quiet = quiet_then (Ok false) two;
+    }
+    sees_both (Err reason) two = record {
+      ok = λ clean tables. tt;
+      err = λ clean tables still_open settled.
+          let before = clean_before (Err reason) two tables clean in
+          let same = (one.ok before tables).1.0 in
+          two.err clean (tables_then (λ _. tables) before) still_open (λ _. same.now_is ∙ settled same.was_open ∙ sym same.committed_is) ∙ same.now_is;
+      quiet = quiet_then (Err reason) two;
+    }
+
+-- ---- the three tables
+
+-- our tables are there
+pub our_table : (schema : Schema) → IsFormat1 schema → (table : Table) → Has our_tables table → Has schema.tables table
+our_table schema t table ours = subst (λ (s : Schema). Has s.tables table) (sym t.is) (first_three table ours)
+  where
+    first_three : (table : Table) → Has our_tables table → Has (rule_table ∷ route_table ∷ meta_table ∷ t.tables) table
+    first_three table (inl is) = inl is
+    first_three table (inr (inl is)) = inr (inl is)
+    first_three table (inr (inr (inl is))) = inr (inr (inl is))
+    first_three table (inr (inr (inr none))) = absurd none
+
+pub no_meta_rows : (db : Database) → IsFormat1 db.schema → AreEmpty db → db.trees 3 ≡ []
+no_meta_rows db t empty = let ours : Has our_tables meta_table = inr (inr (inl refl)) in empty meta_table ours (our_table db.schema t meta_table ours)
+
+pub no_rule_rows : (db : Database) → IsFormat1 db.schema → AreEmpty db → db.trees 0 ≡ []
+no_rule_rows db t empty = let ours : Has our_tables rule_table = inl refl in empty rule_table ours (our_table db.schema t rule_table ours)
+
+pub no_route_rows : (db : Database) → IsFormat1 db.schema → AreEmpty db → db.trees 1 ≡ []
+no_route_rows db t empty = let ours : Has our_tables route_table = inr (inl refl) in empty route_table ours (our_table db.schema t route_table ours)
+
+pub all_empty : (db : Database) → (db.trees 3 ≡ []) × ((db.trees 0 ≡ []) × (db.trees 1 ≡ [])) → AreEmpty db
+all_empty db none table (inl is) there = subst (λ (t : Table). db.trees t.tree ≡ []) (sym is) none.1.0
+all_empty db none table (inr (inl is)) there = subst (λ (t : Table). db.trees t.tree ≡ []) (sym is) none.1.1
+all_empty db none table (inr (inr (inl is))) there = subst (λ (t : Table). db.trees t.tree ≡ []) (sym is) none.0
+all_empty db none table (inr (inr (inr other))) there = absurd other

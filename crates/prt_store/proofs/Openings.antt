@@ -1,0 +1,241 @@
+-- The steps of an opening, one after the other.
+use Rattle.std.proofs.Common.{◌≡◌, inl, inr, Bool, true, false, [], Ok, Err, Result, IsErr, IsTrue, OnErr, OnOk, true≢false, refl, sym, subst, ◌∙◌, arith}
+use Rattle.std.proofs.lemmas.Result.{on_ok_weaker}
+use Rattle.std.specs.Prelude.{codes}
+use Rattle.sqlite.proofs.StateLemmas.{survives_then, survives_weaker}
+use Rattle.sqlite.specs.Effect.{Database, IsDatabase}
+use Rattle.sqlite.specs.Held.{Held, state}
+use Rattle.sqlite.specs.Schema.{Schema}
+use Rattle.sqlite.specs.State.{HasCleanDisk, Survives}
+use Rattle.sqlite.specs.Store.{Ghosts}
+use Rattle.sqlite.specs.Tree.{Trees}
+use Rattle.prt_addr.specs.Word.{Word}
+use Rattle.prt_addr.specs.declared.refusal.Refusal.{Refusal}
+use Rattle.prt_rows.proofs.Creating.{makes_meta, makes_route, makes_rule}
+use Rattle.prt_rows.proofs.Keeping.{empty_after, empty_before, format_made, keeps_itself, keeps_none, keeps_rules, keeps_rules_and_routes, keeps_then, meta_missing, meta_there, routes_missing, routes_there, rules_missing, rules_there}
+use Rattle.prt_rows.specs.Effects.{AreEmpty, KeepsTables}
+use Rattle.prt_rows.specs.Format.{BeginsFormat1, BeginsWithRoutes, BeginsWithRules, IsFormat1, has_table}
+use Rattle.prt_rows.specs.Statements.{create_meta, create_route, create_rule}
+use Rattle.prt_rows.specs.Tables.{no_tables, rule_alone, rule_and_route}
+use Rattle.prt_store.proofs.Filling.{fills}
+use Rattle.prt_store.proofs.Transactions.{survives_itself}
+use Rattle.prt_store.specs.Adopted.{Adopts, AdoptsPart, IsFilled, LeavesPart}
+use Rattle.prt_store.specs.Openings.{Advances, Commits, Fills, HasDone, HasLeft, MakesMissing, OpensTables, Ran, Sees, Takes, begun_from}
+use Rattle.prt_store.specs.declared.opening.Step.{Step}
+use Rattle.prt_store.specs.declared.opening.Step.TheVariants as step
+
+on_any : {T E P : Type 0} (r : Result T E) → P → OnOk r P
+on_any (Ok x) it = it
+on_any (Err e) it = tt
+
+on_err_any : {T E P : Type 0} (r : Result T E) → P → OnErr r P
+on_err_any (Ok x) it = tt
+on_err_any (Err e) it = it
+
+on_err_weaker : {T E P Q : Type 0} (r : Result T E) → (P → Q) → OnErr r P → OnErr r Q
+on_err_weaker (Ok x) f it = tt
+on_err_weaker (Err e) f it = f it
+
+-- ---- what is left of an opening
+
+-- nothing was done yet
+nothing_done : (db : Database) → BeginsFormat1 db.schema → AdoptsPart db db
+nothing_done db tables = record { tables = tables; rows = inl (keeps_itself db) }
+
+filled_later : (old mid new : Database) → KeepsTables old mid → IsFilled mid new → IsFilled old new
+filled_later old mid new keeps filled = record {
+  empty = empty_before old mid keeps filled.empty;
+  opening = filled.opening;
+  others = λ table there not_ours.
+      let first = keeps.kept table there in
+      let second = filled.others table first.0 not_ours in
+      (second.0, second.1 ∙ first.1);
+}
+
+part_later : (old mid new : Database) → KeepsTables old mid → AdoptsPart mid new → AdoptsPart old new
+part_later old mid new keeps part = record {
+  tables = part.tables;
+  rows = elim part.rows [ inl more ↦ inl (keeps_then old mid new keeps more) | inr filled ↦ inr (filled_later old mid new keeps filled) ];
+}
+
+leaves_later : (old mid : Database) (trees : Trees) → KeepsTables old mid → LeavesPart mid trees → LeavesPart old trees
+leaves_later old mid trees keeps left = record { db = left.db; is = left.is; sound = left.sound; part = part_later old mid left.db keeps left.part }
+
+-- ---- a table that is made where it is missing
+
+module _ {S : Type 0} (g : Ghosts S) (name : Word) (made : Step) (From To : Schema → Type 0) (from : Schema) (there : (schema : Schema) → From schema → has_table name schema ≡ true → To schema)
+    (missing : (schema : Schema) → From schema → has_table name schema ≡ false → schema ≡ from) (begins : (schema : Schema) → From schema → BeginsFormat1 schema) (goes_on : (schema : Schema) → To schema → BeginsFormat1 schema)
+    (makes : (old : Held S) (db : Database) → (state g old).now.schema ≡ from → HasDone g (Takes g made) old db → IsDatabase db × To db.schema × KeepsTables (state g old).now db) where
+  advances : (old new : Held S) (result : Result (Unit {0}) Refusal) → MakesMissing g name made old new result → Advances g From To old new result
+  advances old new result done = go (has_table name (state g old).now.schema) refl
+    where
+      stays : has_table name (state g old).now.schema ≡ true → Advances g From To old old result
+      stays is = record {
+        ok = λ clean tables. on_any result (there (state g old).now.schema tables is, keeps_itself (state g old).now);
+        err = λ clean still_open tables. on_err_any result (nothing_done (state g old).now (begins (state g old).now.schema tables));
+        crash = λ tables. survives_itself (state g old) (LeavesPart (state g old).now);
+      }
+
+      made_of : has_table name (state g old).now.schema ≡ false → From (state g old).now.schema → (db : Database) → HasDone g (Takes g made) old db → IsDatabase db × To db.schema × KeepsTables (state g old).now db
+      made_of is tables db it = makes old db (missing (state g old).now.schema tables is) it
+
+      left_of : has_table name (state g old).now.schema ≡ false → From (state g old).now.schema → (trees : Trees) → HasLeft g (Takes g made) old trees → LeavesPart (state g old).now trees
+      left_of is tables trees left =
+          let it = made_of is tables left.0 left.1 in
+          record { db = left.0; is = left.2; sound = it.0; part = record { tables = goes_on left.0.schema it.1; rows = inl it.2 } }
+
+      takes : has_table name (state g old).now.schema ≡ false → Commits g (Takes g made) old new result → Advances g From To old new result
+      takes is all = record {
+        ok = λ clean tables. on_ok_weaker result (λ it.
+            let now = made_of is tables (state g new).committed it.0 in
+            subst (λ (d : Database). To d.schema × KeepsTables (state g old).now d) (sym it.1.committed) (now.1, now.2)) (all.ok clean);
+        err = λ clean still_open tables. on_err_weaker result (λ same. subst (AdoptsPart (state g old).now) (sym same) (nothing_done (state g old).now (begins (state g old).now.schema tables))) (all.err clean still_open);
+        crash = λ tables. survives_weaker (state g old) (state g new) (HasLeft g (Takes g made) old) (LeavesPart (state g old).now) (λ clean trees. left_of is (tables (omega (arith, all.crash.clean))) trees) all.crash;
+      }
+
+      go : (b : Bool) → has_table name (state g old).now.schema ≡ b → Advances g From To old new result
+      go true is = subst (λ h. Advances g From To old h result) (sym (done.there is)) (stays is)
+      go false is = takes is (done.missing is)
+
+module _ {S : Type 0} (g : Ghosts S) where
+  makes_rules : (old : Held S) (db : Database) → (state g old).now.schema ≡ no_tables → HasDone g (Ran g create_rule []) old db → IsDatabase db × BeginsWithRules db.schema × KeepsTables (state g old).now db
+  makes_rules old db has done =
+      let made = makes_rule (state g (begun_from old)) (state g done.0) done.1.0 has done.1.1 in
+      subst (λ (d : Database). IsDatabase d × BeginsWithRules d.schema × KeepsTables (state g old).now d) (sym done.2) (made.sound, inl made.schema, keeps_none (state g old).now (state g done.0).now has made)
+
+  makes_routes : (old : Held S) (db : Database) → (state g old).now.schema ≡ rule_alone → HasDone g (Ran g create_route []) old db → IsDatabase db × BeginsWithRoutes db.schema × KeepsTables (state g old).now db
+  makes_routes old db has done =
+      let made = makes_route (state g (begun_from old)) (state g done.0) done.1.0 has done.1.1 in
+      subst (λ (d : Database). IsDatabase d × BeginsWithRoutes d.schema × KeepsTables (state g old).now d) (sym done.2) (made.sound, inl made.schema, keeps_rules (state g old).now (state g done.0).now has made)
+
+  makes_all : (old : Held S) (db : Database) → (state g old).now.schema ≡ rule_and_route → HasDone g (Ran g create_meta []) old db → IsDatabase db × IsFormat1 db.schema × KeepsTables (state g old).now db
+  makes_all old db has done =
+      let made = makes_meta (state g (begun_from old)) (state g done.0) done.1.0 has done.1.1 in
+      subst (λ (d : Database). IsDatabase d × IsFormat1 d.schema × KeepsTables (state g old).now d) (sym done.2)
+      (made.sound, format_made (state g done.0).now.schema made.schema, keeps_rules_and_routes (state g old).now (state g done.0).now has made)
+
+  module _ (old new : Held S) (result : Result (Unit {0}) Refusal) where
+    pub rules_made : MakesMissing g (codes "rule") step.MakeRules old new result → Advances g BeginsFormat1 BeginsWithRules old new result
+    rules_made = advances g (codes "rule") step.MakeRules BeginsFormat1 BeginsWithRules no_tables rules_there rules_missing (λ schema tables. tables) (λ schema tables. inr tables) makes_rules old new result
+
+    pub routes_made : MakesMissing g (codes "route") step.MakeRoutes old new result → Advances g BeginsWithRules BeginsWithRoutes old new result
+    routes_made = advances g (codes "route") step.MakeRoutes BeginsWithRules BeginsWithRoutes rule_alone routes_there routes_missing (λ schema tables. inr tables) (λ schema tables. inr (inr tables)) makes_routes old new result
+
+    pub meta_made : MakesMissing g (codes "meta") step.MakeMeta old new result → Advances g BeginsWithRoutes IsFormat1 old new result
+    meta_made = advances g (codes "meta") step.MakeMeta BeginsWithRoutes IsFormat1 rule_and_route meta_there meta_missing (λ schema tables. inr (inr tables)) (λ schema tables. inr (inr (inr tables))) makes_all old new result
+
+-- ---- one after the other
+
+module _ {S : Type 0} (g : Ghosts S) (From Mid To : Schema → Type 0) (a b : Held S) where
+  -- an opening that fails gets no further
+  pub advances_not : (reason : Refusal) (result : Result (Unit {0}) Refusal) → IsErr result → Advances g From Mid a b (Err reason) → Advances g From To a b result
+  advances_not reason (Ok x) bad one = absurd (true≢false (sym bad))
+  advances_not reason (Err other) bad one = record { ok = λ clean tables. tt; err = one.err; crash = one.crash }
+
+  module _ (c : Held S) (result : Result (Unit {0}) Refusal) (one : Advances g From Mid a b (Ok tt)) (two : Advances g Mid To b c result) where
+    mid_tables : (HasCleanDisk (state g a) → From (state g a).now.schema) → HasCleanDisk (state g b) → Mid (state g b).now.schema
+    mid_tables tables clean = (one.ok clean (tables (omega (arith, (one.crash tables).clean)))).0
+
+    clean_mid : From (state g a).now.schema → HasCleanDisk (state g c) → HasCleanDisk (state g b)
+    clean_mid tables clean = omega (arith, (two.crash (mid_tables (λ _. tables))).clean)
+
+    pub advances_then : Advances g From To a c result
+    advances_then = record {
+      ok = λ clean tables.
+          let first = one.ok (clean_mid tables clean) tables in
+          on_ok_weaker result (λ second. (second.0, keeps_then (state g a).now (state g b).now (state g c).now first.1 second.1)) (two.ok clean first.0);
+      err = λ clean still_open tables.
+          let first = one.ok (clean_mid tables clean) tables in
+          on_err_weaker result (λ part. part_later (state g a).now (state g b).now (state g c).now first.1 part) (two.err clean still_open first.0);
+      crash = λ tables.
+          let second = two.crash (mid_tables tables) in
+          survives_then (state g a) (state g b) (state g c) (LeavesPart (state g a).now) (LeavesPart (state g b).now) (LeavesPart (state g a).now) (λ clean trees left. left)
+          (λ clean trees left.
+          let before : HasCleanDisk (state g b) = omega (arith, second.clean) in
+          let first = one.ok before (tables (omega (arith, (one.crash tables).clean))) in
+          leaves_later (state g a).now (state g b).now trees first.1 left) (one.crash tables) second;
+    }
+
+-- ---- the whole opening
+
+module _ {S : Type 0} (g : Ghosts S) (a b : Held S) where
+  pub opens_not : (reason other : Refusal) → Advances g BeginsFormat1 IsFormat1 a b (Err reason) → OpensTables g a b (Err other)
+  opens_not reason other one = record { ok = λ clean tables. tt; err = one.err; crash = one.crash }
+
+  module _ (one : Advances g BeginsFormat1 IsFormat1 a b (Ok tt)) where
+    part_made : HasCleanDisk (state g b) → BeginsFormat1 (state g a).now.schema → AdoptsPart (state g a).now (state g b).now
+    part_made clean tables = let it = one.ok clean tables in record { tables = inr (inr (inr it.0)); rows = inl it.1 }
+
+    pub opens_refused : (other : Refusal) → OpensTables g a b (Err other)
+    opens_refused other = record { ok = λ clean tables. tt; err = λ clean still_open tables. part_made clean tables; crash = one.crash }
+
+    module _ (c : Held S) where
+      has_tables : (HasCleanDisk (state g a) → BeginsFormat1 (state g a).now.schema) → HasCleanDisk (state g b) → IsFormat1 (state g b).now.schema
+      has_tables tables clean = (one.ok clean (tables (omega (arith, (one.crash tables).clean)))).0
+
+      module _ (found : Result Bool Refusal) (two : Sees g AreEmpty b c found) where
+        clean_before : BeginsFormat1 (state g a).now.schema → HasCleanDisk (state g c) → HasCleanDisk (state g b)
+        clean_before tables clean = omega (arith, (two.quiet (has_tables (λ _. tables))).clean)
+
+        crash_then : (HasCleanDisk (state g a) → BeginsFormat1 (state g a).now.schema) → Survives (state g a) (state g c) (LeavesPart (state g a).now)
+        crash_then tables =
+            survives_then (state g a) (state g b) (state g c) (LeavesPart (state g a).now) (λ _. ⊥) (LeavesPart (state g a).now) (λ clean trees left. left) (λ clean trees none. absurd none) (one.crash tables)
+            (two.quiet (has_tables tables))
+
+      pub look_failed : (reason : Refusal) (result : Result (Unit {0}) Refusal) → IsErr result → Sees g AreEmpty b c (Err reason) → (IsTrue (state g b).is_open → (state g b).now ≡ (state g b).committed) → OpensTables g a c result
+      look_failed reason (Ok x) bad two settled = absurd (true≢false (sym bad))
+      look_failed reason (Err other) bad two settled = record {
+        ok = λ clean tables. tt;
+        err = λ clean still_open tables.
+            let before = clean_before (Err reason) two tables clean in
+            subst (AdoptsPart (state g a).now) (sym (two.err clean (one.ok before tables).0 still_open settled)) (part_made before tables);
+        crash = crash_then (Err reason) two;
+      }
+
+      -- the tables have rows already
+      pub has_rows : Sees g AreEmpty b c (Ok false) → (IsTrue (state g b).is_open → (state g b).now ≡ (state g b).committed) → OpensTables g a c (Ok tt)
+      has_rows two settled = record {
+        ok = λ clean tables.
+            let before = clean_before (Ok false) two tables clean in
+            let first = one.ok before tables in
+            let seen = two.ok clean first.0 in
+            let same = seen.1.0 in
+            let some : AreEmpty (state g a).now → ⊥ = λ empty. seen.0 (empty_after (state g a).now (state g b).now first.1 empty) in (
+              subst (Adopts (state g a).now) (sym same.now_is) (record { tables = first.0; rows = inl (some, first.1) }),
+              record { is_open = same.is_open; committed = same.now_is ∙ settled same.was_open ∙ sym same.committed_is },
+            );
+        err = λ clean still_open tables. tt;
+        crash = crash_then (Ok false) two;
+      }
+
+      module _ (d : Held S) (result : Result (Unit {0}) Refusal) (two : Sees g AreEmpty b c (Ok true)) (three : Commits g (Fills g) c d result) where
+        clean_then : HasCleanDisk (state g d) → HasCleanDisk (state g c)
+        clean_then clean = omega (arith, three.crash.clean)
+
+        filled_by : BeginsFormat1 (state g a).now.schema → HasCleanDisk (state g c) → (db : Database) → HasDone g (Fills g) c db → IsDatabase db × IsFormat1 db.schema × IsFilled (state g a).now db
+        filled_by tables clean db done =
+            let first = one.ok (clean_before (Ok true) two tables clean) tables in
+            let seen = two.ok clean first.0 in
+            let same = sym seen.1.0.now_is in
+            let it = fills g c db (subst (λ (d : Database). IsFormat1 d.schema) same first.0) (subst AreEmpty same seen.0) done in
+            (it.0, it.1, filled_later (state g a).now (state g b).now db first.1 (subst (λ (d : Database). IsFilled d db) (sym same) it.2))
+
+        -- the tables have none, and are filled
+        pub opens_filled : OpensTables g a d result
+        opens_filled = record {
+          ok = λ clean tables. on_ok_weaker result (λ it.
+              let all = filled_by tables (clean_then clean) (state g d).committed it.0 in
+              (subst (Adopts (state g a).now) (sym it.1.committed) (record { tables = all.1; rows = inr all.2 }), it.1)) (three.ok clean);
+          err = λ clean still_open tables.
+              let late = clean_then clean in
+              let before = clean_before (Ok true) two tables late in
+              let seen = two.ok late (one.ok before tables).0 in
+              on_err_weaker result (λ same. subst (AdoptsPart (state g a).now) (sym (same ∙ seen.1.0.now_is)) (part_made before tables)) (three.err clean still_open);
+          crash = λ tables.
+              survives_then (state g a) (state g c) (state g d) (LeavesPart (state g a).now) (HasLeft g (Fills g) c) (LeavesPart (state g a).now) (λ clean trees left. left)
+              (λ clean trees left.
+              let late = clean_then clean in
+              let had = tables (omega (arith, (crash_then (Ok true) two tables).clean)) in
+              let it = filled_by had late left.0 left.1 in
+              record { db = left.0; is = left.2; sound = it.0; part = record { tables = inr (inr (inr it.1)); rows = inr it.2 } }) (crash_then (Ok true) two tables) three.crash;
+        }

@@ -1,0 +1,41 @@
+-- What an opening makes of a file.
+use Rattle.std.specs.Prelude.{◌≡◌, ◌⊎◌, IsTrue}
+use Rattle.sqlite.specs.Effect.{Database, IsDatabase}
+use Rattle.sqlite.specs.Held.{Held, state}
+use Rattle.sqlite.specs.Store.{Ghosts}
+use Rattle.sqlite.specs.Table.{Table}
+use Rattle.sqlite.specs.Tree.{Trees}
+use Rattle.sqlite_rules.specs.Lists.{Has}
+use Rattle.prt_rows.specs.Effects.{AreEmpty, KeepsTables}
+use Rattle.prt_rows.specs.Format.{BeginsFormat1, IsFormat1}
+use Rattle.prt_rows.specs.Tables.{our_tables}
+use Rattle.prt_store.specs.Stored.{Stores}
+use Rattle.prt_version.specs.State.{opening_state}
+
+-- The three tables had no rows, and now spell the opening state. Each other table is there with its rows.
+pub record IsFilled (old new : Database) : Type 0 where
+  pub empty : AreEmpty old
+  pub opening : Stores new opening_state
+  pub others : (table : Table) → Has old.schema.tables table → (Has our_tables table → ⊥) → Has new.schema.tables table × (new.trees table.tree ≡ old.trees table.tree)
+
+-- What an opening leaves: the three tables are the first, and each table has the rows that it had, or the three had none and were filled.
+pub record Adopts (old new : Database) : Type 0 where
+  pub tables : IsFormat1 new.schema
+  pub rows : ((AreEmpty old → ⊥) × KeepsTables old new) ⊎ IsFilled old new
+
+-- What an opening leaves that is stopped or refused: some or all of the missing tables were made, and they may have been filled.
+pub record AdoptsPart (old new : Database) : Type 0 where
+  pub tables : BeginsFormat1 new.schema
+  pub rows : KeepsTables old new ⊎ IsFilled old new
+
+-- these trees are those of a file as a stopped opening leaves it
+pub record LeavesPart (old : Database) (trees : Trees) : Type 0 where
+  pub db : Database
+  pub is : trees ≡ db.trees
+  pub sound : IsDatabase db
+  pub part : AdoptsPart old db
+
+-- nothing is pending: the connection is open, and what it shows is committed
+pub record IsSettled {S : Type 0} (g : Ghosts S) (conn : Held S) : Type 0 where
+  pub is_open : IsTrue (state g conn).is_open
+  pub committed : (state g conn).now ≡ (state g conn).committed

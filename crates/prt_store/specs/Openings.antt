@@ -1,0 +1,101 @@
+-- What the steps of an opening do.
+use Rattle.std.specs.Prelude.{◌≡◌, ℕ, Bool, true, false, [], Result, Ok, IfOk, IsTrue, MatchBool, OnErr, OnOk}
+use Rattle.sqlite.specs.Effect.{Database}
+use Rattle.sqlite.specs.Held.{Held, state}
+use Rattle.sqlite.specs.Schema.{Schema}
+use Rattle.sqlite.specs.State.{Executes, HasCleanDisk, IsUnchanged, KeepsCommit, Survives}
+use Rattle.sqlite.specs.Store.{Ghosts}
+use Rattle.sqlite.specs.Tree.{Trees}
+use Rattle.sqlite.specs.declared.error.Error.{Error}
+use Rattle.sqlite_value.specs.Order.{Row}
+use Rattle.prt_addr.specs.Word.{Word}
+use Rattle.prt_addr.specs.declared.refusal.Refusal.{Refusal}
+use Rattle.prt_route.specs.Names.{default_table, local_table, main_table}
+use Rattle.prt_rows.specs.Effects.{KeepsTables}
+use Rattle.prt_rows.specs.Format.{BeginsFormat1, IsFormat1, has_table}
+use Rattle.prt_rows.specs.MetaRow.{meta_row}
+use Rattle.prt_rows.specs.RuleRow.{rule_row}
+use Rattle.prt_rows.specs.Statements.{create_meta, create_route, create_rule, insert_meta, insert_rule}
+use Rattle.prt_store.specs.Adopted.{Adopts, AdoptsPart, IsSettled, LeavesPart}
+use Rattle.prt_store.specs.Written.{CommitsNothing}
+use Rattle.prt_store.specs.declared.opening.Step.{Step}
+use Rattle.prt_store.specs.declared.opening.Step.TheVariants as step
+use Rattle.prt_version.specs.State.{table_rule}
+
+-- the connection, with a transaction that has just begun
+abbrev pub begun_from : {S : Type 0} → Held S → Held S
+begun_from old = record old { in_transaction = true }
+
+-- ---- inside a transaction
+
+-- the statement ran
+abbrev pub Ran : {S : Type 0} → Ghosts S → Word → Row → Held S → Held S → Type 0
+Ran g sql params old new = (count : ℕ) × Executes sql params (state g old) (state g new) (Ok count)
+
+-- one thing was done, then the other
+abbrev pub InTurn : {X : Type 0} → (X → X → Type 0) → (X → X → Type 0) → X → X → Type 0
+InTurn {X = X} First Next old new = (mid : X) × First old mid × Next mid new
+
+-- this was done, or it was refused; nothing was committed
+pub record Works {S : Type 0} (g : Ghosts S) (Does : Held S → Held S → Type 0) (old new : Held S) (result : Result ℕ Error) : Type 0 where
+  pub done : HasCleanDisk (state g new) → IsTrue (state g old).in_transaction → OnOk result (Does old new × IsTrue (state g new).in_transaction)
+  pub keeps : HasCleanDisk (state g new) → IsTrue (state g old).in_transaction → KeepsCommit (state g old) (state g new)
+  pub quiet : CommitsNothing g old new
+
+-- a rule that looks up this table for every packet was inserted
+abbrev pub InsertsRule : {S : Type 0} → Ghosts S → ℕ → ℕ → ℕ → Held S → Held S → Type 0
+InsertsRule g id priority table = Ran g insert_rule (rule_row (table_rule id priority table))
+
+abbrev pub InsertsRules : {S : Type 0} → Ghosts S → Held S → Held S → Type 0
+InsertsRules g = InTurn (InsertsRule g 1 0 local_table) (InTurn (InsertsRule g 2 32766 main_table) (InsertsRule g 3 32767 default_table))
+
+-- the three opening rules were inserted, and then the count 0
+abbrev pub Fills : {S : Type 0} → Ghosts S → Held S → Held S → Type 0
+Fills g = InTurn (InsertsRules g) (Ran g insert_meta (meta_row 0))
+
+abbrev pub Takes : {S : Type 0} → Ghosts S → Step → Held S → Held S → Type 0
+Takes g step.MakeRules = Ran g create_rule []
+Takes g step.MakeRoutes = Ran g create_route []
+Takes g step.MakeMeta = Ran g create_meta []
+Takes g step.Fill = Fills g
+
+-- ---- a transaction of its own
+
+-- this was done in a transaction, which left this
+abbrev pub HasDone : {S : Type 0} → Ghosts S → (Held S → Held S → Type 0) → Held S → Database → Type 0
+HasDone {S = S} g Does old db = (last : Held S) × Does (begun_from old) last × (db ≡ (state g last).now)
+
+-- the trees are those that it left
+abbrev pub HasLeft : {S : Type 0} → Ghosts S → (Held S → Held S → Type 0) → Held S → Trees → Type 0
+HasLeft g Does old trees = (db : Database) × HasDone g Does old db × (trees ≡ db.trees)
+
+-- this was done and committed, or nothing was changed, but for a commit that failed
+pub record Commits {S : Type 0} (g : Ghosts S) (Does : Held S → Held S → Type 0) (old new : Held S) (result : Result (Unit {0}) Refusal) : Type 0 where
+  pub ok : HasCleanDisk (state g new) → OnOk result (HasDone g Does old (state g new).committed × IsSettled g new)
+  pub err : HasCleanDisk (state g new) → IsTrue (state g new).is_open → OnErr result ((state g new).now ≡ (state g old).now)
+  pub crash : Survives (state g old) (state g new) (HasLeft g Does old)
+
+-- the step was taken where there was no table of this name, and nothing was done where there was
+pub record MakesMissing {S : Type 0} (g : Ghosts S) (name : Word) (step : Step) (old new : Held S) (result : Result (Unit {0}) Refusal) : Type 0 where
+  pub there : has_table name (state g old).now.schema ≡ true → new ≡ old
+  pub missing : has_table name (state g old).now.schema ≡ false → Commits g (Takes g step) old new result
+
+-- ---- the opening
+
+-- from tables such as these the opening went on to tables such as those, with all rows
+pub record Advances {S : Type 0} (g : Ghosts S) (From To : Schema → Type 0) (old new : Held S) (result : Result (Unit {0}) Refusal) : Type 0 where
+  pub ok : HasCleanDisk (state g new) → From (state g old).now.schema → OnOk result (To (state g new).now.schema × KeepsTables (state g old).now (state g new).now)
+  pub err : HasCleanDisk (state g new) → IsTrue (state g new).is_open → From (state g old).now.schema → OnErr result (AdoptsPart (state g old).now (state g new).now)
+  pub crash : (HasCleanDisk (state g old) → From (state g old).now.schema) → Survives (state g old) (state g new) (LeavesPart (state g old).now)
+
+-- what was asked of the file, where our tables are the first; nothing was changed
+pub record Sees {S : Type 0} (g : Ghosts S) (P : Database → Type 0) (old new : Held S) (result : Result Bool Refusal) : Type 0 where
+  pub ok : HasCleanDisk (state g new) → IsFormat1 (state g old).now.schema → IfOk result (λ yes. MatchBool yes (P (state g old).now) (P (state g old).now → ⊥) × IsUnchanged (state g old) (state g new))
+  pub err : HasCleanDisk (state g new) → IsFormat1 (state g old).now.schema → IsTrue (state g new).is_open → (IsTrue (state g old).is_open → (state g old).now ≡ (state g old).committed) → OnErr result ((state g new).now ≡ (state g old).now)
+  pub quiet : (HasCleanDisk (state g old) → IsFormat1 (state g old).now.schema) → CommitsNothing g old new
+
+-- What an opening does to a connection, where the file has no tables or ours first. A crash leaves what it could leave before or what an opening leaves.
+pub record OpensTables {S : Type 0} (g : Ghosts S) (old new : Held S) (result : Result (Unit {0}) Refusal) : Type 0 where
+  pub ok : HasCleanDisk (state g new) → BeginsFormat1 (state g old).now.schema → OnOk result (Adopts (state g old).now (state g new).now × IsSettled g new)
+  pub err : HasCleanDisk (state g new) → IsTrue (state g new).is_open → BeginsFormat1 (state g old).now.schema → OnErr result (AdoptsPart (state g old).now (state g new).now)
+  pub crash : (HasCleanDisk (state g old) → BeginsFormat1 (state g old).now.schema) → Survives (state g old) (state g new) (LeavesPart (state g old).now)

@@ -1,0 +1,49 @@
+//! Stores over files as they are found.
+
+ghost use Rattle.std.specs.Prelude.{◌≡◌, IfErr, IfOk, IsTrue};
+ghost use Rattle.sqlite.specs.Held.{state};
+ghost use Rattle.sqlite.specs.State.{HasCleanDisk, Survives};
+ghost use Rattle.sqlite.specs.Tree.{Trees};
+ghost use Rattle.prt_addr.specs.declared.refusal.Refusal.TheVariants.{OpenFailed};
+ghost use Rattle.prt_rows.specs.Format.{BeginsFormat1};
+ghost use Rattle.prt_store.specs.Adopted.{Adopts, AdoptsPart, IsSettled, LeavesPart};
+
+use crate::Store;
+use crate::opening::open_tables;
+use prt_addr::Refusal;
+use sqlite::{Alter, Connection};
+
+impl<S: Alter + Drop> Store<S> {
+    /// The store over a connection on which nothing is pending. The tables `rule`, `route` and `meta` are made where they
+    /// are missing, each by itself; where the three have no rows they are filled with the opening state, in one
+    /// transaction, with the row of `meta` last. All other rows stay as they are, whether they spell a state or not.
+    ///
+    /// The clauses speak of a file without tables, of one that an earlier opening was stopped in, and of one whose first
+    /// tables are the three. Other files are served all the same.
+    ///
+    /// # Errors
+    ///
+    /// `OpenFailed`, with the connection, where one of the three tables has other columns than those of format 1, or a store
+    /// call fails. No row is changed then, but that three empty tables may have been filled. The connection is to be closed
+    /// and opened again before it is used.
+    pub fn adopt(mut conn: Connection<S>) -> Result<Store<S>, (Refusal, Connection<S>)>
+        ensures ok { IfOk result (λ store. HasCleanDisk (state S.Store store.conn) → BeginsFormat1 (state S.Store conn).now.schema →
+            Adopts (state S.Store conn).now (state S.Store store.conn).now) }
+        ensures settled { IfOk result (λ store. HasCleanDisk (state S.Store store.conn) → BeginsFormat1 (state S.Store conn).now.schema →
+            IsSettled S.Store store.conn) }
+        ensures crash_ok { IfOk result (λ store. HasCleanDisk (state S.Store store.conn) → BeginsFormat1 (state S.Store conn).now.schema → (trees : Trees) →
+            (state S.Store store.conn).may_leave trees → trees ≡ (state S.Store store.conn).now.trees) }
+        ensures survives_ok { IfOk result (λ store. (HasCleanDisk (state S.Store conn) → BeginsFormat1 (state S.Store conn).now.schema) →
+            Survives (state S.Store conn) (state S.Store store.conn) (LeavesPart (state S.Store conn).now)) }
+        ensures reason { IfErr result (λ refused. refused.0 ≡ OpenFailed) }
+        ensures err { IfErr result (λ refused. HasCleanDisk (state S.Store refused.1) → IsTrue (state S.Store refused.1).is_open →
+            BeginsFormat1 (state S.Store conn).now.schema → AdoptsPart (state S.Store conn).now (state S.Store refused.1).now) }
+        ensures crash_err { IfErr result (λ refused. (HasCleanDisk (state S.Store conn) → BeginsFormat1 (state S.Store conn).now.schema) →
+            Survives (state S.Store conn) (state S.Store refused.1) (LeavesPart (state S.Store conn).now)) }
+    {
+        match open_tables(&mut conn) {
+            Ok(()) => Ok(Store { conn }),
+            Err(reason) => Err((reason, conn)),
+        }
+    }
+}

@@ -1,0 +1,248 @@
+//! The opening of a file: the three tables are made where they are missing, and filled where they have no rows.
+
+ghost use Rattle.std.specs.Prelude.{◌≡◌, ◌<◌, ◌^◌, [], IfErr};
+ghost use Rattle.prt_addr.specs.declared.refusal.Refusal.TheVariants.{OpenFailed};
+ghost use Rattle.prt_rows.specs.Effects.{AreEmpty};
+ghost use Rattle.prt_rows.specs.Format.{BeginsFormat1, IsFormat1};
+ghost use Rattle.prt_rows.specs.MetaRow.{meta_row};
+ghost use Rattle.prt_rows.specs.Statements.{create_meta, create_route, create_rule, insert_meta};
+ghost use Rattle.prt_store.specs.Openings.{Advances, Commits, Fills, InsertsRule, InsertsRules, MakesMissing, OpensTables, Ran, Sees, Takes, Works};
+ghost use Rattle.prt_version.specs.State.{table_rule};
+
+use crate::statements::insert_rule;
+use prt_addr::Refusal;
+use prt_route::{DEFAULT_TABLE, LOCAL_TABLE, MAIN_TABLE, Prefix};
+use prt_rows::{has_format_1, has_table, meta_values};
+use prt_rule::{Action, Rule};
+use sqlite::{Alter, Connection, Error, Transaction};
+
+/// A step of an opening.
+#[derive(Clone, Copy)]
+enum Step {
+    /// Makes the table `rule`.
+    MakeRules,
+    /// Makes the table `route`.
+    MakeRoutes,
+    /// Makes the table `meta`.
+    MakeMeta,
+    /// Puts the three opening rules and the count 0.
+    Fill,
+}
+
+/// Makes the table of rules.
+fn create_rules<S: Alter>(tx: &mut Transaction<'_, S>) -> Result<usize, Error>
+    ensures same_reference { tx.new.conn.ghost_name ≡ tx.old.conn.ghost_name }
+    ensures works { Works S.Store (Ran S.Store create_rule []) tx.old.conn.now tx.new.conn.now result }
+{
+    tx.execute(
+        "CREATE TABLE IF NOT EXISTS rule (id INTEGER PRIMARY KEY NOT NULL, priority INTEGER NOT NULL, inverted INTEGER NOT NULL, src_net INTEGER NOT NULL, src_len INTEGER NOT NULL, dst_net INTEGER NOT NULL, dst_len INTEGER NOT NULL, iif TEXT NOT NULL, mark INTEGER NOT NULL, mask INTEGER NOT NULL, act INTEGER NOT NULL, tbl INTEGER NOT NULL) STRICT",
+        &[],
+    )
+}
+
+/// Makes the table of routes.
+fn create_routes<S: Alter>(tx: &mut Transaction<'_, S>) -> Result<usize, Error>
+    ensures same_reference { tx.new.conn.ghost_name ≡ tx.old.conn.ghost_name }
+    ensures works { Works S.Store (Ran S.Store create_route []) tx.old.conn.now tx.new.conn.now result }
+{
+    tx.execute(
+        "CREATE TABLE IF NOT EXISTS route (tbl INTEGER NOT NULL, net INTEGER NOT NULL, len INTEGER NOT NULL, metric INTEGER NOT NULL, kind INTEGER NOT NULL, via INTEGER NOT NULL, dev TEXT NOT NULL, src INTEGER NOT NULL, proto INTEGER NOT NULL, scope INTEGER NOT NULL, PRIMARY KEY (tbl, net, len, metric)) STRICT",
+        &[],
+    )
+}
+
+/// Makes the table of the count.
+fn create_meta<S: Alter>(tx: &mut Transaction<'_, S>) -> Result<usize, Error>
+    ensures same_reference { tx.new.conn.ghost_name ≡ tx.old.conn.ghost_name }
+    ensures works { Works S.Store (Ran S.Store create_meta []) tx.old.conn.now tx.new.conn.now result }
+{
+    tx.execute(
+        "CREATE TABLE IF NOT EXISTS meta (id INTEGER PRIMARY KEY NOT NULL, format INTEGER NOT NULL, count INTEGER NOT NULL) STRICT",
+        &[],
+    )
+}
+
+/// A rule that looks up a table for every packet.
+fn table_rule(id: u64, priority: u32, table: u32) -> Rule
+    ensures { result ≡ table_rule id priority table }
+{
+    Rule {
+        id,
+        priority,
+        inverted: false,
+        from: Prefix::masked(0, 0),
+        to: Prefix::masked(0, 0),
+        iif: None,
+        mark: None,
+        action: Action::Lookup(table),
+    }
+}
+
+/// Inserts a rule that looks up a table for every packet.
+fn insert_table_rule<S: Alter>(
+    tx: &mut Transaction<'_, S>,
+    id: u64,
+    priority: u32,
+    table: u32,
+) -> Result<usize, Error>
+    requires { id < 2 ^ 63 }
+    ensures same_reference { tx.new.conn.ghost_name ≡ tx.old.conn.ghost_name }
+    ensures works { Works S.Store (InsertsRule S.Store id priority table) tx.old.conn.now tx.new.conn.now result }
+{
+    insert_rule(tx, &table_rule(id, priority, table))
+}
+
+/// Inserts the opening rules (`ip-rule(8)`).
+fn insert_rules<S: Alter>(tx: &mut Transaction<'_, S>) -> Result<usize, Error>
+    ensures same_reference { tx.new.conn.ghost_name ≡ tx.old.conn.ghost_name }
+    ensures works { Works S.Store (InsertsRules S.Store) tx.old.conn.now tx.new.conn.now result }
+{
+    insert_table_rule(tx, 1, 0, LOCAL_TABLE)?;
+    insert_table_rule(tx, 2, 32766, MAIN_TABLE)?;
+    insert_table_rule(tx, 3, 32767, DEFAULT_TABLE)
+}
+
+/// Inserts the row of `meta`, with the count 0.
+fn insert_count<S: Alter>(tx: &mut Transaction<'_, S>) -> Result<usize, Error>
+    ensures same_reference { tx.new.conn.ghost_name ≡ tx.old.conn.ghost_name }
+    ensures works { Works S.Store (Ran S.Store insert_meta (meta_row 0)) tx.old.conn.now tx.new.conn.now result }
+{
+    tx.execute(
+        "INSERT INTO meta (id, format, count) VALUES (?1, ?2, ?3)",
+        &meta_values(0),
+    )
+}
+
+/// Puts the opening state into the tables, the row of `meta` last.
+fn fill<S: Alter>(tx: &mut Transaction<'_, S>) -> Result<usize, Error>
+    ensures same_reference { tx.new.conn.ghost_name ≡ tx.old.conn.ghost_name }
+    ensures works { Works S.Store (Fills S.Store) tx.old.conn.now tx.new.conn.now result }
+{
+    insert_rules(tx)?;
+    insert_count(tx)
+}
+
+/// Runs the statements of a step.
+fn perform<S: Alter>(tx: &mut Transaction<'_, S>, step: Step) -> Result<usize, Error>
+    ensures same_reference { tx.new.conn.ghost_name ≡ tx.old.conn.ghost_name }
+    ensures works { Works S.Store (Takes S.Store step) tx.old.conn.now tx.new.conn.now result }
+{
+    match step {
+        Step::MakeRules => create_rules(tx),
+        Step::MakeRoutes => create_routes(tx),
+        Step::MakeMeta => create_meta(tx),
+        Step::Fill => fill(tx),
+    }
+}
+
+/// Takes a step in a transaction of its own.
+///
+/// # Errors
+///
+/// `OpenFailed`. Nothing is changed then, unless the commit failed: the step may have been taken.
+fn take<S: Alter>(conn: &mut Connection<S>, step: Step) -> Result<(), Refusal>
+    ensures reason { IfErr result (λ reason. reason ≡ OpenFailed) }
+    ensures commits { Commits S.Store (Takes S.Store step) conn.old conn.new result }
+{
+    if !conn.is_autocommit() {
+        return Err(Refusal::OpenFailed);
+    }
+    let mut tx = conn.transaction();
+    if perform(&mut tx, step).is_err() {
+        return Err(Refusal::OpenFailed);
+    }
+    if tx.commit().is_err() {
+        return Err(Refusal::OpenFailed);
+    }
+    Ok(())
+}
+
+/// Takes the step that makes a table, where the file has none of this name.
+fn make_missing<S: Alter>(conn: &mut Connection<S>, name: &str, step: Step) -> Result<(), Refusal>
+    ensures reason { IfErr result (λ reason. reason ≡ OpenFailed) }
+    ensures makes { MakesMissing S.Store name.now step conn.old conn.new result }
+{
+    if has_table(conn.schema(), name) {
+        return Ok(());
+    }
+    take(conn, step)
+}
+
+/// Makes the three tables, each where it is missing.
+fn make_tables<S: Alter>(conn: &mut Connection<S>) -> Result<(), Refusal>
+    ensures reason { IfErr result (λ reason. reason ≡ OpenFailed) }
+    ensures advances { Advances S.Store BeginsFormat1 IsFormat1 conn.old conn.new result }
+{
+    make_missing(conn, "rule", Step::MakeRules)?;
+    make_missing(conn, "route", Step::MakeRoutes)?;
+    make_missing(conn, "meta", Step::MakeMeta)
+}
+
+/// Whether the table `meta` has no rows.
+fn is_meta_empty<S: Alter>(conn: &mut Connection<S>) -> Result<bool, Refusal>
+    ensures reason { IfErr result (λ reason. reason ≡ OpenFailed) }
+    ensures sees { Sees S.Store (λ db. db.trees 3 ≡ []) conn.old conn.new result }
+{
+    match conn.query_all("SELECT id FROM meta", &[]) {
+        Ok(rows) => Ok(rows.is_empty()),
+        Err(_) => Err(Refusal::OpenFailed),
+    }
+}
+
+/// Whether the table `rule` has no rows.
+fn is_rule_empty<S: Alter>(conn: &mut Connection<S>) -> Result<bool, Refusal>
+    ensures reason { IfErr result (λ reason. reason ≡ OpenFailed) }
+    ensures sees { Sees S.Store (λ db. db.trees 0 ≡ []) conn.old conn.new result }
+{
+    match conn.query_all("SELECT id FROM rule", &[]) {
+        Ok(rows) => Ok(rows.is_empty()),
+        Err(_) => Err(Refusal::OpenFailed),
+    }
+}
+
+/// Whether the table `route` has no rows.
+fn is_route_empty<S: Alter>(conn: &mut Connection<S>) -> Result<bool, Refusal>
+    ensures reason { IfErr result (λ reason. reason ≡ OpenFailed) }
+    ensures sees { Sees S.Store (λ db. db.trees 1 ≡ []) conn.old conn.new result }
+{
+    match conn.query_all("SELECT rowid FROM route", &[]) {
+        Ok(rows) => Ok(rows.is_empty()),
+        Err(_) => Err(Refusal::OpenFailed),
+    }
+}
+
+/// Whether the three tables have no rows. The table `meta` is asked first, since it has a row in every file but a new one.
+fn are_empty<S: Alter>(conn: &mut Connection<S>) -> Result<bool, Refusal>
+    ensures reason { IfErr result (λ reason. reason ≡ OpenFailed) }
+    ensures sees { Sees S.Store AreEmpty conn.old conn.new result }
+{
+    if !is_meta_empty(conn)? {
+        return Ok(false);
+    }
+    if !is_rule_empty(conn)? {
+        return Ok(false);
+    }
+    is_route_empty(conn)
+}
+
+/// Makes the three tables where they are missing, and fills them where they have no rows.
+///
+/// # Errors
+///
+/// `OpenFailed` where one of the tables has other columns than those of format 1, or a store call fails.
+pub(crate) fn open_tables<S: Alter>(conn: &mut Connection<S>) -> Result<(), Refusal>
+    ensures reason { IfErr result (λ reason. reason ≡ OpenFailed) }
+    ensures opens { OpensTables S.Store conn.old conn.new result }
+{
+    make_tables(conn)?;
+    if !has_format_1(conn.schema()) {
+        return Err(Refusal::OpenFailed);
+    }
+    if !conn.is_autocommit() {
+        return Err(Refusal::OpenFailed);
+    }
+    if !are_empty(conn)? {
+        return Ok(());
+    }
+    take(conn, Step::Fill)
+}
