@@ -11,9 +11,10 @@ use Rattle.prt_route.specs.Best.{best, is_candidate}
 use Rattle.prt_addr.specs.declared.addr.Addr.{Addr}
 use Rattle.prt_route.specs.Route.{is_better}
 use Rattle.prt_route.specs.declared.route.Route.{Route}
-use Rattle.prt_trie.specs.Walk.{IsBest, best_for, last_row, nowhere, weight}
+use Rattle.prt_trie.specs.Walk.{AreBelow, IsBest, IsWithin, best_for, last_row, nowhere, weight}
 use Rattle.prt_trie.specs.Index.{IsIndex}
 use Rattle.prt_trie.specs.Table.{IsOfOneTable, IsRising, IsTable}
+use Rattle.prt_trie.specs.declared.node.Halves.{Halves}
 use Rattle.prt_trie.specs.declared.node.Node.{Node}
 
 -- the first that passes stands at p
@@ -87,8 +88,8 @@ best_of_table rows table addr all =
     (λ k d l. let e : (get_or rows k d).table ≡ table = all k d l in let t : eqb (get_or rows k d).table table ≡ true = eq-eqb (get_or rows k d).table table e in rw t refl))
 
 -- a trie that finds the best of all rows is an index of them
-pub index_of : (rows : List Route) (root : Node) → length rows ≤ nowhere → IsTable rows → ((a b : ℕ) → IsBest rows 0 (length rows) a b (last_row root a b)) → IsIndex rows root
-index_of rows root few table best = record { table = table; agrees = λ a. best_row rows a (last_row root a nowhere) few table.metrics (best a nowhere) }
+pub index_of : (rows : List Route) (halves : List Halves) (root : Node) → length rows ≤ nowhere → IsTable rows → AreBelow halves → IsWithin (length halves) root → ((a b : ℕ) → IsBest rows 0 (length rows) a b (last_row halves root a b)) → IsIndex rows halves root
+index_of rows halves root few table below within best = record { table = table; halves_below = below; root_within = within; agrees = λ a. best_row rows a (last_row halves root a nowhere) few table.metrics (best a nowhere) }
 
 pub table_from : (given rows : List Route) → given ≡ rows → IsOfOneTable rows → IsRising rows → All (λ row. IsPrefix row.prefix) given → All (λ row. row.metric < 2 ^ 32) given → IsTable given
 table_from given rows same one rises prefixes metrics = record { one_table = subst IsOfOneTable (sym same) one; rising = subst IsRising (sym same) rises; prefixes = prefixes; metrics = metrics }

@@ -12,3 +12,4 @@ pub mod Rows
 pub mod Finds
 pub mod Places
 pub mod Choices
+pub mod Ways

@@ -1,14 +1,15 @@
 -- What a walk down the trie finds, and which of some rows is the best.
-use Rattle.std.specs.Prelude.{◌≡◌, ◌⊎◌, ℕ, ◌+◌, ◌-◌, ◌*◌, ◌<◌, ◌≤◌, List, Bool, true, if◌then◌else◌, ◌&&◌, ◌==◌, nat_le, nat_lt, slice_index_or, filter, Option}
+use Rattle.std.proofs.Common.{zero, suc}
+use Rattle.std.specs.Prelude.{◌≡◌, ◌⊎◌, ℕ, ◌+◌, ◌-◌, ◌*◌, ◌<◌, ◌≤◌, List, ◌++◌, length, Bool, true, if◌then◌else◌, ◌&&◌, ◌==◌, nat_le, nat_lt, slice_get, slice_index_or, filter, Option, Some, option_map, unwrap_or}
 use Rattle.prt_addr.specs.Prefix.{contains}
 use Rattle.prt_addr.specs.declared.addr.Addr.{Addr}
 use Rattle.prt_addr.specs.Order.{first_by}
 use Rattle.prt_route.specs.Route.{is_better}
 use Rattle.prt_route.specs.declared.route.Route.{Route}
 use Rattle.prt_trie.specs.declared.node.Node.{Node}
-use Rattle.prt_trie.specs.declared.node.Below.{Below, Nothing, Halves'}
+use Rattle.prt_trie.specs.declared.node.Halves.{Halves}
 
--- the place that no row has
+-- the place where nothing stands
 abbrev pub nowhere : ℕ
 nowhere = 18446744073709551615
 
@@ -16,16 +17,39 @@ nowhere = 18446744073709551615
 abbrev pub row_or : ℕ → ℕ → ℕ
 row_or row before = if row == nowhere then before else row
 
--- the place of the last row on the way down to an address, or of the one before it
-abbrev pub last_row_below : Below → ℕ → ℕ → ℕ
-last_row_below Nothing addr before = before
-last_row_below (Halves' p low_first low_last low_row low_below high_first high_last high_row high_below) addr before =
-    if nat_lt addr high_first
-    then (if nat_le low_first addr && nat_le addr low_last then last_row_below low_below addr (row_or low_row before) else before)
-    else (if nat_le high_first addr && nat_le addr high_last then last_row_below high_below addr (row_or high_row before) else before)
+-- whether an address is one of the node's block
+abbrev pub has : Node → ℕ → Bool
+has node addr = nat_le node.first addr && nat_le addr node.last
 
-abbrev pub last_row : Node → ℕ → ℕ → ℕ
-last_row node addr before = if nat_le node.first addr && nat_le addr node.last then last_row_below node.below addr (row_or node.row before) else before
+-- the one of two halves in which an address may lie
+abbrev pub half_for : ℕ → Halves → Node
+half_for addr pair = if nat_lt addr pair.high.first then pair.low else pair.high
+
+-- the place of the last row among so many nodes at most on the way down to an address, or of the one before it
+abbrev pub last_row_among : ℕ → List Halves → Node → ℕ → ℕ → ℕ
+last_row_among zero halves node addr before = before
+last_row_among (suc nodes) halves node addr before =
+    if has node addr
+    then unwrap_or (option_map (λ pair. last_row_among nodes halves (half_for addr pair) addr (row_or node.row before)) (slice_get halves node.below)) (row_or node.row before)
+    else before
+
+-- the same of the whole way
+abbrev pub last_row : List Halves → Node → ℕ → ℕ → ℕ
+last_row halves node addr before = last_row_among (suc (length halves)) halves node addr before
+
+-- what is below the node stands among the first so many halves, or nowhere
+abbrev pub IsWithin : ℕ → Node → Type 0
+IsWithin count node = count ≤ node.below → node.below ≡ nowhere
+
+-- what is below each of the halves stands before them, so that each way down ends
+pub record AreBelow (halves : List Halves) : Type 0 where
+  pub fits : length halves ≤ nowhere
+  pub low : (place : ℕ) (pair : Halves) → slice_get halves place ≡ Some pair → IsWithin place pair.low
+  pub high : (place : ℕ) (pair : Halves) → slice_get halves place ≡ Some pair → IsWithin place pair.high
+
+-- others stand after those from before
+abbrev pub Extends : List Halves → List Halves → Type 0
+Extends old new = (others : List Halves) × (new ≡ old ++ others)
 
 -- a number that is the greater, the better the row
 abbrev pub weight : Route → ℕ

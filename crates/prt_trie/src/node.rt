@@ -1,40 +1,31 @@
 //! The trie: which row is the best for an address.
-ghost use Rattle.std.specs.Prelude.{◌≡◌, ℕ, ◌+◌, ◌%◌, ◌^◌, ◌<◌, ◌≤◌, length, IfOk, IfSome, if◌then◌else◌, nat_lt, nat_le, ◌&&◌};
+ghost use Rattle.std.specs.Prelude.{◌≡◌, ℕ, ◌+◌, ◌%◌, ◌^◌, ◌<◌, ◌≤◌, List, length, IfOk, IfSome, OnOk, if◌then◌else◌, nat_lt};
 ghost use Rattle.std.specs.List.{AllWithin};
 ghost use Rattle.prt_addr.specs.Block.{Block};
 ghost use Rattle.prt_route.specs.declared.route.Route.{Route};
 ghost use Rattle.prt_trie.specs.Block.{IsIn, size};
-ghost use Rattle.prt_trie.specs.Walk.{last_row, nowhere, row_or, IsBest};
+ghost use Rattle.prt_trie.specs.Walk.{AreBelow, Extends, IsBest, IsWithin, half_for, has, last_row, nowhere, row_or};
 ghost use Rattle.prt_trie.specs.Table.{IsTable};
 
 use crate::place::{Place, first_from};
 use prt_route::{Prefix, Route};
-use std::alloc::{AllocError, Global};
+use std::alloc::AllocError;
 
-/// The place that no row has.
+/// The place where nothing stands.
 const NOWHERE: usize = usize::MAX;
 
-/// A block of addresses, the place of the best row whose prefix it is, and what is below it.
-#[cycle(trie)]
-#[derive(Drop)]
+/// A block of addresses, the place of the best row whose prefix it is, and the place of the halves below it.
+#[derive(Clone, Copy)]
 pub(crate) struct Node {
     first: u32,
     last: u32,
     row: usize,
-    below: Below,
-}
-
-#[cycle(trie)]
-#[derive(Drop)]
-enum Below {
-    Nothing,
-    Halves(Box<Halves>),
+    below: usize,
 }
 
 /// What stands in the two halves of a block.
-#[cycle(trie)]
-#[derive(Drop)]
-struct Halves {
+#[derive(Clone, Copy)]
+pub(crate) struct Halves {
     low: Node,
     high: Node,
 }
@@ -42,9 +33,22 @@ struct Halves {
 impl Node {
     /// Whether the address is one of the block.
     fn has(&self, addr: u32) -> bool
-        ensures { result ≡ (nat_le self.now.first addr && nat_le addr self.now.last) }
+        ensures { result ≡ has self.now addr }
     {
         self.first <= addr && addr <= self.last
+    }
+}
+
+impl Halves {
+    /// The half in which the address lies, if it lies in one.
+    fn half_for(&self, addr: u32) -> &Node
+        ensures { result.now ≡ half_for addr self.now }
+    {
+        if addr < self.high.first {
+            &self.low
+        } else {
+            &self.high
+        }
     }
 }
 
@@ -56,23 +60,19 @@ fn row_or(row: usize, before: usize) -> usize
 }
 
 /// The place of the last row on the way down to the address, which is the best for it: `NOWHERE` where none contains it.
-pub(crate) fn last_row(root: &Node, addr: u32) -> usize
-    ensures { result ≡ last_row root.now addr nowhere }
+pub(crate) fn last_row(halves: &[Halves], root: &Node, addr: u32) -> usize
+    requires halves { AreBelow halves.now }
+    requires root { IsWithin (length halves.now) root.now }
+    ensures { result ≡ last_row halves.now root.now addr nowhere }
 {
     let mut place = NOWHERE;
     let mut node = root;
     while node.has(addr) {
         place = row_or(node.row, place);
-        match &node.below {
-            Below::Nothing => break,
-            Below::Halves(halves) => {
-                node = if addr < halves.high.first {
-                    &halves.low
-                } else {
-                    &halves.high
-                };
-            }
-        }
+        let Some(pair) = halves.get(node.below) else {
+            break;
+        };
+        node = pair.half_for(addr);
     }
     place
 }
@@ -177,26 +177,46 @@ fn leaf(rows: &[Route], start: usize, end: usize, first: u32, len: u8) -> Node
     requires in_range { first + size len ≤ 2 ^ 32 }
     requires inside { AllWithin (λ row. IsIn first len row.prefix) rows.now start end }
     requires own { AllWithin (λ row. row.prefix.len ≡ len) rows.now start end }
-    ensures best { (addr before : ℕ) → IsBest rows.now start end addr before (last_row result addr before) }
+    ensures best { (halves : List Halves) → length halves ≤ nowhere → (addr before : ℕ) → IsBest rows.now start end addr before (last_row halves result addr before) }
     ensures first { result.first ≡ first }
+    ensures below { result.below ≡ nowhere }
 {
     Node {
         first,
         last: last_of(first, len),
         row: first_place(start, end),
-        below: Below::Nothing,
+        below: NOWHERE,
     }
 }
 
+/// The node with these two below it, which are put after the halves so far.
+fn fork(halves: &mut Vec<Halves>, block: Node, low: Node, high: Node) -> Result<Node, AllocError>
+    requires halves { AreBelow halves.old.items }
+    requires low { IsWithin (length halves.old.items) low }
+    requires high { IsWithin (length halves.old.items) high }
+    ensures found { IfOk result (λ node. (addr before : ℕ) → last_row halves.new.items node addr before
+        ≡ (if has block addr then last_row halves.old.items (if nat_lt addr high.first then low else high) addr (row_or block.row before) else before)) }
+    ensures first { IfOk result (λ node. node.first ≡ block.first) }
+    ensures halves { OnOk result (AreBelow halves.new.items) }
+    ensures kept { OnOk result (Extends halves.old.items halves.new.items) }
+    ensures below { IfOk result (λ node. IsWithin (length halves.new.items) node) }
+{
+    let below = halves.len();
+    halves.push(Halves { low, high })?;
+    Ok(Node { below, ..block })
+}
+
 /// The trie over the rows at `start..end`, which lie in the block of the addresses that begin with the first `len` bits of `first`.
+/// What stands below its nodes is put after the halves so far.
 pub(crate) fn node_of(
-    alloc: Global,
+    halves: &mut Vec<Halves>,
     rows: &[Route],
     start: usize,
     end: usize,
     first: u32,
     len: u8,
 ) -> Result<Node, AllocError>
+    requires halves { AreBelow halves.old.items }
     requires rows { IsTable rows.now }
     requires fits { length rows.now ≤ nowhere }
     requires start { start ≤ end }
@@ -205,9 +225,12 @@ pub(crate) fn node_of(
     requires aligned { first % size len ≡ 0 }
     requires in_range { first + size len ≤ 2 ^ 32 }
     requires inside { AllWithin (λ row. IsIn first len row.prefix) rows.now start end }
-    ensures best { IfOk result (λ node. (addr before : ℕ) → IsBest rows.now start end addr before (last_row node addr before)) }
+    ensures best { IfOk result (λ node. (addr before : ℕ) → IsBest rows.now start end addr before (last_row halves.new.items node addr before)) }
     ensures first { IfOk result (λ node. first ≤ node.first) }
     ensures within { IfOk result (λ node. AllWithin (λ row. node.first ≤ row.prefix.bits) rows.now start end) }
+    ensures halves { OnOk result (AreBelow halves.new.items) }
+    ensures kept { OnOk result (Extends halves.old.items halves.new.items) }
+    ensures below { IfOk result (λ node. IsWithin (length halves.new.items) node) }
 {
     if let Some(prefix) = only_prefix(rows, start, end) {
         return Ok(leaf(rows, start, end, prefix.bits(), prefix.len()));
@@ -216,22 +239,21 @@ pub(crate) fn node_of(
     if own == end {
         return Ok(leaf(rows, start, end, first, len));
     }
-    let row = first_place(start, own);
-    let last = last_of(first, len);
+    let block = Node {
+        first,
+        last: last_of(first, len),
+        row: first_place(start, own),
+        below: NOWHERE,
+    };
     let middle = middle_of(first, len);
     let split = low_end(rows, own, end, first, len, middle);
     if start == own && split == end {
-        return node_of(alloc, rows, start, end, first, len + 1);
+        return node_of(halves, rows, start, end, first, len + 1);
     }
     if start == own && split == start {
-        return node_of(alloc, rows, start, end, middle, len + 1);
+        return node_of(halves, rows, start, end, middle, len + 1);
     }
-    let low = node_of(alloc, rows, own, split, first, len + 1)?;
-    let high = node_of(alloc, rows, split, end, middle, len + 1)?;
-    Ok(Node {
-        first,
-        last,
-        row,
-        below: Below::Halves(Box::new(alloc, Halves { low, high })?),
-    })
+    let low = node_of(halves, rows, own, split, first, len + 1)?;
+    let high = node_of(halves, rows, split, end, middle, len + 1)?;
+    fork(halves, block, low, high)
 }

@@ -10,7 +10,7 @@ ghost use Rattle.prt_route.specs.RouteChoice.{chosen_route};
 ghost use Rattle.prt_trie.specs.Table.{IsOfOneTable, IsOfTable, IsRising, IsTable, has_same_key};
 
 use crate::listing::sort_rows;
-use crate::node::{Node, last_row, node_of};
+use crate::node::{Halves, Node, last_row, node_of};
 use crate::place::{chosen_route, has_key};
 use crate::{Addr, Refusal, Route, RouteChoice, RouteKey};
 use std::alloc::{AllocError, Global};
@@ -20,6 +20,7 @@ use std::marker::Model;
 #[derive(Drop)]
 pub struct Tree {
     rows: Vec<Route>,
+    halves: Vec<Halves>,
     root: Node,
 }
 
@@ -32,7 +33,7 @@ impl Model for Tree {
 
     ghost view = { λ tree. tree.rows.items };
 
-    ghost invariant = { λ tree. IsIndex tree.rows.items tree.root };
+    ghost invariant = { λ tree. IsIndex tree.rows.items tree.halves.items tree.root };
 }
 
 /// The metric of the row.
@@ -95,10 +96,14 @@ impl Tree {
     {
         let given = rows.as_slice();
         read_all(given);
-        let Ok(root) = node_of(alloc, given, 0, given.len(), 0, 0) else {
+        // There are no more halves than rows, so their vector is allocated once.
+        let Ok(mut halves) = Vec::with_capacity(alloc, given.len()) else {
             return Err(Refusal::NoMemory);
         };
-        Ok(Tree { rows, root })
+        let Ok(root) = node_of(&mut halves, given, 0, given.len(), 0, 0) else {
+            return Err(Refusal::NoMemory);
+        };
+        Ok(Tree { rows, halves, root })
     }
 
     /// The routes in the order of listings.
@@ -113,7 +118,7 @@ impl Tree {
     pub fn find(&self, addr: Addr) -> Option<&Route>
         ensures { (table : ℕ) → IsOfTable table self.now → option_copied result ≡ best self.now table addr }
     {
-        self.rows.get(last_row(&self.root, addr.0))
+        self.rows.get(last_row(&self.halves, &self.root, addr.0))
     }
 
     /// A copy of the routes by address, length and metric.

@@ -12,5 +12,5 @@ found_row c = grind (arith, common_steps, gets)
 
 pub returns : goal.returns
 returns c table all =
-    let best : slice_get c.deref.result.now c.last_row.result ≡ best_for c.args.self.now c.args.addr = rw (c.deref.ensures.value, c.last_row.ensures) (c.self.invariant.agrees c.args.addr.0 ∙ ap (λ rows. best_for rows c.args.addr) c.self.view_is) in
+    let best : slice_get c.deref.result.now c.last_row.result ≡ best_for c.args.self.now c.args.addr = rw (c.deref.ensures.value, c.last_row.ensures, c.deref-2.ensures.value) (c.self.invariant.agrees c.args.addr.0 ∙ ap (λ rows. best_for rows c.args.addr) c.self.view_is) in
     found_row c ∙ best ∙ sym (best_of_table _ table c.args.addr all)

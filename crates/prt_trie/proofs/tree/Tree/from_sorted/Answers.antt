@@ -12,5 +12,6 @@ node_of-requires-clause-inside c k d f t = in_all _ (c.read_all.ensures.prefixes
 
 pub invariant_of-result : goal.invariant_of-result
 invariant_of-result c =
-    subst (λ rows. IsIndex rows c.in-Ok.root) c.as_slice-given.ensures.value
-    (index_of c.as_slice-given.result.now c.in-Ok.root (omega arith) (table_from _ _ c.as_slice-given.ensures.value c.requires.one_table c.requires.rising c.read_all.ensures.prefixes c.read_all.ensures.metrics) c.in-Ok.ensures.best)
+    let halves = c.node_of.new.halves.items in
+    subst (λ rows. IsIndex rows halves c.in-Ok-node_of.root) c.as_slice-given.ensures.value
+    (index_of c.as_slice-given.result.now halves c.in-Ok-node_of.root (omega arith) (table_from _ _ c.as_slice-given.ensures.value c.requires.one_table c.requires.rising c.read_all.ensures.prefixes c.read_all.ensures.metrics) c.in-Ok-node_of.ensures.halves c.in-Ok-node_of.ensures.below c.in-Ok-node_of.ensures.best)
