@@ -128,7 +128,7 @@ stays_by false = refl
 pub held_back : (noted n : ℕ) (announced : List (Option ℕ)) → list_any (may_hold n) announced ≡ true → stays noted announced n ≡ true
 held_back noted n announced held = ap (λ b. not (nat_lt n noted && not b)) held ∙ stays_by (nat_lt n noted)
 
-or_later : (b c : Bool) → c ≡ true → (b || c) ≡ true
+pub or_later : (b c : Bool) → c ≡ true → (b || c) ≡ true
 or_later true c h = refl
 or_later false c h = h
 

@@ -60,7 +60,7 @@ kept_count versions number state h = is_number state.count number (found_passes 
 pub kept_before : (versions : List State) (state more : State) (number : ℕ) → kept versions number ≡ Some state → kept (versions ++ more ∷ []) number ≡ Some state
 kept_before versions state more number h = find-append (λ state. state.count == number) versions (more ∷ []) ∙ ap (λ found. option_or found (kept (more ∷ []) number)) h
 
-other_number : (count top number : ℕ) → count ≤ top → top < number → count == number ≡ false
+pub other_number : (count top number : ℕ) → count ≤ top → top < number → count == number ≡ false
 other_number count top number low high = grind (arith, nat_tests)
 
 missing_by : (state : State) (versions : List State) (number : ℕ) (b : Bool) → b ≡ false → kept versions number ≡ None → cond b (Some state) (kept versions number) ≡ None

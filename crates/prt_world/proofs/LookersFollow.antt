@@ -1,6 +1,6 @@
 -- Publications, lookers and reclaims of a replay, and whole replays.
 use Rattle.std.proofs.Common.{◌≡◌, ℕ, zero, suc, ◌+◌, ◌<◌, ◌≤◌, true, false, List, [], ◌∷◌, ◌++◌, Option, Some, None, map, set, replicate, refl, sym, ap, ◌∙◌, subst, arith}
-use Rattle.std.specs.Prelude.{◌==◌, nat_lt, if◌then◌else◌}
+use Rattle.std.specs.Prelude.{nat_lt, if◌then◌else◌}
 use Rattle.std.specs.List.{AllZip}
 use Rattle.std.proofs.lemmas.Bool.Decides.{nat_tests}
 use Rattle.std.proofs.lemmas.List.{append_assoc, map-set}
@@ -21,10 +21,10 @@ use Rattle.prt_world.specs.declared.outcome.Outcome.TheVariants as outcomes
 use Rattle.prt_world.specs.declared.phase.Phase.{Phase}
 use Rattle.prt_world.specs.declared.phase.Phase.TheVariants.{Committed, Published, Noted, Closed, Stopped}
 use Rattle.prt_world.proofs.History.{IsServed}
-use Rattle.prt_world.proofs.KeptVersions.{kept_count}
+use Rattle.prt_world.proofs.KeptVersions.{kept_count, other_number, same_number}
 use Rattle.prt_world.proofs.Phases.{Holds, Phased, shown_version, version_kept}
 use Rattle.prt_world.proofs.SideBySide.{map_set_same, zip_get, zip_set}
-use Rattle.prt_world.proofs.Simulation.{Follows, IsSeatOf, IsUnderWay, Stands, shown_count, stays_put, unnoted}
+use Rattle.prt_world.proofs.Simulation.{AreLookers, Follows, IsSeatOf, IsUnderWay, Stands, moved, shown_count, stays_put, unnoted}
 
 -- ---- opened again
 
@@ -34,17 +34,17 @@ one_more_offline accepted i (suc n) (seat ∷ seats) h = (h.0, one_more_offline 
 one_more_offline accepted i zero (seat ∷ seats) h = absurd h
 one_more_offline accepted i (suc n) [] h = absurd h
 
-pub seats_offline : (accepted : List Command) (n : ℕ) → AllZip (IsSeatOf accepted) (seats_below n) (replicate n offline)
+seats_offline : (accepted : List Command) (n : ℕ) → AllZip (IsSeatOf accepted) (seats_below n) (replicate n offline)
 unfolding seats_below
 seats_offline accepted zero = tt
 seats_offline accepted (suc n) = one_more_offline accepted n n (seats_below n) (seats_offline accepted n)
 
-pub all_offline : (n : ℕ) → map announced (replicate n places.Offline) ≡ map announced_by (replicate n offline)
-all_offline zero = refl
-all_offline (suc n) = ap (λ xs. None ∷ xs) (all_offline n)
+none_told : (n : ℕ) → map announced (replicate n places.Offline) ≡ map announced_by (replicate n offline)
+none_told zero = refl
+none_told (suc n) = ap (λ xs. None ∷ xs) (none_told n)
 
-number_is_itself : (n : ℕ) → n == n ≡ true
-number_is_itself n = grind (arith, nat_tests)
+pub all_offline : (accepted : List Command) → AreLookers (replicate PLACES places.Offline) (seats_below PLACES) accepted (replicate PLACES offline)
+all_offline accepted = record { told = none_told PLACES; seated = seats_offline accepted PLACES }
 
 pub reopened_follows : (m : MachineState) (w : World) → Holds (world.reopened w) → Stands m w → Follows (record { machine = opened m.disk; outcome = outcomes.Reopened m.disk.count }) (record { world = world.reopened w; outcome = outcomes.Reopened (world.durable w) })
 reopened_follows m w h s = record {
@@ -52,12 +52,13 @@ reopened_follows m w h s = record {
   stands = record {
     phase = refl;
     disk = s.disk;
-    published = s.disk ∙ h.counts.prefix;
-    noted = ap (λ state. state.count) s.disk;
-    below = tt;
-    versions = ap (λ state. state ∷ []) (sym s.disk) ∙ ap (λ b. m.disk ∷ unnoted b m.disk) (sym (number_is_itself w.disk.count));
-    told = all_offline PLACES;
-    seats = seats_offline (world.reopened w).accepted PLACES;
+    versions = record {
+      published = s.disk ∙ h.counts.prefix;
+      noted = ap (λ state. state.count) s.disk;
+      below = tt;
+      all = ap (λ state. state ∷ []) (sym s.disk) ∙ ap (λ b. m.disk ∷ unnoted b m.disk) (sym (same_number w.disk.count w.disk.count refl));
+    };
+    lookers = all_offline (world.reopened w).accepted;
     under_way = tt;
   };
 }
@@ -69,60 +70,56 @@ reopen_follows m w phase h s = stays_put m w s
 
 -- ---- publication
 
-numbers_differ : (n m : ℕ) → m ≡ n + 1 → n == m ≡ false
-numbers_differ n m e = grind (arith, nat_tests)
-
-numbers_agree : (n m : ℕ) → n ≡ m → n == m ≡ true
-numbers_agree n m e = grind (arith, nat_tests)
-
 pub publish_follows : (m : MachineState) (w : World) (phase : Phase) → Holds w → Phased w phase → IsUnderWay m.next m.lookers.registry.retired w.disk phase → Stands m w → Follows (machine.publish_by m phase) (world.publish w phase)
 publish_follows m w (Committed command) h phased under_way s =
     let known : w.noted ≡ w.published = phased.known in
     let next : w.disk.count ≡ w.published + 1 = phased.next in
     let made : apply (published_version w) command ≡ m.disk = ap (λ state. apply state command) (shown_version w h) ∙ sym phased.after ∙ sym s.disk in
-    let settled : w.versions ≡ m.lookers.registry.retired ++ m.lookers.registry.noted ∷ [] = s.versions ∙ ap (λ b. m.lookers.registry.retired ++ m.lookers.registry.noted ∷ unnoted b m.published) (numbers_agree w.noted w.published known) in
+    let settled : w.versions ≡ m.lookers.registry.retired ++ m.lookers.registry.noted ∷ [] = s.versions.all ∙ ap (λ b. m.lookers.registry.retired ++ m.lookers.registry.noted ∷ unnoted b m.published) (same_number w.noted w.published known) in
     record {
       shows = ap (λ state. outcomes.Published state.count) s.disk;
       stands = record {
         phase = refl;
         disk = s.disk;
-        published = s.disk ∙ h.counts.prefix;
-        noted = s.noted;
-        below = s.below;
-        versions =
-            ap (λ xs. xs ++ apply (published_version w) command ∷ []) settled
-            ∙ ap (λ state. (m.lookers.registry.retired ++ m.lookers.registry.noted ∷ []) ++ state ∷ []) made
-            ∙ append_assoc m.lookers.registry.retired (m.lookers.registry.noted ∷ []) (m.disk ∷ [])
-            ∙ ap (λ b. m.lookers.registry.retired ++ m.lookers.registry.noted ∷ unnoted b m.disk) (sym (numbers_differ w.noted w.disk.count (omega arith)));
-        told = s.told;
-        seats = s.seats;
+        versions = record {
+          published = s.disk ∙ h.counts.prefix;
+          noted = s.versions.noted;
+          below = s.versions.below;
+          all =
+              ap (λ xs. xs ++ apply (published_version w) command ∷ []) settled
+              ∙ ap (λ state. (m.lookers.registry.retired ++ m.lookers.registry.noted ∷ []) ++ state ∷ []) made
+              ∙ append_assoc m.lookers.registry.retired (m.lookers.registry.noted ∷ []) (m.disk ∷ [])
+              ∙ ap (λ b. m.lookers.registry.retired ++ m.lookers.registry.noted ∷ unnoted b m.disk) (sym (other_number w.noted w.noted w.disk.count (omega arith) (omega arith)));
+        };
+        lookers = s.lookers;
         under_way = under_way;
       };
     }
 publish_follows m w phase h phased under_way s = stays_put m w s
 
 pub fail_publication_follows : (m : MachineState) (w : World) (phase : Phase) → Stands m w → Follows (machine.fail_publication_by m phase) (world.fail_publication w phase)
-fail_publication_follows m w (Committed command) s = record { shows = refl; stands = record { phase = refl; disk = s.disk; published = s.published; noted = s.noted; below = s.below; versions = s.versions; told = s.told; seats = s.seats; under_way = tt } }
+fail_publication_follows m w (Committed command) s = record { shows = refl; stands = moved m w w.disk w.pending m.next m.disk Closed s.disk tt s }
 fail_publication_follows m w phase s = stays_put m w s
 
 pub note_follows : (m : MachineState) (w : World) (phase : Phase) → Holds w → Phased w phase → IsUnderWay m.next m.lookers.registry.retired w.disk phase → Stands m w → Follows (machine.note_by m phase) (world.note w phase)
 note_follows m w (Published command) h phased under_way s =
     let shown : m.published.count ≡ w.published = shown_count m w h s in
-    let noted : m.lookers.registry.noted.count ≡ w.noted = s.noted in
+    let noted : m.lookers.registry.noted.count ≡ w.noted = s.versions.noted in
     let next : w.published ≡ w.noted + 1 = phased.1 in
     let can : machine.can_note m ≡ true = grind (arith, nat_tests) in
-    let one : w.versions ≡ m.lookers.registry.retired ++ m.lookers.registry.noted ∷ (m.published ∷ []) = s.versions ∙ ap (λ b. m.lookers.registry.retired ++ m.lookers.registry.noted ∷ unnoted b m.published) (numbers_differ w.noted w.published next) in
+    let one : w.versions ≡ m.lookers.registry.retired ++ m.lookers.registry.noted ∷ (m.published ∷ []) = s.versions.all ∙ ap (λ b. m.lookers.registry.retired ++ m.lookers.registry.noted ∷ unnoted b m.published) (other_number w.noted w.noted w.published (omega arith) (omega arith)) in
     let follows : Follows (machine.note_if m command true) (world.note w (Published command)) = record {
       shows = ap outcomes.Noted shown;
       stands = record {
         phase = refl;
         disk = s.disk;
-        published = s.published;
-        noted = shown;
-        below = each_append (λ state. state.count < w.published) m.lookers.registry.retired (m.lookers.registry.noted ∷ []) (each_implies (λ state. state.count < w.noted) (λ state. state.count < w.published) (λ state low. omega arith) m.lookers.registry.retired s.below) (omega arith, tt);
-        versions = one ∙ sym (append_assoc m.lookers.registry.retired (m.lookers.registry.noted ∷ []) (m.published ∷ [])) ∙ ap (λ b. (m.lookers.registry.retired ++ m.lookers.registry.noted ∷ []) ++ m.published ∷ unnoted b m.published) (sym (number_is_itself w.published));
-        told = s.told;
-        seats = s.seats;
+        versions = record {
+          published = s.versions.published;
+          noted = shown;
+          below = each_append (λ state. state.count < w.published) m.lookers.registry.retired (m.lookers.registry.noted ∷ []) (each_implies (λ state. state.count < w.noted) (λ state. state.count < w.published) (λ state low. omega arith) m.lookers.registry.retired s.versions.below) (omega arith, tt);
+          all = one ∙ sym (append_assoc m.lookers.registry.retired (m.lookers.registry.noted ∷ []) (m.published ∷ [])) ∙ ap (λ b. (m.lookers.registry.retired ++ m.lookers.registry.noted ∷ []) ++ m.published ∷ unnoted b m.published) (sym (same_number w.published w.published refl));
+        };
+        lookers = s.lookers;
         under_way = tt;
       };
     } in
@@ -130,7 +127,7 @@ note_follows m w (Published command) h phased under_way s =
 note_follows m w phase h phased under_way s = stays_put m w s
 
 pub acknowledge_follows : (m : MachineState) (w : World) (phase : Phase) → Holds w → Stands m w → Follows (machine.acknowledge_by m phase) (world.acknowledge w phase)
-acknowledge_follows m w (Noted command) h s = record { shows = ap outcomes.Acknowledged (shown_count m w h s); stands = record { phase = refl; disk = s.disk; published = s.published; noted = s.noted; below = s.below; versions = s.versions; told = s.told; seats = s.seats; under_way = tt } }
+acknowledge_follows m w (Noted command) h s = record { shows = ap outcomes.Acknowledged (shown_count m w h s); stands = record { phase = refl; disk = s.disk; versions = s.versions; lookers = s.lookers; under_way = tt } }
 acknowledge_follows m w phase h s = stays_put m w s
 
 -- ---- lookers
@@ -144,16 +141,15 @@ sit_stands : (m : MachineState) (w : World) (looker : ℕ) (number : Option ℕ)
 sit_stands m w looker number held state same seated s = record {
   phase = s.phase;
   disk = s.disk;
-  published = s.published;
-  noted = s.noted;
-  below = s.below;
   versions = s.versions;
-  told =
-      map-set announced m.lookers.registry.places looker (announcing number)
-      ∙ ap (λ xs. set xs looker (announced (announcing number))) s.told
-      ∙ ap (set (map announced_by w.lookers) looker) (told_back number ∙ sym same)
-      ∙ sym (map-set announced_by w.lookers looker state);
-  seats = zip_set (IsSeatOf w.accepted) m.lookers.seats w.lookers looker (record { place = record (seat_of m.lookers looker).place { announced = number }; held = held }) state seated s.seats;
+  lookers = record {
+    told =
+        map-set announced m.lookers.registry.places looker (announcing number)
+        ∙ ap (λ xs. set xs looker (announced (announcing number))) s.lookers.told
+        ∙ ap (set (map announced_by w.lookers) looker) (told_back number ∙ sym same)
+        ∙ sym (map-set announced_by w.lookers looker state);
+    seated = zip_set (IsSeatOf w.accepted) m.lookers.seats w.lookers looker (record { place = record (seat_of m.lookers looker).place { announced = number }; held = held }) state seated s.lookers.seated;
+  };
   under_way = s.under_way;
 }
 
@@ -162,17 +158,16 @@ hold_stands : (m : MachineState) (w : World) (looker : ℕ) (held : Option State
 hold_stands m w looker held state same seated s = record {
   phase = s.phase;
   disk = s.disk;
-  published = s.published;
-  noted = s.noted;
-  below = s.below;
   versions = s.versions;
-  told = s.told ∙ sym (map_set_same announced_by w.lookers looker state offline same);
-  seats = zip_set (IsSeatOf w.accepted) m.lookers.seats w.lookers looker (record { place = (seat_of m.lookers looker).place; held = held }) state seated s.seats;
+  lookers = record {
+    told = s.lookers.told ∙ sym (map_set_same announced_by w.lookers looker state offline same);
+    seated = zip_set (IsSeatOf w.accepted) m.lookers.seats w.lookers looker (record { place = (seat_of m.lookers looker).place; held = held }) state seated s.lookers.seated;
+  };
   under_way = s.under_way;
 }
 
 pub seat_here : (m : MachineState) (w : World) (looker : ℕ) → Stands m w → IsSeatOf w.accepted (seat_of m.lookers looker) (looker_state w looker)
-seat_here m w looker s = zip_get (IsSeatOf w.accepted) m.lookers.seats w.lookers looker (empty_seat looker) offline (refl, refl) s.seats
+seat_here m w looker s = zip_get (IsSeatOf w.accepted) m.lookers.seats w.lookers looker (empty_seat looker) offline (refl, refl) s.lookers.seated
 
 pub tells : (accepted : List Command) (seat : SeatState) (state : LookerState) → IsSeatOf accepted seat state → seat.place.announced ≡ announced_by state
 tells accepted seat offline h = h.0
@@ -181,7 +176,7 @@ tells accepted seat (online number (Some held)) h = h.0
 
 pub online_follows : (m : MachineState) (w : World) (looker : ℕ) (state : LookerState) → Stands m w → Follows (machine.online_by m looker (announced_by state)) (world.go_online w looker state)
 online_follows m w looker offline s =
-    let noted : m.lookers.registry.noted.count ≡ w.noted = s.noted in
+    let noted : m.lookers.registry.noted.count ≡ w.noted = s.versions.noted in
     record { shows = ap (outcomes.Online looker) noted; stands = sit_stands m w looker (Some m.lookers.registry.noted.count) None (online w.noted None) (ap Some (sym noted)) (ap Some noted, refl) s }
 online_follows m w looker (online number held) s = stays_put m w s
 
@@ -189,7 +184,7 @@ pub fetch_follows : (m : MachineState) (w : World) (looker : ℕ) (state : Looke
 fetch_follows m w looker offline is h s = stays_put m w s
 fetch_follows m w looker (online number held) is h s =
     let told : (seat_of m.lookers looker).place.announced ≡ Some number = tells w.accepted (seat_of m.lookers looker) (looker_state w looker) (seat_here m w looker s) ∙ ap announced_by is in
-    record { shows = ap (outcomes.Fetched looker) (shown_count m w h s); stands = hold_stands m w looker (Some m.published) (online number (Some w.published)) (ap announced_by (sym is)) (told, ap Some s.published) s }
+    record { shows = ap (outcomes.Fetched looker) (shown_count m w h s); stands = hold_stands m w looker (Some m.published) (online number (Some w.published)) (ap announced_by (sym is)) (told, ap Some s.versions.published) s }
 
 pub offline_follows : (m : MachineState) (w : World) (looker : ℕ) (state : LookerState) → Stands m w → Follows (machine.offline_by m looker (announced_by state)) (world.go_offline w looker state)
 offline_follows m w looker offline s = stays_put m w s
@@ -219,5 +214,5 @@ look_follows m w packet (online number (Some held)) holds seat is seated served 
     subst (λ o. Follows (machine.look_by m packet o) (world.look w packet (online number (Some held)))) (sym seated.1 ∙ is)
     (record {
       shows = ap (λ state. outcomes.Answered (world.answer_by state packet)) (sym (version_kept w held (state_after w.accepted held) served.is_kept));
-      stands = record { phase = s.phase; disk = s.disk; published = s.published; noted = s.noted; below = s.below; versions = s.versions; told = s.told; seats = s.seats; under_way = s.under_way };
+      stands = record { phase = s.phase; disk = s.disk; versions = s.versions; lookers = s.lookers; under_way = s.under_way };
     })

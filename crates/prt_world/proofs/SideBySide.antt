@@ -1,5 +1,5 @@
 -- Lists side by side, and filters.
-use Rattle.std.proofs.Common.{◌≡◌, ℕ, zero, suc, Bool, true, false, List, [], ◌∷◌, ◌++◌, map, get_or, set, refl, sym, ap, ◌∙◌, cond}
+use Rattle.std.proofs.Common.{◌≡◌, ℕ, zero, suc, Bool, true, false, List, [], ◌∷◌, map, get_or, set, refl, sym, ap, ◌∙◌, cond}
 use Rattle.std.specs.Prelude.{filter}
 use Rattle.std.specs.List.{AllZip, AllByRecursion as Each}
 use Rattle.std.proofs.lemmas.List.{map-set, set-get_or}
@@ -18,12 +18,6 @@ zip_get R (a ∷ xs) (b ∷ ys) (suc i) x y past h = zip_get R xs ys i x y past 
 zip_get R [] (b ∷ ys) i x y past h = absurd h
 zip_get R (a ∷ xs) [] i x y past h = absurd h
 
-pub zip_implies : {X Y : Type 0} (R S : X → Y → Type 0) → ((x : X) (y : Y) → R x y → S x y) → (xs : List X) (ys : List Y) → AllZip R xs ys → AllZip S xs ys
-zip_implies R S more [] [] h = tt
-zip_implies R S more (a ∷ xs) (b ∷ ys) h = (more a b h.0, zip_implies R S more xs ys h.1)
-zip_implies R S more [] (b ∷ ys) h = absurd h
-zip_implies R S more (a ∷ xs) [] h = absurd h
-
 all_pass_by : {X : Type 0} (p : X → Bool) (x : X) (xs kept : List X) (b : Bool) → b ≡ true → kept ≡ xs → cond b (x ∷ kept) kept ≡ x ∷ xs
 all_pass_by p x xs kept true passes same = ap (λ ys. x ∷ ys) same
 all_pass_by p x xs kept false passes same = absurd cc
@@ -32,14 +26,6 @@ all_pass_by p x xs kept false passes same = absurd cc
 pub all_pass : {X : Type 0} (p : X → Bool) (xs : List X) → Each (λ x. p x ≡ true) xs → filter p xs ≡ xs
 all_pass p [] h = refl
 all_pass p (x ∷ xs) h = all_pass_by p x xs (filter p xs) (p x) h.0 (all_pass p xs h.1)
-
-filter_append_by : {X : Type 0} (p : X → Bool) (x : X) (xs ys zs : List X) (b : Bool) → zs ≡ xs ++ ys → cond b (x ∷ zs) zs ≡ cond b (x ∷ xs) xs ++ ys
-filter_append_by p x xs ys zs true same = ap (λ xs. x ∷ xs) same
-filter_append_by p x xs ys zs false same = same
-
-pub filter_append : {X : Type 0} (p : X → Bool) (xs ys : List X) → filter p (xs ++ ys) ≡ filter p xs ++ filter p ys
-filter_append p [] ys = refl
-filter_append p (x ∷ xs) ys = filter_append_by p x (filter p xs) (filter p ys) (filter p (xs ++ ys)) (p x) (filter_append p xs ys)
 
 none_pass_by : {X : Type 0} (x : X) (kept : List X) (b : Bool) → b ≡ false → kept ≡ [] → cond b (x ∷ kept) kept ≡ []
 none_pass_by x kept true fails rest = absurd cc

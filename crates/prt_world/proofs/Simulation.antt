@@ -5,6 +5,7 @@ use Rattle.std.specs.List.{AllZip, AllByRecursion as Each}
 use Rattle.std.specs.Result.{result_err}
 use Rattle.std.proofs.lemmas.Bool.Decides.{nat_tests}
 use Rattle.std.proofs.lemmas.List.{append-nil, take-append-le}
+use Rattle.std.proofs.lemmas.List.Elements.{filter-append}
 use Rattle.prt_addr.specs.declared.refusal.Refusal.{Refusal}
 use Rattle.prt_addr.specs.declared.refusal.StoreCall.TheVariants.{Begin, Write, Count, Commit}
 use Rattle.prt_addr.proofs.Each.{each_implies}
@@ -12,6 +13,7 @@ use Rattle.prt_command.specs.declared.request.Command.{Command}
 use Rattle.prt_grace.specs.GracePeriod.{is_retired}
 use Rattle.prt_grace.specs.Registry.{announced}
 use Rattle.prt_grace.specs.declared.limits.TheConstants.{MOST_RETIRED}
+use Rattle.prt_grace.specs.declared.place.PlaceState.{PlaceState}
 use Rattle.prt_version.specs.Change.{apply, check, put, put_if, refusal}
 use Rattle.prt_version.specs.State.{State}
 use Rattle.prt_version.specs.declared.change.Change.{Change}
@@ -28,7 +30,7 @@ use Rattle.prt_world.specs.declared.phase.Phase.TheVariants.{Ready, Prepared, Co
 use Rattle.prt_world.proofs.Folds.{apply_count}
 use Rattle.prt_world.proofs.History.{IsServed, same_state}
 use Rattle.prt_world.proofs.KeptVersions.{kept_count}
-use Rattle.prt_world.proofs.SideBySide.{all_pass, filter_append, none_pass}
+use Rattle.prt_world.proofs.SideBySide.{all_pass, none_pass}
 use Rattle.prt_world.proofs.Phases.{Holds, Phased, settled_version, shown_version}
 
 -- ---- the relation
@@ -54,15 +56,23 @@ IsUnderWay next retired disk (Noted command) = Unit {0}
 IsUnderWay next retired disk Closed = Unit {0}
 IsUnderWay next retired disk Stopped = Unit {0}
 
+-- The registry's versions and the published one are those of the world.
+pub record AreVersions (shown last : State) (retired : List State) (accepted : List Command) (number known : ℕ) (versions : List State) : Type 0 where
+  pub published : shown ≡ state_after accepted number
+  pub noted : last.count ≡ known
+  pub below : Each (λ state. state.count < known) retired
+  pub all : versions ≡ retired ++ last ∷ unnoted (known == number) shown
+
+-- The registry's places and the seats are those of the lookers.
+pub record AreLookers (places : List PlaceState) (seats : List SeatState) (accepted : List Command) (lookers : List LookerState) : Type 0 where
+  pub told : map announced places ≡ map announced_by lookers
+  pub seated : AllZip (IsSeatOf accepted) seats lookers
+
 pub record Stands (m : MachineState) (w : World) : Type 0 where
   pub phase : m.phase ≡ w.phase
   pub disk : m.disk ≡ w.disk
-  pub published : m.published ≡ state_after w.accepted w.published
-  pub noted : m.lookers.registry.noted.count ≡ w.noted
-  pub below : Each (λ state. state.count < w.noted) m.lookers.registry.retired
-  pub versions : w.versions ≡ m.lookers.registry.retired ++ m.lookers.registry.noted ∷ unnoted (w.noted == w.published) m.published
-  pub told : map announced m.lookers.registry.places ≡ map announced_by w.lookers
-  pub seats : AllZip (IsSeatOf w.accepted) m.lookers.seats w.lookers
+  pub versions : AreVersions m.published m.lookers.registry.noted m.lookers.registry.retired w.accepted w.published w.noted w.versions
+  pub lookers : AreLookers m.lookers.registry.places m.lookers.seats w.accepted w.lookers
   pub under_way : IsUnderWay m.next m.lookers.registry.retired w.disk w.phase
 
 -- the replay and the world show the same, and the replay stands for the world again
@@ -73,10 +83,10 @@ pub record Follows (m : MachineStep) (w : Step) : Type 0 where
 -- ---- what stands for the published version
 
 shown_is : (m : MachineState) (w : World) → Holds w → Stands m w → m.published ≡ published_version w
-shown_is m w h s = s.published ∙ sym (shown_version w h)
+shown_is m w h s = s.versions.published ∙ sym (shown_version w h)
 
 pub shown_count : (m : MachineState) (w : World) → Holds w → Stands m w → m.published.count ≡ w.published
-shown_count m w h s = ap (λ state. state.count) s.published ∙ kept_count w.versions w.published (state_after w.accepted w.published) h.history.top_kept
+shown_count m w h s = ap (λ state. state.count) s.versions.published ∙ kept_count w.versions w.published (state_after w.accepted w.published) h.history.top_kept
 
 pub each_unnoted : (P : State → Type 0) (b : Bool) (state : State) → P state → Each P (unnoted b state)
 each_unnoted P true state here = tt
@@ -88,7 +98,7 @@ tops m w = m.lookers.registry.noted ∷ unnoted (w.noted == w.published) m.publi
 -- the versions that are not retired have the noted number or a later one
 pub tops_high : (m : MachineState) (w : World) → Holds w → Stands m w → Each (λ state. w.noted ≤ state.count) (tops m w)
 tops_high m w h s =
-    let noted : m.lookers.registry.noted.count ≡ w.noted = s.noted in
+    let noted : m.lookers.registry.noted.count ≡ w.noted = s.versions.noted in
     let shown : m.published.count ≡ w.published = shown_count m w h s in
     let low : w.noted ≤ w.published = h.counts.noted_low in
     (omega arith, each_unnoted (λ state. w.noted ≤ state.count) (w.noted == w.published) m.published (omega arith))
@@ -102,17 +112,21 @@ is_high noted count high = grind (arith, nat_tests)
 retired_only : (m : MachineState) (w : World) → Holds w → Stands m w → filter (λ state. is_retired w.noted state.count) w.versions ≡ m.lookers.registry.retired
 retired_only m w h s =
     let p = λ (state : State). is_retired w.noted state.count in
-    ap (filter p) s.versions
-    ∙ filter_append p m.lookers.registry.retired (tops m w)
+    ap (filter p) s.versions.all
+    ∙ filter-append p m.lookers.registry.retired (tops m w)
     ∙ ap (λ xs. filter p m.lookers.registry.retired ++ xs) (none_pass p (tops m w) (each_implies (λ state. w.noted ≤ state.count) (λ state. p state ≡ false) (λ state high. is_high w.noted state.count high) (tops m w) (tops_high m w h s)))
     ∙ append-nil (filter p m.lookers.registry.retired)
-    ∙ all_pass p m.lookers.registry.retired (each_implies (λ state. state.count < w.noted) (λ state. p state ≡ true) (λ state low. is_low w.noted state.count low) m.lookers.registry.retired s.below)
+    ∙ all_pass p m.lookers.registry.retired (each_implies (λ state. state.count < w.noted) (λ state. p state ≡ true) (λ state low. is_low w.noted state.count low) m.lookers.registry.retired s.versions.below)
 
 room_is : (m : MachineState) (w : World) → Holds w → Stands m w → world.has_room w ≡ nat_lt (length m.lookers.registry.retired) MOST_RETIRED
 room_is m w h s = ap (λ xs. nat_lt (length xs) MOST_RETIRED) (retired_only m w h s)
 
 pub stays_put : (m : MachineState) (w : World) → Stands m w → Follows (machine.idle m) (world.unmet w)
 stays_put m w s = record { shows = refl; stands = s }
+
+-- another phase, with what is on disk and what the open transaction holds
+pub moved : (m : MachineState) (w : World) (disk pending next state : State) (phase : Phase) → state ≡ disk → IsUnderWay next m.lookers.registry.retired disk phase → Stands m w → Stands (record { lookers = m.lookers; published = m.published; disk = state; next = next; phase = phase }) (record w { disk = disk; pending = pending; phase = phase })
+moved m w disk pending next state phase same under_way s = record { phase = refl; disk = same; versions = s.versions; lookers = s.lookers; under_way = under_way }
 
 -- ---- a command
 
@@ -129,17 +143,7 @@ prepare_follows m w command (Ok made) true checked roomy on_disk count s =
     let counted : (put m.published made).count ≡ w.published + 1 = ap (λ state. state.count) (put_counted m.published command made checked) ∙ apply_count m.published command (allowed_by m.published command made checked) ∙ ap (λ n. n + 1) count in
     record {
       shows = ap outcomes.Prepared counted;
-      stands = record {
-        phase = refl;
-        disk = s.disk;
-        published = s.published;
-        noted = s.noted;
-        below = s.below;
-        versions = s.versions;
-        told = s.told;
-        seats = s.seats;
-        under_way = (put_counted m.published command made checked ∙ ap (λ state. apply state command) on_disk, grind (arith, nat_tests));
-      };
+      stands = moved m w w.disk w.pending (put m.published made) m.disk (Prepared command Begin) s.disk (put_counted m.published command made checked ∙ ap (λ state. apply state command) on_disk, grind (arith, nat_tests)) s;
     }
 
 pub submit_follows : (m : MachineState) (w : World) (command : Command) (phase : Phase) → Holds w → Phased w phase → Stands m w → Follows (machine.submit_by m command phase) (world.submit w command phase)
@@ -174,29 +178,16 @@ begin_follows m w command h s under_way =
       stands = record {
         phase = refl;
         disk = s.disk;
-        published = s.published ∙ sym (same_state w.published w.accepted (w.accepted ++ command ∷ []) agree w.published (omega arith));
-        noted = s.noted;
-        below = s.below;
-        versions = s.versions;
-        told = s.told;
-        seats = seats_on w.published w.accepted (w.accepted ++ command ∷ []) agree w.versions m.lookers.seats w.lookers h.history.served s.seats;
+        versions = record {
+          published = s.versions.published ∙ sym (same_state w.published w.accepted (w.accepted ++ command ∷ []) agree w.published (omega arith));
+          noted = s.versions.noted;
+          below = s.versions.below;
+          all = s.versions.all;
+        };
+        lookers = record { told = s.lookers.told; seated = seats_on w.published w.accepted (w.accepted ++ command ∷ []) agree w.versions m.lookers.seats w.lookers h.history.served s.lookers.seated };
         under_way = under_way;
       };
     }
-
--- the world with another disk, pending state and phase
-moved : (m : MachineState) (w : World) (disk pending next state : State) (phase : Phase) → state ≡ disk → IsUnderWay next m.lookers.registry.retired disk phase → Stands m w → Stands (record { lookers = m.lookers; published = m.published; disk = state; next = next; phase = phase }) (record w { disk = disk; pending = pending; phase = phase })
-moved m w disk pending next state phase same under_way s = record {
-  phase = refl;
-  disk = same;
-  published = s.published;
-  noted = s.noted;
-  below = s.below;
-  versions = s.versions;
-  told = s.told;
-  seats = s.seats;
-  under_way = under_way;
-}
 
 pub call_follows : (m : MachineState) (w : World) (phase : Phase) → Holds w → Phased w phase → IsUnderWay m.next m.lookers.registry.retired w.disk phase → Stands m w → Follows (machine.call_by m phase) (world.call w phase)
 call_follows m w (Prepared command Begin) h phased under_way s = begin_follows m w command h s under_way

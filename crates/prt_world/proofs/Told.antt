@@ -1,12 +1,11 @@
 -- Which commands were acknowledged since the database was opened last.
-use Rattle.std.proofs.Common.{◌≡◌, ℕ, ◌+◌, ◌-◌, ◌<◌, ◌≤◌, Bool, true, false, ◌||◌, List, [], ◌∷◌, ◌++◌, Option, Some, None, length, take, refl, sym, ap, ◌∙◌, arith, cond, inl, inr}
+use Rattle.std.proofs.Common.{◌≡◌, ℕ, ◌-◌, ◌<◌, ◌≤◌, Bool, true, false, ◌||◌, List, [], ◌∷◌, ◌++◌, Option, Some, None, length, take, refl, sym, ap, ◌∙◌, arith, cond, inl, inr}
 use Rattle.std.specs.Prelude.{◌==◌}
 use Rattle.std.specs.List.{list_any}
 use Rattle.std.proofs.lemmas.Bool.{cases_eq}
-use Rattle.std.proofs.lemmas.Bool.Decides.{nat_tests}
 use Rattle.std.proofs.lemmas.List.{length-append, length-take-le}
+use Rattle.std.proofs.lemmas.List.Folds.{list_any-append}
 use Rattle.prt_addr.specs.declared.refusal.Refusal.{Refusal}
-use Rattle.prt_addr.specs.declared.refusal.StoreCall.{StoreCall}
 use Rattle.prt_addr.specs.declared.refusal.StoreCall.TheVariants.{Begin, Write, Count, Commit}
 use Rattle.prt_command.specs.declared.request.Command.{Command}
 use Rattle.prt_rule.specs.declared.packet.Packet.{Packet}
@@ -19,6 +18,8 @@ use Rattle.prt_world.specs.declared.event.Event.TheVariants as events
 use Rattle.prt_world.specs.declared.event.Fate.{Fate}
 use Rattle.prt_world.specs.declared.phase.Phase.{Phase}
 use Rattle.prt_world.specs.declared.phase.Phase.TheVariants.{Ready, Prepared, Committed, Published, Noted, Closed, Stopped}
+use Rattle.prt_world.proofs.History.{or_later}
+use Rattle.prt_world.proofs.KeptVersions.{same_number}
 use Rattle.prt_world.proofs.Phases.{Holds, Phased, start_holds, step_holds}
 
 -- up to this number all commands since the opening are acknowledged
@@ -53,24 +54,11 @@ all_but_one accepted (Noted command) = omega arith
 all_but_one accepted Closed = omega arith
 all_but_one accepted Stopped = omega arith
 
-any_before_by : (b c d : Bool) → (c ≡ true → d ≡ true) → (b || c) ≡ true → (b || d) ≡ true
-any_before_by true c d more h = refl
-any_before_by false c d more h = more h
-
 any_before : {X : Type 0} (p : X → Bool) (xs ys : List X) → list_any p xs ≡ true → list_any p (xs ++ ys) ≡ true
-any_before p [] ys h = absurd cc
-any_before p (x ∷ xs) ys h = any_before_by (p x) (list_any p xs) (list_any p (xs ++ ys)) (any_before p xs ys) h
-
-or_true : (b c : Bool) → c ≡ true → (b || c) ≡ true
-or_true true c h = refl
-or_true false c h = h
+any_before p xs ys h = list_any-append p xs ys ∙ ap (λ b. b || list_any p ys) h
 
 any_last : {X : Type 0} (p : X → Bool) (xs : List X) (x : X) → p x ≡ true → list_any p (xs ++ x ∷ []) ≡ true
-any_last p [] x h = ap (λ b. b || false) h
-any_last p (y ∷ xs) x h = or_true (p y) (list_any p (xs ++ x ∷ [])) (any_last p xs x h)
-
-number_is_itself : (n : ℕ) → n == n ≡ true
-number_is_itself n = grind (arith, nat_tests)
+any_last p xs x h = list_any-append p xs (x ∷ []) ∙ or_later (list_any p xs) (list_any p (x ∷ [])) (ap (λ b. b || false) h)
 
 prepare_told : (since : ℕ) (w : World) (command : Command) (reason : Option Refusal) (room : Bool) → AreTold since w.accepted w.acks Ready → AreTold since w.accepted w.acks w.phase → ToldAfter since (world.prepare w command reason room)
 prepare_told since w command (Some reason) room told now = now
@@ -112,7 +100,7 @@ note_told since w phase told now = now
 last_told : (since top : ℕ) (accepted : List Command) (acks : List Ack) (command : Command) → top ≡ length accepted → ((number : ℕ) → since < number → number ≤ length accepted - 1 → is_acknowledged acks number ≡ true) → (number : ℕ) → since < number → number ≤ length accepted → is_acknowledged (acks ++ record { number = top; command = command } ∷ []) number ≡ true
 last_told since top accepted acks command all told number up within =
     elim (cases_eq number top) [
-      | inl last ↦ any_last (λ (ack : Ack). ack.number == number) acks (record { number = top; command = command }) (ap (λ n. n == number) (sym last) ∙ number_is_itself number)
+      | inl last ↦ any_last (λ (ack : Ack). ack.number == number) acks (record { number = top; command = command }) (ap (λ n. n == number) (sym last) ∙ same_number number number refl)
       | inr other ↦ any_before (λ (ack : Ack). ack.number == number) acks (record { number = top; command = command } ∷ []) (told number up (omega arith))
     ]
 

@@ -3,10 +3,11 @@ use Rattle.std.proofs.Common.{◌≡◌, ℕ, ◌+◌, ◌-◌, ◌<◌, ◌≤�
 use Rattle.std.specs.Prelude.{filter}
 use Rattle.std.specs.List.{AllByRecursion as Each}
 use Rattle.std.proofs.lemmas.List.{append-nil, append_assoc, drop_all, drop_more, length-append}
+use Rattle.std.proofs.lemmas.List.Elements.{filter-append}
 use Rattle.prt_addr.proofs.Each.{each_filtered, each_implies, filtered_fit}
 use Rattle.prt_grace.specs.GracePeriod.{after_reclaim}
 use Rattle.prt_grace.specs.Registry.{announced, reclaimed}
-use Rattle.prt_grace.specs.declared.limits.TheConstants.{MOST_RETIRED, PLACES}
+use Rattle.prt_grace.specs.declared.limits.TheConstants.{MOST_RETIRED}
 use Rattle.prt_version.specs.State.{State, opening_state}
 use Rattle.prt_world.specs.Machine as machine
 use Rattle.prt_world.specs.Machine.{MachineState, MachineStep, machine_outcomes, machine_step, opened, seat_of}
@@ -19,9 +20,9 @@ use Rattle.prt_world.specs.declared.outcome.Outcome.TheVariants as outcomes
 use Rattle.prt_world.specs.declared.phase.Phase.{Phase}
 use Rattle.prt_world.specs.declared.phase.Phase.TheVariants.{Ready, Prepared, Committed, Published, Noted, Closed, Stopped}
 use Rattle.prt_world.proofs.History.{not_retired, stays}
-use Rattle.prt_world.proofs.LookersFollow.{acknowledge_follows, all_offline, announce_follows, fail_publication_follows, fetch_follows, look_follows, note_follows, offline_follows, online_follows, publish_follows, reopen_follows, seat_here, seats_offline, tells}
+use Rattle.prt_world.proofs.LookersFollow.{acknowledge_follows, all_offline, announce_follows, fail_publication_follows, fetch_follows, look_follows, note_follows, offline_follows, online_follows, publish_follows, reopen_follows, seat_here, tells}
 use Rattle.prt_world.proofs.Phases.{Holds, looker_served, reopened_holds, start_holds, step_holds}
-use Rattle.prt_world.proofs.SideBySide.{all_pass, filter_append}
+use Rattle.prt_world.proofs.SideBySide.{all_pass}
 use Rattle.prt_world.proofs.Simulation.{Follows, IsUnderWay, Stands, call_follows, fail_follows, stays_put, stop_follows, submit_follows, tops, tops_high}
 
 -- ---- reclaiming
@@ -42,12 +43,12 @@ reclaim_follows m w h s =
     let told = map announced_by w.lookers in
     let q = λ (state : State). stays w.noted told state.count in
     let left = filter q retired in
-    let same : (reclaimed m.lookers.registry).retired ≡ left = ap (λ n. after_reclaim (λ (state : State). state.count) n (map announced m.lookers.registry.places) retired) s.noted ∙ ap (λ ns. after_reclaim (λ (state : State). state.count) w.noted ns retired) s.told in
+    let same : (reclaimed m.lookers.registry).retired ≡ left = ap (λ n. after_reclaim (λ (state : State). state.count) n (map announced m.lookers.registry.places) retired) s.versions.noted ∙ ap (λ ns. after_reclaim (λ (state : State). state.count) w.noted ns retired) s.lookers.told in
     let kept : world.kept_versions w ≡ left ++ tops m w =
-    ap (filter q) s.versions
-    ∙ filter_append q retired (tops m w)
+    ap (filter q) s.versions.all
+    ∙ filter-append q retired (tops m w)
     ∙ ap (λ xs. left ++ xs) (all_pass q (tops m w) (each_implies (λ state. w.noted ≤ state.count) (λ state. q state ≡ true) (λ state high. not_retired w.noted state.count told high) (tops m w) (tops_high m w h s))) in
-    let before : length w.versions ≡ length retired + length (tops m w) = ap length s.versions ∙ length-append retired (tops m w) in
+    let before : length w.versions ≡ length retired + length (tops m w) = ap length s.versions.all ∙ length-append retired (tops m w) in
     let after : length (world.kept_versions w) ≡ length left + length (tops m w) = ap length kept ∙ length-append left (tops m w) in
     let number : length retired - length left ≡ length w.versions - length (world.kept_versions w) = omega arith in
     let less : length left ≤ length retired = filtered_fit q retired (length retired) (omega arith) in
@@ -56,12 +57,13 @@ reclaim_follows m w h s =
       stands = record {
         phase = s.phase;
         disk = s.disk;
-        published = s.published;
-        noted = s.noted;
-        below = subst (λ xs. Each (λ state. state.count < w.noted) xs) (sym same) (each_filtered (λ state. state.count < w.noted) q retired s.below);
-        versions = kept ∙ ap (λ xs. xs ++ tops m w) (sym same);
-        told = s.told;
-        seats = s.seats;
+        versions = record {
+          published = s.versions.published;
+          noted = s.versions.noted;
+          below = subst (λ xs. Each (λ state. state.count < w.noted) xs) (sym same) (each_filtered (λ state. state.count < w.noted) q retired s.versions.below);
+          all = kept ∙ ap (λ xs. xs ++ tops m w) (sym same);
+        };
+        lookers = s.lookers;
         under_way = subst (λ xs. IsUnderWay m.next xs w.disk w.phase) (sym same) (fewer_retired m.next w.disk retired left w.phase less s.under_way);
       };
     }
@@ -111,12 +113,8 @@ start_stands : Stands (opened opening_state) start
 start_stands = record {
   phase = refl;
   disk = refl;
-  published = refl;
-  noted = refl;
-  below = tt;
-  versions = refl;
-  told = all_offline PLACES;
-  seats = seats_offline [] PLACES;
+  versions = record { published = refl; noted = refl; below = tt; all = refl };
+  lookers = all_offline [];
   under_way = tt;
 }
 
