@@ -8,7 +8,7 @@ pub mod examples;
 mod from_rows;
 pub mod laws;
 mod limits;
-mod owners;
+pub mod owners;
 mod rows;
 mod select;
 mod tables;

@@ -1,4 +1,4 @@
-//! Values that several versions own.
+//! Values with several owners: what versions share, and versions themselves.
 ghost use Rattle.std.specs.Prelude.{◌≡◌, IfErr, IfOk};
 ghost use Rattle.std.specs.Arc.{arc_value};
 ghost use Rattle.prt_addr.specs.declared.refusal.Refusal.TheVariants.{NoMemory};
@@ -8,7 +8,11 @@ use std::alloc::Global;
 use std::sync::Arc;
 
 /// The first owner of the value.
-pub(crate) fn first_owner<T: Drop>(alloc: Global, value: T) -> Result<Arc<T>, Refusal>
+///
+/// # Errors
+///
+/// `NoMemory` where memory is refused; the value is gone.
+pub fn first_owner<T: Drop>(alloc: Global, value: T) -> Result<Arc<T>, Refusal>
     ensures value { IfOk result (λ owner. arc_value owner ≡ value) }
     ensures reason { IfErr result (λ reason. reason ≡ NoMemory) }
 {
@@ -19,7 +23,11 @@ pub(crate) fn first_owner<T: Drop>(alloc: Global, value: T) -> Result<Arc<T>, Re
 }
 
 /// One more owner of the same value.
-pub(crate) fn share<T: Drop>(owner: &Arc<T>) -> Result<Arc<T>, Refusal>
+///
+/// # Errors
+///
+/// `NoMemory` where the value has as many owners as can be counted.
+pub fn share<T: Drop>(owner: &Arc<T>) -> Result<Arc<T>, Refusal>
     ensures value { IfOk result (λ other. arc_value other ≡ arc_value owner.now) }
     ensures reason { IfErr result (λ reason. reason ≡ NoMemory) }
 {

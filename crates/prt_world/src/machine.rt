@@ -1,7 +1,8 @@
 //! A replay: real versions and the real registry, with a version in memory as the disk.
-ghost use Rattle.std.specs.Prelude.{◌≡◌, None, Some, IfErr, IfOk};
+ghost use Rattle.std.specs.Prelude.{◌≡◌, IfErr, IfOk, Ok, true};
 ghost use Rattle.std.specs.Arc.{arc_value};
 ghost use Rattle.prt_addr.specs.declared.refusal.Refusal.TheVariants.{NoMemory};
+ghost use Rattle.prt_version.specs.Change.{IsChecked};
 ghost use Rattle.prt_version.specs.State.{opening_state};
 ghost use Rattle.prt_addr.specs.declared.refusal.StoreCall.TheVariants.{Commit};
 ghost use Rattle.prt_world.specs.World.{is_stopped};
@@ -11,32 +12,11 @@ ghost use Rattle.prt_world.specs.Machine.{acknowledge_by, announce_by, announced
 
 use crate::lookers::Lookers;
 use crate::{Command, Event, Fate, LookerNumber, Outcome, Packet, Phase, Refusal, StoreCall};
-use prt_version::Version;
+use prt_version::owners::{first_owner, share};
+use prt_version::{Change, Version};
 use std::alloc::Global;
 use std::marker::Model;
 use std::sync::Arc;
-
-/// The first owner of a version.
-fn first_owner(alloc: Global, version: Version) -> Result<Arc<Version>, Refusal>
-    ensures value { IfOk result (λ owner. arc_value owner ≡ version) }
-    ensures reason { IfErr result (λ reason. reason ≡ NoMemory) }
-{
-    match Arc::new(alloc, version) {
-        Ok(owner) => Ok(owner),
-        Err(_) => Err(Refusal::NoMemory),
-    }
-}
-
-/// One more owner of the same version.
-fn share(version: &Arc<Version>) -> Result<Arc<Version>, Refusal>
-    ensures value { IfOk result (λ owner. arc_value owner ≡ arc_value version.now) }
-    ensures reason { IfErr result (λ reason. reason ≡ NoMemory) }
-{
-    match Arc::try_clone(version) {
-        Ok(owner) => Ok(owner),
-        Err(_) => Err(Refusal::NoMemory),
-    }
-}
 
 /// What the service, its disk and its lookers hold.
 #[derive(Drop)]
@@ -115,14 +95,25 @@ impl Machine {
         ensures value { IfOk result (λ outcome. record { machine = self.new; outcome = outcome } ≡ submit_by self.old command.now Ready) }
         ensures reason { IfErr result (λ reason. reason ≡ NoMemory) }
     {
-        let change = match self.published.check(command) {
-            Ok(change) => change,
-            Err(reason) => return Ok(Outcome::Refused(reason)),
-        };
-        if !self.lookers.has_room() {
-            return Ok(Outcome::Refused(Refusal::Busy));
+        match self.published.check(command) {
+            Ok(change) if self.lookers.has_room() => self.prepare_next(alloc, command, &change),
+            Ok(_) => Ok(Outcome::Refused(Refusal::Busy)),
+            Err(reason) => Ok(Outcome::Refused(reason)),
         }
-        match self.published.next(&change) {
+    }
+
+    /// Makes the version after the change that a command makes.
+    fn prepare_next(
+        &mut self,
+        alloc: Global,
+        command: &Command,
+        change: &Change,
+    ) -> Result<Outcome, Refusal>
+        requires { IsChecked self.old.published change.now }
+        ensures value { IfOk result (λ outcome. record { machine = self.new; outcome = outcome } ≡ prepare_next self.old command.now (Ok change.now) true) }
+        ensures reason { IfErr result (λ reason. reason ≡ NoMemory) }
+    {
+        match self.published.next(change) {
             Ok(next) => self.next = first_owner(alloc, next)?,
             Err(reason) => return Err(reason),
         }
