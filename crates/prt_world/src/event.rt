@@ -2,13 +2,11 @@ ghost use Rattle.std.specs.Prelude.{◌≡◌, ◌<◌};
 ghost use Rattle.std.specs.Option.{SomeIff};
 
 use prt_command::{Command, Packet};
+use prt_grace::PLACES;
 use std::marker::Model;
 
-/// How many lookers a world has places for.
-pub const MOST_LOOKERS: u32 = 64;
-
 /// The number of a looker: 0 to 63.
-#[derive(Clone, Copy, Debug, PartialEq, Eq)]
+#[derive(Clone, Copy)]
 pub struct LookerNumber {
     number: u8,
 }
@@ -30,7 +28,7 @@ impl LookerNumber {
     pub fn new(number: u32) -> Option<LookerNumber>
         ensures { SomeIff result (number < 64) number }
     {
-        if number >= MOST_LOOKERS {
+        if number as usize >= PLACES {
             return None;
         }
         Some(LookerNumber {
@@ -48,7 +46,7 @@ impl LookerNumber {
 }
 
 /// What a failure or a stop makes of a transaction whose commit it cuts short.
-#[derive(Clone, Copy, Debug, PartialEq, Eq)]
+#[derive(Clone, Copy)]
 pub enum Fate {
     /// What it wrote is durable.
     Kept,
@@ -57,7 +55,7 @@ pub enum Fate {
 }
 
 /// One atomic step of publisher, store, lookers and registry.
-#[derive(Clone, Copy, Debug, PartialEq, Eq)]
+#[derive(Clone, Copy)]
 pub enum Event {
     /// A command is checked and prepared.
     Submit(Command),

@@ -36,7 +36,7 @@ pub fn event_lines()
 {}
 
 /// Lines that are refused, each for its first fault.
-pub fn refused_events()
+pub fn refused_lines()
     ensures unknown_looker { events_of (codes "online 64") ≡ Err BadNumber }
     ensures no_fate { events_of (codes "fail") ≡ Err MissingValue }
     ensures word_after_the_last { events_of (codes "reclaim now") ≡ Err UnknownWord }

@@ -16,8 +16,8 @@ mod text;
 mod trace;
 mod words;
 
-pub use event::{Event, Fate, LookerNumber, MOST_LOOKERS};
-pub use event_examples::{event_lines, outcome_lines, refused_events};
+pub use event::{Event, Fate, LookerNumber};
+pub use event_examples::{event_lines, outcome_lines, refused_lines};
 pub use laws::every_run;
 pub use outcome::Outcome;
 pub use phase::Phase;

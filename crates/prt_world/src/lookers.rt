@@ -163,5 +163,8 @@ fn push(seats: &mut Vec<Seat>, seat: Seat) -> Result<(), Refusal>
     ensures value { OnOk result (seats.new.items ≡ seats.old.items ++ seat ∷ []) }
     ensures reason { IfErr result (λ reason. reason ≡ NoMemory) }
 {
-    seats.push(seat).map_err(|_| Refusal::NoMemory)
+    match seats.push(seat) {
+        Ok(()) => Ok(()),
+        Err(_) => Err(Refusal::NoMemory),
+    }
 }

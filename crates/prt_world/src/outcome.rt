@@ -3,7 +3,7 @@ use prt_addr::{Refusal, StoreCall};
 use prt_version::Answer;
 
 /// What came of an event.
-#[derive(Clone, Copy, Debug, PartialEq, Eq)]
+#[derive(Clone, Copy)]
 pub enum Outcome {
     /// Nothing: the event could not happen, and nothing changed.
     Nothing,

@@ -2,7 +2,7 @@ use prt_addr::StoreCall;
 use prt_command::Command;
 
 /// How far the command that is under way has come.
-#[derive(Clone, Copy, Debug, PartialEq, Eq)]
+#[derive(Clone, Copy)]
 pub enum Phase {
     /// No command is under way.
     Ready,

@@ -44,9 +44,10 @@ fn add_event(events: &mut Vec<Event>, event: Event) -> Result<(), Refusal>
     if events.len() >= MOST_EVENTS {
         return Err(Refusal::TooManyLines);
     }
-    events
-        .extend_from_slice(&[event])
-        .map_err(|_| Refusal::NoMemory)
+    match events.extend_from_slice(&[event]) {
+        Ok(()) => Ok(()),
+        Err(_) => Err(Refusal::NoMemory),
+    }
 }
 
 /// Adds the event of a line, if it has one.

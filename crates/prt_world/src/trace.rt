@@ -41,9 +41,10 @@ impl Trace {
         ensures err { OnErr result (self.new ≡ self.old) }
         ensures reason { IsOkUnless result NoMemory }
     {
-        self.outcomes
-            .extend_from_slice(&[outcome])
-            .map_err(|_| Refusal::NoMemory)
+        match self.outcomes.extend_from_slice(&[outcome]) {
+            Ok(()) => Ok(()),
+            Err(_) => Err(Refusal::NoMemory),
+        }
     }
 
     /// The outcomes, in order.

@@ -1,7 +1,7 @@
 use Rattle.std.proofs.Common.{refl}
 use Rattle.prt_command.specs.Lines.{lines_of}
 use Rattle.prt_world.specs.ReadEvents.{events_of, events_of_lines, line_event}
-use Rattle.prt_world.proofs.event_examples.refused_events.Goals as goal
+use Rattle.prt_world.proofs.event_examples.refused_lines.Goals as goal
 
 pub returns : goal.returns
 unfolding events_of events_of_lines line_event lines_of
