@@ -1,5 +1,7 @@
 pub mod Reports
-pub mod BatchWords
+pub mod ReplayFile
+pub mod Rows
+pub mod CommandWords
 pub mod ParsedWords
 pub mod WordClasses
 pub mod WordsRead

@@ -10,12 +10,12 @@ use Rattle.clap.specs.Lexer.{long_of, has_byte}
 use Rattle.clap.specs.Kinds.{Kinds, or_else}
 use Rattle.clap.specs.Faults.{turn_fault, walk_fault, level_fault, entered_fault, settle_fault, defaults_fault, check_fault, fault_of, flags_fault}
 use Rattle.clap.specs.Simple.{Shape, built, entered, names_of, subcommand_of}
-use Rattle.clap.specs.Walk.{Names, Text, Walk, walked, bundle_met, walk_from, nothing_held, settled, finished, rows_after}
+use Rattle.clap.specs.Walk.{Names, Row, Text, Walk, walked, bundle_met, walk_from, nothing_held, settled, finished, rows_after}
 use Rattle.clap.specs.declared.error.kind.ErrorKind.TheVariants as kind
-use Rattle.prt_daemon.specs.CommandLine.{command_line, named_file, force_flag}
-use Rattle.prt_daemon.specs.Invocation.{Invocation, Word, invocation, help, usage_error, is_help, batch_invocation}
-use Rattle.prt_daemon.proofs.WordClasses.{batch, IsMistake, same_bytes, long_name, long_of_is, before_none, no_value_in, no_name_of, differs}
-use Rattle.prt_daemon.proofs.BatchWords.{Agrees, batch_reads}
+use Rattle.prt_daemon.specs.CommandLine.{command_line, subcommand_name, named_file, force_flag}
+use Rattle.prt_daemon.specs.Invocation.{Invocation, Subcommand, Batch, Replay, Word, asked_by, invocation, help, nothing_given, usage_error, is_help}
+use Rattle.prt_daemon.proofs.WordClasses.{IsMistake, rules_of, shape_of, same_bytes, long_name, long_of_is, before_none, no_value_in, no_name_of, differs}
+use Rattle.prt_daemon.proofs.CommandWords.{Agrees, name_of, subcommand_reads}
 
 abbrev top : Shape
 top = (built command_line).top
@@ -29,11 +29,16 @@ start = walk_from nothing_held
 abbrev first_turn : Text → Kinds
 first_turn word = turn_fault top names start word
 
--- the first word, where it is neither `batch` nor `help`
+-- the first word, where it is neither a subcommand nor `help`
 data First (word : Text) : Type 0 where
   delimiter : word ≡ codes "--" → First word
   asks : is_help word ≡ true → first_turn word ≡ kind.DisplayHelp ∷ [] → First word
   mistake : is_help word ≡ false → IsMistake (first_turn word) → First word
+
+record IsOther (word : Text) : Type 0 where
+  no_batch : bytes_eq (codes "batch") word ≡ false
+  no_replay : bytes_eq (codes "replay") word ≡ false
+  no_help : bytes_eq (codes "help") word ≡ false
 
 first_empty : First []
 unfolding clap_on_literals
@@ -43,9 +48,9 @@ first_hyphen : First (codes "-")
 unfolding clap_on_literals
 first_hyphen = mistake refl refl
 
-first_plain : (byte : ℕ) (rest : Text) → (byte == 45) ≡ false → bytes_eq (codes "batch") (byte ∷ rest) ≡ false → bytes_eq (codes "help") (byte ∷ rest) ≡ false → First (byte ∷ rest)
+first_plain : (byte : ℕ) (rest : Text) → (byte == 45) ≡ false → IsOther (byte ∷ rest) → First (byte ∷ rest)
 unfolding clap_on_literals
-first_plain byte rest plain no_batch no_help = mistake (rw plain refl) (rw (no_batch, no_help, plain, plain) refl)
+first_plain byte rest plain other = mistake (rw plain refl) (rw (other.no_batch, other.no_replay, other.no_help, plain, plain) refl)
 
 first_short : (byte : ℕ) (rest : Text) (letter : Option ℕ) → (byte == 45) ≡ false → slice_get (chars (byte ∷ rest)) 0 ≡ letter → First (45 ∷ byte ∷ rest)
 unfolding walked bundle_met flags_fault
@@ -61,13 +66,15 @@ first_long_other : (byte : ℕ) (rest : Text) → ((byte ∷ rest) ≡ codes "he
 unfolding chars
 first_long_other byte rest other turn = mistake (rw (differs (byte ∷ rest) (codes "help") other) refl) turn
 
-no_long : (word name : Text) (value : Option Text) → bytes_eq word (codes "--") ≡ false → bytes_eq (codes "batch") word ≡ false → bytes_eq (codes "help") word ≡ false
+no_long : (word name : Text) (value : Option Text) → bytes_eq word (codes "--") ≡ false → IsOther word
     → long_of word ≡ Some (name, value) → bytes_eq (codes "help") name ≡ false → IsMistake (first_turn word)
-no_long word name value plain no_batch no_help long other = rw (no_batch, no_help, plain, long, other) refl
+no_long word name value plain other long no_help = rw (other.no_batch, other.no_replay, other.no_help, plain, long, no_help) refl
 
-help_valued : (word value : Text) → bytes_eq word (codes "--") ≡ false → bytes_eq (codes "batch") word ≡ false → bytes_eq (codes "help") word ≡ false
-    → long_of word ≡ Some (codes "help", Some value) → IsMistake (first_turn word)
-help_valued word value plain no_batch no_help long = rw (no_batch, no_help, plain, long) refl
+help_valued : (word value : Text) → bytes_eq word (codes "--") ≡ false → IsOther word → long_of word ≡ Some (codes "help", Some value) → IsMistake (first_turn word)
+help_valued word value plain other long = rw (other.no_batch, other.no_replay, other.no_help, plain, long) refl
+
+long_other : (rest : Text) → IsOther (45 ∷ 45 ∷ rest)
+long_other rest = record { no_batch = refl; no_replay = refl; no_help = refl }
 
 first_help : First (codes "--help")
 unfolding clap_on_literals
@@ -77,9 +84,9 @@ first_by_name : (byte : ℕ) (rest : Text) (is_help : Bool) → bytes_eq (codes 
     → (has : Bool) → has_byte 61 (byte ∷ rest) ≡ has → First (45 ∷ 45 ∷ byte ∷ rest)
 first_by_name byte rest true h false v = subst (λ xs. First (45 ∷ 45 ∷ xs)) (same_bytes _ _ h ∙ before_none (λ x. x == 61) (byte ∷ rest) v) first_help
 first_by_name byte rest true h true v = first_long_other byte rest (no_value_in (byte ∷ rest) (codes "help") refl v)
-    (help_valued (45 ∷ 45 ∷ byte ∷ rest) _ refl refl refl (long_of_is byte rest true v ∙ ap (λ xs. Some (xs, Some (after_first (λ x. x == 61) (byte ∷ rest)))) (sym (same_bytes _ _ h))))
+    (help_valued (45 ∷ 45 ∷ byte ∷ rest) _ refl (long_other (byte ∷ rest)) (long_of_is byte rest true v ∙ ap (λ xs. Some (xs, Some (after_first (λ x. x == 61) (byte ∷ rest)))) (sym (same_bytes _ _ h))))
 first_by_name byte rest false h has v = first_long_other byte rest (no_name_of (byte ∷ rest) (codes "help") h refl refl)
-    (no_long (45 ∷ 45 ∷ byte ∷ rest) _ _ refl refl refl (long_of_is byte rest has v) h)
+    (no_long (45 ∷ 45 ∷ byte ∷ rest) _ _ refl (long_other (byte ∷ rest)) (long_of_is byte rest has v) h)
 
 first_hyphened : (rest : Text) → First (45 ∷ rest)
 first_hyphened [] = first_hyphen
@@ -93,36 +100,39 @@ first_hyphened (byte ∷ rest) = go (byte == 45) refl
     go true e = subst (λ b. First (45 ∷ b ∷ rest)) (sym (eqb-true byte 45 e)) (long rest)
     go false e = first_short byte rest _ e refl
 
-first_of_word : (word : Text) → bytes_eq (codes "batch") word ≡ false → bytes_eq (codes "help") word ≡ false → First word
-first_of_word [] no_batch no_help = first_empty
-first_of_word (byte ∷ rest) no_batch no_help = go (byte == 45) refl
+first_of_word : (word : Text) → IsOther word → First word
+first_of_word [] other = first_empty
+first_of_word (byte ∷ rest) other = go (byte == 45) refl
   where
     go : (is_hyphen : Bool) → (byte == 45) ≡ is_hyphen → First (byte ∷ rest)
     go true e = subst (λ b. First (b ∷ rest)) (sym (eqb-true byte 45 e)) (first_hyphened rest)
-    go false e = first_plain byte rest e no_batch no_help
+    go false e = first_plain byte rest e other
 
 -- ---- the whole
 
--- after `batch` the walk over the program's own words passes
-abbrev stop_at : List Text → Walk
-stop_at words = record start { stopped = Some (codes "batch", words) }
+-- after the name of a subcommand the walk over the program's own words passes
+abbrev stop_at : Subcommand → List Text → Walk
+stop_at s words = record start { stopped = Some (name_of s, words) }
 
-stays : (seen words : List Text) → fold (walked top.rules names) (stop_at seen) words ≡ stop_at (seen ++ words)
+stays : (s : Subcommand) (seen words : List Text) → fold (walked top.rules names) (stop_at s seen) words ≡ stop_at s (seen ++ words)
 unfolding walked
-stays seen [] = ap stop_at (sym (append-nil seen))
-stays seen (word ∷ words) = stays (seen ++ word ∷ []) words ∙ ap stop_at (append_assoc seen (word ∷ []) words)
+stays s seen [] = ap (stop_at s) (sym (append-nil seen))
+stays s seen (word ∷ words) = stays s (seen ++ word ∷ []) words ∙ ap (stop_at s) (append_assoc seen (word ∷ []) words)
 
-no_fault : (seen words : List Text) → walk_fault top names (stop_at seen) words ≡ []
+no_fault : (s : Subcommand) (seen words : List Text) → walk_fault top names (stop_at s seen) words ≡ []
 unfolding walked walk_fault
-no_fault seen [] = refl
-no_fault seen (word ∷ words) = no_fault (seen ++ word ∷ []) words
+no_fault s seen [] = refl
+no_fault s seen (word ∷ words) = no_fault s (seen ++ word ∷ []) words
 
 or_else-nil : (kinds : Kinds) → or_else kinds [] ≡ kinds
 or_else-nil [] = refl
 or_else-nil (k ∷ kinds) = refl
 
-abbrev AgreesOn : Invocation → List Text → Type 0
-AgreesOn asked words = Agrees asked (fault_of command_line words) (named_file (subcommand_of command_line words)) (force_flag (subcommand_of command_line words))
+abbrev pub AgreesBy : Invocation → Kinds → Option (Text × List Row) → Type 0
+AgreesBy asked kinds found = Agrees asked kinds (subcommand_name found) (named_file found) (force_flag found)
+
+abbrev pub AgreesOn : Invocation → List Text → Type 0
+AgreesOn asked words = AgreesBy asked (fault_of command_line words) (subcommand_of command_line words)
 
 -- the kinds of error after the walk over the program's own words
 abbrev kinds_after : Walk → Kinds
@@ -132,21 +142,32 @@ kinds_after at = or_else (entered_fault (built command_line) at.stopped) (or_els
 abbrev walk_over : Walk → List Text → Walk
 walk_over at words = fold (walked top.rules names) at words
 
-fault_of_batch : (program : Text) (words : List Text) → fault_of command_line (program ∷ codes "batch" ∷ words) ≡ level_fault batch [] nothing_held words false []
+abbrev own_fault : Subcommand → List Text → Kinds
+own_fault s words = level_fault (shape_of s) [] nothing_held words false []
+
+fault_of_subcommand : (s : Subcommand) (program : Text) (words : List Text) → fault_of command_line (program ∷ name_of s ∷ words) ≡ own_fault s words
 unfolding walked walk_fault defaults_fault
-fault_of_batch program words =
-    ap₂ (λ kinds at. or_else kinds (kinds_after at)) (no_fault [] words) (stays [] words) ∙ or_else-nil (level_fault batch [] nothing_held words false [])
+fault_of_subcommand Batch program words =
+    ap₂ (λ kinds at. or_else kinds (kinds_after at)) (no_fault Batch [] words) (stays Batch [] words) ∙ or_else-nil (own_fault Batch words)
+fault_of_subcommand Replay program words =
+    ap₂ (λ kinds at. or_else kinds (kinds_after at)) (no_fault Replay [] words) (stays Replay [] words) ∙ or_else-nil (own_fault Replay words)
 
-subcommand_of_batch : (program : Text) (words : List Text) → subcommand_of command_line (program ∷ codes "batch" ∷ words) ≡ Some (codes "batch", rows_after batch.rules [] words)
+abbrev found_by : Subcommand → List Text → Option (Text × List Row)
+found_by s words = Some (name_of s, rows_after (rules_of s) [] words)
+
+subcommand_found : (s : Subcommand) (program : Text) (words : List Text) → subcommand_of command_line (program ∷ name_of s ∷ words) ≡ found_by s words
 unfolding walked
-subcommand_of_batch program words = ap (λ (at : Walk). entered (built command_line) at.stopped) (stays [] words)
+subcommand_found Batch program words = ap (λ (at : Walk). entered (built command_line) at.stopped) (stays Batch [] words)
+subcommand_found Replay program words = ap (λ (at : Walk). entered (built command_line) at.stopped) (stays Replay [] words)
 
-agrees_on_batch : (program : Text) (words : List Text) → AgreesOn (batch_invocation words) (program ∷ codes "batch" ∷ words)
-agrees_on_batch program words =
-    subst (λ kinds. Agrees (batch_invocation words) kinds (named_file (subcommand_of command_line (program ∷ codes "batch" ∷ words))) (force_flag (subcommand_of command_line (program ∷ codes "batch" ∷ words))))
-    (sym (fault_of_batch program words))
-    (subst (λ found. Agrees (batch_invocation words) (level_fault batch [] nothing_held words false []) (named_file found) (force_flag found))
-    (sym (subcommand_of_batch program words)) (batch_reads words))
+own_words_agree : (s : Subcommand) (words : List Text) → AgreesBy (asked_by s nothing_given words) (own_fault s words) (found_by s words)
+own_words_agree Batch words = subcommand_reads Batch words
+own_words_agree Replay words = subcommand_reads Replay words
+
+agrees_on_subcommand : (s : Subcommand) (program : Text) (words : List Text) → AgreesOn (asked_by s nothing_given words) (program ∷ name_of s ∷ words)
+agrees_on_subcommand s program words =
+    subst (λ kinds. AgreesBy (asked_by s nothing_given words) kinds (subcommand_of command_line (program ∷ name_of s ∷ words))) (sym (fault_of_subcommand s program words))
+    (subst (AgreesBy (asked_by s nothing_given words) (own_fault s words)) (sym (subcommand_found s program words)) (own_words_agree s words))
 
 first_refused : (program word : Text) (words : List Text) (kinds : Kinds) → first_turn word ≡ kinds
     → fault_of command_line (program ∷ word ∷ words) ≡ or_else (or_else kinds (walk_fault top names (walked top.rules names start word) words)) (kinds_after (walk_over (walked top.rules names start word) words))
@@ -167,41 +188,43 @@ unfolding walked walk_fault defaults_fault
 after_delimiter program [] = refl
 after_delimiter program (word ∷ words) = refl
 
-asks_help : (word : Word) (words : List Word) → bytes_eq word (codes "batch") ≡ false → bytes_eq word (codes "help") ≡ false → is_help word ≡ true → invocation (word ∷ words) ≡ help
-asks_help word words no_batch no_help h = rw (no_batch, no_help, h) refl
-
-asks_nothing : (word : Word) (words : List Word) → bytes_eq word (codes "batch") ≡ false → bytes_eq word (codes "help") ≡ false → is_help word ≡ false → invocation (word ∷ words) ≡ usage_error
-asks_nothing word words no_batch no_help h = rw (no_batch, no_help, h) refl
-
-agrees_on_first : (program word : Text) (words : List Text) → First word → bytes_eq word (codes "batch") ≡ false → bytes_eq word (codes "help") ≡ false
-    → AgreesOn (invocation (word ∷ words)) (program ∷ word ∷ words)
-unfolding chars
-agrees_on_first program word words (delimiter is) no_batch no_help =
-    subst (λ w. AgreesOn (invocation (w ∷ words)) (program ∷ w ∷ words)) (sym is) (after_delimiter program words)
-agrees_on_first program word words (asks h turn) no_batch no_help =
-    subst (λ i. AgreesOn i (program ∷ word ∷ words)) (sym (asks_help word words no_batch no_help h)) (first_refused program word words (kind.DisplayHelp ∷ []) turn)
-agrees_on_first program word words (mistake h turn) no_batch no_help =
-    subst (λ i. AgreesOn i (program ∷ word ∷ words)) (sym (asks_nothing word words no_batch no_help h)) (first_mistaken program word words turn)
-
 flipped : (a b : Text) → bytes_eq a b ≡ false → bytes_eq b a ≡ false
 flipped a b e = differs b a (λ same. absurd (true≢false (sym (bytes_eq-refl a) ∙ ap (bytes_eq a) (sym same) ∙ e)))
   where
     bytes_eq-refl : (text : Text) → bytes_eq text text ≡ true
     bytes_eq-refl text = (bytes_eq-Decides text text).1 refl
 
-agrees_on_words : (program word : Text) (words : List Text) (is_batch is_topic : Bool) → bytes_eq word (codes "batch") ≡ is_batch → bytes_eq word (codes "help") ≡ is_topic
+asks_help : (word : Word) (words : List Word) → IsOther word → is_help word ≡ true → invocation (word ∷ words) ≡ help
+asks_help word words other h = rw (flipped (codes "batch") word other.no_batch, flipped (codes "replay") word other.no_replay, flipped (codes "help") word other.no_help, h) refl
+
+asks_nothing : (word : Word) (words : List Word) → IsOther word → is_help word ≡ false → invocation (word ∷ words) ≡ usage_error
+asks_nothing word words other h = rw (flipped (codes "batch") word other.no_batch, flipped (codes "replay") word other.no_replay, flipped (codes "help") word other.no_help, h) refl
+
+agrees_on_first : (program word : Text) (words : List Text) → First word → IsOther word → AgreesOn (invocation (word ∷ words)) (program ∷ word ∷ words)
+unfolding chars
+agrees_on_first program word words (delimiter is) other =
+    subst (λ w. AgreesOn (invocation (w ∷ words)) (program ∷ w ∷ words)) (sym is) (after_delimiter program words)
+agrees_on_first program word words (asks h turn) other =
+    subst (λ i. AgreesOn i (program ∷ word ∷ words)) (sym (asks_help word words other h)) (first_refused program word words (kind.DisplayHelp ∷ []) turn)
+agrees_on_first program word words (mistake h turn) other =
+    subst (λ i. AgreesOn i (program ∷ word ∷ words)) (sym (asks_nothing word words other h)) (first_mistaken program word words turn)
+
+agrees_on_words : (program word : Text) (words : List Text) (is_batch is_replay is_topic : Bool) → bytes_eq word (codes "batch") ≡ is_batch → bytes_eq word (codes "replay") ≡ is_replay → bytes_eq word (codes "help") ≡ is_topic
     → AgreesOn (invocation (word ∷ words)) (program ∷ word ∷ words)
 unfolding walked walk_fault
-agrees_on_words program word words true is_topic b h =
-    subst (λ w. AgreesOn (invocation (w ∷ words)) (program ∷ w ∷ words)) (sym (same_bytes word (codes "batch") b)) (agrees_on_batch program words)
-agrees_on_words program word words false true b h =
+agrees_on_words program word words true is_replay is_topic b r h =
+    subst (λ w. AgreesOn (invocation (w ∷ words)) (program ∷ w ∷ words)) (sym (same_bytes word (codes "batch") b)) (agrees_on_subcommand Batch program words)
+agrees_on_words program word words false true is_topic b r h =
+    subst (λ w. AgreesOn (invocation (w ∷ words)) (program ∷ w ∷ words)) (sym (same_bytes word (codes "replay") r)) (agrees_on_subcommand Replay program words)
+agrees_on_words program word words false false true b r h =
     subst (λ w. AgreesOn (invocation (w ∷ words)) (program ∷ w ∷ words)) (sym (same_bytes word (codes "help") h)) (first_refused program (codes "help") words (kind.DisplayHelp ∷ kind.InvalidSubcommand ∷ []) refl)
-agrees_on_words program word words false false b h =
-    agrees_on_first program word words (first_of_word word (flipped word (codes "batch") b) (flipped word (codes "help") h)) b h
+agrees_on_words program word words false false false b r h =
+    let other : IsOther word = record { no_batch = flipped word (codes "batch") b; no_replay = flipped word (codes "replay") r; no_help = flipped word (codes "help") h } in
+    agrees_on_first program word words (first_of_word word other) other
 
 -- what a parse finds of the words is what they ask for
-pub words_agree : (words : List Text) → Agrees (invocation (drop 1 words)) (fault_of command_line words) (named_file (subcommand_of command_line words)) (force_flag (subcommand_of command_line words))
+pub words_agree : (words : List Text) → AgreesOn (invocation (drop 1 words)) words
 unfolding walk_fault defaults_fault
 words_agree [] = refl
 words_agree (program ∷ []) = refl
-words_agree (program ∷ word ∷ words) = agrees_on_words program word words _ _ refl refl
+words_agree (program ∷ word ∷ words) = agrees_on_words program word words _ _ _ refl refl refl

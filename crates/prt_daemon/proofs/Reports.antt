@@ -1,8 +1,8 @@
 -- A fault that was reported, and an input that was left alone.
 use Rattle.std.proofs.Common.{◌≡◌, ◌≢◌, ◌∙◌, ℕ, inl, inr, refl, List, Option, Some, None}
 use Rattle.prt_daemon.specs.Faults.{fault_status, IsFault}
-use Rattle.prt_daemon.specs.Invocation.{Invocation, script}
-use Rattle.prt_daemon.specs.Program.{LeavesInput, RunsNothing}
+use Rattle.prt_daemon.specs.Invocation.{Invocation, Word, batch, replay}
+use Rattle.prt_daemon.specs.Program.{LeavesInput, LeavesInputFor, RunsNothing}
 use Rattle.prt_daemon.specs.declared.program.Fault.{Fault}
 use Rattle.prt_daemon.specs.declared.program.Fault.TheVariants.{Words, Opening}
 
@@ -11,7 +11,11 @@ pub reported : (asked : Invocation) (fault : Fault) (status : ℕ) (writer0 writ
 reported asked (Words error) status writer0 writer1 writer may is same kept = (inl (rw is may), λ other. kept other ∙ same)
 reported asked (Opening reason) status writer0 writer1 writer may is same kept = (inr is, λ other. kept other ∙ same)
 
+unread_for : (file : Option Word) (input : Option (List ℕ)) → LeavesInputFor file input input
+unread_for None input = tt
+unread_for (Some path) input = refl
+
 pub unread : (asked : Invocation) (input : Option (List ℕ)) → LeavesInput asked input input
-unread (script mode None) input = tt
-unread (script mode (Some path)) input = refl
+unread (batch script) input = unread_for script.file input
+unread (replay file) input = unread_for file input
 unread _ input = refl

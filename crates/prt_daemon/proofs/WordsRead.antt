@@ -1,12 +1,13 @@
 -- From what a parse gives to what the words ask for.
-use Rattle.std.proofs.Common.{◌≡◌, ◌∙◌, ◌&&◌, Bool, true, false, refl, sym, ap, ap₂, subst, inl, inr, List, [], ◌∷◌, Option, Some, None, option_map, codes, true≢false}
+use Rattle.std.proofs.Common.{◌≡◌, ◌∙◌, ◌&&◌, Bool, true, false, refl, sym, ap, ap₂, subst, inl, inr, List, [], ◌∷◌, Option, Some, None, option_map, is_some, codes, true≢false}
 use Rattle.std.specs.Borrow.{Bor}
-use Rattle.std.specs.Prelude.{MatchOption, option_and_then}
-use Rattle.clap.proofs.WalkLemmas.{first_value-rows, one_text-rows}
-use Rattle.clap.specs.Matches.{first_value, one_text}
-use Rattle.clap.specs.Walk.{Row, first_of, one_of, rows_of}
-use Rattle.clap.specs.declared.parser.matches.Found.{Found}
-use Rattle.prt_daemon.specs.CommandLine.{named_file, force_flag}
+use Rattle.std.specs.Box.{box_value}
+use Rattle.std.specs.Prelude.{Box, MatchOption, ℕ, ◌==◌, option_and_then, slice_get, unwrap_or}
+use Rattle.clap.specs.Words.{subcommand_rows}
+use Rattle.clap.specs.declared.parser.matches.SubCommand.{SubCommand}
+use Rattle.clap.specs.declared.parser.matches.ArgMatches.TheViews.{out-SubCommand}
+use Rattle.clap.specs.Walk.{Row}
+use Rattle.prt_daemon.specs.CommandLine.{IsTaskOf, invocation_of, subcommand_name, force_flag}
 use Rattle.std.specs.List.{list_all}
 use Rattle.clap.specs.Kinds.{HasKind, IsAmong, Kinds}
 use Rattle.clap.specs.Words.{Text, kind_of}
@@ -14,11 +15,14 @@ use Rattle.clap.specs.declared.error.Error.{Error}
 use Rattle.clap.specs.declared.error.kind.ErrorKind.{ErrorKind}
 use Rattle.clap.specs.declared.error.kind.ErrorKind.TheVariants.{DisplayHelp, DisplayVersion, InvalidSubcommand}
 use Rattle.prt_daemon.specs.Faults.{FaultOf, IsStatusOf, IsWordsFault, words_status}
-use Rattle.prt_daemon.specs.Invocation.{Invocation, Word, script, help, help_on, usage_error, file_of}
+use Rattle.prt_daemon.specs.Invocation.{Invocation, batch, replay, help, help_on, usage_error, file_of}
 use Rattle.prt_session.specs.declared.script.OnRefusal.{OnRefusal}
 use Rattle.prt_session.specs.declared.script.OnRefusal.TheVariants.{Stop, GoOn}
 use Rattle.prt_daemon.specs.declared.program.Fault.{Fault}
-use Rattle.prt_daemon.proofs.BatchWords.{Agrees}
+use Rattle.prt_daemon.specs.declared.program.Task.{Task}
+use Rattle.prt_daemon.specs.declared.program.Task.TheVariants.{Batch, Replay}
+use Rattle.prt_daemon.proofs.CommandWords.{Agrees, flag_text}
+use Rattle.prt_daemon.proofs.ParsedWords.{AgreesBy}
 use Rattle.prt_daemon.proofs.WordClasses.{IsMistake, is_mistake}
 
 not_empty : (k : ErrorKind) (kinds : Kinds) → (k ∷ kinds) ≡ [] → ⊥
@@ -28,14 +32,26 @@ not_empty k kinds same = absurd (true≢false (ap is_some_kind same))
     is_some_kind [] = false
     is_some_kind (k ∷ kinds) = true
 
--- a parse without an error found a script
-pub script_is : (asked : Invocation) (kinds : Kinds) (named flag : Option Text) (mode : OnRefusal) (file : Option Word) → Agrees asked kinds named flag → kinds ≡ []
-    → file ≡ option_and_then file_of named → (flag ≡ Some (codes "true") → mode ≡ GoOn) → (flag ≡ Some (codes "false") → mode ≡ Stop) → asked ≡ script mode file
-script_is (script Stop path) kinds named flag mode file agrees none is goes_on stops = ap₂ script (sym (stops agrees.2)) (sym (is ∙ agrees.1))
-script_is (script GoOn path) kinds named flag mode file agrees none is goes_on stops = ap₂ script (sym (goes_on agrees.2)) (sym (is ∙ agrees.1))
-script_is help kinds named flag mode file agrees none is goes_on stops = absurd (not_empty _ _ (sym agrees ∙ none))
-script_is help_on kinds named flag mode file agrees none is goes_on stops = absurd (not_empty _ _ (sym agrees ∙ none))
-script_is usage_error kinds named flag mode file agrees none is goes_on stops = absurd (subst IsMistake none agrees)
+mode_is : (found mode : OnRefusal) (flag : Option Text) → flag ≡ Some (flag_text mode) → (flag ≡ Some (codes "true") → found ≡ GoOn) → (flag ≡ Some (codes "false") → found ≡ Stop) → mode ≡ found
+mode_is found Stop flag is goes_on stops = sym (stops is)
+mode_is found GoOn flag is goes_on stops = sym (goes_on is)
+
+other_name : Some (codes "batch") ≡ Some (codes "replay") → ⊥
+other_name same = absurd (true≢false (ap (λ name. is_b (unwrap_or (slice_get (unwrap_or name []) 0) 0)) same))
+  where
+    is_b : ℕ → Bool
+    is_b byte = byte == 98
+
+-- a parse without an error found a task
+pub task_is : (asked : Invocation) (kinds : Kinds) (found : Option (Text × List Row)) (task : Task) → AgreesBy asked kinds found → kinds ≡ [] → IsTaskOf found task → asked ≡ invocation_of task
+task_is (batch script) kinds found (Batch task) agrees none is =
+    ap₂ (λ mode file. batch (record { mode = mode; file = file })) (mode_is task.mode script.mode (force_flag found) agrees.3 is.2 is.3) (sym (is.1 ∙ agrees.2))
+task_is (batch script) kinds found (Replay file) agrees none is = absurd (other_name (sym agrees.1 ∙ is.0))
+task_is (replay file) kinds found (Batch task) agrees none is = absurd (is.0 agrees.1)
+task_is (replay file) kinds found (Replay path) agrees none is = ap replay (sym (is.1 ∙ agrees.2))
+task_is help kinds found task agrees none is = absurd (not_empty _ _ (sym agrees ∙ none))
+task_is help_on kinds found task agrees none is = absurd (not_empty _ _ (sym agrees ∙ none))
+task_is usage_error kinds found task agrees none is = absurd (subst IsMistake none agrees)
 
 mistake_status : (k : ErrorKind) → is_mistake k ≡ true → words_status k ≡ 2
 mistake_status DisplayHelp bad = absurd (true≢false (sym bad))
@@ -51,40 +67,45 @@ mistakes_status [] k all among = absurd among
 mistakes_status (x ∷ kinds) k all (inl is) = ap words_status is ∙ mistake_status x (both (is_mistake x) (list_all is_mistake kinds) all).0
 mistakes_status (x ∷ kinds) k all (inr among) = mistakes_status kinds k (both (is_mistake x) (list_all is_mistake kinds) all).1 among
 
-status_of_kind : (asked : Invocation) (kinds : Kinds) (named flag : Option Text) (k : ErrorKind) → Agrees asked kinds named flag → IsAmong k kinds → IsStatusOf asked (words_status k)
-status_of_kind (script mode file) kinds named flag k agrees among = subst (IsAmong k) agrees.0 among
-status_of_kind help kinds named flag k agrees among = shown (subst (IsAmong k) agrees among)
+status_of_kind : (asked : Invocation) (kinds : Kinds) (name named flag : Option Text) (k : ErrorKind) → Agrees asked kinds name named flag → IsAmong k kinds → IsStatusOf asked (words_status k)
+status_of_kind (batch script) kinds name named flag k agrees among = subst (IsAmong k) agrees.0 among
+status_of_kind (replay file) kinds name named flag k agrees among = subst (IsAmong k) agrees.0 among
+status_of_kind help kinds name named flag k agrees among = shown (subst (IsAmong k) agrees among)
   where
     shown : IsAmong k (DisplayHelp ∷ []) → words_status k ≡ 0
     shown (inl is) = ap words_status is
     shown (inr none) = absurd none
-status_of_kind help_on kinds named flag k agrees among = shown (subst (IsAmong k) agrees among)
+status_of_kind help_on kinds name named flag k agrees among = shown (subst (IsAmong k) agrees among)
   where
     shown : IsAmong k (DisplayHelp ∷ InvalidSubcommand ∷ []) → IsStatusOf help_on (words_status k)
     shown (inl is) = inl (ap words_status is)
     shown (inr (inl is)) = inr (ap words_status is)
     shown (inr (inr none)) = absurd none
-status_of_kind usage_error [] named flag k agrees among = absurd agrees
-status_of_kind usage_error (x ∷ kinds) named flag k agrees among = mistakes_status (x ∷ kinds) k agrees among
+status_of_kind usage_error [] name named flag k agrees among = absurd agrees
+status_of_kind usage_error (x ∷ kinds) name named flag k agrees among = mistakes_status (x ∷ kinds) k agrees among
 
 -- a parse with an error found no script, or memory was refused
-pub words_fault : (asked : Invocation) (kinds : Kinds) (named flag : Option Text) (error : Error) (fault : Fault) → Agrees asked kinds named flag → HasKind kinds error → FaultOf error fault
+pub words_fault : (asked : Invocation) (kinds : Kinds) (name named flag : Option Text) (error : Error) (fault : Fault) → Agrees asked kinds name named flag → HasKind kinds error → FaultOf error fault
     → IsWordsFault asked fault
-words_fault asked kinds named flag error fault agrees has (inl memory) = rw memory.1 refl
-words_fault asked kinds named flag error fault agrees (inl memory) (inr other) = absurd (other.0 memory)
-words_fault asked kinds named flag error fault agrees (inr among) (inr other) = rw other.1 (status_of_kind asked kinds named flag (kind_of error) agrees among)
+words_fault asked kinds name named flag error fault agrees has (inl memory) = rw memory.1 refl
+words_fault asked kinds name named flag error fault agrees (inl memory) (inr other) = absurd (other.0 memory)
+words_fault asked kinds name named flag error fault agrees (inr among) (inr other) = rw other.1 (status_of_kind asked kinds name named flag (kind_of error) agrees among)
 
--- ---- what the matches of `batch` say
+-- ---- what the matches say
 
-by_rows : {X : Type 0} (of : List Row → Option X) (found : Option (Text × List Row)) → option_and_then (λ p. of p.1) found ≡ option_and_then of (option_map (λ p. p.1) found)
-by_rows of None = refl
-by_rows of (Some p) = refl
+-- the subcommand that was found, by its name and its rows
+pub found_is : (found : Option (Text × List Row)) (name : Text) (rows : List Row) → Some name ≡ subcommand_name found → Some rows ≡ option_map (λ p. p.1) found → found ≡ Some (name, rows)
+found_is None name rows names has = absurd (true≢false (ap is_some names))
+found_is (Some p) name rows names has = ap₂ (λ n rs. Some (n, rs)) (ap (λ o. unwrap_or o p.0) (sym names)) (ap (λ o. unwrap_or o p.1) (sym has))
 
-pub file_in : (found : Option (Text × List Row)) (matches : Found) → Some (rows_of matches) ≡ option_map (λ p. p.1) found → named_file found ≡ first_value matches (codes "file")
-file_in found matches is = by_rows (first_of (codes "file")) found ∙ ap (option_and_then (first_of (codes "file"))) (sym is) ∙ sym (first_value-rows matches (codes "file"))
+pub none_found : (found : Option (Text × List Row)) → subcommand_name found ≡ None → found ≡ None
+none_found None none = refl
+none_found (Some p) none = absurd (true≢false (ap is_some none))
 
-pub flag_in : (found : Option (Text × List Row)) (matches : Found) → Some (rows_of matches) ≡ option_map (λ p. p.1) found → one_text matches (codes "force") ≡ force_flag found
-flag_in found matches is = one_text-rows matches (codes "force") ∙ sym (by_rows (one_of (codes "force")) found ∙ ap (option_and_then (one_of (codes "force"))) (sym is))
+-- the name that a parse gives is that of its rows
+pub name_of_found : {Z : Type 0} (found : Option (Box SubCommand Z)) → option_map (λ b. (out-SubCommand (box_value b)).name.now) found ≡ subcommand_name (subcommand_rows found)
+name_of_found None = refl
+name_of_found (Some b) = refl
 
 pub path_of : (operand path : Option (Bor Text)) → MatchOption operand (path ≡ None) (λ word. option_map (λ s. s.now) path ≡ file_of word.now)
     → option_map (λ s. s.now) path ≡ option_and_then file_of (option_map (λ s. s.now) operand)

@@ -1,11 +1,11 @@
--- The exit status where no session is run.
+-- The exit status where nothing is run.
 use Rattle.std.specs.Prelude.{◌≡◌, ◌≢◌, ◌⊎◌, ℕ}
 use Rattle.clap.specs.Words.{kind_of}
 use Rattle.clap.specs.declared.error.Error.{Error}
 use Rattle.clap.specs.declared.error.kind.ErrorKind.{ErrorKind}
 use Rattle.clap.specs.declared.error.kind.ErrorKind.TheVariants.{DisplayHelp, DisplayVersion, OutOfMemory}
 use Rattle.prt_addr.specs.declared.refusal.Refusal.TheVariants.{NoMemory, ReadFault}
-use Rattle.prt_daemon.specs.Invocation.{Invocation, script, help, help_on, usage_error}
+use Rattle.prt_daemon.specs.Invocation.{Invocation, batch, replay, help, help_on, usage_error}
 use Rattle.prt_daemon.specs.declared.program.Fault.{Fault}
 use Rattle.prt_daemon.specs.declared.program.Fault.TheVariants.{Words, Opening}
 
@@ -24,14 +24,15 @@ abbrev pub fault_status : Fault → ℕ
 fault_status (Words error) = words_status (kind_of error)
 fault_status (Opening reason) = 3
 
--- the status of words that ask for no script
+-- the status of words that ask for no run
 abbrev pub IsStatusOf : Invocation → ℕ → Type 0
-IsStatusOf (script mode file) status = ⊥
+IsStatusOf (batch script) status = ⊥
+IsStatusOf (replay file) status = ⊥
 IsStatusOf help status = status ≡ 0
 IsStatusOf help_on status = (status ≡ 0) ⊎ (status ≡ 2)
 IsStatusOf usage_error status = status ≡ 2
 
--- what reading the words may answer in place of a script: what they ask for, or that memory was refused
+-- what reading the words may answer in place of a task: what they ask for, or that memory was refused
 abbrev pub IsWordsFault : Invocation → Fault → Type 0
 IsWordsFault asked (Words error) = IsStatusOf asked (words_status (kind_of error))
 IsWordsFault asked (Opening reason) = reason ≡ NoMemory

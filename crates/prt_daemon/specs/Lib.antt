@@ -1,4 +1,5 @@
 pub mod CommandLine
 pub mod Invocation
 pub mod Program
+pub mod Replay
 pub mod Faults

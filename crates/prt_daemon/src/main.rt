@@ -2,11 +2,13 @@
 #![tactic(auto)]
 
 mod program;
+mod replay;
 
 pub use program::{Fault, program, report, words_fault};
 pub use prt_session::{
     Desk, LONGEST_UNENDED, ListDesk, MOST_LINES, OnRefusal, Refusal, ScriptEnd, run_script,
 };
+pub use replay::run_replay;
 use std::process::ExitCode;
 use std::{env, io};
 

@@ -1,12 +1,13 @@
-ghost use Rattle.std.specs.Prelude.{◌≡◌, ◌≢◌, ◌⊎◌, IfErr, IfOk, OnErr, Some, codes, option_and_then, option_map};
-ghost use Rattle.clap.specs.Words.{app_of, kind_of, subcommand_rows_of};
-ghost use Rattle.prt_addr.specs.declared.refusal.Refusal.TheVariants.{NoMemory};
-ghost use Rattle.prt_daemon.specs.CommandLine.{command_line, force_flag, named_file};
+ghost use Rattle.std.specs.Prelude.{◌≡◌, ◌≢◌, ◌⊎◌, IfErr, IfOk, MatchResult, OnErr, Some, codes, false, option_and_then, option_map};
+ghost use Rattle.clap.specs.Words.{app_of, first_of, found_of, kind_of, one_of, rows_of, rule_of, subcommand_rows_of};
+ghost use Rattle.prt_addr.specs.declared.refusal.Refusal.TheVariants.{NoMemory, ReadFault};
+ghost use Rattle.prt_daemon.specs.CommandLine.{IsTaskOf, batch_line, command_line, file_rule, has_globals, invocation_of, replay_line};
 ghost use Rattle.prt_daemon.specs.Faults.{IsFault, FaultOf, IsWordsFault, fault_status};
 ghost use Rattle.prt_daemon.specs.declared.program.Fault.TheVariants.{Opening};
-ghost use Rattle.prt_daemon.specs.Invocation.{arguments, file_of, invocation, script, usage_error};
-ghost use Rattle.prt_daemon.specs.Program.{LeavesInput, Runs, RunsBatch, RunsNothing, exit_status};
+ghost use Rattle.prt_daemon.specs.Invocation.{arguments, file_of, invocation, usage_error};
+ghost use Rattle.prt_daemon.specs.Program.{LeavesInput, LeavesInputFor, Runs, RunsBatch, RunsNothing, RunsOver, RunsReplay, exit_status};
 
+use crate::replay::run_replay;
 use clap::error::ErrorKind;
 use clap::{Arg, ArgAction, ArgMatches, Command};
 use prt_session::{ListDesk, OnRefusal, Refusal, ScriptEnd};
@@ -27,19 +28,22 @@ const BAD_WORDS: u8 = 2;
 /// The exit status for a fault.
 const FAULT: u8 = 3;
 
+/// The subcommand that replays events.
+const REPLAY: &str = "replay";
+
 /// The word for standard input in the place of a file.
 const STANDARD_INPUT: &str = "-";
 
 /// Says of a word that it is no text.
 const NOT_TEXT: &str = "invalid UTF-8 was detected in one or more arguments";
 
-/// Why the program runs no session.
+/// Why the program runs nothing.
 #[derive(Debug, Drop, Error)]
 pub enum Fault {
     /// The words ask for help, or for nothing that there is.
     #[error(transparent)]
     Words(clap::Error),
-    /// The script or the database could not be opened, or memory was refused on the way there.
+    /// The file or the database could not be opened, or memory was refused on the way there.
     #[error("prt: {0}\n")]
     Opening(Refusal),
 }
@@ -79,27 +83,69 @@ struct Batch<'a> {
     mode: OnRefusal,
 }
 
-/// The words that the program knows.
-fn command_line<'a>(alloc: Global) -> Result<Command<'a>, AllocError>
-    ensures { IfOk result (λ command. app_of command ≡ command_line) }
+/// What the words ask for.
+#[derive(Drop)]
+enum Task<'a> {
+    /// To run a script.
+    Batch(Batch<'a>),
+    /// To replay the file of this path; standard input where there is none.
+    Replay(Option<&'a str>),
+}
+
+/// The operand that names a file.
+fn file_operand<'a>(alloc: Global, help: &'a str) -> Arg<'a>
+    ensures rule { rule_of result ≡ file_rule }
+    ensures own { result.global ≡ false }
+{
+    Arg::new(alloc, "file").value_name("FILE").help(help)
+}
+
+/// The words after `batch`.
+fn batch_line<'a>(alloc: Global) -> Result<Command<'a>, AllocError>
+    ensures line { IfOk result (λ command. app_of command ≡ batch_line) }
+    ensures own { IfOk result (λ command. has_globals command ≡ false) }
 {
     let force = Arg::new(alloc, "force")
         .long("force")
         .action(ArgAction::SetTrue)
         .help("Go on with the next line after a refused one");
-    let file = Arg::new(alloc, "file")
-        .value_name("FILE")
-        .help("The script; standard input where it is missing or `-`");
-    let batch = Command::new(alloc, "batch")
+    let file = file_operand(
+        alloc,
+        "The script; standard input where it is missing or `-`",
+    );
+    Command::new(alloc, "batch")
         .about("Runs a script of route and rule commands over a new database in memory")
         .arg(force)?
-        .arg(file)?;
+        .arg(file)
+}
+
+/// The words after `replay`.
+fn replay_line<'a>(alloc: Global) -> Result<Command<'a>, AllocError>
+    ensures line { IfOk result (λ command. app_of command ≡ replay_line) }
+    ensures own { IfOk result (λ command. has_globals command ≡ false) }
+{
+    let file = file_operand(
+        alloc,
+        "The events, one a line; standard input where it is missing or `-`",
+    );
+    Command::new(alloc, "replay")
+        .about("Replays a list of events from a new database, and says what comes of each")
+        .arg(file)
+}
+
+/// The words that the program knows.
+fn command_line<'a>(alloc: Global) -> Result<Command<'a>, AllocError>
+    ensures { IfOk result (λ command. app_of command ≡ command_line) }
+{
+    let batch = batch_line(alloc)?;
+    let replay = replay_line(alloc)?;
     Command::new(alloc, "prt")
         .bin_name("prt")?
         .about("The table service of an IPv4 policy router")
         .subcommand_required(true)
         .arg_required_else_help(true)
-        .subcommand(batch)
+        .subcommand(batch)?
+        .subcommand(replay)
 }
 
 /// The error of a word that is no text, in the form of those of a parse.
@@ -133,41 +179,55 @@ fn file_of(operand: &str) -> Option<&str>
     }
 }
 
-/// The script that the matches of `batch` name.
-fn batch_of<'a>(matches: &ArgMatches<'a>) -> Batch<'a>
-    ensures file { option_map (λ path. path.now) result.file
-        ≡ option_and_then file_of (named_file (subcommand_rows_of matches.now)) }
-    ensures goes_on { force_flag (subcommand_rows_of matches.now) ≡ Some (codes "true") → result.mode ≡ OnRefusal.GoOn }
-    ensures stops { force_flag (subcommand_rows_of matches.now) ≡ Some (codes "false") → result.mode ≡ OnRefusal.Stop }
+/// The path of the file that the matches of a subcommand name.
+fn file_in<'a>(matches: &ArgMatches<'a>) -> Option<&'a str>
+    ensures { option_map (λ path. path.now) result ≡ option_and_then file_of (first_of (codes "file") (rows_of (found_of matches.now))) }
 {
-    let Some((_, batch)) = matches.subcommand() else {
-        return Batch {
-            file: None,
-            mode: OnRefusal::Stop,
-        };
-    };
-    let mode = if batch.get_flag("force") {
+    matches.get_str("file").and_then(file_of)
+}
+
+/// What a script goes on after, by the matches of `batch`.
+fn mode_in(matches: &ArgMatches<'_>) -> OnRefusal
+    ensures goes_on { one_of (codes "force") (rows_of (found_of matches.now)) ≡ Some (codes "true") → result ≡ OnRefusal.GoOn }
+    ensures stops { one_of (codes "force") (rows_of (found_of matches.now)) ≡ Some (codes "false") → result ≡ OnRefusal.Stop }
+{
+    if matches.get_flag("force") {
         OnRefusal::GoOn
     } else {
         OnRefusal::Stop
-    };
-    Batch {
-        file: batch.get_str("file").and_then(file_of),
-        mode,
     }
 }
 
+/// What the matches of all words ask for.
+fn task_of<'a>(matches: &ArgMatches<'a>) -> Task<'a>
+    ensures { IsTaskOf (subcommand_rows_of matches.now) result }
+{
+    let Some((name, found)) = matches.subcommand() else {
+        return Task::Batch(Batch {
+            file: None,
+            mode: OnRefusal::Stop,
+        });
+    };
+    let file = file_in(found);
+    if name == REPLAY {
+        return Task::Replay(file);
+    }
+    Task::Batch(Batch {
+        file,
+        mode: mode_in(found),
+    })
+}
+
 /// Reads what the words ask for.
-fn read_words<'a>(alloc: Global, words: &'a [String]) -> Result<Batch<'a>, Fault>
-    ensures script { IfOk result (λ batch.
-        invocation (arguments words.entry.now) ≡ script batch.mode (option_map (λ path. path.now) batch.file)) }
+fn read_words<'a>(alloc: Global, words: &'a [String]) -> Result<Task<'a>, Fault>
+    ensures task { IfOk result (λ task. invocation (arguments words.entry.now) ≡ invocation_of task) }
     ensures fault { IfErr result (IsWordsFault (invocation (arguments words.entry.now))) }
 {
     let matches = command_line(alloc)?.try_get_matches_from(words)?;
-    Ok(batch_of(&matches))
+    Ok(task_of(&matches))
 }
 
-/// The exit status of a session.
+/// The exit status of a run.
 fn exit_status(end: ScriptEnd) -> u8
     ensures { result ≡ exit_status end }
 {
@@ -199,7 +259,70 @@ fn run_batch<R: Read + Drop, W: Write>(
     Ok(exit_status(end))
 }
 
-/// Runs what the words ask for, and gives the exit status of its session.
+/// Replays a list of events, and gives the exit status.
+fn replay<R: Read, W: Write>(alloc: Global, input: &mut R, output: &mut W) -> u8
+    ensures { RunsReplay (R.remaining input.old) (W.contents output.old) (W.contents output.new) result }
+{
+    exit_status(run_replay(alloc, input, output))
+}
+
+/// Opens the file of this path.
+fn open_file<F: Files>(files: &F, path: &str) -> Result<F::File, Fault>
+    ensures { IfErr result (λ fault. fault ≡ Opening ReadFault) }
+{
+    match fs::open(files, path) {
+        Ok(file) => Ok(file),
+        Err(_) => Err(Fault::Opening(Refusal::ReadFault)),
+    }
+}
+
+/// Runs the script that is asked for, over its file or the input.
+fn run_script_of<F: Files, R: Read, W: Write>(
+    files: &F,
+    alloc: Global,
+    batch: Batch<'_>,
+    input: &mut R,
+    output: &mut W,
+) -> Result<u8, Fault>
+    ensures run { IfOk result (RunsOver F.File.remaining (RunsBatch batch.entry.mode) (option_map (λ path. path.now) batch.entry.file)
+        (R.remaining input.old) (W.contents output.old) (W.contents output.new)) }
+    ensures unread { LeavesInputFor (option_map (λ path. path.now) batch.entry.file) (R.remaining input.old) (R.remaining input.new) }
+    ensures fault { IfErr result (λ fault. (fault ≡ Opening NoMemory) ⊎ (fault ≡ Opening ReadFault)) }
+    ensures unwritten { OnErr result (W.contents output.new ≡ W.contents output.old) }
+{
+    match batch.file {
+        Some(path) => {
+            let file = open_file(files, path)?;
+            run_batch(alloc, file, output, batch.mode)
+        }
+        None => run_batch(alloc, input, output, batch.mode),
+    }
+}
+
+/// Replays the events that are asked for, of a file or of the input.
+fn replay_of<F: Files, R: Read, W: Write>(
+    files: &F,
+    alloc: Global,
+    path: Option<&str>,
+    input: &mut R,
+    output: &mut W,
+) -> Result<u8, Fault>
+    ensures run { IfOk result (RunsOver F.File.remaining RunsReplay (option_map (λ path. path.now) path.entry)
+        (R.remaining input.old) (W.contents output.old) (W.contents output.new)) }
+    ensures unread { LeavesInputFor (option_map (λ path. path.now) path.entry) (R.remaining input.old) (R.remaining input.new) }
+    ensures fault { IfErr result (λ fault. fault ≡ Opening ReadFault) }
+    ensures unwritten { OnErr result (W.contents output.new ≡ W.contents output.old) }
+{
+    match path {
+        Some(path) => {
+            let mut file = open_file(files, path)?;
+            Ok(replay(alloc, &mut file, output))
+        }
+        None => Ok(replay(alloc, input, output)),
+    }
+}
+
+/// Runs what the words ask for, and gives the exit status of the run.
 fn run<F: Files, R: Read, W: Write>(
     files: &F,
     alloc: Global,
@@ -213,20 +336,13 @@ fn run<F: Files, R: Read, W: Write>(
     ensures fault { IfErr result (IsFault (invocation (arguments words.now))) }
     ensures unwritten { OnErr result (W.contents output.new ≡ W.contents output.old) }
 {
-    let batch = read_words(alloc, words)?;
-    match batch.file {
-        Some(path) => {
-            let file = match fs::open(files, path) {
-                Ok(file) => file,
-                Err(_) => return Err(Fault::Opening(Refusal::ReadFault)),
-            };
-            run_batch(alloc, file, output, batch.mode)
-        }
-        None => run_batch(alloc, input, output, batch.mode),
+    match read_words(alloc, words)? {
+        Task::Batch(batch) => run_script_of(files, alloc, batch, input, output),
+        Task::Replay(path) => replay_of(files, alloc, path, input, output),
     }
 }
 
-/// Writes why the program runs no session, and gives the exit status for it.
+/// Writes why the program runs nothing, and gives the exit status for it.
 ///
 /// Help goes to `output`, all else to `errors`. A fault of writing there changes nothing.
 pub fn report<W: Write, E: Write>(fault: &Fault, output: &mut W, errors: &mut E) -> u8
@@ -251,9 +367,9 @@ pub fn report<W: Write, E: Write>(fault: &Fault, output: &mut W, errors: &mut E)
 
 /// Runs the program with these words, the first of which is its own name, and gives its exit status.
 ///
-/// `batch [--force] [FILE]` runs a script over a new database in memory. The status is 0 where no line was refused
-/// and after help, 1 where a line was refused, 2 for bad words, and 3 for a fault of opening, of the reader or of the
-/// writer.
+/// `batch [--force] [FILE]` runs a script over a new database in memory, and `replay [FILE]` replays a list of events.
+/// The status is 0 where nothing was refused and after help, 1 where a line was refused, 2 for bad words, and 3 for a
+/// fault of opening, of the reader or of the writer.
 pub fn program<F: Files, R: Read, W: Write, E: Write>(
     files: &F,
     alloc: Global,

@@ -106,8 +106,8 @@ fn write_bytes<W: Write>(writer: &mut W, bytes: &[u8]) -> bool
     writer.flush().is_ok()
 }
 
-/// Writes a reply; tells whether all of it went well.
-pub(crate) fn write_reply<W: Write>(writer: &mut W, reply: &Reply) -> bool
+/// Writes a reply and flushes; tells whether all of it went well. Where it did not, a part of the reply was written.
+pub fn write_reply<W: Write>(writer: &mut W, reply: &Reply) -> bool
     ensures written { Written result (W.contents writer.old) (W.contents writer.new) (reply_text reply.now) }
     ensures told { result ≡ false → reply.now ≢ Reply.Silent }
 {

@@ -71,6 +71,17 @@ fn stream_faults(rt: HostRuntime) -> Result<(), Fail> {
 }
 
 #[test]
+fn replays_a_stop_within_a_commit(rt: HostRuntime) -> Result<(), Fail> {
+    let mut input: &[u8] =
+        b"submit route add default dev eth0\ncall\ncall\ncall\nstop kept\nreopen\n";
+    let ending = ending_of(&rt, &["prt", "replay"], &mut input)?;
+    let trace = b"prepared 1\nbegin\nwrite\ncount\nstop\nreopen 1\n";
+    assert!(rt; ending.output.as_slice() == trace.as_slice());
+    assert!(rt; ending.status == 0 && ending.errors.is_empty());
+    Ok(())
+}
+
+#[test]
 fn helps_on_a_command(rt: HostRuntime) -> Result<(), Fail> {
     let mut input: &[u8] = b"";
     let ending = ending_of(&rt, &["prt", "help", "batch"], &mut input)?;
