@@ -87,7 +87,7 @@ impl<S: Alter + Drop> Store<S> {
             IfErr result (λ reason. reason ≡ Damaged → (stored : State) → Stores (state S.Store self.old.conn).now stored → ⊥) }
         ensures same { HasCleanDisk (state S.Store self.new.conn) → IsFormat1 (state S.Store self.old.conn).now.schema →
             OnOk result (IsUnchanged (state S.Store self.old.conn) (state S.Store self.new.conn)) }
-        ensures quiet { IsFormat1 (state S.Store self.old.conn).now.schema → CommitsNothing S.Store self.old.conn self.new.conn }
+        ensures quiet { (HasCleanDisk (state S.Store self.old.conn) → IsFormat1 (state S.Store self.old.conn).now.schema) → CommitsNothing S.Store self.old.conn self.new.conn }
     {
         let _live = self.conn.schema();
         load(alloc, &mut self.conn)

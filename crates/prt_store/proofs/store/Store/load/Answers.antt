@@ -10,4 +10,4 @@ pub returns-clause-same : goal.returns-clause-same
 returns-clause-same g c clean tables = c.load.ensures.same clean tables
 
 pub returns-clause-quiet : goal.returns-clause-quiet
-returns-clause-quiet g c tables = c.load.ensures.quiet (λ _. tables)
+returns-clause-quiet g c tables = c.load.ensures.quiet tables
