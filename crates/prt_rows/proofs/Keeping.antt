@@ -11,7 +11,7 @@ use Rattle.sqlite_schema.specs.declared.schema.View.{View}
 use Rattle.sqlite_tied.specs.Compute.{everything}
 use Rattle.prt_rows.specs.Effects.{AreEmpty, KeepsTables, Makes}
 use Rattle.prt_rows.specs.Format.{BeginsFormat1, BeginsWithRoutes, BeginsWithRules, IsFormat1, has_table}
-use Rattle.prt_rows.specs.Tables.{no_tables, rule_alone, rule_and_route, schema_with}
+use Rattle.prt_rows.specs.Tables.{meta_table, no_tables, our_tables, route_table, rule_alone, rule_and_route, rule_table, schema_with}
 
 pub keeps_itself : (db : Database) → KeepsTables db db
 keeps_itself db = record { kept = λ table there. (there, refl); made = λ table there. inl there }
@@ -25,7 +25,7 @@ keeps_then old mid new one two = record {
   made = λ table there. elim (two.made table there) [
     | inl before ↦ elim (one.made table before) [
       | inl was ↦ inl was
-      | inr none ↦ inr ((two.kept table before).1 ∙ none)
+      | inr one_of_ours ↦ inr (one_of_ours.0, (two.kept table before).1 ∙ one_of_ours.1)
     ]
     | inr none ↦ inr none
   ];
@@ -38,13 +38,13 @@ empty_before old new keeps empty table ours there = let now = keeps.kept table t
 pub empty_after : (old new : Database) → KeepsTables old new → AreEmpty old → AreEmpty new
 empty_after old new keeps empty table ours there = elim (keeps.made table there) [
   | inl was ↦ (keeps.kept table was).1 ∙ empty table ours was
-  | inr none ↦ none
+  | inr one_of_ours ↦ one_of_ours.1
 ]
 
 -- ---- a table that is made
 
-module _ (from after : Schema) (tree : ℕ) (up : (table : Table) → Has from.tables table → Has after.tables table) (down : (table : Table) → Has after.tables table → Has from.tables table ⊎ (table.tree ≡ tree)) where
-  keeps_made : (old new : Database) → old.schema ≡ from → Makes after tree old new → KeepsTables old new
+module _ (from after : Schema) (made : Table) (ours : Has our_tables made) (up : (table : Table) → Has from.tables table → Has after.tables table) (down : (table : Table) → Has after.tables table → Has from.tables table ⊎ (table ≡ made)) where
+  keeps_made : (old new : Database) → old.schema ≡ from → Makes after made.tree old new → KeepsTables old new
   keeps_made old new has makes = record {
     kept = λ table there. (
       subst (λ (s : Schema). Has s.tables table) (sym makes.schema) (up table (subst (λ (s : Schema). Has s.tables table) has there)),
@@ -52,32 +52,29 @@ module _ (from after : Schema) (tree : ℕ) (up : (table : Table) → Has from.t
     );
     made = λ table there. elim (down table (subst (λ (s : Schema). Has s.tables table) makes.schema there)) [
       | inl was ↦ inl (subst (λ (s : Schema). Has s.tables table) (sym has) was)
-      | inr is ↦ inr (subst (λ n. new.trees n ≡ []) (sym is) makes.empty)
+      | inr is ↦ inr (subst (Has our_tables) (sym is) ours, subst (λ (t : Table). new.trees t.tree ≡ []) (sym is) makes.empty)
     ];
   }
 
 module _ (old new : Database) where
   pub keeps_none : old.schema ≡ no_tables → Makes rule_alone 0 old new → KeepsTables old new
-  keeps_none = keeps_made no_tables rule_alone 0 (λ table there. absurd there) (λ table there. elim there [
-    | inl is ↦ inr (ap (λ (t : Table). t.tree) is)
-    | inr none ↦ absurd none
-  ]) old new
+  keeps_none = keeps_made no_tables rule_alone rule_table (inl refl) (λ table there. absurd there) (λ table there. elim there [ inl is ↦ inr is | inr none ↦ absurd none ]) old new
 
   pub keeps_rules : old.schema ≡ rule_alone → Makes rule_and_route 1 old new → KeepsTables old new
-  keeps_rules = keeps_made rule_alone rule_and_route 1 (λ table there. elim there [ inl is ↦ inl is | inr none ↦ absurd none ]) (λ table there. elim there [
+  keeps_rules = keeps_made rule_alone rule_and_route route_table (inr (inl refl)) (λ table there. elim there [ inl is ↦ inl is | inr none ↦ absurd none ]) (λ table there. elim there [
     | inl is ↦ inl (inl is)
-    | inr more ↦ elim more [ inl is ↦ inr (ap (λ (t : Table). t.tree) is) | inr none ↦ absurd none ]
+    | inr more ↦ elim more [ inl is ↦ inr is | inr none ↦ absurd none ]
   ]) old new
 
   pub keeps_rules_and_routes : old.schema ≡ rule_and_route → Makes (schema_with [] [] []) 3 old new → KeepsTables old new
-  keeps_rules_and_routes = keeps_made rule_and_route (schema_with [] [] []) 3 (λ table there. elim there [
+  keeps_rules_and_routes = keeps_made rule_and_route (schema_with [] [] []) meta_table (inr (inr (inl refl))) (λ table there. elim there [
     | inl is ↦ inl is
     | inr more ↦ elim more [ inl is ↦ inr (inl is) | inr none ↦ absurd none ]
   ]) (λ table there. elim there [
     | inl is ↦ inl (inl is)
     | inr more ↦ elim more [
       | inl is ↦ inl (inr (inl is))
-      | inr last ↦ elim last [ inl is ↦ inr (ap (λ (t : Table). t.tree) is) | inr none ↦ absurd none ]
+      | inr last ↦ elim last [ inl is ↦ inr is | inr none ↦ absurd none ]
     ]
   ]) old new
 

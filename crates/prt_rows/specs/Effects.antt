@@ -62,10 +62,10 @@ pub record Makes (after : Schema) (tree : ℕ) (old new : Database) : Type 0 whe
   pub empty : new.trees tree ≡ []
   pub kept : KeepsRows old.schema.tables old.trees new.trees
 
--- each table that was there is there with its rows, and each other one has none
+-- each table that was there is there with its rows; of ours some may have been made, which have none
 pub record KeepsTables (old new : Database) : Type 0 where
   pub kept : (table : Table) → Has old.schema.tables table → Has new.schema.tables table × (new.trees table.tree ≡ old.trees table.tree)
-  pub made : (table : Table) → Has new.schema.tables table → Has old.schema.tables table ⊎ (new.trees table.tree ≡ [])
+  pub made : (table : Table) → Has new.schema.tables table → Has old.schema.tables table ⊎ (Has our_tables table × (new.trees table.tree ≡ []))
 
 -- the three tables, as far as they are there, have no rows
 abbrev pub AreEmpty : Database → Type 0

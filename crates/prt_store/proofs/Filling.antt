@@ -173,7 +173,12 @@ module _ (a b c d e : Database) (tables : IsFormat1 a.schema) (empty : AreEmpty 
       apart_from table (inr (inr (inr other))) not_ours = other
 
   filled : IsFilled a e
-  filled = record { empty = empty; opening = opened; others = others_stay }
+  filled = record {
+    empty = empty;
+    opening = opened;
+    others = others_stay;
+    made = λ table there. inl (subst (λ (s : Schema). Has s.tables table) (schema_stays a b c d e one.only two.only three.only four.only) there);
+  }
 
 -- ---- the step that fills them
 

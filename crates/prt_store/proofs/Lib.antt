@@ -10,3 +10,4 @@ pub mod Transactions
 pub mod Looks
 pub mod Filling
 pub mod Openings
+pub mod Adoptions

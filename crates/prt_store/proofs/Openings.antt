@@ -50,6 +50,10 @@ filled_later old mid new keeps filled = record {
       let first = keeps.kept table there in
       let second = filled.others table first.0 not_ours in
       (second.0, second.1 ∙ first.1);
+  made = λ table there. elim (filled.made table there) [
+    | inl before ↦ elim (keeps.made table before) [ inl was ↦ inl was | inr one_of_ours ↦ inr one_of_ours.0 ]
+    | inr ours ↦ inr ours
+  ];
 }
 
 part_later : (old mid new : Database) → KeepsTables old mid → AdoptsPart mid new → AdoptsPart old new

@@ -2,6 +2,7 @@
 use Rattle.std.specs.Prelude.{◌≡◌, ◌⊎◌, IsTrue}
 use Rattle.sqlite.specs.Effect.{Database, IsDatabase}
 use Rattle.sqlite.specs.Held.{Held, state}
+use Rattle.sqlite.specs.State.{HasCleanDisk, Survives}
 use Rattle.sqlite.specs.Store.{Ghosts}
 use Rattle.sqlite.specs.Table.{Table}
 use Rattle.sqlite.specs.Tree.{Trees}
@@ -12,11 +13,12 @@ use Rattle.prt_rows.specs.Tables.{our_tables}
 use Rattle.prt_store.specs.Stored.{Stores}
 use Rattle.prt_version.specs.State.{opening_state}
 
--- The three tables had no rows, and now spell the opening state. Each other table is there with its rows.
+-- The three tables had no rows, and now spell the opening state. Each other table is there with its rows, and no other was made.
 pub record IsFilled (old new : Database) : Type 0 where
   pub empty : AreEmpty old
   pub opening : Stores new opening_state
   pub others : (table : Table) → Has old.schema.tables table → (Has our_tables table → ⊥) → Has new.schema.tables table × (new.trees table.tree ≡ old.trees table.tree)
+  pub made : (table : Table) → Has new.schema.tables table → Has old.schema.tables table ⊎ Has our_tables table
 
 -- What an opening leaves: the three tables are the first, and each table has the rows that it had, or the three had none and were filled.
 pub record Adopts (old new : Database) : Type 0 where
@@ -39,3 +41,10 @@ pub record LeavesPart (old : Database) (trees : Trees) : Type 0 where
 pub record IsSettled {S : Type 0} (g : Ghosts S) (conn : Held S) : Type 0 where
   pub is_open : IsTrue (state g conn).is_open
   pub committed : (state g conn).now ≡ (state g conn).committed
+
+-- a connection that was found so was adopted, which made it this one
+pub record AdoptsOne {S : Type 0} (g : Ghosts S) (IsFound : Held S → Type 0) (now : Held S) : Type 0 where
+  pub was : Held S
+  pub found : IsFound was
+  pub adopted : HasCleanDisk (state g now) → BeginsFormat1 (state g was).now.schema → Adopts (state g was).now (state g now).now × IsSettled g now
+  pub survives : (HasCleanDisk (state g was) → BeginsFormat1 (state g was).now.schema) → Survives (state g was) (state g now) (LeavesPart (state g was).now)

@@ -1,17 +1,21 @@
 //! Stores over files as they are found.
 
-ghost use Rattle.std.specs.Prelude.{◌≡◌, IfErr, IfOk, IsTrue};
+ghost use Rattle.std.specs.Prelude.{◌≡◌, IfErr, IfOk, IsTrue, Ok};
+ghost use Rattle.sqlite.specs.Files.{IsOpened, file_state, over_files};
 ghost use Rattle.sqlite.specs.Held.{state};
 ghost use Rattle.sqlite.specs.State.{HasCleanDisk, Survives};
 ghost use Rattle.sqlite.specs.Tree.{Trees};
 ghost use Rattle.prt_addr.specs.declared.refusal.Refusal.TheVariants.{OpenFailed};
+ghost use Rattle.prt_rows.specs.Effects.{AreEmpty};
 ghost use Rattle.prt_rows.specs.Format.{BeginsFormat1};
-ghost use Rattle.prt_store.specs.Adopted.{Adopts, AdoptsPart, IsSettled, LeavesPart};
+ghost use Rattle.prt_store.specs.Adopted.{Adopts, AdoptsOne, AdoptsPart, IsSettled, LeavesPart};
+ghost use Rattle.prt_store.specs.Stored.{Stores};
+ghost use Rattle.prt_version.specs.State.{State, opening_state};
 
 use crate::Store;
 use crate::opening::open_tables;
 use prt_addr::Refusal;
-use sqlite::{Alter, Connection};
+use sqlite::{Alter, Connection, Error, File, FileStore};
 
 impl<S: Alter + Drop> Store<S> {
     /// The store over a connection on which nothing is pending. The tables `rule`, `route` and `meta` are made where they
@@ -29,6 +33,10 @@ impl<S: Alter + Drop> Store<S> {
     pub fn adopt(mut conn: Connection<S>) -> Result<Store<S>, (Refusal, Connection<S>)>
         ensures ok { IfOk result (λ store. HasCleanDisk (state S.Store store.conn) → BeginsFormat1 (state S.Store conn).now.schema →
             Adopts (state S.Store conn).now (state S.Store store.conn).now) }
+        ensures stored { IfOk result (λ store. HasCleanDisk (state S.Store store.conn) → (stored : State) →
+            Stores (state S.Store conn).now stored → Stores (state S.Store store.conn).now stored) }
+        ensures opening { IfOk result (λ store. HasCleanDisk (state S.Store store.conn) → BeginsFormat1 (state S.Store conn).now.schema →
+            AreEmpty (state S.Store conn).now → Stores (state S.Store store.conn).now opening_state) }
         ensures settled { IfOk result (λ store. HasCleanDisk (state S.Store store.conn) → BeginsFormat1 (state S.Store conn).now.schema →
             IsSettled S.Store store.conn) }
         ensures crash_ok { IfOk result (λ store. HasCleanDisk (state S.Store store.conn) → BeginsFormat1 (state S.Store conn).now.schema → (trees : Trees) →
@@ -45,5 +53,34 @@ impl<S: Alter + Drop> Store<S> {
             Ok(()) => Ok(Store { conn }),
             Err(reason) => Err((reason, conn)),
         }
+    }
+}
+
+/// The store over the connection that an open gave.
+fn adopt_opened<S: Alter + Drop>(opened: Result<Connection<S>, Error>) -> Result<Store<S>, Refusal>
+    ensures reason { IfErr result (λ reason. reason ≡ OpenFailed) }
+    ensures ok { IfOk result (λ store. AdoptsOne S.Store (λ was. opened ≡ Ok was) store.conn) }
+{
+    match opened {
+        Ok(conn) => match Store::adopt(conn) {
+            Ok(store) => Ok(store),
+            Err((reason, _)) => Err(reason),
+        },
+        Err(_) => Err(Refusal::OpenFailed),
+    }
+}
+
+impl Store<FileStore<File>> {
+    /// The store of the database file at this path, which is made where there is none. Beside it stands its write-ahead log;
+    /// each commit is forced to the disk (`synchronous` is FULL).
+    ///
+    /// # Errors
+    ///
+    /// `OpenFailed` where the path can't be opened, the file is no database, or it can't be adopted.
+    pub fn open(rt: &HostRuntime, path: &str) -> Result<Store<FileStore<File>>, Refusal>
+        ensures reason { IfErr result (λ reason. reason ≡ OpenFailed) }
+        ensures ok { IfOk result (λ store. AdoptsOne over_files (λ was. HasCleanDisk (file_state was) → IsOpened was) store.conn) }
+    {
+        adopt_opened(Connection::open(rt, path))
     }
 }

@@ -1,0 +1,6 @@
+use Rattle.std.proofs.lemmas.Result.{IfOk-weaker}
+use Rattle.prt_store.proofs.Adoptions.{adopts_found}
+use Rattle.prt_store.proofs.adopt.Store+FileStore+File.open.Goals as goal
+
+pub returns-clause-ok : goal.returns-clause-ok
+returns-clause-ok c = IfOk-weaker c.adopt_opened.result _ _ (λ store one. adopts_found _ _ c.open.result c.open.ensures.opened store.conn one) c.adopt_opened.ensures.ok
