@@ -1,12 +1,14 @@
 -- What a desk over a store stands for.
 use Rattle.std.specs.Prelude.{◌≡◌, ◌⊎◌, Bool, true, false, refl, ⊤}
 use Rattle.std.specs.Coded.{Coded, code_by, coded×, coded_bool}
+use Rattle.sqlite.specs.Effect.{Database}
 use Rattle.sqlite.specs.Held.{Held, state}
 use Rattle.sqlite.specs.Schema.{Schema}
 use Rattle.sqlite.specs.State.{HasCleanDisk}
 use Rattle.sqlite.specs.Store.{Ghosts}
 use Rattle.sqlite.specs.Tree.{Trees}
 use Rattle.prt_session.specs.Desk.{DeskState, Mishap, no_room, no_memory, store_fails, commit_kept, publication_fails, settled}
+use Rattle.prt_store.specs.Adopted.{Adopts}
 use Rattle.prt_store.specs.Stored.{Stores}
 use Rattle.prt_version.specs.State.{State}
 use Rattle.prt_version.specs.contracts.version.Version as version
@@ -33,9 +35,9 @@ Spells trees stored = (schema : Schema) × Stores (record { schema = schema; tre
 abbrev pub MayLeave : {S : Type 0} → Ghosts S → Held S → State → Type 0
 MayLeave g tables left = (trees : Trees) × (state g tables).may_leave trees × Spells trees left
 
--- nothing is pending: whatever a crash leaves spells what the tables spell
-abbrev pub HasNothingPending : {S : Type 0} → Ghosts S → Held S → Type 0
-HasNothingPending g tables = (stored : State) → Stores (state g tables).now stored → (trees : Trees) → (state g tables).may_leave trees → Spells trees stored
+-- what an opening makes of the file spells the state
+abbrev pub Opens : Database → State → Type 0
+Opens found opened = (db : Database) × Adopts found db × Stores db opened
 
 -- The tables spell the state, and so does whatever a crash leaves.
 pub record IsStored {S : Type 0} (g : Ghosts S) (tables : Held S) (stored : State) : Type 0 where

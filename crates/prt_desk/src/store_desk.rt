@@ -1,19 +1,20 @@
-ghost use Rattle.std.specs.Prelude.{◌≡◌, IfErr, IfOk, false, true};
+ghost use Rattle.std.specs.Prelude.{◌≡◌, ◌++◌, IfErr, IfOk, IsTrue, OnErr, OnOk, false, true};
 ghost use Rattle.sqlite.specs.Held.{state};
 ghost use Rattle.sqlite.specs.State.{HasCleanDisk};
 ghost use Rattle.sqlite.specs.Tree.{Trees};
-ghost use Rattle.prt_desk.specs.StoreDesk.{HasNothingPending, IsKept, IsKnown, IsStored, IsStoreMishap, MayBeStored, Spells, desk_with};
-ghost use Rattle.prt_rows.specs.Format.{IsFormat1};
+ghost use Rattle.prt_desk.specs.StoreDesk.{IsKept, IsKnown, IsStored, IsStoreMishap, MayBeStored, Opens, Spells, desk_with};
+ghost use Rattle.prt_rows.specs.Format.{BeginsFormat1, IsFormat1};
 ghost use Rattle.prt_session.specs.Desk.{Befalls, request_turn};
 ghost use Rattle.prt_session.specs.Run.{RunIs};
-ghost use Rattle.prt_store.specs.Stored.{Stores};
 ghost use Rattle.prt_version.specs.State.{State};
 
 use prt_listing::query_text;
+use prt_rows::is_format_1;
 use prt_session::{Command, Desk, OnRefusal, Query, Refusal, ScriptEnd, run_script};
 use prt_store::Store;
 use prt_version::Version;
 use sqlite::{Alter, Connection};
+use sqlite_schema::schema::Schema;
 use std::alloc::Global;
 use std::io::{Read, Write};
 use std::marker::Model;
@@ -45,6 +46,18 @@ impl<S: Alter + Drop> Model for StoreDesk<S> {
     ghost invariant = { λ d. IsKept S.Store (record { published = d.version; closed = d.is_closed; format_1 = d.is_format_1; tables = d.store.conn }) };
 }
 
+/// Tells whether a file has no tables, or ours as the first.
+fn begins_format_1(schema: &Schema) -> bool
+    ensures { IsTrue result → BeginsFormat1 schema.now }
+{
+    if is_format_1(schema) {
+        return true;
+    }
+    schema.tables.as_slice().is_empty()
+        && schema.indexes.as_slice().is_empty()
+        && schema.views.as_slice().is_empty()
+}
+
 impl<S: Alter + Drop> StoreDesk<S> {
     /// Makes an open desk over a store and the version that its tables spell.
     pub fn new(store: Store<S>, version: Version) -> StoreDesk<S>
@@ -61,17 +74,23 @@ impl<S: Alter + Drop> StoreDesk<S> {
         }
     }
 
-    /// Makes an open desk over a store, with the version that its tables spell. Nothing may be pending on its connection.
+    /// Makes an open desk over the database of a connection on which nothing is pending. Its tables are made where they are
+    /// missing; three empty tables become those of a new database.
     ///
     /// # Errors
     ///
-    /// Those of `Store::load`: `Damaged` only where the tables spell no state; `OpenFailed`, `NoMemory`.
-    pub fn load(alloc: Global, mut store: Store<S>) -> Result<StoreDesk<S>, Refusal>
-        requires { IsFormat1 (state S.Store store.conn).now.schema → HasCleanDisk (state S.Store store.conn) → HasNothingPending S.Store store.conn }
+    /// `OpenFailed` where one of the tables has other columns, or a store call fails; `Damaged` only where the tables spell
+    /// no state; `NoMemory`.
+    pub fn open(alloc: Global, conn: Connection<S>) -> Result<StoreDesk<S>, Refusal>
         ensures open { IfOk result (λ desk. desk.closed ≡ false) }
-        ensures spelled { IfOk result (λ desk. IsKnown S.Store desk.format_1 desk.tables → Stores (state S.Store store.conn).now desk.published) }
+        ensures format { IfOk result (λ desk. desk.format_1 ≡ true → BeginsFormat1 (state S.Store conn).now.schema) }
+        ensures adopts { IfOk result (λ desk. IsKnown S.Store desk.format_1 desk.tables → Opens (state S.Store conn).now desk.published) }
     {
-        let is_format_1 = store.is_format_1();
+        let is_format_1 = begins_format_1(conn.schema());
+        let mut store = match Store::adopt(conn) {
+            Ok(store) => store,
+            Err((reason, _)) => return Err(reason),
+        };
         match store.load(alloc) {
             Ok(version) => Ok(StoreDesk {
                 store,
@@ -123,13 +142,22 @@ impl<S: Alter + Drop> StoreDesk<S> {
 }
 
 impl<S: Alter + Drop> Desk for StoreDesk<S> {
+    ghost use Rattle.prt_command.specs.Storable.{IsStorable};
     ghost use Rattle.prt_desk.specs.StoreDesk.{IsStoreMishap, StandsFor};
+    ghost use Rattle.prt_listing.specs.QueryText.{query_text};
+    ghost use Rattle.prt_session.specs.Stands.{Explained, Stands};
+    ghost use Rattle.prt_session.specs.Steps.{CommandGives};
 
     ghost stands = { StandsFor S.Store };
 
     ghost may = { IsStoreMishap };
 
-    fn command(&mut self, command: &Command) -> Result<u64, Refusal> {
+    fn command(&mut self, command: &Command) -> Result<u64, Refusal>
+        requires { IsStorable command.now }
+        ensures turn { Explained (StandsFor S.Store) self.old self.new (λ before after. CommandGives IsStoreMishap before command.now result after) }
+        ensures left { Stands (StandsFor S.Store) self.old → Stands (StandsFor S.Store) self.new }
+        ensures format { self.new.format_1 ≡ self.old.format_1 }
+    {
         if self.is_closed {
             return Err(Refusal::Closed);
         }
@@ -155,7 +183,12 @@ impl<S: Alter + Drop> Desk for StoreDesk<S> {
         }
     }
 
-    fn answer(&mut self, query: &Query, out: &mut Vec<u8>) -> Result<(), Refusal> {
+    fn answer(&mut self, query: &Query, out: &mut Vec<u8>) -> Result<(), Refusal>
+        ensures same { self.new ≡ self.old }
+        ensures ok { OnOk result (out.new.items ≡ out.old.items ++ query_text self.old.published query.now) }
+        ensures err { IfErr result (λ e. e ≡ Refusal.NoMemory) }
+        ensures unchanged { OnErr result (out.new.items ≡ out.old.items) }
+    {
         query_text(out, &self.version, query)
     }
 }

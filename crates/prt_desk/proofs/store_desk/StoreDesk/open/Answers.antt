@@ -1,0 +1,14 @@
+use Rattle.std.proofs.Common.{subst}
+use Rattle.prt_rows.specs.Format.{BeginsFormat1}
+use Rattle.prt_desk.proofs.Openings.{is_stored, opens}
+use Rattle.prt_desk.proofs.store_desk.StoreDesk.open.Goals as goal
+
+pub invariant_of-result : goal.invariant_of-result
+invariant_of-result g c =
+    is_stored g.S.Store c.begins_format_1-is_format_1.result c.args.conn c.in-Ok.store.conn c.load.new.self.conn c.in-Ok-load.version (λ begins. subst BeginsFormat1 c.schema.ensures.value (c.begins_format_1-is_format_1.ensures begins))
+    c.in-Ok.ensures.ok c.in-Ok-load.ensures.ok c.in-Ok-load.ensures.quiet c.in-Ok-load.ensures.same c.in-Ok.ensures.crash_ok
+
+pub returns-in-Ok-load-clause-adopts : goal.returns-in-Ok-load-clause-adopts
+returns-in-Ok-load-clause-adopts g c =
+    opens g.S.Store c.begins_format_1-is_format_1.result c.args.conn c.in-Ok.store.conn c.load.new.self.conn c.in-Ok-load.version (λ begins. subst BeginsFormat1 c.schema.ensures.value (c.begins_format_1-is_format_1.ensures begins))
+    c.in-Ok.ensures.ok c.in-Ok-load.ensures.ok c.in-Ok-load.ensures.quiet
