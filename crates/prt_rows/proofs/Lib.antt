@@ -27,4 +27,3 @@ pub mod Keeping
 pub mod Looking
 pub mod Formats
 pub mod Opening
-pub mod Loading

@@ -1,5 +1,6 @@
 -- The steps of an opening, one after the other.
-use Rattle.std.proofs.Common.{◌≡◌, inl, inr, Bool, true, false, [], Ok, Err, Result, IsErr, IsTrue, OnErr, OnOk, true≢false, refl, sym, subst, ◌∙◌, arith}
+use Rattle.std.proofs.Common.{◌≡◌, inl, inr, Bool, true, false, not, [], Ok, Err, Result, IsErr, IsTrue, OnErr, OnOk, true≢false, refl, sym, subst, ◌∙◌, arith}
+use Rattle.std.proofs.lemmas.Bool.{not-true}
 use Rattle.std.proofs.lemmas.Result.{on_ok_weaker}
 use Rattle.std.specs.Prelude.{codes}
 use Rattle.sqlite.proofs.StateLemmas.{survives_then, survives_weaker}
@@ -197,8 +198,8 @@ module _ {S : Type 0} (g : Ghosts S) (a b : Held S) where
       }
 
       -- the tables have rows already
-      pub has_rows : Sees g AreEmpty b c (Ok false) → (IsTrue (state g b).is_open → (state g b).now ≡ (state g b).committed) → OpensTables g a c (Ok tt)
-      has_rows two settled = record {
+      pub has_rows : Sees g AreEmpty b c (Ok false) → (autocommit : Bool) → autocommit ≡ true → autocommit ≡ not (state g b).in_transaction → (IsTrue (state g b).is_open → (state g b).now ≡ (state g b).committed) → OpensTables g a c (Ok tt)
+      has_rows two autocommit alone is settled = record {
         ok = λ clean tables.
             let before = clean_before (Ok false) two tables clean in
             let first = one.ok before tables in
@@ -206,7 +207,7 @@ module _ {S : Type 0} (g : Ghosts S) (a b : Held S) where
             let same = seen.1.0 in
             let some : AreEmpty (state g a).now → ⊥ = λ empty. seen.0 (empty_after (state g a).now (state g b).now first.1 empty) in (
               subst (Adopts (state g a).now) (sym same.now_is) (record { tables = first.0; rows = inl (some, first.1) }),
-              record { is_open = same.is_open; committed = same.now_is ∙ settled same.was_open ∙ sym same.committed_is },
+              record { is_open = same.is_open; autocommit = same.mode ∙ not-true _ (sym is ∙ alone); committed = same.now_is ∙ settled same.was_open ∙ sym same.committed_is },
             );
         err = λ clean still_open tables. tt;
         crash = crash_then (Ok false) two;

@@ -97,7 +97,7 @@ module _ {S : Type 0} (g : Ghosts S) (Does : Held S → Held S → Type 0) (old 
     pub committed : (end : Held S) → (doubt (state g last).is_clean ≤ doubt (state g end).is_clean) → Shows (state g last) (state g end) (state g last).now (state g last).now false → HasCleanDisk (state g end)
         → HasDone g Does old (state g end).committed × IsSettled g end
     committed end less shows clean =
-        (subst (HasDone g Does old) (sym shows.committed_is) (in_the_end (omega (arith, less))), record { is_open = shows.is_open; committed = shows.now_is ∙ sym shows.committed_is })
+        (subst (HasDone g Does old) (sym shows.committed_is) (in_the_end (omega (arith, less))), record { is_open = shows.is_open; autocommit = shows.mode; committed = shows.now_is ∙ sym shows.committed_is })
 
     -- a commit that fails leaves what was there before, if the connection is still still_open
     pub not_committed : (end : Held S) (done : Result (Unit {0}) Error) → is_err done ≡ true → HasCleanDisk (state g end) → (doubt (state g last).is_clean ≤ doubt (state g end).is_clean) → IfErr done (FailsToCommit (state g last) (state g end))

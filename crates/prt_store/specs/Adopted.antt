@@ -1,5 +1,5 @@
 -- What an opening makes of a file.
-use Rattle.std.specs.Prelude.{◌≡◌, ◌⊎◌, IsTrue}
+use Rattle.std.specs.Prelude.{◌≡◌, ◌⊎◌, false, IsTrue}
 use Rattle.sqlite.specs.Effect.{Database, IsDatabase}
 use Rattle.sqlite.specs.Held.{Held, state}
 use Rattle.sqlite.specs.State.{HasCleanDisk, Survives}
@@ -37,9 +37,10 @@ pub record LeavesPart (old : Database) (trees : Trees) : Type 0 where
   pub sound : IsDatabase db
   pub part : AdoptsPart old db
 
--- nothing is pending: the connection is open, and what it shows is committed
+-- nothing is pending: the connection is open, in no transaction, and what it shows is committed
 pub record IsSettled {S : Type 0} (g : Ghosts S) (conn : Held S) : Type 0 where
   pub is_open : IsTrue (state g conn).is_open
+  pub autocommit : (state g conn).in_transaction ≡ false
   pub committed : (state g conn).now ≡ (state g conn).committed
 
 -- a connection that was found so was adopted, which made it this one

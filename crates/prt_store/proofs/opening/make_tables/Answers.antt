@@ -1,3 +1,4 @@
+use Rattle.std.proofs.Common.{Err, Ok}
 use Rattle.prt_rows.specs.Format.{BeginsFormat1, BeginsWithRoutes, BeginsWithRules, IsFormat1}
 use Rattle.prt_store.proofs.Openings.{advances_not, advances_then, meta_made, routes_made, rules_made}
 use Rattle.prt_store.proofs.opening.make_tables.Goals as goal
@@ -5,7 +6,7 @@ use Rattle.prt_store.proofs.opening.make_tables.Goals as goal
 pub returns-in_err-make_missing-clause-advances : goal.returns-in_err-make_missing-clause-advances
 returns-in_err-make_missing-clause-advances g c =
     advances_not g.S.Store BeginsFormat1 BeginsWithRules IsFormat1 c.args.conn.now c.make_missing.new.conn c.in_err-make_missing.field-0.0 c.from_residual.result c.from_residual.ensures.0
-    (rules_made g.S.Store c.args.conn.now c.make_missing.new.conn _ c.in_err-make_missing.ensures.makes)
+    (rules_made g.S.Store c.args.conn.now c.make_missing.new.conn (Err c.in_err-make_missing.field-0.0) c.in_err-make_missing.ensures.makes)
 
 pub returns-in_err-make_missing-2-clause-advances : goal.returns-in_err-make_missing-2-clause-advances
 returns-in_err-make_missing-2-clause-advances g c =
@@ -13,8 +14,8 @@ returns-in_err-make_missing-2-clause-advances g c =
     let first = c.make_missing.new.conn in
     let second = c.make_missing-2.new.conn in
     advances_not g.S.Store BeginsFormat1 BeginsWithRoutes IsFormat1 start second c.in_err-make_missing-2.field-0.0 c.from_residual-in_err-make_missing-2.result c.from_residual-in_err-make_missing-2.ensures.0
-    (advances_then g.S.Store BeginsFormat1 BeginsWithRules BeginsWithRoutes start first second _ (rules_made g.S.Store start first _ c.in_ok-make_missing.ensures.makes)
-    (routes_made g.S.Store first second _ c.in_err-make_missing-2.ensures.makes))
+    (advances_then g.S.Store BeginsFormat1 BeginsWithRules BeginsWithRoutes start first second (Err c.in_err-make_missing-2.field-0.0) (rules_made g.S.Store start first (Ok tt) c.in_ok-make_missing.ensures.makes)
+    (routes_made g.S.Store first second (Err c.in_err-make_missing-2.field-0.0) c.in_err-make_missing-2.ensures.makes))
 
 pub returns-clause-advances : goal.returns-clause-advances
 returns-clause-advances g c =
@@ -22,7 +23,7 @@ returns-clause-advances g c =
     let first = c.make_missing.new.conn in
     let second = c.make_missing-2.new.conn in
     let third = c.make_missing-3.new.conn in
-    advances_then g.S.Store BeginsFormat1 BeginsWithRoutes IsFormat1 start second third _
-    (advances_then g.S.Store BeginsFormat1 BeginsWithRules BeginsWithRoutes start first second _ (rules_made g.S.Store start first _ c.in_ok-make_missing.ensures.makes)
-    (routes_made g.S.Store first second _ c.in_ok-make_missing-2.ensures.makes))
-    (meta_made g.S.Store second third _ c.make_missing-3.ensures.makes)
+    advances_then g.S.Store BeginsFormat1 BeginsWithRoutes IsFormat1 start second third c.make_missing-3.result
+    (advances_then g.S.Store BeginsFormat1 BeginsWithRules BeginsWithRoutes start first second (Ok tt) (rules_made g.S.Store start first (Ok tt) c.in_ok-make_missing.ensures.makes)
+    (routes_made g.S.Store first second (Ok tt) c.in_ok-make_missing-2.ensures.makes))
+    (meta_made g.S.Store second third c.make_missing-3.result c.make_missing-3.ensures.makes)

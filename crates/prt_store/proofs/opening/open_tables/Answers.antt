@@ -14,7 +14,7 @@ returns-then-not-branch-clause-opens g c =
     let made = c.make_tables.new.conn in
     let seen = c.are_empty.new.conn in
     has_rows g.S.Store c.args.conn.now made c.in_ok-make_tables.ensures.advances seen (subst (λ b. Sees g.S.Store AreEmpty made seen (Ok b)) c.if-not-branch.true c.in_ok-are_empty.ensures.sees)
-    (c.is_autocommit.ensures.settled c.if-not-is_autocommit.false)
+    c.is_autocommit.result c.if-not-is_autocommit.false c.is_autocommit.ensures.value (c.is_autocommit.ensures.settled c.if-not-is_autocommit.false)
 
 pub returns-clause-opens : goal.returns-clause-opens
 returns-clause-opens g c =
