@@ -1,42 +1,77 @@
-//! Databases of format 1 that were made by hand.
+//! Databases, and what they spell.
 
+use prt_command::{Range, Selector};
+use prt_listing::{TablePart, route_text, rule_text};
 use prt_store::Store;
 use prt_version::{Refusal, Version};
 use sqlite::{Alter, Connection, Error};
 use std::alloc::Global;
 use std::test::Fail;
 
-/// The three tables of format 1.
-pub const TABLES: &str =
-    "CREATE TABLE rule (id INTEGER PRIMARY KEY NOT NULL, priority INTEGER NOT NULL, inverted INTEGER NOT NULL, src_net INTEGER NOT NULL, src_len INTEGER NOT NULL, dst_net INTEGER NOT NULL, dst_len INTEGER NOT NULL, iif TEXT NOT NULL, mark INTEGER NOT NULL, mask INTEGER NOT NULL, act INTEGER NOT NULL, tbl INTEGER NOT NULL) STRICT; CREATE TABLE route (tbl INTEGER NOT NULL, net INTEGER NOT NULL, len INTEGER NOT NULL, metric INTEGER NOT NULL, kind INTEGER NOT NULL, via INTEGER NOT NULL, dev TEXT NOT NULL, src INTEGER NOT NULL, proto INTEGER NOT NULL, scope INTEGER NOT NULL, PRIMARY KEY (tbl, net, len, metric)) STRICT; CREATE TABLE meta (id INTEGER PRIMARY KEY NOT NULL, format INTEGER NOT NULL, count INTEGER NOT NULL) STRICT";
+/// `rule show` of a new database.
+pub const OPENING_RULES: &str =
+    "0:\tfrom all lookup local\n32766:\tfrom all lookup main\n32767:\tfrom all lookup default\n";
 
-/// The rows of a new database.
-pub const OPENING: &str =
-    "INSERT INTO rule VALUES (1, 0, 0, 0, 0, 0, 0, '', -1, -1, 1, 255), (2, 32766, 0, 0, 0, 0, 0, '', -1, -1, 1, 254), (3, 32767, 0, 0, 0, 0, 0, '', -1, -1, 1, 253); INSERT INTO meta VALUES (1, 1, 0)";
+const ALL_ROUTES: Selector = Selector {
+    table: None,
+    range: Range::All,
+    kind: None,
+    proto: None,
+    scope: None,
+    dev: None,
+};
+
+/// What a database spells: how many commands it accepted, and the lines of its rules and of its routes.
+pub struct Contents {
+    pub number: u64,
+    pub rules: &'static str,
+    pub routes: &'static str,
+}
 
 /// Runs statements; without a clause, so that the proof of a test does not carry what they do.
 pub fn run<S: Alter>(connection: &mut Connection<S>, sql: &str) -> Result<(), Error> {
     connection.execute_batch(sql)
 }
 
-/// The store over the connection.
-pub fn store_over<S: Alter + Drop>(connection: Connection<S>) -> Result<Store<S>, Refusal> {
-    match Store::over(connection) {
+/// The store that adopts the connection.
+pub fn adopted<S: Alter + Drop>(connection: Connection<S>) -> Result<Store<S>, Refusal> {
+    match Store::adopt(connection) {
         Ok(store) => Ok(store),
         Err((reason, _connection)) => Err(reason),
     }
 }
 
-/// The store over the connection after these statements.
-pub fn store_after<S: Alter + Drop>(
-    mut connection: Connection<S>,
-    sql: &str,
-) -> Result<Store<S>, Fail> {
-    run(&mut connection, sql)?;
-    Ok(store_over(connection)?)
-}
-
 /// What the store loads.
 pub fn loaded<S: Alter + Drop>(alloc: Global, store: &mut Store<S>) -> Result<Version, Refusal> {
     store.load(alloc)
+}
+
+/// The rules and the routes of the version, a line each.
+fn texts(alloc: Global, version: &Version) -> Result<(Vec<u8>, Vec<u8>), Fail> {
+    let mut rules = Vec::new(alloc);
+    for rule in version.rules() {
+        rule_text(&mut rules, rule)?;
+        rules.push(b'\n')?;
+    }
+    let mut routes = Vec::new(alloc);
+    for route in &version.routes(&ALL_ROUTES)? {
+        route_text(&mut routes, route, TablePart::Shown)?;
+        routes.push(b'\n')?;
+    }
+    Ok((rules, routes))
+}
+
+/// The connection, and whether its database spells this once it is adopted.
+pub fn spells<S: Alter + Drop>(
+    alloc: Global,
+    connection: Connection<S>,
+    contents: &Contents,
+) -> Result<(bool, Connection<S>), Fail> {
+    let mut store = adopted(connection)?;
+    let version = loaded(alloc, &mut store)?;
+    let (rules, routes) = texts(alloc, &version)?;
+    let is_same = version.number() == contents.number
+        && rules.as_slice() == contents.rules.as_bytes()
+        && routes.as_slice() == contents.routes.as_bytes();
+    Ok((is_same, store.release()))
 }

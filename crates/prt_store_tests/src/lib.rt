@@ -3,9 +3,9 @@
 
 mod caller;
 #[cfg(test)]
-mod damage;
-#[cfg(test)]
 mod database;
+#[cfg(test)]
+mod openings;
 #[cfg(test)]
 mod steps;
 

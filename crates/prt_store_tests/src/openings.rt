@@ -1,0 +1,66 @@
+//! Files as they are found: half made, with tables of others, or with rows that spell no state.
+
+use crate::database::{adopted, loaded, run, spells};
+use crate::steps::OPENING;
+use prt_version::Refusal;
+use sqlite::Connection;
+use std::alloc::Global;
+use std::test::Fail;
+
+/// The table of rules, as format 1 has it.
+const RULE_TABLE: &str =
+    "CREATE TABLE rule (id INTEGER PRIMARY KEY NOT NULL, priority INTEGER NOT NULL, inverted INTEGER NOT NULL, src_net INTEGER NOT NULL, src_len INTEGER NOT NULL, dst_net INTEGER NOT NULL, dst_len INTEGER NOT NULL, iif TEXT NOT NULL, mark INTEGER NOT NULL, mask INTEGER NOT NULL, act INTEGER NOT NULL, tbl INTEGER NOT NULL) STRICT";
+
+/// Whether what these statements make spells the opening state once it is adopted.
+fn is_new_after(alloc: Global, sql: &str) -> Result<bool, Fail> {
+    let mut connection = Connection::open_in_memory(alloc)?;
+    run(&mut connection, sql)?;
+    Ok(spells(alloc, connection, &OPENING)?.0)
+}
+
+#[test]
+fn opens_half_made_files(rt: HostRuntime) -> Result<(), Fail> {
+    for sql in [
+        RULE_TABLE,
+        "CREATE TABLE note (title TEXT); INSERT INTO note VALUES ('a')",
+    ] {
+        assert!(rt; is_new_after(rt.alloc(), sql)?, "{sql}");
+    }
+    Ok(())
+}
+
+/// What comes of loading a new database after this statement.
+fn load_after(alloc: Global, sql: &str) -> Result<Option<Refusal>, Fail> {
+    let mut connection = adopted(Connection::open_in_memory(alloc)?)?.release();
+    run(&mut connection, sql)?;
+    let mut store = adopted(connection)?;
+    Ok(loaded(alloc, &mut store).err())
+}
+
+#[test]
+fn refuses_damaged_rows(rt: HostRuntime) -> Result<(), Fail> {
+    for sql in [
+        "UPDATE meta SET count = -1",
+        "DELETE FROM meta",
+        "INSERT INTO route VALUES (0, 0, 0, 0, 6, -1, '', -1, 3, 0)",
+    ] {
+        assert_eq!(rt;
+            load_after(rt.alloc(), sql)?,
+            Some(Refusal::Damaged),
+            "{sql}"
+        );
+    }
+    assert_eq!(rt; load_after(rt.alloc(), "UPDATE meta SET count = 1")?, None);
+    Ok(())
+}
+
+#[test]
+fn refuses_other_columns(rt: HostRuntime) -> Result<(), Fail> {
+    let mut connection = Connection::open_in_memory(rt.alloc())?;
+    run(
+        &mut connection,
+        "CREATE TABLE route (tbl INTEGER NOT NULL) STRICT",
+    )?;
+    assert_eq!(rt; adopted(connection).err(), Some(Refusal::OpenFailed));
+    Ok(())
+}
