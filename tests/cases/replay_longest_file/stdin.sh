@@ -1,0 +1,1 @@
+head -c 104857600 /dev/zero

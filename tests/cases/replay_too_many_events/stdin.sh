@@ -1,0 +1,1 @@
+yes call | head -n 100001
