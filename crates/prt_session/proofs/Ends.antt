@@ -273,10 +273,9 @@ abbrev pub RunTo : {D M : Type 0} → TurnsOf D M → Mishaps D M → OnRefusal 
 RunTo {D} {M} turn may mode stood reader0 reader writer0 writer end desk = (first : D) × stood first × RunIs turn may mode first desk reader0 reader writer0 writer end
 
 module _ {D M : Type 0} (turn : TurnsOf D M) (may : Mishaps D M) (mode : OnRefusal) (stood stands : D → Type 0) (reader0 reader reader' writer0 writer writer' : Option (List ℕ)) (left : ℕ) (some_left : 0 < left) (end : ScriptEnd)
-  (served : (desk : D) → stands desk → ServedTo turn may mode stood reader0 reader writer0 writer left end desk)
-  (kept : List ℕ) (line : LineRead) (is : LineIs reader reader' kept line) (something : is_nothing line ≡ false) (reply : Reply) (after : D)
-  (answer : (before : D) × stands before × AnswerIs turn may before line.stop is.content reply after) (end' : ScriptEnd) where
-
+    (served : (desk : D) → stands desk → ServedTo turn may mode stood reader0 reader writer0 writer left end desk)
+    (kept : List ℕ) (line : LineRead) (is : LineIs reader reader' kept line) (something : is_nothing line ≡ false) (reply : Reply) (after : D)
+    (answer : (before : D) × stands before × AnswerIs turn may before line.stop is.content reply after) (end' : ScriptEnd) where
   abbrev first_moment : D → Moment D
   first_moment first = moment first reader0 writer0
 
