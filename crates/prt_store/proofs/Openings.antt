@@ -43,7 +43,7 @@ on_err_weaker (Err e) f it = f it
 nothing_done : (db : Database) → BeginsFormat1 db.schema → AdoptsPart db db
 nothing_done db tables = record { tables = tables; rows = inl (keeps_itself db) }
 
-filled_later : (old mid new : Database) → KeepsTables old mid → IsFilled mid new → IsFilled old new
+pub filled_later : (old mid new : Database) → KeepsTables old mid → IsFilled mid new → IsFilled old new
 filled_later old mid new keeps filled = record {
   empty = empty_before old mid keeps filled.empty;
   opening = filled.opening;

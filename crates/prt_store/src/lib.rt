@@ -3,10 +3,12 @@
 
 mod adopt;
 mod commit;
+mod laws;
 mod load;
 mod opening;
 mod ranges;
 mod statements;
 mod store;
 
+pub use laws::openings_go_on;
 pub use store::{Stamp, Store};
