@@ -11,9 +11,10 @@ ghost use Rattle.prt_version.specs.State.{table_rule};
 
 use crate::statements::insert_rule;
 use prt_addr::Refusal;
-use prt_route::{DEFAULT_TABLE, LOCAL_TABLE, MAIN_TABLE, Prefix};
+use prt_route::{DEFAULT_TABLE, LOCAL_TABLE, MAIN_TABLE};
 use prt_rows::{has_format_1, has_table, meta_values};
-use prt_rule::{Action, Rule};
+use prt_rule::Rule;
+use prt_version::table_rule;
 use sqlite::{Alter, Connection, Error, Transaction};
 
 /// A step of an opening.
@@ -60,22 +61,6 @@ fn create_meta<S: Alter>(tx: &mut Transaction<'_, S>) -> Result<usize, Error>
         "CREATE TABLE IF NOT EXISTS meta (id INTEGER PRIMARY KEY NOT NULL, format INTEGER NOT NULL, count INTEGER NOT NULL) STRICT",
         &[],
     )
-}
-
-/// A rule that looks up a table for every packet.
-fn table_rule(id: u64, priority: u32, table: u32) -> Rule
-    ensures { result ≡ table_rule id priority table }
-{
-    Rule {
-        id,
-        priority,
-        inverted: false,
-        from: Prefix::masked(0, 0),
-        to: Prefix::masked(0, 0),
-        iif: None,
-        mark: None,
-        action: Action::Lookup(table),
-    }
 }
 
 /// Inserts a rule that looks up a table for every packet.

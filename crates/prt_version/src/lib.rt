@@ -20,4 +20,4 @@ pub use answer::{Answer, Verdict};
 pub use change::Change;
 pub use limits::{MOST_COMMANDS, MOST_ROUTES, MOST_RULES};
 pub use prt_command::{Action, Command, NewRule, Packet, Refusal, Route, Rule};
-pub use version::Version;
+pub use version::{Version, table_rule};

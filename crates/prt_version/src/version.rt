@@ -44,8 +44,8 @@ impl Model for Version {
     ghost invariant = { λ v. IsSound (record { count = v.count; rules = (arc_value v.rules).items; routes = arc_value v.routes }) };
 }
 
-/// A rule that looks up a table for every packet.
-fn table_rule(id: u64, priority: u32, table: u32) -> Rule
+/// A rule that looks up a table for every packet, as the three of a new database do (`ip-rule(8)`).
+pub fn table_rule(id: u64, priority: u32, table: u32) -> Rule
     ensures { result ≡ table_rule id priority table }
 {
     Rule {
