@@ -1,15 +1,22 @@
 -- The version that is loaded of an adopted file.
-use Rattle.std.proofs.Common.{◌≡◌, inl, inr, Bool, true, sym, subst, arith}
+use Rattle.std.proofs.Common.{◌≡◌, inl, inr, Bool, true, [], ◌∷◌, drop, map, IsPermutation, refl, sym, subst, ◌∙◌, arith}
 use Rattle.sqlite.specs.Effect.{Database}
 use Rattle.sqlite.specs.Held.{Held, state}
 use Rattle.sqlite.specs.State.{HasCleanDisk, IsUnchanged, Survives}
 use Rattle.sqlite.specs.Store.{Ghosts}
+use Rattle.sqlite.specs.Schema.{Schema}
 use Rattle.sqlite.specs.Tree.{Trees}
+use Rattle.sqlite_rules.specs.Lists.{Has}
+use Rattle.prt_rows.specs.Effects.{IsKeyed, KeepsTables}
 use Rattle.prt_rows.specs.Format.{BeginsFormat1, IsFormat1}
+use Rattle.prt_rows.specs.Kept.{kept_count, kept_rule}
+use Rattle.prt_rows.specs.RouteRow.{route_row}
+use Rattle.prt_rows.specs.Tables.{meta_table, route_table, rule_table}
 use Rattle.prt_store.specs.Adopted.{Adopts}
 use Rattle.prt_store.specs.Stored.{Stores}
 use Rattle.prt_version.specs.State.{State}
-use Rattle.prt_desk.specs.StoreDesk.{IsKnown, IsStored, Opens}
+use Rattle.prt_desk.proofs.Spelled.{other_schema, spelled_once}
+use Rattle.prt_desk.specs.StoreDesk.{IsKnown, IsStored, Opens, Spells}
 
 module _ {S : Type 0} (g : Ghosts S) (begins : Bool) (found adopted loaded : Held S) (version : State) (is : begins ≡ true → BeginsFormat1 (state g found).now.schema)
     (adopts : HasCleanDisk (state g adopted) → BeginsFormat1 (state g found).now.schema → Adopts (state g found).now (state g adopted).now)
@@ -41,3 +48,43 @@ module _ {S : Type 0} (g : Ghosts S) (begins : Bool) (found adopted loaded : Hel
           | inr none ↦ absurd none
         ];
       }
+
+-- ---- tables that spell a state already
+
+module _ (found db : Database) (stored : State) (tables : IsFormat1 found.schema) where
+  has_rules : Has found.schema.tables rule_table
+  has_rules = subst (λ (s : Schema). Has s.tables rule_table) (sym tables.is) (inl refl)
+
+  has_routes : Has found.schema.tables route_table
+  has_routes = subst (λ (s : Schema). Has s.tables route_table) (sym tables.is) (inr (inl refl))
+
+  has_meta : Has found.schema.tables meta_table
+  has_meta = subst (λ (s : Schema). Has s.tables meta_table) (sym tables.is) (inr (inr (inl refl)))
+
+  -- tables that are kept spell what they spelt
+  still_stored : KeepsTables found db → IsFormat1 db.schema → Stores found stored → Stores db stored
+  still_stored keeps now held =
+      let rules = (keeps.kept rule_table has_rules).1 in
+      let routes = (keeps.kept route_table has_routes).1 in
+      record {
+        tables = now;
+        rules = subst (λ (rows : _). IsPermutation rows (map kept_rule stored.rules)) (sym rules) held.rules;
+        routes = subst (λ (rows : _). IsPermutation (map (drop 1) rows) (map route_row stored.routes)) (sym routes) held.routes;
+        keyed = subst IsKeyed (sym routes) held.keyed;
+        count = (keeps.kept meta_table has_meta).1 ∙ held.count;
+        fits = held.fits;
+      }
+
+-- an opening changes no tables that spell a state
+pub found_is : (found : Database) (version stored : State) → Opens found version → IsFormat1 found.schema → Spells found.trees stored → version ≡ stored
+found_is found version stored opens tables spells =
+    let db = opens.0 in
+    let adopted = opens.1 in
+    let held = other_schema spells.0 found.schema found.trees stored tables spells.1 in
+    elim adopted.rows [
+      | inl kept ↦ spelled_once db.trees version stored (db.schema, opens.2) (db.schema, still_stored found db stored tables kept.1 adopted.tables held)
+      | inr filled ↦
+          let none = filled.empty meta_table (inr (inr (inl refl))) (has_meta found db stored tables) in
+          let row : kept_count stored.count ∷ [] ≡ [] = sym held.count ∙ none in
+          absurd (let e = row in cc)
+    ]

@@ -11,11 +11,11 @@ use Rattle.prt_version.proofs.OneForm.{same_state}
 use Rattle.prt_version.specs.State.{State}
 use Rattle.prt_desk.specs.StoreDesk.{Spells}
 
-abbrev database : Schema → Trees → Database
+abbrev pub database : Schema → Trees → Database
 database schema trees = record { schema = schema; trees = trees }
 
 -- the schema tells only where the tables are
-other_schema : (schema other : Schema) (trees : Trees) (stored : State) → IsFormat1 other → Stores (database schema trees) stored → Stores (database other trees) stored
+pub other_schema : (schema other : Schema) (trees : Trees) (stored : State) → IsFormat1 other → Stores (database schema trees) stored → Stores (database other trees) stored
 other_schema schema other trees stored tables held = record { tables = tables; rules = held.rules; routes = held.routes; keyed = held.keyed; count = held.count; fits = held.fits }
 
 pub spelled_once : (trees : Trees) (stored other : State) → Spells trees stored → Spells trees other → stored ≡ other

@@ -85,6 +85,8 @@ impl<S: Alter + Drop> StoreDesk<S> {
         ensures open { IfOk result (λ desk. desk.closed ≡ false) }
         ensures format { IfOk result (λ desk. desk.format_1 ≡ true → BeginsFormat1 (state S.Store conn).now.schema) }
         ensures adopts { IfOk result (λ desk. IsKnown S.Store desk.format_1 desk.tables → Opens (state S.Store conn).now desk.published) }
+        ensures found { IfOk result (λ desk. IsKnown S.Store desk.format_1 desk.tables → IsFormat1 (state S.Store conn).now.schema → (stored : State) →
+            Spells (state S.Store conn).now.trees stored → desk.published ≡ stored) }
     {
         let is_format_1 = begins_format_1(conn.schema());
         let mut store = match Store::adopt(conn) {
