@@ -1,0 +1,113 @@
+//! Scripts over desks, whose databases are opened again.
+
+use prt_desk::StoreDesk;
+use prt_session::{Desk, ListDesk, OnRefusal, Refusal, ScriptEnd, run_script};
+use sqlite::{Alter, Connection, Error};
+use std::alloc::Global;
+use std::io::{self, Write};
+use std::test::Fail;
+
+/// Scripts with each command and each query.
+const SCRIPTS: [&str; 2] = [
+    "route add 10/8 via 192.0.2.1\nroute add 10/8 dev a\nroute replace 10/8 dev a metric 5\nroute change blackhole 10/8\nroute get 10.1.2.3\nroute show\nroute del 10/8\nroute flush table main\nroute show table all\n",
+    "rule add priority 5 from 10/8 table 100\nrule add to 10/8 iif a fwmark 0x10/0xf0 prohibit\nrule show\nroute get 10.0.0.1 iif a mark 0x1f\nrule del priority 5\nrule flush\nrule show\n",
+];
+
+/// The replies of a desk to a script.
+fn replies<D: Desk>(alloc: Global, desk: &mut D, script: &str) -> Vec<u8> {
+    let mut text = Vec::new(alloc);
+    let mut lines = script.as_bytes();
+    let _end = run_script(alloc, desk, &mut lines, &mut text, OnRefusal::GoOn);
+    text
+}
+
+/// Whether a desk over the connection replies to a script as one over lists does.
+fn replies_as_lists<S: Alter + Drop>(
+    alloc: Global,
+    connection: Connection<S>,
+    script: &str,
+) -> Result<bool, Refusal> {
+    let mut stored = StoreDesk::open(alloc, connection)?;
+    let mut listed = ListDesk::opening(alloc)?;
+    let wanted = replies(alloc, &mut listed, script);
+    Ok(replies(alloc, &mut stored, script).as_slice() == wanted.as_slice())
+}
+
+/// Runs a script over the database of a connection, and gives its replies and the connection.
+fn run_over<S: Alter + Drop>(
+    alloc: Global,
+    connection: Connection<S>,
+    script: &str,
+) -> Result<(Vec<u8>, Connection<S>), Refusal> {
+    let mut desk = StoreDesk::open(alloc, connection)?;
+    let text = replies(alloc, &mut desk, script);
+    Ok((text, desk.release()))
+}
+
+/// Sets the count of accepted commands to its limit.
+fn fill_count<S: Alter>(connection: &mut Connection<S>) -> Result<usize, Error> {
+    connection.execute("UPDATE meta SET count = 1000000000000000", &[])
+}
+
+/// A writer that fails.
+#[derive(Clone, Copy)]
+struct Shut;
+
+impl Write for Shut {
+    fn write(&mut self, _bytes: &[u8]) -> io::Result<usize> {
+        Err(io::Error::from(io::ErrorKind::Interrupted))
+    }
+
+    fn flush(&mut self) -> io::Result<()> {
+        Ok(())
+    }
+}
+
+/// Runs a script whose replies cannot be written.
+fn run_unheard<S: Alter + Drop>(
+    alloc: Global,
+    connection: Connection<S>,
+    script: &str,
+) -> Result<(ScriptEnd, Connection<S>), Refusal> {
+    let mut desk = StoreDesk::open(alloc, connection)?;
+    let mut lines = script.as_bytes();
+    let end = desk.run_script(alloc, &mut lines, &mut Shut, OnRefusal::GoOn);
+    Ok((end, desk.release()))
+}
+
+#[test]
+fn replies_are_those_of_lists(rt: HostRuntime) -> Result<(), Fail> {
+    let alloc = rt.alloc();
+    for script in &SCRIPTS {
+        let connection = Connection::open_in_memory(alloc)?;
+        let is_same = replies_as_lists(alloc, connection, script)?;
+        assert!(rt; is_same);
+    }
+    Ok(())
+}
+
+#[test]
+fn a_second_run_goes_on(rt: HostRuntime) -> Result<(), Fail> {
+    let alloc = rt.alloc();
+    let connection = Connection::open_in_memory(alloc)?;
+    let (_first, mut connection) = run_over(alloc, connection, "route add 10/8 via 192.0.2.1\n")?;
+    let (second, same) = run_over(alloc, connection, "route show\nroute del 10/8\n")?;
+    assert!(rt; second.as_slice() == b"10.0.0.0/8 via 192.0.2.1\nend 1\nok 2\n".as_slice());
+
+    connection = same;
+    fill_count(&mut connection)?;
+    let (third, _same) = run_over(alloc, connection, "rule flush\n")?;
+    assert!(rt; third.as_slice() == b"error 24 CountFull\n".as_slice());
+    Ok(())
+}
+
+#[test]
+fn an_unheard_command_is_kept(rt: HostRuntime) -> Result<(), Fail> {
+    let alloc = rt.alloc();
+    let connection = Connection::open_in_memory(alloc)?;
+    let (end, connection) = run_unheard(alloc, connection, "rule flush\n")?;
+    assert!(rt; end.fault == Some(Refusal::WriteFault));
+    let (after, _same) = run_over(alloc, connection, "route get 10.1.2.3\n")?;
+    assert!(rt; after.as_slice() == b"answer 1 none\n".as_slice());
+    Ok(())
+}
