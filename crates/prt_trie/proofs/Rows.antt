@@ -172,28 +172,3 @@ begins_within (row ∷ rows) start end first len prefix within lt inside same =
     let i : IsIn first len (get_or (row ∷ rows) start row).prefix = inside start row (omega arith) lt in
     let e : ((get_or (row ∷ rows) start row).prefix.bits ≡ prefix.bits) × ((get_or (row ∷ rows) start row).prefix.len ≡ prefix.len) = same start row (omega arith) lt in
     omega (arith, i.from)
-
--- where the first of some rows is longer than their block, all are, and their addresses stand between those of the first and the last
-pub between_ends : (rows : List Route) (start end k first len : ℕ) (d e g : Route) → IsTable rows → end ≤ length rows → start ≤ k → k < end →
-    AllWithin (λ row. IsIn first len row.prefix) rows start end → len < (get_or rows start e).prefix.len →
-    (len < (get_or rows k d).prefix.len) × ((get_or rows start e).prefix.bits ≤ (get_or rows k d).prefix.bits) × ((get_or rows k d).prefix.bits ≤ (get_or rows (end - 1) g).prefix.bits)
-between_ends rows start end k first len d e g o all f t inside longer =
-    let row : Route = get_or rows k d in
-    let lowest : Route = get_or rows start e in
-    let highest : Route = get_or rows (end - 1) g in
-    let lower : lowest ≡ get_or rows start d = get_or_default rows start e d (omega arith) in
-    let higher : highest ≡ get_or rows (end - 1) d = get_or_default rows (end - 1) g d (omega arith) in
-    let above : order_of lowest.prefix ≤ order_of row.prefix = rw lower ((in_order rows start k d o f (omega arith)).0) in
-    let under : order_of row.prefix ≤ order_of highest.prefix = rw higher ((in_order rows k (end - 1) d o (omega arith) (omega arith)).0) in
-    let low_prefix : IsPrefix lowest.prefix = rw lower (o.prefixes start d (omega arith)) in
-    let high_prefix : IsPrefix highest.prefix = rw higher (o.prefixes (end - 1) d (omega arith)) in
-    let prefix : IsPrefix row.prefix = o.prefixes k d (omega arith) in
-    let low_inside : IsIn first len lowest.prefix = rw lower (inside start d (omega arith) (omega arith)) in
-    let row_inside : IsIn first len row.prefix = inside k d f t in (
-      ⊎_elim (λ lt. lt) (λ (ge : row.prefix.len ≤ len).
-          let own : row.prefix.len ≡ len = omega (arith, row_inside.longer) in
-          let bits : row.prefix.bits ≡ first = own_bits first len row.prefix row_inside own in
-          absurd (omega (arith, low_inside.from))) (cases_lt len row.prefix.len),
-      omega (arith, prefix.short),
-      omega (arith, high_prefix.short),
-    )

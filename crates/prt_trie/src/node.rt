@@ -2,7 +2,6 @@
 ghost use Rattle.std.specs.Prelude.{◌≡◌, ℕ, ◌+◌, ◌%◌, ◌^◌, ◌<◌, ◌≤◌, List, length, IfOk, IfSome, OnOk, if◌then◌else◌, nat_lt};
 ghost use Rattle.std.specs.List.{AllWithin};
 ghost use Rattle.prt_addr.specs.Block.{Block};
-ghost use Rattle.prt_addr.specs.Sound.{IsPrefix};
 ghost use Rattle.prt_route.specs.declared.route.Route.{Route};
 ghost use Rattle.prt_trie.specs.Block.{IsIn, size};
 ghost use Rattle.prt_trie.specs.Walk.{AreBelow, Extends, IsBest, IsWithin, half_for, has, last_row, nowhere, row_or};
@@ -168,61 +167,6 @@ fn only_prefix(rows: &[Route], start: usize, end: usize) -> Option<Prefix>
     }
 }
 
-/// The half of the block in which all prefixes from the lowest to the highest lie, if they are longer than the block and lie in one.
-fn half_of_all(block: Place, lowest: &Prefix, highest: &Prefix) -> Option<Place>
-    requires len { block.len ≤ 32 }
-    requires aligned { block.bits % size block.len ≡ 0 }
-    requires in_range { block.bits + size block.len ≤ 2 ^ 32 }
-    ensures len { IfSome result (λ half. (half.len ≡ block.len + 1) × (half.len ≤ 32)) }
-    ensures from { IfSome result (λ half. block.bits ≤ half.bits) }
-    ensures aligned { IfSome result (λ half. half.bits % size half.len ≡ 0) }
-    ensures in_range { IfSome result (λ half. half.bits + size half.len ≤ 2 ^ 32) }
-    ensures longer { IfSome result (λ half. block.len < lowest.now.len) }
-    ensures inside { IfSome result (λ half. (prefix : Block) → IsPrefix prefix → IsIn block.bits block.len prefix → block.len < prefix.len
-        → lowest.now.bits ≤ prefix.bits → prefix.bits ≤ highest.now.bits → IsIn half.bits half.len prefix) }
-{
-    if lowest.len() <= block.len {
-        return None;
-    }
-    let middle = middle_of(block.bits, block.len);
-    let len = block.len + 1;
-    if highest.bits() < middle {
-        return Some(Place {
-            bits: block.bits,
-            len,
-        });
-    }
-    if middle <= lowest.bits() {
-        Some(Place { bits: middle, len })
-    } else {
-        None
-    }
-}
-
-/// Halves the block for as long as the rows at `start..end` are longer than it and lie in one half.
-fn block_of(rows: &[Route], start: usize, end: usize, first: u32, len: u8) -> Place
-    requires rows { IsTable rows.now }
-    requires start { start < end }
-    requires end { end ≤ length rows.now }
-    requires len { len ≤ 32 }
-    requires aligned { first % size len ≡ 0 }
-    requires in_range { first + size len ≤ 2 ^ 32 }
-    requires inside { AllWithin (λ row. IsIn first len row.prefix) rows.now start end }
-    ensures len { result.len ≤ 32 }
-    ensures longer { len ≤ result.len }
-    ensures from { first ≤ result.bits }
-    ensures aligned { result.bits % size result.len ≡ 0 }
-    ensures in_range { result.bits + size result.len ≤ 2 ^ 32 }
-    ensures inside { AllWithin (λ row. IsIn result.bits result.len row.prefix) rows.now start end }
-{
-    let (lowest, highest) = (rows[start].prefix, rows[end - 1].prefix);
-    let mut block = Place { bits: first, len };
-    while let Some(half) = half_of_all(block, &lowest, &highest) {
-        block = half;
-    }
-    block
-}
-
 /// The node of a block that is the prefix of all rows at `start..end`.
 fn leaf(rows: &[Route], start: usize, end: usize, first: u32, len: u8) -> Node
     requires rows { IsTable rows.now }
@@ -288,19 +232,14 @@ pub(crate) fn node_of(
     ensures kept { OnOk result (Extends halves.old.items halves.new.items) }
     ensures below { IfOk result (λ node. IsWithin (length halves.new.items) node) }
 {
-    if start == end {
-        return Ok(leaf(rows, start, end, first, len));
-    }
     if let Some(prefix) = only_prefix(rows, start, end) {
         return Ok(leaf(rows, start, end, prefix.bits(), prefix.len()));
     }
-    let block = block_of(rows, start, end, first, len);
-    let (first, len) = (block.bits, block.len);
     let own = own_end(rows, start, end, first, len);
     if own == end {
         return Ok(leaf(rows, start, end, first, len));
     }
-    let node = Node {
+    let block = Node {
         first,
         last: last_of(first, len),
         row: first_place(start, own),
@@ -308,7 +247,13 @@ pub(crate) fn node_of(
     };
     let middle = middle_of(first, len);
     let split = low_end(rows, own, end, first, len, middle);
+    if start == own && split == end {
+        return node_of(halves, rows, start, end, first, len + 1);
+    }
+    if start == own && split == start {
+        return node_of(halves, rows, start, end, middle, len + 1);
+    }
     let low = node_of(halves, rows, own, split, first, len + 1)?;
     let high = node_of(halves, rows, split, end, middle, len + 1)?;
-    fork(halves, node, low, high)
+    fork(halves, block, low, high)
 }
