@@ -331,6 +331,8 @@ impl Items {
     }
 
     /// Adds an item, in the place of the one that was given if one was.
+    // In its caller, as `value` is.
+    #[inline(always)]
     pub fn put(&mut self, item: Item)
         ensures { self.new ≡ put item self.old }
     {

@@ -150,6 +150,8 @@ fn route_value(slot: Slot, before: Option<PrefixWord>, word: &[u8]) -> Result<It
 ///
 /// What is wrong with the word: `BadAddress`, `BadPrefix`, `HostBits`, `BadNumber`, `BadTable`, `BadName`, or for a kind
 /// `UnknownWord`.
+// In its caller the choice by slot leads straight to the place where the item is put, with no copy of it between.
+#[inline(always)]
 pub(crate) fn value(slot: Slot, before: Option<PrefixWord>, word: &[u8]) -> Result<Item, Refusal>
     ensures { result ≡ value slot before word.now }
 {
