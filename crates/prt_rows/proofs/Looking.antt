@@ -1,8 +1,7 @@
 -- What the statements that look whether a table has rows tell.
 use Rattle.std.proofs.Common.{◌≡◌, inl, ℕ, List, [], ◌∷◌, refl, subst}
-use Rattle.std.specs.Prelude.{codes, false}
+use Rattle.std.specs.Prelude.{codes}
 use Rattle.sqlite.proofs.Callers.{reads_as}
-use Rattle.sqlite.specs.Listing.{reads_listing, understood}
 use Rattle.sqlite.specs.Program.{overlay}
 use Rattle.sqlite.specs.Schema.{Schema}
 use Rattle.sqlite.specs.State.{Shown, State}
@@ -10,11 +9,10 @@ use Rattle.sqlite.specs.Table.{Table}
 use Rattle.sqlite_rules.specs.Lists.{Has}
 use Rattle.sqlite_schema.specs.declared.schema.Index.{Index}
 use Rattle.sqlite_schema.specs.declared.schema.View.{View}
-use Rattle.sqlite_tied.specs.Compute.{everything}
 use Rattle.sqlite_value.specs.Order.{Row}
 use Rattle.prt_addr.specs.Word.{Word}
 use Rattle.prt_rows.proofs.Found.{Finds, finds_passing, projection}
-use Rattle.prt_rows.proofs.Texts.{Means, look_at_meta_is, look_at_routes_is, look_at_rules_is}
+use Rattle.prt_rows.proofs.Texts.{Asks, look_at_meta_is, look_at_routes_is, look_at_rules_is}
 use Rattle.prt_rows.specs.Meanings.{look_at, rowid_term}
 use Rattle.prt_rows.specs.Statements.{look_at_meta, look_at_routes, look_at_rules}
 use Rattle.prt_rows.specs.Tables.{schema_with}
@@ -34,33 +32,21 @@ looks rows found finds = record {
   some = λ is. no_members found (λ x there. let from = finds.sound x there in subst (λ l. Has l from.0) is from.1);
 }
 
-module _ (sql name : Word) (tree : ℕ) (schema : Schema) (means : Means schema sql (look_at tree name)) (listed : reads_listing schema sql ≡ false) where
+module _ (sql name : Word) (tree : ℕ) (schema : Schema) (asks : Asks schema sql (look_at tree name)) where
   looked : (old new : State) → old.now.schema ≡ schema → (found : List Row) → overlay old.now.trees [] tree ≡ old.now.trees tree → Shown sql [] old new found → Looks (old.now.trees tree) found
   looked old new has found is ran =
-      looks (old.now.trees tree) found (finds_passing tree [] (rowid_term ∷ []) old.now [] found is (reads_as sql [] old new schema has (look_at tree name) means.0 means.1 listed found ran))
+      looks (old.now.trees tree) found (finds_passing tree [] (rowid_term ∷ []) old.now [] found is (reads_as sql [] old new schema has (look_at tree name) asks.0 asks.1 asks.2 found ran))
 
 module _ (tables : List Table) (indexes : List Index) (views : List View) where
   abbrev schema : Schema
   schema = schema_with tables indexes views
 
-  rules_listed : reads_listing schema look_at_rules ≡ false
-  unfolding understood everything
-  rules_listed = refl
-
-  routes_listed : reads_listing schema look_at_routes ≡ false
-  unfolding understood everything
-  routes_listed = refl
-
-  meta_listed : reads_listing schema look_at_meta ≡ false
-  unfolding understood everything
-  meta_listed = refl
-
   module _ (old new : State) (has : old.now.schema ≡ schema) (found : List Row) where
     pub looks_at_rules : Shown look_at_rules [] old new found → Looks (old.now.trees 0) found
-    looks_at_rules = looked look_at_rules (codes "id") 0 schema (look_at_rules_is tables indexes views) rules_listed old new has found refl
+    looks_at_rules = looked look_at_rules (codes "id") 0 schema (look_at_rules_is tables indexes views) old new has found refl
 
     pub looks_at_routes : Shown look_at_routes [] old new found → Looks (old.now.trees 1) found
-    looks_at_routes = looked look_at_routes (codes "rowid") 1 schema (look_at_routes_is tables indexes views) routes_listed old new has found refl
+    looks_at_routes = looked look_at_routes (codes "rowid") 1 schema (look_at_routes_is tables indexes views) old new has found refl
 
     pub looks_at_meta : Shown look_at_meta [] old new found → Looks (old.now.trees 3) found
-    looks_at_meta = looked look_at_meta (codes "id") 3 schema (look_at_meta_is tables indexes views) meta_listed old new has found refl
+    looks_at_meta = looked look_at_meta (codes "id") 3 schema (look_at_meta_is tables indexes views) old new has found refl

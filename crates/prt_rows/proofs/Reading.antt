@@ -5,9 +5,10 @@ use Rattle.std.proofs.lemmas.List.{length-map, nil_from_length}
 use Rattle.std.specs.List.{AllByRecursion, IsDistinct}
 use Rattle.std.specs.List.Sorted.{IsSorted, IsSortedBy}
 use Rattle.std.specs.Ordering.{is_lt}
+use Rattle.std.specs.Prelude.{codes, true}
 use Rattle.sqlite.proofs.Callers.{reads_as}
 use Rattle.sqlite.specs.Effect.{Database, Answers}
-use Rattle.sqlite.specs.Listing.{reads_listing, understood}
+use Rattle.sqlite.specs.Command.TheVariants.{Select}
 use Rattle.sqlite.specs.Program.{overlay}
 use Rattle.sqlite.specs.Query.{Output, Query, output, output_cmp}
 use Rattle.sqlite.specs.Schema.{Schema}
@@ -21,20 +22,22 @@ use Rattle.sqlite_rules.proofs.ListLemmas.{all_from, all_has}
 use Rattle.sqlite_rules.proofs.ProbeLemmas.{has_mapped, mapped_has}
 use Rattle.sqlite_schema.specs.declared.schema.Index.{Index}
 use Rattle.sqlite_schema.specs.declared.schema.View.{View}
-use Rattle.sqlite_tied.specs.Compute.{everything}
 use Rattle.sqlite_trees.proofs.ListLemmas.{all-permutation}
 use Rattle.sqlite_value.proofs.OrderLemmas.{then-Equal}
 use Rattle.sqlite_value.specs.Order.{Row, column, value_cmp}
+use Rattle.prt_addr.specs.Word.{Word}
 use Rattle.prt_rows.proofs.Found.{has_permuted, projection}
 use Rattle.prt_rows.proofs.Keyed.{keyed-permutation}
 use Rattle.prt_rows.proofs.Rising.{NeverFall, keyed_if_rising, rises_if_keyed}
-use Rattle.prt_rows.proofs.Texts.{read_meta_is, read_routes_is, read_rules_is}
+use Rattle.prt_rows.proofs.Texts.{Asks, read_meta_is, read_routes_is, read_rules_is}
 use Rattle.prt_rows.specs.Effects.{IsKeyed, has_same_rowid}
-use Rattle.prt_rows.specs.Meanings.{listing, read_meta_terms, read_route_terms, read_rule_terms, rowid_term}
+use Rattle.prt_rows.specs.Meanings.{listing, names_of, read_meta_terms, read_route_terms, read_rule_terms, rowid_term}
+use Rattle.prt_rows.specs.MetaRow.{meta_columns}
+use Rattle.prt_rows.specs.RouteRow.{route_columns}
 use Rattle.prt_rows.specs.Rowids.{rowids_rise}
+use Rattle.prt_rows.specs.RuleRow.{rule_columns}
 use Rattle.prt_rows.specs.Statements.{read_meta, read_routes, read_rules}
 use Rattle.prt_rows.specs.Tables.{schema_with}
-use Rattle.std.specs.Prelude.{true}
 
 -- SELECT of the rowid and of these terms, in the order of the rowids
 module _ (tree : ℕ) (terms : List Term) where
@@ -128,34 +131,16 @@ module _ (tree : ℕ) (terms : List Term) where
   pub none_read_if_empty : (rows : List Row) → Lists [] rows → rows ≡ []
   none_read_if_empty rows lists = nil_from_length rows (length_permutation [] rows lists.same)
 
-module _ (tables : List Table) (indexes : List Index) (views : List View) where
-  abbrev schema : Schema
-  schema = schema_with tables indexes views
+module _ (sql : Word) (tree : ℕ) (terms : List Term) (names : List Word) (schema : Schema) (asks : Asks schema sql (Select (listing tree terms) names)) where
+  listed : (old new : State) → old.now.schema ≡ schema → (rows : List Row) → overlay old.now.trees [] tree ≡ old.now.trees tree → Shown sql [] old new rows → Lists tree terms (old.now.trees tree) rows
+  listed old new has rows is ran = lists_all tree terms old.now rows is (reads_as sql [] old new schema has _ asks.0 asks.1 asks.2 rows ran)
 
-  rules_listed : reads_listing schema read_rules ≡ false
-  unfolding understood everything
-  rules_listed = refl
+module _ (tables : List Table) (indexes : List Index) (views : List View) (old new : State) (has : old.now.schema ≡ schema_with tables indexes views) (rows : List Row) where
+  pub reads_rules : Shown read_rules [] old new rows → Lists 0 read_rule_terms (old.now.trees 0) rows
+  reads_rules = listed read_rules 0 read_rule_terms (names_of rule_columns) _ (read_rules_is tables indexes views) old new has rows refl
 
-  routes_listed : reads_listing schema read_routes ≡ false
-  unfolding understood everything
-  routes_listed = refl
+  pub reads_routes : Shown read_routes [] old new rows → Lists 1 read_route_terms (old.now.trees 1) rows
+  reads_routes = listed read_routes 1 read_route_terms (codes "rowid" ∷ names_of route_columns) _ (read_routes_is tables indexes views) old new has rows refl
 
-  meta_listed : reads_listing schema read_meta ≡ false
-  unfolding understood everything
-  meta_listed = refl
-
-  module _ (old new : State) (has : old.now.schema ≡ schema) (rows : List Row) where
-    pub reads_rules : Shown read_rules [] old new rows → Lists 0 read_rule_terms (old.now.trees 0) rows
-    reads_rules ran =
-        let is = read_rules_is tables indexes views in
-        lists_all 0 read_rule_terms old.now rows refl (reads_as read_rules [] old new schema has _ is.0 is.1 rules_listed rows ran)
-
-    pub reads_routes : Shown read_routes [] old new rows → Lists 1 read_route_terms (old.now.trees 1) rows
-    reads_routes ran =
-        let is = read_routes_is tables indexes views in
-        lists_all 1 read_route_terms old.now rows refl (reads_as read_routes [] old new schema has _ is.0 is.1 routes_listed rows ran)
-
-    pub reads_meta : Shown read_meta [] old new rows → Lists 3 read_meta_terms (old.now.trees 3) rows
-    reads_meta ran =
-        let is = read_meta_is tables indexes views in
-        lists_all 3 read_meta_terms old.now rows refl (reads_as read_meta [] old new schema has _ is.0 is.1 meta_listed rows ran)
+  pub reads_meta : Shown read_meta [] old new rows → Lists 3 read_meta_terms (old.now.trees 3) rows
+  reads_meta = listed read_meta 3 read_meta_terms (names_of meta_columns) _ (read_meta_is tables indexes views) old new has rows refl

@@ -1,10 +1,10 @@
 -- The texts mean their commands, in a file whose first tables are ours.
 use Rattle.std.proofs.Common.{◌≡◌, List, Ok, refl}
-use Rattle.std.specs.Prelude.{codes}
+use Rattle.std.specs.Prelude.{codes, false}
 use Rattle.sqlite.proofs.Callers.{IsPlain, command_of}
 use Rattle.sqlite.specs.Command.{Command}
 use Rattle.sqlite.specs.Compile.{table_defined_by}
-use Rattle.sqlite.specs.Listing.{understood}
+use Rattle.sqlite.specs.Listing.{reads_listing, understood}
 use Rattle.sqlite.specs.Schema.{Schema}
 use Rattle.sqlite.specs.Table.{Table}
 use Rattle.sqlite_schema.specs.declared.schema.Index.{Index}
@@ -18,6 +18,10 @@ use Rattle.prt_rows.specs.Tables.{meta_table, route_table, rule_table, schema_wi
 -- the text is understood as the command, without more
 abbrev pub Means : Schema → Word → Command → Type 0
 Means schema text command = (command_of (understood schema text) ≡ command) × IsPlain (understood schema text)
+
+-- the text is a query that is understood so, and reads tables of the file alone
+abbrev pub Asks : Schema → Word → Command → Type 0
+Asks schema text command = (command_of (understood schema text) ≡ command) × IsPlain (understood schema text) × (reads_listing schema text ≡ false)
 
 pub rule_is : table_defined_by create_rule ≡ Ok rule_table
 unfolding everything
@@ -35,29 +39,29 @@ module _ (tables : List Table) (indexes : List Index) (views : List View) where
   abbrev schema : Schema
   schema = schema_with tables indexes views
 
-  pub read_rules_is : Means schema read_rules read_rules_command
+  pub read_rules_is : Asks schema read_rules read_rules_command
   unfolding understood everything
-  read_rules_is = (refl, (refl, refl))
+  read_rules_is = (refl, (refl, refl), refl)
 
-  pub read_routes_is : Means schema read_routes read_routes_command
+  pub read_routes_is : Asks schema read_routes read_routes_command
   unfolding understood everything
-  read_routes_is = (refl, (refl, refl))
+  read_routes_is = (refl, (refl, refl), refl)
 
-  pub read_meta_is : Means schema read_meta read_meta_command
+  pub read_meta_is : Asks schema read_meta read_meta_command
   unfolding understood everything
-  read_meta_is = (refl, (refl, refl))
+  read_meta_is = (refl, (refl, refl), refl)
 
-  pub look_at_rules_is : Means schema look_at_rules (look_at 0 (codes "id"))
+  pub look_at_rules_is : Asks schema look_at_rules (look_at 0 (codes "id"))
   unfolding understood everything
-  look_at_rules_is = (refl, (refl, refl))
+  look_at_rules_is = (refl, (refl, refl), refl)
 
-  pub look_at_routes_is : Means schema look_at_routes (look_at 1 (codes "rowid"))
+  pub look_at_routes_is : Asks schema look_at_routes (look_at 1 (codes "rowid"))
   unfolding understood everything
-  look_at_routes_is = (refl, (refl, refl))
+  look_at_routes_is = (refl, (refl, refl), refl)
 
-  pub look_at_meta_is : Means schema look_at_meta (look_at 3 (codes "id"))
+  pub look_at_meta_is : Asks schema look_at_meta (look_at 3 (codes "id"))
   unfolding understood everything
-  look_at_meta_is = (refl, (refl, refl))
+  look_at_meta_is = (refl, (refl, refl), refl)
 
   pub put_route_is : Means schema put_route put_route_command
   unfolding understood everything
