@@ -1,10 +1,10 @@
 -- Lists that are gone through: columns that are as they are wanted, and what holds of each member.
-use Rattle.std.proofs.Common.{◌≡◌, ◌<◌, ◌≤◌, ◌+◌, ◌-◌, ℕ, inl, inr, List, [], ◌∷◌, map, drop, take, length, get_or, refl, sym, ap, subst, ◌∙◌, arith}
+use Rattle.std.proofs.Common.{◌≡◌, ◌<◌, ◌≤◌, ◌+◌, ◌-◌, ◌↔◌, ℕ, IsTrue, true, false, true≢false, inl, inr, List, [], ◌∷◌, map, drop, take, length, get_or, refl, sym, ap, subst, ◌∙◌, arith}
 use Rattle.std.proofs.Math.Seq.{take-length}
 use Rattle.std.proofs.lemmas.List.{get_or-map, length-drop, length-map, take_more, take_more_same}
 use Rattle.sqlite.specs.Schema.{Schema}
 use Rattle.sqlite.specs.Table.{Table}
-use Rattle.sqlite_rules.proofs.ListLemmas.{has_either}
+use Rattle.sqlite_rules.proofs.ListLemmas.{has_at, has_either}
 use Rattle.sqlite_rules.specs.Lists.{Has}
 use Rattle.sqlite_schema.specs.declared.schema.Index.{Index}
 use Rattle.prt_rows.specs.Format.{IsFormat1}
@@ -31,6 +31,17 @@ module _ {X : Type 0} (P : X → Type 0) (xs : List X) where
   pub each_of_all : (at : ℕ) → at ≡ length xs → ((y : X) → Has (take at xs) y → P y) → (y : X) → Has xs y → P y
   each_of_all at end so_far y there = so_far y (subst (λ l. Has l y) (sym (ap (λ n. take n xs) end ∙ take-length xs)) there)
 
+  -- and where it fails of one, not of all
+  pub not_of_all : (at : ℕ) (x : X) → at < length xs → x ≡ get_or xs at x → (P x → ⊥) → ((y : X) → Has xs y → P y) → ⊥
+  not_of_all at x within here fails all = fails (all x (has_at xs at x within here))
+
+-- the answer to what holds, and to what does not
+pub is_so : {P : Type 0} → P → IsTrue true ↔ P
+is_so p = (λ _. p, λ _. refl)
+
+pub is_not : {P : Type 0} → (P → ⊥) → IsTrue false ↔ P
+is_not none = (λ yes. absurd (true≢false (sym yes)), λ p. absurd (none p))
+
 pub are_others : (tables : List Table) → ((table : Table) → Has tables table → IsOther table) → AreOthers tables
 are_others tables each = record {
   rule = λ table there. (each table there).rule;
@@ -38,6 +49,9 @@ are_others tables each = record {
   meta = λ table there. (each table there).meta;
   elsewhere = λ table there. (each table there).elsewhere;
 }
+
+pub each_other : (tables : List Table) → AreOthers tables → (table : Table) → Has tables table → IsOther table
+each_other tables others table there = record { rule = others.rule table there; route = others.route table there; meta = others.meta table there; elsewhere = others.elsewhere table there }
 
 three_first : (tables : List Table) (a b c : Table) → 3 ≤ length tables → tables ≡ get_or tables 0 a ∷ get_or tables 1 b ∷ get_or tables 2 c ∷ drop 3 tables
 three_first [] a b c many = absurd (omega arith)
@@ -76,3 +90,7 @@ is_format schema tables indexes a b c key all every many some rule route meta in
   others = subst AreOthers (all_after 3 tables) others;
   free = subst AreNotOfRoutes (all_after 1 indexes) free;
 }
+
+-- and what is so of the other indexes
+pub others_free : (schema : Schema) (indexes : List Index) → indexes ≡ schema.indexes → IsFormat1 schema → AreNotOfRoutes (take (length indexes - 1) (drop 1 indexes))
+others_free schema indexes every format = subst AreNotOfRoutes (sym (all_after 1 indexes ∙ ap (λ l. drop 1 l) (every ∙ ap (λ (s : Schema). s.indexes) format.is))) format.free

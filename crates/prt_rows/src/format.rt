@@ -1,6 +1,6 @@
 //! Whether a file has the tables of format 1.
 
-ghost use Rattle.std.specs.Prelude.{◌≡◌, [], ◌∷◌, Some, true, false, map, IsTrue, codes};
+ghost use Rattle.std.specs.Prelude.{◌≡◌, ◌↔◌, [], ◌∷◌, Some, true, false, map, IsTrue};
 ghost use Rattle.sqlite_schema.specs.Names.{same_name};
 ghost use Rattle.sqlite_rules.specs.Lists.{Has};
 ghost use Rattle.sqlite_schema.specs.Rules.{guards};
@@ -54,7 +54,7 @@ const META: [(&str, Kind); 3] = [
 
 /// Whether it is a column of this name and type of a STRICT table, and takes no NULL.
 fn is_column(column: &Column, name: &str, kind: Kind) -> bool
-    ensures { IsTrue result → column.now ≡ strict_column name.now kind }
+    ensures { IsTrue result ↔ (column.now ≡ strict_column name.now kind) }
 {
     column.name.as_slice() == name.as_bytes()
         && column.kind == kind
@@ -66,7 +66,7 @@ fn is_column(column: &Column, name: &str, kind: Kind) -> bool
 
 /// Whether they are columns of these names and types.
 fn are_columns(columns: &[Column], wanted: &[(&str, Kind)]) -> bool
-    ensures { IsTrue result → columns.now ≡ map (λ w. strict_column w.0.now w.1) wanted.now }
+    ensures { IsTrue result ↔ (columns.now ≡ map (λ w. strict_column w.0.now w.1) wanted.now) }
 {
     if columns.len() != wanted.len() {
         return false;
@@ -82,11 +82,7 @@ fn are_columns(columns: &[Column], wanted: &[(&str, Kind)]) -> bool
 
 /// Whether nothing is said of the table but its name, columns and keys.
 fn is_plain(table: &Table) -> bool
-    ensures checks { IsTrue result → table.now.checks ≡ [] }
-    ensures references { IsTrue result → table.now.references ≡ [] }
-    ensures computed { IsTrue result → table.now.computed ≡ [] }
-    ensures stamps { IsTrue result → table.now.stamps ≡ record { places = []; terms = []; formats = [] } }
-    ensures counted { IsTrue result → table.now.is_counted ≡ false }
+    ensures { IsTrue result ↔ (table.now ≡ record table.now { checks = []; references = []; computed = []; stamps = record { places = []; terms = []; formats = [] }; is_counted = false }) }
 {
     table.checks.roots.is_empty()
         && table.references.is_empty()
@@ -99,10 +95,7 @@ fn is_plain(table: &Table) -> bool
 
 /// Whether the primary key of the table is its first column, and it has no other key.
 fn is_keyed_by_first(table: &Table) -> bool
-    ensures key { IsTrue result → table.now.key ≡ Some 0 }
-    ensures primary { IsTrue result → table.now.primary ≡ 0 ∷ [] }
-    ensures uniques { IsTrue result → table.now.uniques ≡ [] }
-    ensures orders { IsTrue result → table.now.orders ≡ [] }
+    ensures { IsTrue result ↔ (table.now ≡ record table.now { key = Some 0; primary = 0 ∷ []; uniques = []; orders = [] }) }
 {
     table.key == Some(0)
         && table.primary.as_slice() == [0usize].as_slice()
@@ -112,7 +105,7 @@ fn is_keyed_by_first(table: &Table) -> bool
 
 /// Whether it is a plain table of this name and these columns.
 fn is_table_by_id(table: &Table, name: &str, columns: &[(&str, Kind)]) -> bool
-    ensures { IsTrue result → table.now ≡ plain_table name.now table.now.tree (map (λ w. strict_column w.0.now w.1) columns.now) }
+    ensures { IsTrue result ↔ (table.now ≡ plain_table name.now table.now.tree (map (λ w. strict_column w.0.now w.1) columns.now)) }
 {
     table.name.as_slice() == name.as_bytes()
         && are_columns(table.columns.as_slice(), columns)
@@ -122,29 +115,28 @@ fn is_table_by_id(table: &Table, name: &str, columns: &[(&str, Kind)]) -> bool
 
 /// Whether it is the table of rules, in whatever tree.
 fn is_rule_table(table: &Table) -> bool
-    ensures { IsTrue result → table.now ≡ record rule_table { tree = table.now.tree } }
+    ensures { IsTrue result ↔ (table.now ≡ record rule_table { tree = table.now.tree }) }
 {
     is_table_by_id(table, "rule", &RULE)
 }
 
 /// Whether it is the table `meta`, in whatever tree.
 fn is_meta_table(table: &Table) -> bool
-    ensures { IsTrue result → table.now ≡ record meta_table { tree = table.now.tree } }
+    ensures { IsTrue result ↔ (table.now ≡ record meta_table { tree = table.now.tree }) }
 {
     is_table_by_id(table, "meta", &META)
 }
 
 /// Whether the places are those of table, address, length and metric.
 fn are_key_places(places: &[usize]) -> bool
-    ensures { IsTrue result → places.now ≡ key_places }
+    ensures { IsTrue result ↔ (places.now ≡ key_places) }
 {
     places == [1usize, 2, 3, 4].as_slice()
 }
 
 /// Whether the only UNIQUE of the table is the key of routes, in the default order.
 fn has_route_key(table: &Table) -> bool
-    ensures uniques { IsTrue result → table.now.uniques ≡ key_places ∷ [] }
-    ensures orders { IsTrue result → table.now.orders ≡ (record { digits = 0 }) ∷ [] }
+    ensures { IsTrue result ↔ (table.now ≡ record table.now { uniques = key_places ∷ []; orders = (record { digits = 0 }) ∷ [] }) }
 {
     match (table.uniques.as_slice(), table.orders.as_slice()) {
         ([unique], [order]) => are_key_places(unique.as_slice()) && order.digits == 0,
@@ -154,7 +146,7 @@ fn has_route_key(table: &Table) -> bool
 
 /// Whether it is the table of routes, in whatever tree.
 fn is_route_table(table: &Table) -> bool
-    ensures { IsTrue result → table.now ≡ record route_table { tree = table.now.tree } }
+    ensures { IsTrue result ↔ (table.now ≡ record route_table { tree = table.now.tree }) }
 {
     table.name.as_slice() == b"route".as_slice()
         && are_columns(table.columns.as_slice(), &ROUTE)
@@ -166,7 +158,7 @@ fn is_route_table(table: &Table) -> bool
 
 /// Whether it is the index of the key of routes, in its place.
 fn is_route_index(index: &Index) -> bool
-    ensures { IsTrue result → index.now ≡ route_key }
+    ensures { IsTrue result ↔ (index.now ≡ route_key) }
 {
     index.name.as_slice() == b"sqlite_autoindex_route_1".as_slice()
         && index.tree == 2
@@ -178,7 +170,7 @@ fn is_route_index(index: &Index) -> bool
 
 /// Whether the reference names none of the three tables.
 fn is_elsewhere(reference: &Reference) -> bool
-    ensures { IsTrue result → IsElsewhere reference.now }
+    ensures { IsTrue result ↔ IsElsewhere reference.now }
 {
     let parent = reference.parent.as_slice();
     !same_name(b"rule".as_slice(), parent)
@@ -188,7 +180,7 @@ fn is_elsewhere(reference: &Reference) -> bool
 
 /// Whether none of the references names one of the three tables.
 fn are_elsewhere(references: &[Reference]) -> bool
-    ensures { IsTrue result → (reference : Referring) → Has references.now reference → IsElsewhere reference }
+    ensures { IsTrue result ↔ ((reference : Referring) → Has references.now reference → IsElsewhere reference) }
 {
     for reference in references {
         if !is_elsewhere(reference) {
@@ -200,7 +192,7 @@ fn are_elsewhere(references: &[Reference]) -> bool
 
 /// Whether the table is apart from the three tables, and refers to none of them.
 fn is_other(table: &Table) -> bool
-    ensures { IsTrue result → IsOther table.now }
+    ensures { IsTrue result ↔ IsOther table.now }
 {
     table.tree != 0
         && table.tree != 1
@@ -210,7 +202,7 @@ fn is_other(table: &Table) -> bool
 
 /// Whether each of the tables is apart from the three tables, and refers to none of them.
 fn are_others(tables: &[Table]) -> bool
-    ensures { IsTrue result → AreOthers tables.now }
+    ensures { IsTrue result ↔ AreOthers tables.now }
 {
     for table in tables {
         if !is_other(table) {
@@ -222,14 +214,14 @@ fn are_others(tables: &[Table]) -> bool
 
 /// Whether the index is no unique one of the table of routes.
 fn is_not_of_routes(index: &Index) -> bool
-    ensures { IsTrue result → guards index.now route_table ≡ false }
+    ensures { IsTrue result ↔ (guards index.now route_table ≡ false) }
 {
     !(index.is_unique && index.table == 1)
 }
 
 /// Whether none of the indexes is a unique one of the table of routes.
 fn are_not_of_routes(indexes: &[Index]) -> bool
-    ensures { IsTrue result → AreNotOfRoutes indexes.now }
+    ensures { IsTrue result ↔ AreNotOfRoutes indexes.now }
 {
     for index in indexes {
         if !is_not_of_routes(index) {
@@ -241,10 +233,7 @@ fn are_not_of_routes(indexes: &[Index]) -> bool
 
 /// Whether they are the three tables and the index of the key of routes, each in its place.
 fn are_ours(rule: &Table, route: &Table, meta: &Table, key: &Index) -> bool
-    ensures rule { IsTrue result → rule.now ≡ rule_table }
-    ensures route { IsTrue result → route.now ≡ route_table }
-    ensures meta { IsTrue result → meta.now ≡ meta_table }
-    ensures key { IsTrue result → key.now ≡ route_key }
+    ensures { IsTrue result ↔ ((rule.now ≡ rule_table) × (route.now ≡ route_table) × (meta.now ≡ meta_table) × (key.now ≡ route_key)) }
 {
     let are_placed = rule.tree == 0 && route.tree == 1 && meta.tree == 3;
     are_placed
@@ -257,7 +246,7 @@ fn are_ours(rule: &Table, route: &Table, meta: &Table, key: &Index) -> bool
 /// Whether the first tables of the file are those of format 1, as the first opening makes them in an empty file, and no
 /// other table refers to them and no other unique index is on the table of routes.
 pub fn is_format_1(schema: &Schema) -> bool
-    ensures { IsTrue result → IsFormat1 schema.now }
+    ensures { IsTrue result ↔ IsFormat1 schema.now }
 {
     let tables = schema.tables.as_slice();
     let indexes = schema.indexes.as_slice();
@@ -284,49 +273,25 @@ pub fn has_table(schema: &Schema, name: &str) -> bool
         .any(|table| same_name(table.name.as_slice(), name.as_bytes()))
 }
 
-/// Whether a table that has the name `rule` is the table of rules, in whatever tree.
-fn is_rule_if_named(table: &Table) -> bool
-    ensures { IsTrue result → same_name (codes "rule") table.now.name ≡ true → table.now ≡ record rule_table { tree = table.now.tree } }
+/// Whether the table is ours, or has another name than this.
+fn suits(table: &Table, name: &str, is_ours: bool) -> bool
+    ensures { IsTrue result ↔ (same_name name.now table.now.name ≡ true → IsTrue is_ours) }
 {
-    if same_name(b"rule".as_slice(), table.name.as_slice()) {
-        is_rule_table(table)
-    } else {
-        true
-    }
-}
-
-/// Whether a table that has the name `route` is the table of routes, in whatever tree.
-fn is_route_if_named(table: &Table) -> bool
-    ensures { IsTrue result → same_name (codes "route") table.now.name ≡ true → table.now ≡ record route_table { tree = table.now.tree } }
-{
-    if same_name(b"route".as_slice(), table.name.as_slice()) {
-        is_route_table(table)
-    } else {
-        true
-    }
-}
-
-/// Whether a table that has the name `meta` is the table of the count, in whatever tree.
-fn is_meta_if_named(table: &Table) -> bool
-    ensures { IsTrue result → same_name (codes "meta") table.now.name ≡ true → table.now ≡ record meta_table { tree = table.now.tree } }
-{
-    if same_name(b"meta".as_slice(), table.name.as_slice()) {
-        is_meta_table(table)
-    } else {
-        true
-    }
+    is_ours || !same_name(name.as_bytes(), table.name.as_slice())
 }
 
 /// Whether a table that has the name of one of the three tables is that one, in whatever tree.
 fn suits_name(table: &Table) -> bool
-    ensures { IsTrue result → SuitsName table.now }
+    ensures { IsTrue result ↔ SuitsName table.now }
 {
-    is_rule_if_named(table) && is_route_if_named(table) && is_meta_if_named(table)
+    suits(table, "rule", is_rule_table(table))
+        && suits(table, "route", is_route_table(table))
+        && suits(table, "meta", is_meta_table(table))
 }
 
 /// Whether each of the tables that has the name of one of the three tables is that one.
 fn suit_names(tables: &[Table]) -> bool
-    ensures { IsTrue result → (table : Declared) → Has tables.now table → SuitsName table }
+    ensures { IsTrue result ↔ ((table : Declared) → Has tables.now table → SuitsName table) }
 {
     for table in tables {
         if !suits_name(table) {
@@ -338,7 +303,7 @@ fn suit_names(tables: &[Table]) -> bool
 
 /// Whether the file has the three tables of format 1, column by column, in whatever trees and order.
 pub fn has_format_1(schema: &Schema) -> bool
-    ensures { IsTrue result → HasFormat1 schema.now }
+    ensures { IsTrue result ↔ HasFormat1 schema.now }
 {
     has_table(schema, "rule")
         && has_table(schema, "route")

@@ -1,12 +1,12 @@
 //! The store as a type.
 
-ghost use Rattle.std.specs.Prelude.{◌≡◌, ◌⊎◌, IfErr, IfOk, IsTrue, OnErr, OnOk};
+ghost use Rattle.std.specs.Prelude.{◌≡◌, ◌⊎◌, ◌↔◌, IfErr, IfOk, IsTrue, OnErr, OnOk};
 ghost use Rattle.sqlite.specs.Held.{state};
 ghost use Rattle.sqlite.specs.State.{HasCleanDisk, IsUnchanged};
 ghost use Rattle.sqlite.specs.Tree.{Trees};
 ghost use Rattle.prt_addr.specs.declared.refusal.StoreCall.{StoreCall as FailedCall};
 ghost use Rattle.prt_addr.specs.declared.refusal.StoreCall.TheVariants.{Commit};
-ghost use Rattle.prt_addr.specs.declared.refusal.Refusal.TheVariants.{Damaged, OpenFailed, StoreFailed};
+ghost use Rattle.prt_addr.specs.declared.refusal.Refusal.TheVariants.{Damaged, StoreFailed};
 ghost use Rattle.prt_version.specs.Change.{put};
 ghost use Rattle.prt_version.specs.State.{State};
 ghost use Rattle.prt_store.specs.Next.{IsNext};
@@ -44,26 +44,9 @@ pub struct Store<S: Alter + Drop> {
 }
 
 impl<S: Alter + Drop> Store<S> {
-    /// The store over a connection whose first tables are those of format 1. It makes no tables, and changes nothing.
-    ///
-    /// # Errors
-    ///
-    /// `OpenFailed`, with the connection, where the first tables are others.
-    pub fn over(conn: Connection<S>) -> Result<Store<S>, (Refusal, Connection<S>)>
-        ensures tables { IfOk result (λ store. IsFormat1 (state S.Store store.conn).now.schema) }
-        ensures same { IfOk result (λ store. store.conn ≡ conn) }
-        ensures refused { IfErr result (λ refused. (refused.0 ≡ OpenFailed) × (refused.1 ≡ conn)) }
-    {
-        if is_format_1(conn.schema()) {
-            Ok(Store { conn })
-        } else {
-            Err((Refusal::OpenFailed, conn))
-        }
-    }
-
     /// Tells whether our tables are the first of the file: what is said of a store rests on that.
     pub fn is_format_1(&self) -> bool
-        ensures { IsTrue result → IsFormat1 (state S.Store self.now.conn).now.schema }
+        ensures { IsTrue result ↔ IsFormat1 (state S.Store self.now.conn).now.schema }
     {
         is_format_1(self.conn.schema())
     }

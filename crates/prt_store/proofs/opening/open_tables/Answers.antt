@@ -1,8 +1,14 @@
 use Rattle.std.proofs.Common.{Ok, subst}
 use Rattle.prt_rows.specs.Effects.{AreEmpty}
-use Rattle.prt_store.proofs.Openings.{has_rows, look_failed, opens_filled}
+use Rattle.prt_store.proofs.Openings.{has_rows, look_failed, opens_filled, opens_refused}
 use Rattle.prt_store.specs.Openings.{Sees}
 use Rattle.prt_store.proofs.opening.open_tables.Goals as goal
+
+pub returns-then-not-has_format_1-clause-opens : goal.returns-then-not-has_format_1-clause-opens
+returns-then-not-has_format_1-clause-opens g c = opens_refused g.S.Store c.args.conn.now c.make_tables.new.conn c.in_ok-make_tables.ensures.advances _
+
+pub returns-then-not-is_autocommit-clause-opens : goal.returns-then-not-is_autocommit-clause-opens
+returns-then-not-is_autocommit-clause-opens g c = opens_refused g.S.Store c.args.conn.now c.make_tables.new.conn c.in_ok-make_tables.ensures.advances _
 
 pub returns-in_err-are_empty-clause-opens : goal.returns-in_err-are_empty-clause-opens
 returns-in_err-are_empty-clause-opens g c =
