@@ -16,14 +16,15 @@ use Rattle.sqlite_rules.specs.Lists.{Has}
 use Rattle.sqlite_value.specs.Order.{Row}
 use Rattle.prt_addr.specs.Word.{Word}
 use Rattle.prt_addr.specs.declared.refusal.Refusal.{Refusal}
-use Rattle.prt_rows.proofs.Looking.{Looks}
+use Rattle.prt_rows.proofs.Looking.{Looks, looks_at_meta, looks_at_routes, looks_at_rules}
 use Rattle.prt_rows.proofs.Texts.{look_at_meta_is, look_at_routes_is, look_at_rules_is}
 use Rattle.prt_rows.specs.Effects.{AreEmpty}
 use Rattle.prt_rows.specs.Format.{IsFormat1}
-use Rattle.prt_rows.specs.Statements.{look_at_meta, look_at_routes, look_at_rules}
-use Rattle.prt_rows.specs.Tables.{meta_table, our_tables, route_table, rule_table}
+use Rattle.prt_rows.specs.Tables.{meta_table, our_tables, route_table, rule_table, schema_with}
 use Rattle.prt_store.proofs.Loads.{commits_nothing, unchanged}
-use Rattle.prt_store.specs.Openings.{Sees}
+use Rattle.prt_store.specs.Openings.{IsEmpty, Sees, look_at, tree_of}
+use Rattle.prt_store.specs.declared.opening.OurTable.{OurTable}
+use Rattle.prt_store.specs.declared.opening.OurTable.TheVariants as ours
 
 -- a query that fails leaves what was there, if the connection is still still_open
 failed_query : (sql : Word) (old new : Conn) (e : Error) → IsPlain (understood old.now.schema sql) → FailsToQuery sql [] old new e → IsTrue new.is_open → (IsTrue old.is_open → old.now ≡ old.committed) → new.now ≡ old.now
@@ -43,39 +44,43 @@ tells : (rows found : List Row) (n : ℕ) (b : Bool) → Looks rows found → n 
 tells rows [] n b looks long is = subst (λ b. MatchBool b (rows ≡ []) (rows ≡ [] → ⊥)) (sym (is ∙ ap (λ n. n == 0) long)) (looks.none refl)
 tells rows (x ∷ found) n b looks long is = subst (λ b. MatchBool b (rows ≡ []) (rows ≡ [] → ⊥)) (sym (is ∙ ap (λ n. n == 0) long ∙ ne_eqb (length (x ∷ found)) 0 (λ zero. absurd (omega (arith, zero))))) (λ none. absurd (let e = looks.some none in cc))
 
--- what one look tells
-module _ {S : Type 0} (g : Ghosts S) (sql : Word) (tree : ℕ) (old new : Held S) (plain : IsFormat1 (state g old).now.schema → IsPlain (understood (state g old).now.schema sql))
-    (survives : Survives (state g old) (state g new) (CommitsShowing sql [] (state g old))) where
-  abbrev IsEmptyTree : Database → Type 0
-  IsEmptyTree db = db.trees tree ≡ []
+-- ---- one look
 
+-- the statement shows no rows of a write
+plain_look : (table : OurTable) (schema : Schema) → IsFormat1 schema → IsPlain (understood schema (look_at table))
+plain_look table schema t = subst (λ (s : Schema). IsPlain (understood s (look_at table))) (sym t.is) (plain table)
+  where
+    plain : (table : OurTable) → IsPlain (understood (schema_with t.tables t.indexes t.views) (look_at table))
+    plain ours.Rule = (look_at_rules_is t.tables t.indexes t.views).1
+    plain ours.Route = (look_at_routes_is t.tables t.indexes t.views).1
+    plain ours.Meta = (look_at_meta_is t.tables t.indexes t.views).1
+
+looks_at : (table : OurTable) (old new : Conn) → IsFormat1 old.now.schema → (found : List Row) → Shown (look_at table) [] old new found → Looks (old.now.trees (tree_of table)) found
+looks_at ours.Rule old new t found = looks_at_rules t.tables t.indexes t.views old new t.is found
+looks_at ours.Route old new t found = looks_at_routes t.tables t.indexes t.views old new t.is found
+looks_at ours.Meta old new t found = looks_at_meta t.tables t.indexes t.views old new t.is found
+
+-- what it tells of a table
+module _ {S : Type 0} (g : Ghosts S) (table : OurTable) (old new : Held S) (survives : Survives (state g old) (state g new) (CommitsShowing (look_at table) [] (state g old))) where
   look_quiet : (HasCleanDisk (state g old) → IsFormat1 (state g old).now.schema) → Survives (state g old) (state g new) (λ _. ⊥)
-  look_quiet tables = commits_nothing sql (state g old) (state g new) (λ clean. plain (tables clean)) survives
+  look_quiet tables = commits_nothing (look_at table) (state g old) (state g new) (λ clean. plain_look table (state g old).now.schema (tables clean)) survives
 
-  pub look_fails : (e : Error) (reason : Refusal) → (HasCleanDisk (state g new) → FailsToQuery sql [] (state g old) (state g new) e) → Sees g IsEmptyTree old new (Err reason)
+  pub look_fails : (e : Error) (reason : Refusal) → (HasCleanDisk (state g new) → FailsToQuery (look_at table) [] (state g old) (state g new) e) → Sees g (IsEmpty table) old new (Err reason)
   look_fails e reason fails = record {
     ok = λ clean tables. tt;
-    err = λ clean tables still_open settled. failed_query sql (state g old) (state g new) e (plain tables) (fails clean) still_open settled;
+    err = λ clean tables still_open settled. failed_query (look_at table) (state g old) (state g new) e (plain_look table (state g old).now.schema tables) (fails clean) still_open settled;
     quiet = look_quiet;
   }
 
-  pub look_tells : (found : List Row) (n : ℕ) (b : Bool) → (HasCleanDisk (state g new) → Shown sql [] (state g old) (state g new) found) → n ≡ length found → b ≡ (n == 0)
-      → (IsFormat1 (state g old).now.schema → Shown sql [] (state g old) (state g new) found → Looks ((state g old).now.trees tree) found) → Sees g IsEmptyTree old new (Ok b)
-  look_tells found n b shown long is looks = record {
-    ok = λ clean tables. (tells ((state g old).now.trees tree) found n b (looks tables (shown clean)) long is, unchanged sql (state g old) (state g new) (plain tables) found (shown clean));
+  pub look_tells : (found : List Row) (n : ℕ) (b : Bool) → (HasCleanDisk (state g new) → Shown (look_at table) [] (state g old) (state g new) found) → n ≡ length found → b ≡ (n == 0) → Sees g (IsEmpty table) old new (Ok b)
+  look_tells found n b shown long is = record {
+    ok = λ clean tables. (
+      tells ((state g old).now.trees (tree_of table)) found n b (looks_at table (state g old) (state g new) tables found (shown clean)) long is,
+      unchanged (look_at table) (state g old) (state g new) (plain_look table (state g old).now.schema tables) found (shown clean),
+    );
     err = λ clean tables still_open settled. tt;
     quiet = look_quiet;
   }
-
--- our statements that look show no rows of a write
-pub plain_meta : (schema : Schema) → IsFormat1 schema → IsPlain (understood schema look_at_meta)
-plain_meta schema t = subst (λ (s : Schema). IsPlain (understood s look_at_meta)) (sym t.is) (look_at_meta_is t.tables t.indexes t.views).1
-
-pub plain_rules : (schema : Schema) → IsFormat1 schema → IsPlain (understood schema look_at_rules)
-plain_rules schema t = subst (λ (s : Schema). IsPlain (understood s look_at_rules)) (sym t.is) (look_at_rules_is t.tables t.indexes t.views).1
-
-pub plain_routes : (schema : Schema) → IsFormat1 schema → IsPlain (understood schema look_at_routes)
-plain_routes schema t = subst (λ (s : Schema). IsPlain (understood s look_at_routes)) (sym t.is) (look_at_routes_is t.tables t.indexes t.views).1
 
 -- ---- one look after another
 

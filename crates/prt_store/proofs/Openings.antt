@@ -1,17 +1,21 @@
 -- The steps of an opening, one after the other.
-use Rattle.std.proofs.Common.{◌≡◌, inl, inr, Bool, true, false, not, [], Ok, Err, Result, IsErr, IsTrue, OnErr, OnOk, true≢false, refl, sym, subst, ◌∙◌, arith}
+use Rattle.std.proofs.Common.{◌≡◌, inl, inr, ℕ, Bool, true, false, not, [], Ok, Err, Result, IfErr, IsErr, IsTrue, OnErr, OnOk, true≢false, refl, sym, subst, ◌∙◌, arith}
 use Rattle.std.proofs.lemmas.Bool.{not-true}
-use Rattle.std.proofs.lemmas.Result.{on_ok_weaker}
+use Rattle.std.proofs.lemmas.Result.{on_err_weaker, on_ok_weaker}
 use Rattle.std.specs.Prelude.{codes}
+use Rattle.std.specs.Result.{is_err, result_or}
 use Rattle.sqlite.proofs.StateLemmas.{survives_then, survives_weaker}
 use Rattle.sqlite.specs.Effect.{Database, IsDatabase}
 use Rattle.sqlite.specs.Held.{Held, state}
 use Rattle.sqlite.specs.Schema.{Schema}
-use Rattle.sqlite.specs.State.{HasCleanDisk, Survives}
+use Rattle.sqlite.specs.State.{HasCleanDisk, KeepsCounts, Shows, Survives}
+use Rattle.sqlite.specs.Steps.{FailsToCommit}
 use Rattle.sqlite.specs.Store.{Ghosts}
 use Rattle.sqlite.specs.Tree.{Trees}
+use Rattle.sqlite.specs.declared.error.Error.{Error}
 use Rattle.prt_addr.specs.Word.{Word}
 use Rattle.prt_addr.specs.declared.refusal.Refusal.{Refusal}
+use Rattle.prt_addr.specs.declared.refusal.Refusal.TheVariants.{OpenFailed}
 use Rattle.prt_rows.proofs.Creating.{makes_meta, makes_route, makes_rule}
 use Rattle.prt_rows.proofs.Keeping.{empty_after, empty_before, format_made, keeps_itself, keeps_none, keeps_rules, keeps_rules_and_routes, keeps_then, meta_missing, meta_there, routes_missing, routes_there, rules_missing, rules_there}
 use Rattle.prt_rows.specs.Effects.{AreEmpty, KeepsTables}
@@ -19,9 +23,9 @@ use Rattle.prt_rows.specs.Format.{BeginsFormat1, BeginsWithRoutes, BeginsWithRul
 use Rattle.prt_rows.specs.Statements.{create_meta, create_route, create_rule}
 use Rattle.prt_rows.specs.Tables.{no_tables, rule_alone, rule_and_route}
 use Rattle.prt_store.proofs.Filling.{fills}
-use Rattle.prt_store.proofs.Transactions.{survives_itself}
+use Rattle.prt_store.proofs.Transactions.{committed, crash_after, not_committed, survives_itself}
 use Rattle.prt_store.specs.Adopted.{Adopts, AdoptsPart, IsFilled, LeavesPart}
-use Rattle.prt_store.specs.Openings.{Advances, Commits, Fills, HasDone, HasLeft, MakesMissing, OpensTables, Ran, Sees, Takes, begun_from}
+use Rattle.prt_store.specs.Openings.{Advances, Commits, Fills, HasDone, HasLeft, MakesMissing, OpensTables, Ran, Sees, Takes, Works, begun_from}
 use Rattle.prt_store.specs.declared.opening.Step.{Step}
 use Rattle.prt_store.specs.declared.opening.Step.TheVariants as step
 
@@ -33,9 +37,24 @@ on_err_any : {T E P : Type 0} (r : Result T E) → P → OnErr r P
 on_err_any (Ok x) it = tt
 on_err_any (Err e) it = it
 
-on_err_weaker : {T E P Q : Type 0} (r : Result T E) → (P → Q) → OnErr r P → OnErr r Q
-on_err_weaker (Ok x) f it = tt
-on_err_weaker (Err e) f it = f it
+-- ---- the end of a transaction
+
+module _ {S : Type 0} (g : Ghosts S) (Does : Held S → Held S → Type 0) (old begun last end : Held S) (result : Result ℕ Error) (was : begun ≡ begun_from old) (works : Works g Does begun last result) (fine : is_err result ≡ false)
+    (settled : IsTrue (state g old).is_open → (state g old).now ≡ (state g old).committed) (survives : Survives (state g last) (state g end) (λ trees. trees ≡ (state g last).now.trees)) where
+  -- what was done is committed, or the commit fails
+  pub ends : (done : Result (Unit {0}) Error)
+      → (HasCleanDisk (state g end) → OnOk done (IsTrue (state g last).in_transaction × Shows (state g last) (state g end) (state g last).now (state g last).now false × KeepsCounts (state g last) (state g end) × ((state g end).marks ≡ [])))
+      → (HasCleanDisk (state g end) → IfErr done (FailsToCommit (state g last) (state g end))) → Commits g Does old end (result_or done (Err OpenFailed))
+  ends (Ok x) shows fails = record {
+    ok = λ clean. committed g Does old begun last result was works fine end survives.clean (shows clean).1 clean;
+    err = λ clean still_open. tt;
+    crash = crash_after g Does old begun last result was works fine end survives;
+  }
+  ends (Err e) shows fails = record {
+    ok = λ clean. tt;
+    err = λ clean still_open. not_committed g Does old begun last result was works fine end (Err e) refl clean survives.clean (fails clean) settled still_open;
+    crash = crash_after g Does old begun last result was works fine end survives;
+  }
 
 -- ---- what is left of an opening
 

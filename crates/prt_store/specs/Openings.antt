@@ -15,9 +15,12 @@ use Rattle.prt_rows.specs.Effects.{KeepsTables}
 use Rattle.prt_rows.specs.Format.{BeginsFormat1, IsFormat1, has_table}
 use Rattle.prt_rows.specs.MetaRow.{meta_row}
 use Rattle.prt_rows.specs.RuleRow.{rule_row}
-use Rattle.prt_rows.specs.Statements.{create_meta, create_route, create_rule, insert_meta, insert_rule}
+use Rattle.prt_rows.specs.Statements.{create_meta, create_route, create_rule, insert_meta, insert_rule, look_at_meta, look_at_routes, look_at_rules}
+use Rattle.prt_rows.specs.Tables.{meta_table, route_table, rule_table}
 use Rattle.prt_store.specs.Adopted.{Adopts, AdoptsPart, IsSettled, LeavesPart}
 use Rattle.prt_store.specs.Written.{CommitsNothing}
+use Rattle.prt_store.specs.declared.opening.OurTable.{OurTable}
+use Rattle.prt_store.specs.declared.opening.OurTable.TheVariants as ours
 use Rattle.prt_store.specs.declared.opening.Step.{Step}
 use Rattle.prt_store.specs.declared.opening.Step.TheVariants as step
 use Rattle.prt_version.specs.State.{table_rule}
@@ -87,6 +90,21 @@ pub record Advances {S : Type 0} (g : Ghosts S) (From To : Schema → Type 0) (o
   pub ok : HasCleanDisk (state g new) → From (state g old).now.schema → OnOk result (To (state g new).now.schema × KeepsTables (state g old).now (state g new).now)
   pub err : HasCleanDisk (state g new) → IsTrue (state g new).is_open → From (state g old).now.schema → OnErr result (AdoptsPart (state g old).now (state g new).now)
   pub crash : (HasCleanDisk (state g old) → From (state g old).now.schema) → Survives (state g old) (state g new) (LeavesPart (state g old).now)
+
+-- the statement that shows the rowids of a table
+abbrev pub look_at : OurTable → Word
+look_at ours.Rule = look_at_rules
+look_at ours.Route = look_at_routes
+look_at ours.Meta = look_at_meta
+
+abbrev pub tree_of : OurTable → ℕ
+tree_of ours.Rule = rule_table.tree
+tree_of ours.Route = route_table.tree
+tree_of ours.Meta = meta_table.tree
+
+-- the table has no rows
+abbrev pub IsEmpty : OurTable → Database → Type 0
+IsEmpty table db = db.trees (tree_of table) ≡ []
 
 -- what was asked of the file, where our tables are the first; nothing was changed
 pub record Sees {S : Type 0} (g : Ghosts S) (P : Database → Type 0) (old new : Held S) (result : Result Bool Refusal) : Type 0 where

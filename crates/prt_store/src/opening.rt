@@ -6,7 +6,7 @@ ghost use Rattle.prt_rows.specs.Effects.{AreEmpty};
 ghost use Rattle.prt_rows.specs.Format.{BeginsFormat1, IsFormat1};
 ghost use Rattle.prt_rows.specs.MetaRow.{meta_row};
 ghost use Rattle.prt_rows.specs.Statements.{create_meta, create_route, create_rule, insert_meta};
-ghost use Rattle.prt_store.specs.Openings.{Advances, Commits, Fills, InsertsRule, InsertsRules, MakesMissing, OpensTables, Ran, Sees, Takes, Works};
+ghost use Rattle.prt_store.specs.Openings.{Advances, Commits, Fills, InsertsRule, InsertsRules, IsEmpty, MakesMissing, OpensTables, Ran, Sees, Takes, Works, look_at};
 ghost use Rattle.prt_version.specs.State.{table_rule};
 
 use crate::statements::insert_rule;
@@ -28,6 +28,14 @@ enum Step {
     MakeMeta,
     /// Puts the three opening rules and the count 0.
     Fill,
+}
+
+/// One of the three tables.
+#[derive(Clone, Copy)]
+enum OurTable {
+    Rule,
+    Route,
+    Meta,
 }
 
 /// Makes the table of rules.
@@ -136,10 +144,7 @@ fn take<S: Alter>(conn: &mut Connection<S>, step: Step) -> Result<(), Refusal>
     if perform(&mut tx, step).is_err() {
         return Err(Refusal::OpenFailed);
     }
-    if tx.commit().is_err() {
-        return Err(Refusal::OpenFailed);
-    }
-    Ok(())
+    tx.commit().or(Err(Refusal::OpenFailed))
 }
 
 /// Takes the step that makes a table, where the file has none of this name.
@@ -163,34 +168,23 @@ fn make_tables<S: Alter>(conn: &mut Connection<S>) -> Result<(), Refusal>
     make_missing(conn, "meta", Step::MakeMeta)
 }
 
-/// Whether the table `meta` has no rows.
-fn is_meta_empty<S: Alter>(conn: &mut Connection<S>) -> Result<bool, Refusal>
-    ensures reason { IfErr result (λ reason. reason ≡ OpenFailed) }
-    ensures sees { Sees S.Store (λ db. db.trees 3 ≡ []) conn.old conn.new result }
+/// The statement that shows the rowid of each row of a table.
+fn look_at(table: OurTable) -> &'static str
+    ensures { result.now ≡ look_at table }
 {
-    match conn.query_all("SELECT id FROM meta", &[]) {
-        Ok(rows) => Ok(rows.is_empty()),
-        Err(_) => Err(Refusal::OpenFailed),
+    match table {
+        OurTable::Rule => "SELECT id FROM rule",
+        OurTable::Route => "SELECT rowid FROM route",
+        OurTable::Meta => "SELECT id FROM meta",
     }
 }
 
-/// Whether the table `rule` has no rows.
-fn is_rule_empty<S: Alter>(conn: &mut Connection<S>) -> Result<bool, Refusal>
+/// Whether a table has no rows.
+fn is_empty<S: Alter>(conn: &mut Connection<S>, table: OurTable) -> Result<bool, Refusal>
     ensures reason { IfErr result (λ reason. reason ≡ OpenFailed) }
-    ensures sees { Sees S.Store (λ db. db.trees 0 ≡ []) conn.old conn.new result }
+    ensures sees { Sees S.Store (IsEmpty table) conn.old conn.new result }
 {
-    match conn.query_all("SELECT id FROM rule", &[]) {
-        Ok(rows) => Ok(rows.is_empty()),
-        Err(_) => Err(Refusal::OpenFailed),
-    }
-}
-
-/// Whether the table `route` has no rows.
-fn is_route_empty<S: Alter>(conn: &mut Connection<S>) -> Result<bool, Refusal>
-    ensures reason { IfErr result (λ reason. reason ≡ OpenFailed) }
-    ensures sees { Sees S.Store (λ db. db.trees 1 ≡ []) conn.old conn.new result }
-{
-    match conn.query_all("SELECT rowid FROM route", &[]) {
+    match conn.query_all(look_at(table), &[]) {
         Ok(rows) => Ok(rows.is_empty()),
         Err(_) => Err(Refusal::OpenFailed),
     }
@@ -201,13 +195,13 @@ fn are_empty<S: Alter>(conn: &mut Connection<S>) -> Result<bool, Refusal>
     ensures reason { IfErr result (λ reason. reason ≡ OpenFailed) }
     ensures sees { Sees S.Store AreEmpty conn.old conn.new result }
 {
-    if !is_meta_empty(conn)? {
+    if !is_empty(conn, OurTable::Meta)? {
         return Ok(false);
     }
-    if !is_rule_empty(conn)? {
+    if !is_empty(conn, OurTable::Rule)? {
         return Ok(false);
     }
-    is_route_empty(conn)
+    is_empty(conn, OurTable::Route)
 }
 
 /// Makes the three tables where they are missing, and fills them where they have no rows.
