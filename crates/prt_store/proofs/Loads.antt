@@ -1,5 +1,5 @@
 -- What the statements that read the tables tell of the state that they spell.
-use Rattle.std.proofs.Common.{◌≡◌, ◌⊎◌, inl, inr, ℕ, ◌+◌, true, List, [], ◌∷◌, drop, map, All, Any, Some, None, Ok, Err, Result, IsPermutation, IfErr, IfOk, refl, sym, ap, subst, ◌∙◌, true≢false, arith}
+use Rattle.std.proofs.Common.{◌≡◌, ◌⊎◌, inl, inr, ℕ, ◌+◌, true, List, [], ◌∷◌, drop, map, All, Any, Some, None, Ok, Err, Result, IsPermutation, IsTrue, IfErr, IfOk, OnOk, refl, sym, ap, subst, ◌∙◌, true≢false, arith}
 use Rattle.std.proofs.lemmas.List.Elements.{All-from_recursion, recursion_from_All}
 use Rattle.std.proofs.lemmas.List.Sorted.{IsPermutation-map, IsPermutation-sym, IsPermutation-trans}
 use Rattle.sqlite.proofs.Callers.{never_commits, one_permutation, unchanged_then}
@@ -10,15 +10,16 @@ use Rattle.sqlite.specs.Listing.{understood}
 use Rattle.sqlite.specs.Store.{Ghosts}
 use Rattle.sqlite.specs.Schema.{Schema}
 use Rattle.sqlite.specs.Tree.{rowid}
-use Rattle.sqlite.specs.State.{CommitsShowing, HasCleanDisk, IsUnchanged, Shown, State as Conn, Survives}
+use Rattle.sqlite.specs.State.{CommitsShowing, FailsToQuery, HasCleanDisk, IsLive, IsNotRun, IsRolledBack, IsUnchanged, Shown, State as Conn, Survives}
 use Rattle.sqlite.proofs.Callers.{IsPlain}
+use Rattle.sqlite.specs.declared.error.Error.{Error}
 use Rattle.sqlite_rules.proofs.ListLemmas.{all_from, all_has, any_has}
 use Rattle.sqlite_rules.proofs.ProbeLemmas.{has_mapped, mapped_has}
 use Rattle.sqlite_rules.specs.Lists.{Has}
 use Rattle.sqlite_value.specs.Order.{Row}
 use Rattle.prt_addr.specs.Word.{Word}
 use Rattle.prt_addr.specs.declared.refusal.Refusal.{Refusal}
-use Rattle.prt_addr.specs.declared.refusal.Refusal.TheVariants.{Damaged, NoMemory}
+use Rattle.prt_addr.specs.declared.refusal.Refusal.TheVariants.{Damaged, NoMemory, OpenFailed}
 use Rattle.prt_route.specs.declared.route.Route.{Route}
 use Rattle.prt_route.specs.Storable.{IsStorableRoute}
 use Rattle.prt_rows.proofs.Found.{has_permuted}
@@ -41,20 +42,21 @@ use Rattle.prt_version.specs.RowsSpell.{RowsSpell, RowsSpellNone}
 use Rattle.prt_version.specs.State.{State}
 use Rattle.prt_store.proofs.Changes.{rules_keyed}
 use Rattle.prt_store.proofs.Once.{unmapped}
-use Rattle.prt_store.specs.Loaded.{IsReadable, Reads, SpellsCount, SpellsRoutes, SpellsRules}
+use Rattle.prt_store.specs.Adopted.{IsSettled}
+use Rattle.prt_store.specs.Loaded.{IsLoadRefusal, IsReadable, Reads, SpellsCount, SpellsRoutes, SpellsRules, StaysSettled}
 use Rattle.prt_rows.specs.Format.{IsFormat1}
 use Rattle.prt_store.specs.Stored.{Stores}
 
 -- ---- what a statement that reads leaves
 
 -- our statements that read show no rows of a write
-plain_meta : (schema : Schema) → IsFormat1 schema → IsPlain (understood schema read_meta)
+pub plain_meta : (schema : Schema) → IsFormat1 schema → IsPlain (understood schema read_meta)
 plain_meta schema t = subst (λ (s : Schema). IsPlain (understood s read_meta)) (sym t.is) (read_meta_is t.tables t.indexes t.views).1
 
-plain_rules : (schema : Schema) → IsFormat1 schema → IsPlain (understood schema read_rules)
+pub plain_rules : (schema : Schema) → IsFormat1 schema → IsPlain (understood schema read_rules)
 plain_rules schema t = subst (λ (s : Schema). IsPlain (understood s read_rules)) (sym t.is) (read_rules_is t.tables t.indexes t.views).1
 
-plain_routes : (schema : Schema) → IsFormat1 schema → IsPlain (understood schema read_routes)
+pub plain_routes : (schema : Schema) → IsFormat1 schema → IsPlain (understood schema read_routes)
 plain_routes schema t = subst (λ (s : Schema). IsPlain (understood s read_routes)) (sym t.is) (read_routes_is t.tables t.indexes t.views).1
 
 module _ (sql : Word) (old new : Conn) (plain : IsPlain (understood old.now.schema sql)) where
@@ -86,6 +88,46 @@ module _ (old new : Conn) (tables : HasCleanDisk old → IsFormat1 old.now.schem
 
   pub routes_quiet : Survives old new (CommitsShowing read_routes [] old) → Survives old new (λ _. ⊥)
   routes_quiet = commits_nothing read_routes old new (λ clean. plain_routes old.now.schema (tables clean))
+
+-- ---- what a query that fails leaves
+
+-- the connection as it was, or without what was pending
+pub failed_query : (sql : Word) (old new : Conn) (e : Error) → IsPlain (understood old.now.schema sql) → FailsToQuery sql [] old new e → IsUnchanged old new ⊎ IsRolledBack old new
+unfolding FailsToQuery IsNotRun
+failed_query sql old new e plain (inl (inl refused)) = inl refused.1
+failed_query sql old new e plain (inl (inr failed)) = inr failed.3
+failed_query sql old new e plain (inr ran) =
+    let bare = subst IsPlain ran.1.is plain in
+    inl (rw (bare.0) at ran.2).3
+
+module _ {S : Type 0} (g : Ghosts S) (old new : Held S) where
+  pub stays_settled : IsUnchanged (state g old) (state g new) → IsSettled g old → StaysSettled g old new
+  stays_settled same was = (record { is_open = same.0.is_open; autocommit = same.0.mode ∙ was.autocommit; committed = same.0.now_is ∙ was.committed ∙ sym same.0.committed_is }, same.0.now_is)
+
+  rolled_back_settled : IsRolledBack (state g old) (state g new) → IsTrue (state g new).is_open → IsSettled g old → StaysSettled g old new
+  rolled_back_settled undone still_open was =
+      let back = undone.undone still_open in
+      (record { is_open = still_open; autocommit = undone.autocommit; committed = back.0 ∙ sym back.1 }, back.0 ∙ sym was.committed)
+
+  -- what was loaded is of a database
+  pub still_sound : {X : Type 0} (result : Result X Refusal) → IsLive (state g old) → OnOk result (IsUnchanged (state g old) (state g new)) → OnOk result (IsDatabase (state g new).now)
+  still_sound (Ok x) live same = subst IsDatabase (sym same.0.now_is) (live same.0.was_open).0
+  still_sound (Err reason) live same = tt
+
+  -- nothing is read
+  pub reads_nothing : {X V : Type 0} (seen : X → V) (Spells : Database → V → Type 0) (sql : Word) → (IsFormat1 (state g old).now.schema → IsPlain (understood (state g old).now.schema sql))
+      → Survives (state g old) (state g new) (CommitsShowing sql [] (state g old)) → (e : Error) → (HasCleanDisk (state g new) → FailsToQuery sql [] (state g old) (state g new) e) → Reads g seen Spells old new (Err OpenFailed)
+  reads_nothing seen Spells sql plain survives e fails = record {
+    ok = λ clean readable. tt;
+    damaged = λ clean readable is. absurd (cc);
+    reason = inr (inl refl);
+    same = λ clean tables. tt;
+    err = λ clean tables still_open was. elim (failed_query sql (state g old) (state g new) e (plain tables) (fails clean)) [
+      | inl same ↦ stays_settled same was
+      | inr undone ↦ rolled_back_settled undone still_open was
+    ];
+    quiet = λ tables. commits_nothing sql (state g old) (state g new) (λ clean. plain (tables clean)) survives;
+  }
 
 -- ---- what the rows that were read spell
 
@@ -189,13 +231,27 @@ module _ (old new : Conn) (readable : IsReadable old) (rows : List Row) where
 
 -- ---- a result
 
+-- why rows are not read is why nothing is loaded
+pub read_refusal : {X : Type 0} (write : X → Row) (Fits : X → Type 0) (part : Row → Row) (rows : List Row) (reason : Refusal) → FailsToRead write Fits part rows reason → IsLoadRefusal reason
+read_refusal write Fits part rows reason (inl falls) = inl falls.0
+read_refusal write Fits part rows reason (inr (inl bad)) = inl bad.0
+read_refusal write Fits part rows reason (inr (inr none)) = inr (inr none)
+
 -- what was read, where the rows were decoded or not
 pub reads_of : {S X V : Type 0} (g : Ghosts S) (seen : X → V) (Spells : Database → V → Type 0) (old new : Held S) (result : Result X Refusal) (Rise Read : X → Type 0) (Fails : Refusal → Type 0) → IfOk result Rise → IfOk result Read → IfErr result Fails
     → (HasCleanDisk (state g new) → IsReadable (state g old) → (value : X) → Rise value → Read value → Spells (state g old).now (seen value))
-    → (HasCleanDisk (state g new) → IsReadable (state g old) → (reason : Refusal) → Fails reason → reason ≡ Damaged → (value : V) → Spells (state g old).now value → ⊥)
+    → (HasCleanDisk (state g new) → IsReadable (state g old) → (reason : Refusal) → Fails reason → reason ≡ Damaged → (value : V) → Spells (state g old).now value → ⊥) → ((reason : Refusal) → Fails reason → IsLoadRefusal reason)
     → (HasCleanDisk (state g new) → IsFormat1 (state g old).now.schema → IsUnchanged (state g old) (state g new)) → ((HasCleanDisk (state g old) → IsFormat1 (state g old).now.schema) → Survives (state g old) (state g new) (λ _. ⊥)) → Reads g seen Spells old new result
-reads_of g seen Spells old new (Ok value) Rise Read Fails rise read fails spells none same quiet = record { ok = λ clean readable. spells clean readable value rise read; damaged = λ clean readable. tt; same = same; quiet = quiet }
-reads_of g seen Spells old new (Err reason) Rise Read Fails rise read fails spells none same quiet = record { ok = λ clean readable. tt; damaged = λ clean readable is. none clean readable reason fails is; same = λ clean tables. tt; quiet = quiet }
+reads_of g seen Spells old new (Ok value) Rise Read Fails rise read fails spells none why same quiet =
+    record { ok = λ clean readable. spells clean readable value rise read; damaged = λ clean readable. tt; reason = tt; same = same; err = λ clean tables still_open was. tt; quiet = quiet }
+reads_of g seen Spells old new (Err reason) Rise Read Fails rise read fails spells none why same quiet = record {
+  ok = λ clean readable. tt;
+  damaged = λ clean readable is. none clean readable reason fails is;
+  reason = why reason fails;
+  same = λ clean tables. tt;
+  err = λ clean tables still_open was. stays_settled g old new (same clean tables) was;
+  quiet = quiet;
+}
 
 -- ---- one read after another
 
@@ -227,9 +283,11 @@ module _ {S X Y V W : Type 0} (g : Ghosts S) (seen : X → V) (seen_too : Y → 
         let before = clean_before (Ok y) two (λ _. readable.tables) clean in
         (one.ok before readable, subst (λ db. Second db (seen_too y)) (one.same before readable.tables).0.now_is (two.ok clean (readable_then before readable)));
     damaged = λ clean readable. tt;
+    reason = tt;
     same = λ clean tables.
         let before = clean_before (Ok y) two (λ _. tables) clean in
         unchanged_then (state g a) (state g b) (state g c) (one.same before tables) (two.same clean (tables_then (λ _. tables) before));
+    err = λ clean tables still_open was. tt;
     quiet = quiet_then (Ok y) two;
   }
 
@@ -241,15 +299,30 @@ module _ {S X Y V W : Type 0} (g : Ghosts S) (seen : X → V) (seen_too : Y → 
         let before = clean_before (Err reason) two (λ _. readable.tables) clean in
         let y = has (state g a).now stored (one.ok before readable) held in
         two.damaged clean (readable_then before readable) is y.0 (subst (λ db. Second db y.0) (sym (one.same before readable.tables).0.now_is) y.1);
+    reason = two.reason;
     same = λ clean tables. tt;
+    err = λ clean tables still_open was.
+        let before = clean_before (Err reason) two (λ _. tables) clean in
+        let first = stays_settled g a b (one.same before tables) was in
+        let second = two.err clean (tables_then (λ _. tables) before) still_open first.0 in
+        (second.0, second.1 ∙ first.1);
     quiet = quiet_then (Err reason) two;
   }
 
 -- what all reads together give
 pub in_all : {S X V : Type 0} (g : Ghosts S) (seen : X → V) (All : Database → V → Type 0) (a b : Held S) (x : X) → Reads g seen All a b (Ok x) → (result : Result State Refusal)
-    → IfOk result (λ stored. (db : Database) → IsFormat1 db.schema → All db (seen x) → Stores db stored) → IfErr result (λ reason. reason ≡ Damaged → (db : Database) (stored : State) → All db (seen x) → Stores db stored → ⊥) → Reads g (λ stored. stored) Stores a b result
-in_all g seen All a b x one (Ok made) spells none = record { ok = λ clean readable. spells (state g a).now readable.tables (one.ok clean readable); damaged = λ clean readable. tt; same = one.same; quiet = one.quiet }
-in_all g seen All a b x one (Err reason) spells none = record { ok = λ clean readable. tt; damaged = λ clean readable is stored held. none is (state g a).now stored (one.ok clean readable) held; same = λ clean tables. tt; quiet = one.quiet }
+    → IfOk result (λ stored. (db : Database) → IsFormat1 db.schema → All db (seen x) → Stores db stored) → IfErr result (λ reason. reason ≡ Damaged → (db : Database) (stored : State) → All db (seen x) → Stores db stored → ⊥) → IfErr result IsLoadRefusal
+    → Reads g (λ stored. stored) Stores a b result
+in_all g seen All a b x one (Ok made) spells none why =
+    record { ok = λ clean readable. spells (state g a).now readable.tables (one.ok clean readable); damaged = λ clean readable. tt; reason = tt; same = one.same; err = λ clean tables still_open was. tt; quiet = one.quiet }
+in_all g seen All a b x one (Err reason) spells none why = record {
+  ok = λ clean readable. tt;
+  damaged = λ clean readable is stored held. none is (state g a).now stored (one.ok clean readable) held;
+  reason = why;
+  same = λ clean tables. tt;
+  err = λ clean tables still_open was. stays_settled g a b (one.same clean tables) was;
+  quiet = one.quiet;
+}
 
 -- ---- the whole state
 
@@ -320,6 +393,11 @@ pub rows_not_stored : (count : ℕ) (rules : List Rule) (routes : List Route) (r
 rows_not_stored count rules routes (Ok stored) fails = tt
 rows_not_stored count rules routes (Err reason) (inl none) = λ is db stored read held. none.1 stored (rows_spell db stored held count rules routes read.0.0 read.0.1 read.1)
 rows_not_stored count rules routes (Err reason) (inr memory) = λ is. absurd (let other : Damaged ≡ NoMemory = sym is ∙ memory in cc)
+
+pub rows_refused : (count : ℕ) (rules : List Rule) (routes : List Route) (result : Result State Refusal) → IfErr result (λ reason. ((reason ≡ Damaged) × RowsSpellNone count rules routes) ⊎ (reason ≡ NoMemory)) → IfErr result IsLoadRefusal
+rows_refused count rules routes (Ok stored) fails = tt
+rows_refused count rules routes (Err reason) (inl none) = inl none.0
+rows_refused count rules routes (Err reason) (inr memory) = inr (inr memory)
 
 -- a stored state has rules and routes for the count that was read
 pub has_rules : (db : Database) (count : ℕ) (stored : State) → SpellsCount db count → Stores db stored → SpellsRules (count + 3) db stored.rules

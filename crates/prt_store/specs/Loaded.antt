@@ -1,11 +1,11 @@
 -- What is read of the tables.
-use Rattle.std.specs.Prelude.{◌≡◌, ℕ, List, [], ◌∷◌, All, drop, map, IsPermutation, Result, IfErr, IfOk, OnOk}
+use Rattle.std.specs.Prelude.{◌≡◌, ◌⊎◌, ℕ, List, [], ◌∷◌, All, drop, map, IsPermutation, IsTrue, Result, IfErr, IfOk, OnErr, OnOk}
 use Rattle.sqlite.specs.Effect.{Database}
 use Rattle.sqlite.specs.Held.{Held, state}
 use Rattle.sqlite.specs.State.{HasCleanDisk, IsLive, IsUnchanged, State as Conn, Survives}
 use Rattle.sqlite.specs.Store.{Ghosts}
 use Rattle.prt_addr.specs.declared.refusal.Refusal.{Refusal}
-use Rattle.prt_addr.specs.declared.refusal.Refusal.TheVariants.{Damaged}
+use Rattle.prt_addr.specs.declared.refusal.Refusal.TheVariants.{Damaged, NoMemory, OpenFailed}
 use Rattle.prt_route.specs.declared.route.Route.{Route}
 use Rattle.prt_rows.specs.Effects.{IsKeyed}
 use Rattle.prt_rows.specs.Kept.{kept_count, kept_rule}
@@ -15,6 +15,7 @@ use Rattle.prt_rows.specs.RuleRow.{IsRule}
 use Rattle.prt_rows.specs.Tables.{meta_table, route_table, rule_table}
 use Rattle.prt_rule.specs.declared.rule.Rule.{Rule}
 use Rattle.prt_rows.specs.Format.{IsFormat1}
+use Rattle.prt_store.specs.Adopted.{IsSettled}
 
 -- the row of `meta` is that of this count
 pub record SpellsCount (db : Database) (count : ℕ) : Type 0 where
@@ -38,9 +39,19 @@ pub record IsReadable (conn : Conn) : Type 0 where
   pub tables : IsFormat1 conn.now.schema
   pub live : IsLive conn
 
--- What was read is what the tables spell, and they are `Damaged` only where they spell no such thing. Nothing is changed, and a crash leaves what it could leave before.
+-- why nothing is read: the tables spell nothing of the kind, a store call failed, or memory was refused
+abbrev pub IsLoadRefusal : Refusal → Type 0
+IsLoadRefusal reason = (reason ≡ Damaged) ⊎ ((reason ≡ OpenFailed) ⊎ (reason ≡ NoMemory))
+
+-- nothing is pending still, and the tables show what they showed
+abbrev pub StaysSettled : {S : Type 0} → Ghosts S → Held S → Held S → Type 0
+StaysSettled g old new = IsSettled g new × ((state g new).now ≡ (state g old).now)
+
+-- What was read is what the tables spell, and they are `Damaged` only where they spell no such thing. Nothing is changed, and a crash leaves what it could leave before. After a refusal that needs a connection that is still open, on which nothing was pending.
 pub record Reads {S X V : Type 0} (g : Ghosts S) (seen : X → V) (Spells : Database → V → Type 0) (old new : Held S) (result : Result X Refusal) : Type 0 where
   pub ok : HasCleanDisk (state g new) → IsReadable (state g old) → IfOk result (λ value. Spells (state g old).now (seen value))
   pub damaged : HasCleanDisk (state g new) → IsReadable (state g old) → IfErr result (λ reason. reason ≡ Damaged → (value : V) → Spells (state g old).now value → ⊥)
+  pub reason : IfErr result IsLoadRefusal
   pub same : HasCleanDisk (state g new) → IsFormat1 (state g old).now.schema → OnOk result (IsUnchanged (state g old) (state g new))
+  pub err : HasCleanDisk (state g new) → IsFormat1 (state g old).now.schema → IsTrue (state g new).is_open → IsSettled g old → OnErr result (StaysSettled g old new)
   pub quiet : (HasCleanDisk (state g old) → IsFormat1 (state g old).now.schema) → Survives (state g old) (state g new) (λ _. ⊥)

@@ -18,12 +18,12 @@ fn read_count<S: Alter>(conn: &mut Connection<S>) -> Result<u64, Refusal>
     ensures read { Reads S.Store (λ count. count) SpellsCount conn.old conn.new result }
     ensures fits { IfOk result IsCount }
 {
-    let Ok(rows) = conn.query_all("SELECT id, format, count FROM meta ORDER BY id", &[]) else {
-        return Err(Refusal::OpenFailed);
-    };
-    match count_of_rows(rows.as_slice()) {
-        Some(count) => Ok(count),
-        None => Err(Refusal::Damaged),
+    match conn.query_all("SELECT id, format, count FROM meta ORDER BY id", &[]) {
+        Ok(rows) => match count_of_rows(rows.as_slice()) {
+            Some(count) => Ok(count),
+            None => Err(Refusal::Damaged),
+        },
+        Err(_) => Err(Refusal::OpenFailed),
     }
 }
 
@@ -35,26 +35,26 @@ fn read_rules<S: Alter>(
 ) -> Result<Vec<Rule>, Refusal>
     ensures { Reads S.Store (λ (rules : _). rules.items) (SpellsRules last) conn.old conn.new result }
 {
-    let Ok(rows) = conn.query_all(
+    match conn.query_all(
         "SELECT id, priority, inverted, src_net, src_len, dst_net, dst_len, iif, mark, mask, act, tbl FROM rule ORDER BY id",
         &[],
-    ) else {
-        return Err(Refusal::OpenFailed);
-    };
-    rules_of_rows(alloc, rows.as_slice(), last)
+    ) {
+        Ok(rows) => rules_of_rows(alloc, rows.as_slice(), last),
+        Err(_) => Err(Refusal::OpenFailed),
+    }
 }
 
 /// The routes that the table `route` spells.
 fn read_routes<S: Alter>(alloc: Global, conn: &mut Connection<S>) -> Result<Vec<Route>, Refusal>
     ensures { Reads S.Store (λ (routes : _). routes.items) SpellsRoutes conn.old conn.new result }
 {
-    let Ok(rows) = conn.query_all(
+    match conn.query_all(
         "SELECT rowid, tbl, net, len, metric, kind, via, dev, src, proto, scope FROM route ORDER BY rowid",
         &[],
-    ) else {
-        return Err(Refusal::OpenFailed);
-    };
-    routes_of_rows(alloc, rows.as_slice())
+    ) {
+        Ok(rows) => routes_of_rows(alloc, rows.as_slice()),
+        Err(_) => Err(Refusal::OpenFailed),
+    }
 }
 
 /// The version that the tables spell.

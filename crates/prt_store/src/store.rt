@@ -1,6 +1,7 @@
 //! The store as a type.
 
 ghost use Rattle.std.specs.Prelude.{◌≡◌, ◌⊎◌, ◌↔◌, IfErr, IfOk, IsTrue, OnErr, OnOk};
+ghost use Rattle.sqlite.specs.Effect.{IsDatabase};
 ghost use Rattle.sqlite.specs.Held.{state};
 ghost use Rattle.sqlite.specs.State.{HasCleanDisk, IsUnchanged};
 ghost use Rattle.sqlite.specs.Tree.{Trees};
@@ -9,8 +10,10 @@ ghost use Rattle.prt_addr.specs.declared.refusal.StoreCall.TheVariants.{Commit};
 ghost use Rattle.prt_addr.specs.declared.refusal.Refusal.TheVariants.{Damaged, StoreFailed};
 ghost use Rattle.prt_version.specs.Change.{put};
 ghost use Rattle.prt_version.specs.State.{State};
-ghost use Rattle.prt_store.specs.Next.{IsNext};
 ghost use Rattle.prt_rows.specs.Format.{IsFormat1};
+ghost use Rattle.prt_store.specs.Adopted.{IsSettled};
+ghost use Rattle.prt_store.specs.Loaded.{IsLoadRefusal, StaysSettled};
+ghost use Rattle.prt_store.specs.Next.{IsNext};
 ghost use Rattle.prt_store.specs.Stored.{Stores};
 ghost use Rattle.prt_store.specs.Written.{CommitsNothing};
 
@@ -62,14 +65,20 @@ impl<S: Alter + Drop> Store<S> {
     ///
     /// # Errors
     ///
-    /// `Damaged` only where the tables spell no state; `OpenFailed` where a store call fails; `NoMemory`.
+    /// `Damaged` only where the tables spell no state; `OpenFailed` where a store call fails; `NoMemory`. The tables are as
+    /// they were, if the connection is still open and nothing was pending on it.
     pub fn load(&mut self, alloc: Global) -> Result<Version, Refusal>
         ensures ok { HasCleanDisk (state S.Store self.new.conn) → IsFormat1 (state S.Store self.old.conn).now.schema →
             IfOk result (Stores (state S.Store self.old.conn).now) }
         ensures damaged { HasCleanDisk (state S.Store self.new.conn) → IsFormat1 (state S.Store self.old.conn).now.schema →
             IfErr result (λ reason. reason ≡ Damaged → (stored : State) → Stores (state S.Store self.old.conn).now stored → ⊥) }
+        ensures reason { IfErr result IsLoadRefusal }
         ensures same { HasCleanDisk (state S.Store self.new.conn) → IsFormat1 (state S.Store self.old.conn).now.schema →
             OnOk result (IsUnchanged (state S.Store self.old.conn) (state S.Store self.new.conn)) }
+        ensures sound { HasCleanDisk (state S.Store self.new.conn) → IsFormat1 (state S.Store self.old.conn).now.schema →
+            OnOk result (IsDatabase (state S.Store self.new.conn).now) }
+        ensures err { HasCleanDisk (state S.Store self.new.conn) → IsFormat1 (state S.Store self.old.conn).now.schema → IsTrue (state S.Store self.new.conn).is_open →
+            IsSettled S.Store self.old.conn → OnErr result (StaysSettled S.Store self.old.conn self.new.conn) }
         ensures quiet { (HasCleanDisk (state S.Store self.old.conn) → IsFormat1 (state S.Store self.old.conn).now.schema) → CommitsNothing S.Store self.old.conn self.new.conn }
     {
         let _live = self.conn.schema();

@@ -3,7 +3,7 @@ use Rattle.std.specs.Prelude.{◌+◌, Vec}
 use Rattle.std.specs.declared.alloc.Global.{Global}
 use Rattle.prt_route.specs.declared.route.Route.{Route}
 use Rattle.prt_rule.specs.declared.rule.Rule.{Rule}
-use Rattle.prt_store.proofs.Loads.{has_rules, in_all, routes_spelled, rows_not_stored, rows_stored, then_fails, then_ok}
+use Rattle.prt_store.proofs.Loads.{has_rules, in_all, routes_spelled, rows_not_stored, rows_refused, rows_stored, then_fails, then_ok}
 use Rattle.prt_store.specs.Loaded.{SpellsCount, SpellsRoutes, SpellsRules}
 use Rattle.prt_store.proofs.load.load.Goals as goal
 
@@ -37,3 +37,4 @@ returns g c =
     routes c.in-Ok-read_routes.ensures in
     in_all g.S.Store (λ (u : Unit {0}). u) (λ db _. (SpellsCount db count × SpellsRules (count + 3) db rules.items) × SpellsRoutes db routes.items) c.args.conn.now c.read_routes.new.conn tt three c.from_rows.result
     (rows_stored count rules.items routes.items c.from_rows.result c.from_rows.ensures.value) (rows_not_stored count rules.items routes.items c.from_rows.result c.from_rows.ensures.reason)
+    (rows_refused count rules.items routes.items c.from_rows.result c.from_rows.ensures.reason)

@@ -3,20 +3,13 @@ use Rattle.sqlite.specs.Held.{state}
 use Rattle.prt_rows.specs.Decodes.{Decodes}
 use Rattle.prt_rows.specs.Rowids.{FailsToRead, rowids_rise}
 use Rattle.prt_rows.specs.RuleRow.{IsRule, rule_row}
-use Rattle.prt_store.proofs.Loads.{reads_of, rules_damaged, rules_quiet, rules_read, rules_unchanged}
+use Rattle.prt_rows.specs.Statements.{read_rules}
+use Rattle.prt_store.proofs.Loads.{plain_rules, read_refusal, reads_nothing, reads_of, rules_damaged, rules_quiet, rules_read, rules_unchanged}
 use Rattle.prt_store.specs.Loaded.{SpellsRules}
 use Rattle.prt_store.proofs.load.read_rules.Goals as goal
 
-pub returns-in_default : goal.returns-in_default
-returns-in_default g c = record {
-  ok = λ clean readable. tt;
-  damaged = λ clean readable is. absurd (cc);
-  same = λ clean tables. tt;
-  quiet = λ tables. rules_quiet (state g.S.Store c.args.conn.now) (state g.S.Store c.query_all.new.self) tables c.query_all.ensures.survives;
-}
-
-pub returns : goal.returns
-returns g c =
+pub returns-in-Ok : goal.returns-in-Ok
+returns-in-Ok g c =
     let old = state g.S.Store c.args.conn.now in
     let new = state g.S.Store c.query_all.new.self in
     let rows = c.in-Ok.rows.items in
@@ -27,5 +20,12 @@ returns g c =
     c.rules_of_rows.ensures.rise c.rules_of_rows.ensures.ok c.rules_of_rows.ensures.err
     (λ clean readable rules rise read. rules_read old new readable rows (c.in-Ok.ensures.ok clean) last rules.items (subst (λ rows. rowids_rise rows ≡ true) seen rise) (subst (λ rows. Decodes (map rule_row) (All (IsRule last)) rows (Some rules.items)) seen read))
     (λ clean readable reason fails is rules spells. rules_damaged old new readable rows (c.in-Ok.ensures.ok clean) last reason (subst (λ rows. FailsToRead rule_row (IsRule last) (λ row. row) rows reason) seen fails) is rules spells)
+    (read_refusal rule_row (IsRule last) (λ row. row) c.as_slice.result.now)
     (λ clean tables. rules_unchanged old new tables rows (c.in-Ok.ensures.ok clean))
     (λ tables. rules_quiet old new tables c.query_all.ensures.survives)
+
+pub returns-in-Err : goal.returns-in-Err
+returns-in-Err g c =
+    let old = c.args.conn.now in
+    let new = c.query_all.new.self in
+    reads_nothing g.S.Store old new (λ (rules : _). rules.items) (SpellsRules c.args.last) read_rules (plain_rules (state g.S.Store old).now.schema) c.query_all.ensures.survives c.in-Err.field-0 c.in-Err.ensures.err
