@@ -16,7 +16,8 @@ use Rattle.prt_rows.specs.Statements.{set_count}
 use Rattle.prt_version.specs.Change.{put}
 use Rattle.prt_version.specs.State.{State}
 use Rattle.prt_version.specs.declared.change.Change.{Change}
-use Rattle.prt_store.specs.Next.{IsNext}
+use Rattle.prt_store.specs.Adopted.{IsSettled}
+use Rattle.prt_store.specs.Next.{IsNext, MakesNext}
 use Rattle.prt_store.specs.Stored.{Stores}
 use Rattle.prt_store.specs.Written.{AreWritten, CommitsNothing, IsTyped, IsWritten, RunsInside, text_of, values_of}
 use Rattle.prt_store.proofs.Changes.{changed}
@@ -56,16 +57,15 @@ module _ {S : Type 0} (g : Ghosts S) (made : Change) (number : ℕ) (old begun m
       (λ clean db is. ((state g last).now, written (omega (arith, done.clean)), is)) (survives_begin g old (state g last) _ (subst (λ h. Survives (state g h) (state g last) (λ _. ⊥)) was inside)) done
 
   pub committed : (end : Held S) → (doubt (state g last).is_clean ≤ doubt (state g end).is_clean) → Shows (state g last) (state g end) (state g last).now (state g last).now false → HasCleanDisk (state g end)
-      → IsWritten g made number old (state g end).committed × ((state g end).now ≡ (state g end).committed) × IsTrue (state g end).is_open
+      → IsWritten g made number old (state g end).committed × IsSettled g end
   committed end less shows clean =
-      (subst (IsWritten g made number old) (sym shows.committed_is) (written (omega (arith, less))), shows.now_is ∙ sym shows.committed_is, shows.is_open)
+      (subst (IsWritten g made number old) (sym shows.committed_is) (written (omega (arith, less))), record { is_open = shows.is_open; autocommit = shows.mode; committed = shows.now_is ∙ sym shows.committed_is })
 
--- what was written spells the next state, in the same tables
-pub written_stores : {S : Type 0} (g : Ghosts S) (made : Change) (number : ℕ) (old : Held S) (db : Database) (before : State) → IsNext before made number → IsTyped made → Stores (state g old).now before
-    → IsWritten g made number old db → (db.schema ≡ (state g old).now.schema) × Stores db (put before made)
-written_stores g made number old db before next typed held w =
+-- what was written makes the next state of what was stored
+pub makes_next : {S : Type 0} (g : Ghosts S) (made : Change) (number : ℕ) (old : Held S) (db : Database) (before : State) → IsNext before made number → IsTyped made → Stores (state g old).now before → IsWritten g made number old db
+    → MakesNext (state g old).now (put before made) db
+makes_next g made number old db before next typed held w =
     let start = state g (begun_from old) in
     let half = changed start (state g w.changed) before held w.rows.0 made typed w.change in
     let count = subst (λ n. Executes set_count (count_values n) (state g w.changed) (state g w.counted) (Ok w.rows.1)) (number_is before made number next) w.count in
-    subst (λ (d : Database). (d.schema ≡ start.now.schema) × Stores d (put before made)) (sym w.is)
-    (counted start (state g w.changed) (state g w.counted) before (put before made) held half (next_storable before made number next held.fits typed) w.rows.1 count)
+    subst (MakesNext start.now (put before made)) (sym w.is) (counted start (state g w.changed) (state g w.counted) before (put before made) held half (next_storable before made number next held.fits typed) w.rows.1 count)

@@ -1,6 +1,6 @@
 -- What the statement of each change leaves.
 use Rattle.std.proofs.Common.{◌≡◌, inl, inr, ℕ, pos, Bool, true, false, not, List, [], ◌∷◌, Ok, drop, map, IsPermutation, ◌==◌, refl, sym, ap, subst, ◌∙◌, arith}
-use Rattle.std.proofs.lemmas.Bool.{eq-eqb}
+use Rattle.std.proofs.lemmas.Bool.{eqb-false}
 use Rattle.std.proofs.lemmas.Grind.{common_steps}
 use Rattle.std.proofs.lemmas.List.Sorted.{IsPermutation-sym}
 use Rattle.std.specs.List.{IsDistinct}
@@ -38,7 +38,8 @@ use Rattle.prt_rows.specs.RouteRow.{route_row}
 use Rattle.prt_rows.specs.RuleRow.{rule_row}
 use Rattle.prt_rows.specs.Selecting.{IsSelector, selector_row}
 use Rattle.prt_rows.specs.Statements.{delete_route, delete_rule, flush_routes, flush_rules, insert_rule, put_route}
-use Rattle.prt_rows.specs.Tables.{meta_table, route_table, rule_table}
+use Rattle.prt_rows.specs.Format.{IsFormat1}
+use Rattle.prt_rows.specs.Tables.{meta_table, our_tables, route_table, rule_table}
 use Rattle.prt_rule.specs.Rule.{is_before}
 use Rattle.prt_rule.specs.declared.rule.Rule.{Rule}
 use Rattle.prt_version.specs.Change.{put}
@@ -57,9 +58,17 @@ pub record IsChanged (old mid : Database) (next : State) : Type 0 where
   pub rules : Covers IsRuleRow (mid.trees 0) next.rules
   pub routes : Covers IsRouteRow (mid.trees 1) next.routes
   pub count : mid.trees 3 ≡ old.trees 3
+  pub others : (table : Table) → Has old.schema.tables table → (table.tree ≡ 0 → ⊥) → (table.tree ≡ 1 → ⊥) → mid.trees table.tree ≡ old.trees table.tree
 
-apart : (m n : ℕ) → (m == n) ≡ false → m ≡ n → ⊥
-apart m n differ is = absurd (let same = eq-eqb m n is in cc)
+-- a table of the file that is not ours is one of the others
+pub among_others : (schema : Schema) (tables : IsFormat1 schema) (table : Table) → Has schema.tables table → (Has our_tables table → ⊥) → Has tables.tables table
+among_others schema tables table there not_ours = after_ours (subst (λ (s : Schema). Has s.tables table) tables.is there)
+  where
+    after_ours : Has (rule_table ∷ route_table ∷ meta_table ∷ tables.tables) table → Has tables.tables table
+    after_ours (inl is) = absurd (not_ours (inl is))
+    after_ours (inr (inl is)) = absurd (not_ours (inr (inl is)))
+    after_ours (inr (inr (inl is))) = absurd (not_ours (inr (inr (inl is))))
+    after_ours (inr (inr (inr other))) = other
 
 cmp_ids : (a b : ℕ) → is_eq (int_cmp (pos a) (pos b)) ≡ (a == b)
 cmp_ids a b = grind (arith, common_steps)
@@ -112,7 +121,7 @@ module _ (old : Database) (state : State) (held : Stores old state) where
 module _ (old mid : Conn) (state : State) (held : Stores old.now state) (count : ℕ) where
   -- what was not the table of the statement stays
   stays : (table other : Table) → ChangesOnly table old.now mid.now → Has old.now.schema.tables other → (other.tree == table.tree) ≡ false → mid.now.trees other.tree ≡ old.now.trees other.tree
-  stays table other only there differ = only.others other there (apart other.tree table.tree differ)
+  stays table other only there differ = only.others other there (eqb-false other.tree table.tree differ)
 
   -- the routes are those of the next state
   routes_changed : (next : State) → next.rules ≡ state.rules → ChangesOnly route_table old.now mid.now → IsKeyed (mid.now.trees 1) → Covers IsRouteRow (mid.now.trees 1) next.routes → IsChanged old.now mid.now next
@@ -123,6 +132,7 @@ module _ (old mid : Conn) (state : State) (held : Stores old.now state) (count :
     rules = subst (λ rules. Covers IsRuleRow (mid.now.trees 0) rules) (sym same) (subst (λ rows. Covers IsRuleRow rows state.rules) (sym rows) (rules_covered old.now state held));
     routes = routes;
     count = stays route_table meta_table only (has_meta_table old.now state held) refl;
+    others = λ table there no_rules no_routes. only.others table there no_routes;
   }
     where
       rows : mid.now.trees 0 ≡ old.now.trees 0
@@ -139,6 +149,7 @@ module _ (old mid : Conn) (state : State) (held : Stores old.now state) (count :
         rules = rules;
         routes = subst (λ routes. Covers IsRouteRow (mid.now.trees 1) routes) (sym same) (subst (λ rows. Covers IsRouteRow rows state.routes) (sym rows) (routes_covered old.now state held));
         count = stays rule_table meta_table only (has_meta_table old.now state held) refl;
+        others = λ table there no_rules no_routes. only.others table there no_rules;
       }
 
   puts : (route : Route) → Executes put_route (route_row route) old mid (Ok count) → IsChanged old.now mid.now (put state (change.Route (Put route)))

@@ -1,6 +1,6 @@
 -- The change and the count make the next state of what was stored.
 use Rattle.std.proofs.Common.{◌≡◌, ℕ, ◌&&◌, true, false, List, Ok, IsPermutation, drop, map, inl, inr, refl, sym, ap, subst, ◌∙◌}
-use Rattle.std.proofs.lemmas.Bool.{and_from, and_parts, eq-eqb, false_from_ne_true, not-true, true≢false}
+use Rattle.std.proofs.lemmas.Bool.{and_from, and_parts, eq-eqb, eqb-false, false_from_ne_true, not-true, true≢false}
 use Rattle.std.proofs.lemmas.Cmp.{tied_itself}
 use Rattle.std.specs.Ordering.{is_eq}
 use Rattle.sqlite.proofs.Callers.{runs_as}
@@ -30,8 +30,9 @@ use Rattle.prt_rows.specs.Statements.{set_count}
 use Rattle.prt_rows.specs.Tables.{key_places, route_table, rule_table, schema_with}
 use Rattle.prt_version.specs.State.{State}
 use Rattle.prt_rows.specs.Format.{IsFormat1}
+use Rattle.prt_store.specs.Next.{MakesNext}
 use Rattle.prt_store.specs.Stored.{FitsTables, Stores}
-use Rattle.prt_store.proofs.Changes.{IsChanged, keyed_rules}
+use Rattle.prt_store.proofs.Changes.{IsChanged, among_others, keyed_rules}
 use Rattle.prt_store.proofs.Once.{IsOnce, once_mapped}
 use Rattle.prt_store.proofs.Spelling.{Covers, IsRouteRow, IsRuleRow, map_id, same_if_covers}
 
@@ -75,7 +76,7 @@ module _ (old mid last : Conn) (state next : State) (held : Stores old.now state
   tables_kept = subst IsFormat1 (sym made.schema) held.tables
 
   -- the count of the next state makes the tables spell it
-  pub counted : (rows : ℕ) → Executes set_count (count_values next.count) mid last (Ok rows) → (last.now.schema ≡ old.now.schema) × Stores last.now next
+  pub counted : (rows : ℕ) → Executes set_count (count_values next.count) mid last (Ok rows) → MakesNext old.now next last.now
   counted rows ran =
       let t = tables_kept in
       let is = set_count_is t.tables t.indexes t.views in
@@ -84,14 +85,21 @@ module _ (old mid last : Conn) (state next : State) (held : Stores old.now state
       let tables : IsFormat1 last.now.schema = subst IsFormat1 (sym set.only.schema) t in
       let rules : last.now.trees 0 ≡ mid.now.trees 0 = set.only.others rule_table (subst (λ (s : Schema). Has s.tables rule_table) (sym t.is) (inl refl)) (λ e. absurd (cc)) in
       let routes : last.now.trees 1 ≡ mid.now.trees 1 = set.only.others route_table (subst (λ (s : Schema). Has s.tables route_table) (sym t.is) (inr (inl refl))) (λ e. absurd (cc)) in
-      let keyed : IsKeyed (last.now.trees 1) = subst IsKeyed (sym routes) made.routes_keyed in (
-        set.only.schema ∙ made.schema,
-        record {
+      let keyed : IsKeyed (last.now.trees 1) = subst IsKeyed (sym routes) made.routes_keyed in
+      record {
+        sound = w.sound;
+        stores = record {
           tables = tables;
           keyed = keyed;
           rules = rules_spell (last.now.trees 0) (subst IsKeyed (sym rules) made.rules_keyed) next storable (subst (λ rows. Covers IsRuleRow rows next.rules) (sym rules) made.rules);
           routes = routes_spell last.now tables w.sound keyed next storable (subst (λ rows. Covers IsRouteRow rows next.routes) (sym routes) made.routes);
           count = set.alone;
           fits = storable;
-        },
-      )
+        };
+        schema = set.only.schema ∙ made.schema;
+        others = λ table there not_ours.
+            let other = among_others old.now.schema held.tables table there not_ours in
+            let apart = held.tables.others in
+            let no_count = set.only.others table (subst (λ (s : Schema). Has s.tables table) (sym made.schema) there) (eqb-false table.tree 3 (apart.meta table other)) in
+            no_count ∙ made.others table there (eqb-false table.tree 0 (apart.rule table other)) (eqb-false table.tree 1 (apart.route table other));
+      }

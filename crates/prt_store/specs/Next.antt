@@ -1,11 +1,16 @@
--- What may be committed after a state.
+-- What may be committed after a state, and what it makes of a database.
 use Rattle.std.specs.Prelude.{◌≡◌, ℕ, ◌+◌, Ok}
+use Rattle.sqlite.specs.Effect.{Database, IsDatabase}
+use Rattle.sqlite.specs.Table.{Table}
+use Rattle.sqlite_rules.specs.Lists.{Has}
 use Rattle.prt_command.specs.Storable.{IsStorable}
 use Rattle.prt_command.specs.declared.request.Command.{Command}
+use Rattle.prt_rows.specs.Tables.{our_tables}
 use Rattle.prt_version.specs.Change.{check}
 use Rattle.prt_version.specs.Sound.{IsSound}
 use Rattle.prt_version.specs.State.{State}
 use Rattle.prt_version.specs.declared.change.Change.{Change}
+use Rattle.prt_store.specs.Stored.{Stores}
 
 -- the change is the one that a storable command makes of the state, and the number is the state's next one
 pub record IsNext (state : State) (change : Change) (number : ℕ) : Type 0 where
@@ -14,3 +19,10 @@ pub record IsNext (state : State) (change : Change) (number : ℕ) : Type 0 wher
   pub storable : IsStorable command
   pub makes : check state command ≡ Ok change
   pub counts : number ≡ state.count + 1
+
+-- The tables spell the next state, and the rest is as it was: the tables of the schema, and the rows of each table that is not ours.
+pub record MakesNext (old : Database) (next : State) (new : Database) : Type 0 where
+  pub sound : IsDatabase new
+  pub stores : Stores new next
+  pub schema : new.schema ≡ old.schema
+  pub others : (table : Table) → Has old.schema.tables table → (Has our_tables table → ⊥) → new.trees table.tree ≡ old.trees table.tree

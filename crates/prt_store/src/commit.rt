@@ -1,8 +1,9 @@
 //! One change in one transaction.
 
-ghost use Rattle.std.specs.Prelude.{◌≡◌, ◌<◌, ◌^◌, IfErr, IsTrue, OnErr, OnOk};
+ghost use Rattle.std.specs.Prelude.{◌≡◌, ◌↔◌, ◌<◌, ◌^◌, Err, IfErr, IsTrue, OnErr, OnOk};
 ghost use Rattle.sqlite.specs.Held.{state};
 ghost use Rattle.sqlite.specs.State.{HasCleanDisk, Survives};
+ghost use Rattle.prt_store.specs.Adopted.{IsSettled};
 ghost use Rattle.prt_store.specs.Written.{AreWritten, CommitsNothing, HasStorableIds, IsTyped, IsWritten, RunsInside, text_of, values_of};
 
 use crate::statements::{
@@ -43,9 +44,11 @@ pub(crate) fn run<S: Alter>(
 ) -> Result<(), StoreCall>
     requires ids { HasStorableIds change.now }
     requires number { number < 2 ^ 63 }
-    ensures ok { HasCleanDisk (state S.Store conn.new) → OnOk result (IsTyped change.now × IsWritten S.Store change.now number conn.old (state S.Store conn.new).committed
-        × ((state S.Store conn.new).now ≡ (state S.Store conn.new).committed) × IsTrue (state S.Store conn.new).is_open) }
+    ensures ok { HasCleanDisk (state S.Store conn.new) → OnOk result (IsTyped change.now × IsWritten S.Store change.now number conn.old (state S.Store conn.new).committed × IsSettled S.Store conn.new) }
     ensures clean { HasCleanDisk (state S.Store conn.new) → OnOk result (HasCleanDisk (state S.Store conn.old)) }
+    ensures begin { (result ≡ Err StoreCall.Begin) ↔ IsTrue conn.old.in_transaction }
+    ensures not_begun { result ≡ Err StoreCall.Begin → conn.new ≡ conn.old }
+    ensures mode { OnErr result (conn.new.in_transaction ≡ conn.old.in_transaction) }
     ensures err { HasCleanDisk (state S.Store conn.new) → IsTrue (state S.Store conn.new).is_open →
         OnErr result (((state S.Store conn.new).now ≡ (state S.Store conn.old).now) × ((state S.Store conn.new).committed ≡ (state S.Store conn.old).committed)) }
     ensures crash_err { IfErr result (λ call. Survives (state S.Store conn.old) (state S.Store conn.new)

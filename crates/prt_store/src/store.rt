@@ -1,19 +1,19 @@
 //! The store as a type.
 
-ghost use Rattle.std.specs.Prelude.{◌≡◌, ◌⊎◌, ◌↔◌, IfErr, IfOk, IsTrue, OnErr, OnOk};
+ghost use Rattle.std.specs.Prelude.{◌≡◌, ◌⊎◌, ◌↔◌, IfErr, IfOk, IsTrue, OnErr, OnOk, Err};
 ghost use Rattle.sqlite.specs.Effect.{IsDatabase};
 ghost use Rattle.sqlite.specs.Held.{state};
 ghost use Rattle.sqlite.specs.State.{HasCleanDisk, IsUnchanged};
 ghost use Rattle.sqlite.specs.Tree.{Trees};
 ghost use Rattle.prt_addr.specs.declared.refusal.StoreCall.{StoreCall as FailedCall};
-ghost use Rattle.prt_addr.specs.declared.refusal.StoreCall.TheVariants.{Commit};
-ghost use Rattle.prt_addr.specs.declared.refusal.Refusal.TheVariants.{Damaged, StoreFailed};
+ghost use Rattle.prt_addr.specs.declared.refusal.StoreCall.TheVariants.{Commit, Begin};
+ghost use Rattle.prt_addr.specs.declared.refusal.Refusal.TheVariants.{Damaged, StoreFailed, OpenFailed};
 ghost use Rattle.prt_version.specs.Change.{put};
 ghost use Rattle.prt_version.specs.State.{State};
 ghost use Rattle.prt_rows.specs.Format.{IsFormat1};
 ghost use Rattle.prt_store.specs.Adopted.{IsSettled};
 ghost use Rattle.prt_store.specs.Loaded.{IsLoadRefusal, StaysSettled};
-ghost use Rattle.prt_store.specs.Next.{IsNext};
+ghost use Rattle.prt_store.specs.Next.{IsNext, MakesNext};
 ghost use Rattle.prt_store.specs.Stored.{Stores};
 ghost use Rattle.prt_store.specs.Written.{CommitsNothing};
 
@@ -87,27 +87,34 @@ impl<S: Alter + Drop> Store<S> {
 
     /// Makes the change that a command makes of the stored state, whose next number this is, in one transaction.
     ///
-    /// After `Ok` the tables spell the state after the change, and a crash leaves exactly that.
+    /// After `Ok` the tables spell the state after the change, all other tables are as they were, and a crash leaves exactly
+    /// that.
     ///
     /// # Errors
     ///
-    /// `StoreFailed` names the call that failed. The tables are as they were, if the connection is still open; a crash
-    /// leaves what it could leave before or, only where the commit failed, possibly the state after the change.
+    /// `StoreFailed` names the call that failed: `Begin` where the connection is in a transaction, and nowhere else. The
+    /// tables are as they were, if the connection is still open; a crash leaves what it could leave before or, only where the
+    /// commit failed, possibly what it leaves after `Ok`.
     pub fn commit(&mut self, change: &Change, number: u64) -> Result<Stamp, Refusal>
         requires { (before : State) × IsNext before change.now number }
         ensures stamp { IfOk result (λ stamp. stamp.number ≡ number) }
         ensures reason { IfErr result (λ reason. (call : FailedCall) × (reason ≡ StoreFailed call)) }
         ensures clean { HasCleanDisk (state S.Store self.new.conn) → HasCleanDisk (state S.Store self.old.conn) }
+        ensures begin { (result ≡ Err (StoreFailed Begin)) ↔ IsTrue (state S.Store self.old.conn).in_transaction }
+        ensures not_begun { result ≡ Err (StoreFailed Begin) → self.new.conn ≡ self.old.conn }
         ensures ok { HasCleanDisk (state S.Store self.new.conn) → OnOk result ((before : State) → IsNext before change.now number →
-            Stores (state S.Store self.old.conn).now before → Stores (state S.Store self.new.conn).now (put before change.now)) }
+            Stores (state S.Store self.old.conn).now before → MakesNext (state S.Store self.old.conn).now (put before change.now) (state S.Store self.new.conn).now) }
+        ensures settled { HasCleanDisk (state S.Store self.new.conn) → OnOk result (IsSettled S.Store self.new.conn) }
         ensures crash_ok { HasCleanDisk (state S.Store self.new.conn) → OnOk result ((trees : Trees) →
             (state S.Store self.new.conn).may_leave trees → trees ≡ (state S.Store self.new.conn).now.trees) }
         ensures err { HasCleanDisk (state S.Store self.new.conn) → IsTrue (state S.Store self.new.conn).is_open →
             OnErr result ((state S.Store self.new.conn).now ≡ (state S.Store self.old.conn).now) }
+        ensures still_settled { HasCleanDisk (state S.Store self.new.conn) → IsTrue (state S.Store self.new.conn).is_open → IsSettled S.Store self.old.conn →
+            OnErr result (IsSettled S.Store self.new.conn) }
         ensures crash_err { HasCleanDisk (state S.Store self.new.conn) → IfErr result (λ reason. (before : State) → IsNext before change.now number →
             Stores (state S.Store self.old.conn).now before → (trees : Trees) → (state S.Store self.new.conn).may_leave trees →
             (state S.Store self.old.conn).may_leave trees
-            ⊎ ((reason ≡ StoreFailed Commit) × Stores (record { schema = (state S.Store self.old.conn).now.schema; trees = trees }) (put before change.now))) }
+            ⊎ ((reason ≡ StoreFailed Commit) × MakesNext (state S.Store self.old.conn).now (put before change.now) (record { schema = (state S.Store self.old.conn).now.schema; trees = trees }))) }
     {
         match run(&mut self.conn, change, number) {
             Ok(()) => Ok(Stamp { number }),

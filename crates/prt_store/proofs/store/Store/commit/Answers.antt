@@ -1,10 +1,10 @@
-use Rattle.std.proofs.Common.{inl, inr, sym, ap, subst, arith}
-use Rattle.sqlite.specs.Effect.{Database}
+use Rattle.std.proofs.Common.{inl, inr, sym, ap, subst, ◌∙◌, arith}
+use Rattle.sqlite.specs.Held.{state}
 use Rattle.prt_addr.specs.declared.refusal.Refusal.TheVariants.{StoreFailed}
 use Rattle.prt_version.specs.Change.{put}
-use Rattle.prt_store.proofs.Calls.{written_stores}
+use Rattle.prt_store.proofs.Calls.{makes_next}
 use Rattle.prt_store.proofs.Nexts.{small_ids, small_number}
-use Rattle.prt_store.specs.Stored.{Stores}
+use Rattle.prt_store.specs.Next.{MakesNext}
 use Rattle.prt_store.proofs.store.Store.commit.Goals as goal
 
 pub run-requires-clause-ids : goal.run-requires-clause-ids
@@ -16,16 +16,24 @@ run-requires-clause-number g c = small_number c.requires.0 c.args.change.now c.a
 pub returns-in-Ok-clause-ok : goal.returns-in-Ok-clause-ok
 returns-in-Ok-clause-ok g c clean before next held =
     let done = c.in-Ok.ensures.ok clean in
-    subst (λ (d : Database). Stores d (put before c.args.change.now)) (sym done.2)
-    (written_stores g.S.Store c.args.change.now c.args.number c.args.self.now.conn _ before next done.0 held done.1).1
+    subst (MakesNext (state g.S.Store c.args.self.now.conn).now (put before c.args.change.now)) (sym done.2.committed) (makes_next g.S.Store c.args.change.now c.args.number c.args.self.now.conn _ before next done.0 held done.1)
+
+pub returns-in-Ok-clause-settled : goal.returns-in-Ok-clause-settled
+returns-in-Ok-clause-settled g c clean = (c.in-Ok.ensures.ok clean).2
+
+pub returns-in-Err-clause-still_settled : goal.returns-in-Err-clause-still_settled
+returns-in-Err-clause-still_settled g c clean still_open was =
+    let same = c.in-Err.ensures.err clean still_open in
+    record { is_open = still_open; autocommit = c.in-Err.ensures.mode ∙ was.autocommit; committed = same.0 ∙ was.committed ∙ sym same.1 }
 
 pub returns-in-Err-clause-crash_err : goal.returns-in-Err-clause-crash_err
 returns-in-Err-clause-crash_err g c clean before next held trees leaves = elim (c.in-Err.ensures.crash_err.crash clean trees leaves) [
   | inl was ↦ inl was
   | inr made ↦
       let it = made.2 in
-      let now = written_stores g.S.Store c.args.change.now c.args.number c.args.self.now.conn it.0 before next made.1 held it.1 in
-      inr (ap StoreFailed made.0, subst (λ (d : Database). Stores d (put before c.args.change.now)) (λ i. record { schema = now.0 i; trees = sym it.2 i }) now.1)
+      let old = c.args.self.now.conn in
+      let all = makes_next g.S.Store c.args.change.now c.args.number old it.0 before next made.1 held it.1 in
+      inr (ap StoreFailed made.0, subst (MakesNext (state g.S.Store old).now (put before c.args.change.now)) (λ i. record { schema = all.schema i; trees = sym it.2 i }) all)
 ]
 
 pub returns-in-Ok-clause-clean : goal.returns-in-Ok-clause-clean
