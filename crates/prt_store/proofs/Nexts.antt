@@ -1,5 +1,5 @@
 -- What a checked change makes of a state that may be stored may be stored too.
-use Rattle.std.proofs.Common.{◌≡◌, inl, inr, ℕ, ◌+◌, ◌≤◌, ◌<◌, ◌^◌, Bool, true, false, not, Option, Some, None, Result, Ok, Err, cond, refl, sym, subst, ◌∙◌, arith}
+use Rattle.std.proofs.Common.{◌≡◌, inl, inr, ℕ, ◌+◌, ◌≤◌, ◌<◌, ◌^◌, Bool, true, false, not, Option, Some, None, Result, Ok, Err, cond, refl, sym, ap, subst, ◌∙◌, arith}
 use Rattle.std.specs.Prelude.{◌==◌, IfOk, nat_lt, ok_or, option_map}
 use Rattle.sqlite_rules.proofs.ListLemmas.{all_has, has_filtered, has_found}
 use Rattle.sqlite_rules.specs.Lists.{Has}
@@ -21,7 +21,7 @@ use Rattle.prt_rule.specs.RuleChoice.{is_named}
 use Rattle.prt_rule.specs.Storable.{IsStorableAction}
 use Rattle.prt_rule.specs.declared.rule.Rule.{Rule}
 use Rattle.prt_version.proofs.Successor.{next_sound}
-use Rattle.prt_version.specs.Change.{change_of, has_rule, named_rule, put, rule_of, unless_count_full}
+use Rattle.prt_version.specs.Change.{change_of, check, has_rule, named_rule, put, rule_of, unless_count_full}
 use Rattle.prt_version.specs.Sound.{IsSound}
 use Rattle.prt_version.specs.State.{State}
 use Rattle.prt_version.specs.declared.change.Change.{Change}
@@ -31,6 +31,10 @@ use Rattle.prt_store.proofs.Members.{inserted_has}
 use Rattle.prt_store.specs.Next.{IsNext}
 use Rattle.prt_store.specs.Stored.{FitsTables}
 use Rattle.prt_store.specs.Written.{HasStorableIds, IsTyped}
+
+-- what `number` and `check` say of a version is what a commit asks for
+pub next_of : (before : State) (command : Command) (made : Change) (number : ℕ) → number ≡ before.count → IsSound before → IsStorable command → Ok made ≡ check before command → IsNext before made (number + 1)
+next_of before command made number is sound storable makes = record { sound = sound; command = command; storable = storable; makes = sym makes; counts = ap (λ n. n + 1) is }
 
 -- what a storable command puts may be stored, under the next id, and what it drops is there
 abbrev Suits : State → Change → Type 0
