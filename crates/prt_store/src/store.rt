@@ -7,7 +7,7 @@ ghost use Rattle.sqlite.specs.State.{HasCleanDisk, IsUnchanged};
 ghost use Rattle.sqlite.specs.Tree.{Trees};
 ghost use Rattle.prt_addr.specs.declared.refusal.StoreCall.{StoreCall as FailedCall};
 ghost use Rattle.prt_addr.specs.declared.refusal.StoreCall.TheVariants.{Commit, Begin};
-ghost use Rattle.prt_addr.specs.declared.refusal.Refusal.TheVariants.{Damaged, StoreFailed, OpenFailed};
+ghost use Rattle.prt_addr.specs.declared.refusal.Refusal.TheVariants.{Damaged, StoreFailed};
 ghost use Rattle.prt_version.specs.Change.{put};
 ghost use Rattle.prt_version.specs.State.{State};
 ghost use Rattle.prt_rows.specs.Format.{IsFormat1};
