@@ -10,7 +10,7 @@ ghost use Rattle.prt_daemon.specs.Program.{LeavesInput, LeavesInputFor, Runs, Ru
 use crate::replay::run_replay;
 use clap::error::ErrorKind;
 use clap::{Arg, ArgAction, ArgMatches, Command};
-use prt_session::{ListDesk, OnRefusal, Refusal, ScriptEnd};
+use prt_session::{ListDesk, OnRefusal, Refusal, ScriptEnd, Unobserved};
 use std::alloc::{AllocError, Global};
 use std::fs::{self, Files};
 use std::io::{self, BufReader, Read, Write};
@@ -255,7 +255,7 @@ fn run_batch<R: Read + Drop, W: Write>(
         Err(_) => return Err(Fault::Opening(Refusal::NoMemory)),
     };
     let mut desk = ListDesk::opening(alloc)?;
-    let end = desk.run_script(alloc, &mut reader, output, mode);
+    let end = desk.run_script(alloc, &mut reader, output, mode, &mut Unobserved);
     Ok(exit_status(end))
 }
 

@@ -10,7 +10,7 @@ ghost use Rattle.prt_version.specs.State.{State};
 
 use prt_listing::query_text;
 use prt_rows::is_format_1;
-use prt_session::{Command, Desk, OnRefusal, Query, Refusal, ScriptEnd, run_script};
+use prt_session::{Command, Desk, Observer, OnRefusal, Query, Refusal, ScriptEnd, run_script};
 use prt_store::Store;
 use prt_version::Version;
 use sqlite::{Alter, Connection};
@@ -124,12 +124,13 @@ impl<S: Alter + Drop> StoreDesk<S> {
     ///
     /// Whatever may be stored at its end is what the session leaves, begun on what may have been stored before. A crash,
     /// or the end of the program, leaves a file that spells such a state.
-    pub fn run_script<R: Read, W: Write>(
+    pub fn run_script<R: Read, W: Write, O: Observer>(
         &mut self,
         alloc: Global,
         reader: &mut R,
         writer: &mut W,
         mode: OnRefusal,
+        observer: &mut O,
     ) -> ScriptEnd
         ensures run { (stored : State) → MayBeStored S.Store self.new stored → (before : State) × MayBeStored S.Store self.old before
             × RunIs request_turn (Befalls IsStoreMishap) mode (desk_with self.old before) (desk_with self.new stored) (R.remaining reader.old) (R.remaining reader.new)
@@ -137,7 +138,7 @@ impl<S: Alter + Drop> StoreDesk<S> {
         ensures durable { IsKnown S.Store self.new.format_1 self.new.tables → (trees : Trees) → (state S.Store self.new.tables).may_leave trees →
             (stored : State) × Spells trees stored × MayBeStored S.Store self.new stored }
     {
-        let end = run_script(alloc, self, reader, writer, mode);
+        let end = run_script(alloc, self, reader, writer, mode, observer);
         let _is_closed = self.is_closed();
         end
     }

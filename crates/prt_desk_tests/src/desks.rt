@@ -1,7 +1,7 @@
 //! Scripts over desks, whose databases are opened again.
 
 use prt_desk::StoreDesk;
-use prt_session::{Desk, ListDesk, OnRefusal, Refusal, ScriptEnd, run_script};
+use prt_session::{Desk, ListDesk, OnRefusal, Refusal, ScriptEnd, Unobserved, run_script};
 use sqlite::{Alter, Connection, Error};
 use std::alloc::Global;
 use std::io::{self, Write};
@@ -17,7 +17,14 @@ const SCRIPTS: [&str; 2] = [
 fn replies<D: Desk>(alloc: Global, desk: &mut D, script: &str) -> Vec<u8> {
     let mut text = Vec::new(alloc);
     let mut lines = script.as_bytes();
-    let _end = run_script(alloc, desk, &mut lines, &mut text, OnRefusal::GoOn);
+    let _end = run_script(
+        alloc,
+        desk,
+        &mut lines,
+        &mut text,
+        OnRefusal::GoOn,
+        &mut Unobserved,
+    );
     text
 }
 
@@ -71,7 +78,13 @@ fn run_unheard<S: Alter + Drop>(
 ) -> Result<(ScriptEnd, Connection<S>), Refusal> {
     let mut desk = StoreDesk::open(alloc, connection)?;
     let mut lines = script.as_bytes();
-    let end = desk.run_script(alloc, &mut lines, &mut Shut, OnRefusal::GoOn);
+    let end = desk.run_script(
+        alloc,
+        &mut lines,
+        &mut Shut,
+        OnRefusal::GoOn,
+        &mut Unobserved,
+    );
     Ok((end, desk.release()))
 }
 

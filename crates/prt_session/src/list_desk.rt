@@ -7,6 +7,7 @@ ghost use Rattle.prt_version.specs.Change.{refusal};
 ghost use Rattle.prt_version.specs.State.{opening_state};
 
 use crate::desk::Desk;
+use crate::observer::Observer;
 use crate::script::{OnRefusal, ScriptEnd, run_script};
 use prt_command::{Command, Query, Refusal};
 use prt_listing::query_text;
@@ -44,17 +45,18 @@ impl ListDesk {
     }
 
     /// Runs a script over this desk, as `run_script` does: nothing but memory can fail it.
-    pub fn run_script<R: Read, W: Write>(
+    pub fn run_script<R: Read, W: Write, O: Observer>(
         &mut self,
         alloc: Global,
         reader: &mut R,
         writer: &mut W,
         mode: OnRefusal,
+        observer: &mut O,
     ) -> ScriptEnd
         ensures { RunIs request_turn (Befalls IsNoMemory) mode (settled self.old) (settled self.new) (R.remaining reader.old) (R.remaining reader.new)
             (W.contents writer.old) (W.contents writer.new) result }
     {
-        run_script(alloc, self, reader, writer, mode)
+        run_script(alloc, self, reader, writer, mode, observer)
     }
 }
 

@@ -5,8 +5,8 @@ pub trait Observer {
     /// Comes before a line is executed. Lines are numbered from 1.
     fn before(&mut self, line: u64);
 
-    /// Comes once the line was replied to, or once that failed.
-    fn after(&mut self, line: u64, reply: &Reply);
+    /// Comes once the line was replied to, or once that failed. `text` is the line, or the first 1,024 bytes of a longer one.
+    fn after(&mut self, line: u64, text: &[u8], reply: &Reply);
 }
 
 /// Nobody looks on.
@@ -16,5 +16,5 @@ pub struct Unobserved;
 impl Observer for Unobserved {
     fn before(&mut self, _line: u64) {}
 
-    fn after(&mut self, _line: u64, _reply: &Reply) {}
+    fn after(&mut self, _line: u64, _text: &[u8], _reply: &Reply) {}
 }

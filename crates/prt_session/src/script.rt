@@ -5,7 +5,7 @@ ghost use Rattle.prt_session.specs.Stands.{Explained, Stands};
 
 use crate::desk::Desk;
 use crate::executor::Executor;
-use crate::observer::Unobserved;
+use crate::observer::Observer;
 use crate::reply::{Reply, Text};
 use crate::session::run_session;
 use prt_command::{Refusal, Request};
@@ -110,17 +110,18 @@ impl<D: Desk> Executor<Global> for D {
 ///
 /// The session ends with the input, after a refused line under `OnRefusal::Stop`, at a fault of the reader or the
 /// writer, of any kind, and after the first line or byte too many. Only an answer takes memory; where there is none,
-/// its query alone is refused.
-pub fn run_script<D: Desk, R: Read, W: Write>(
+/// its query alone is refused. The observer is called before and after each line.
+pub fn run_script<D: Desk, R: Read, W: Write, O: Observer>(
     alloc: Global,
     desk: &mut D,
     reader: &mut R,
     writer: &mut W,
     mode: OnRefusal,
+    observer: &mut O,
 ) -> ScriptEnd
     ensures run { Explained D.stands desk.old desk.new (λ before after. RunIs request_turn (Befalls D.may) mode before after
         (R.remaining reader.old) (R.remaining reader.new) (W.contents writer.old) (W.contents writer.new) result) }
     ensures left { Stands D.stands desk.old → Stands D.stands desk.new }
 {
-    run_session(&alloc, desk, reader, writer, mode, &mut Unobserved)
+    run_session(&alloc, desk, reader, writer, mode, observer)
 }

@@ -146,10 +146,11 @@ pub fn run_session<C, E: Executor<C>, R: Read, W: Write, O: Observer>(
         }
         let number = count as u64 + 1;
         observer.before(number);
-        let reply = reply_to(context, executor, read, line.as_slice());
+        let text = line.as_slice();
+        let reply = reply_to(context, executor, read, text);
         end = end.with_reply(&reply);
         let is_written = write_reply(writer, &reply);
-        observer.after(number, &reply);
+        observer.after(number, text, &reply);
         if !is_written {
             return end.with_write_fault();
         }

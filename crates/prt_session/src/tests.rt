@@ -45,6 +45,7 @@ struct LastLines {
     begun: u64,
     ended: u64,
     refused: u64,
+    text_len: usize,
 }
 
 impl Observer for LastLines {
@@ -52,8 +53,9 @@ impl Observer for LastLines {
         self.begun = line;
     }
 
-    fn after(&mut self, line: u64, reply: &Reply) {
+    fn after(&mut self, line: u64, text: &[u8], reply: &Reply) {
         self.ended = line;
+        self.text_len = text.len();
         if matches!(reply, Reply::Refused(_)) {
             self.refused = line;
         }
@@ -63,11 +65,17 @@ impl Observer for LastLines {
 #[test]
 fn read_faults(rt: HostRuntime) -> Result<(), Fail> {
     let alloc = rt.alloc();
-    for (before, line, want) in [
-        (b"\n\n\n".as_slice(), 4, b"error 32 ReadFault\n".as_slice()),
+    for (before, line, text_len, want) in [
+        (
+            b"\n\n\n".as_slice(),
+            4,
+            0,
+            b"error 32 ReadFault\n".as_slice(),
+        ),
         (
             b"route get 1\nrou".as_slice(),
             2,
+            3,
             b"answer 0 none\nerror 32 ReadFault\n".as_slice(),
         ),
     ] {
@@ -82,6 +90,7 @@ fn read_faults(rt: HostRuntime) -> Result<(), Fail> {
             begun: 0,
             ended: 0,
             refused: 0,
+            text_len: 9,
         };
         let end = run_session(
             &alloc,
@@ -95,6 +104,7 @@ fn read_faults(rt: HostRuntime) -> Result<(), Fail> {
         assert!(rt; end.fault == Some(Refusal::ReadFault) && !end.refused);
         assert!(rt; reader.after.len() == 9);
         assert!(rt; lines.begun == line && lines.ended == line && lines.refused == line);
+        assert!(rt; lines.text_len == text_len);
     }
     Ok(())
 }
@@ -179,7 +189,13 @@ fn write_faults(rt: HostRuntime) -> Result<(), Fail> {
             taken: Vec::new(alloc),
             trouble,
         };
-        let end = desk.run_script(alloc, &mut reader, &mut writer, OnRefusal::GoOn);
+        let end = desk.run_script(
+            alloc,
+            &mut reader,
+            &mut writer,
+            OnRefusal::GoOn,
+            &mut Unobserved,
+        );
         assert!(rt; writer.taken.as_slice() == want);
         assert!(rt; end.fault == fault);
     }

@@ -28,7 +28,7 @@ returns-then-is_no_line-clause-run g c = λ after stands.
 pub returns-then-not-is_written-clause-run : goal.returns-then-not-is_written-clause-run
 returns-then-not-is_written-clause-run g c = λ after stands.
     let is = c.next_line-read.ensures in
-    let answer = c.reply_to-reply.ensures.turn is.content is.count (rw c.as_slice.ensures.value is.keeps) after stands in
+    let answer = c.reply_to-reply.ensures.turn is.content is.count (rw c.as_slice-text.ensures.value is.keeps) after stands in
     let noted : c.with_write_fault.result.refused ≡ refused_after c.loop-count.end.refused c.reply_to-reply.result = cc in
     ends_cut g.E.Executor.turn g.E.Executor.may c.args.mode _ _ _ _ _ _ _ _ _ (omega arith) c.loop-count.end c.loop-count.invariant.served _ c.next_line-read.result is (cc) c.reply_to-reply.result after answer c.with_write_fault.result
     (c.if-not-is_written.ensures.told refl) c.if-not-is_written.ensures.written noted c.with_write_fault.ensures.fault
@@ -36,7 +36,7 @@ returns-then-not-is_written-clause-run g c = λ after stands.
 pub returns-then-is_last-clause-run : goal.returns-then-is_last-clause-run
 returns-then-is_last-clause-run g c = λ after stands.
     let is = c.next_line-read.ensures in
-    let answer = c.reply_to-reply.ensures.turn is.content is.count (rw c.as_slice.ensures.value is.keeps) after stands in
+    let answer = c.reply_to-reply.ensures.turn is.content is.count (rw c.as_slice-text.ensures.value is.keeps) after stands in
     ends_there g.E.Executor.turn g.E.Executor.may c.args.mode _ _ _ _ _ _ _ _ _ (omega arith) c.loop-count.end c.loop-count.invariant.served _ c.next_line-read.result is (cc) c.reply_to-reply.result after answer c.with_reply-end.result
     (cc) c.if-not-is_written.ensures.written c.with_reply-end.ensures.refused c.with_reply-end.ensures.fault
 
@@ -46,7 +46,7 @@ loop-count-preserved g c = record {
   left = λ stands. c.reply_to-reply.ensures.left (c.loop-count.invariant.left stands);
   served = λ after stands.
       let is = c.next_line-read.ensures in
-      let answer = c.reply_to-reply.ensures.turn is.content is.count (rw c.as_slice.ensures.value is.keeps) after stands in
+      let answer = c.reply_to-reply.ensures.turn is.content is.count (rw c.as_slice-text.ensures.value is.keeps) after stands in
       let less : limits.lines - (c.loop-count.count + 1) ≡ (limits.lines - c.loop-count.count) - 1 = omega arith in
       rw less (goes_on g.E.Executor.turn g.E.Executor.may c.args.mode _ _ _ _ _ _ _ _ _ (omega arith) c.loop-count.end c.loop-count.invariant.served _ c.next_line-read.result is (cc) c.reply_to-reply.result after answer c.with_reply-end.result
       (cc) c.if-not-is_written.ensures.written c.with_reply-end.ensures.refused c.with_reply-end.ensures.fault);
