@@ -11,3 +11,4 @@ pub mod SessionSteps
 pub mod Turns
 pub mod ListReplies
 pub mod ListRefusals
+pub mod ClosedReplies

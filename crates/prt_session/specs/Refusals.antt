@@ -1,9 +1,11 @@
--- What a run over lists refuses for.
-use Rattle.std.specs.Prelude.{◌≡◌, Bool, true, false, List, ℕ, Some, Err, ⊤}
+-- What a run over lists, and one over a closed desk, refuses for.
+use Rattle.std.specs.Prelude.{◌≡◌, Bool, true, false, List, ℕ, Some, Ok, Err, ⊤}
 use Rattle.prt_addr.specs.declared.refusal.Refusal.{Refusal}
 use Rattle.prt_addr.specs.declared.refusal.Refusal.TheVariants.{LineTooLong, Closed, Busy, NoMemory, StoreFailed, NotPublished, NotFetched, Damaged, OpenFailed, ReadFault, WriteFault, TooManyLines}
 use Rattle.prt_command.specs.Reading.{reading}
 use Rattle.prt_command.specs.declared.request.Command.{Command}
+use Rattle.prt_command.specs.declared.request.Request.TheVariants as requests
+use Rattle.prt_session.specs.Session.{Exchange}
 use Rattle.prt_session.specs.declared.reply.Reply.{Reply}
 use Rattle.prt_session.specs.declared.reply.Reply.TheVariants.{Refused}
 use Rattle.prt_version.specs.Change.{refusal}
@@ -43,3 +45,7 @@ is_beyond_lists reason = false
 abbrev pub IsWithinLists : Reply → Type 0
 IsWithinLists (Refused reason) = is_beyond_lists reason ≡ false
 IsWithinLists reply = ⊤
+
+-- a line that asks for a command is refused, since the desk is closed
+abbrev pub IsClosedExchange : {M : Type 0} → Exchange M → Type 0
+IsClosedExchange {M} x = (command : Command) → reading x.line ≡ Ok (Some (requests.Command command)) → x.reply ≡ Refused Closed

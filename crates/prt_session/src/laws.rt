@@ -1,8 +1,8 @@
 //! Laws of the definition of a session, which no program calls.
-ghost use Rattle.std.specs.Prelude.{◌+◌, ◌*◌, ◌≤◌, List, Option, length};
+ghost use Rattle.std.specs.Prelude.{◌≡◌, ◌+◌, ◌*◌, ◌≤◌, List, Option, length, true};
 ghost use Rattle.std.specs.List.{All};
 ghost use Rattle.prt_session.specs.Desk.{Befalls, DeskState, IsNoMemory, Mishap, request_turn, settled};
-ghost use Rattle.prt_session.specs.Refusals.{IsListReply, IsWithinLists};
+ghost use Rattle.prt_session.specs.Refusals.{IsClosedExchange, IsListReply, IsWithinLists};
 ghost use Rattle.prt_session.specs.Session.{Input, Path, replies, session};
 ghost use Rattle.prt_session.specs.declared.script.OnRefusal.{OnRefusal};
 ghost use Rattle.prt_version.specs.State.{State};
@@ -22,4 +22,12 @@ pub fn list_replies()
     ensures never { (state : State) (desk : DeskState) (input : Input) (mode : OnRefusal) (mishaps : List (Option Mishap)) →
         Path request_turn (Befalls IsNoMemory) (settled state) (session request_turn (settled state) input mode mishaps).exchanges desk →
         All IsWithinLists (replies (session request_turn (settled state) input mode mishaps)) }
+{}
+
+/// Over a closed desk each command is refused with `Closed`, and the desk stays as it was.
+pub fn closed_replies()
+    ensures closed { (desk : DeskState) (input : Input) (mode : OnRefusal) (mishaps : List (Option Mishap)) → desk.closed ≡ true →
+        All IsClosedExchange (session request_turn desk input mode mishaps).exchanges }
+    ensures same { (desk : DeskState) (input : Input) (mode : OnRefusal) (mishaps : List (Option Mishap)) → desk.closed ≡ true →
+        (session request_turn desk input mode mishaps).desk ≡ desk }
 {}

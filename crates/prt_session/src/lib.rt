@@ -17,7 +17,7 @@ mod tests;
 
 pub use desk::Desk;
 pub use executor::Executor;
-pub use laws::{list_replies, session_ends};
+pub use laws::{closed_replies, list_replies, session_ends};
 pub use list_desk::ListDesk;
 pub use observer::{Observer, Unobserved};
 pub use prt_command::{Command, LONGEST_LINE, LONGEST_UNENDED, MOST_LINES, Query, Refusal};
