@@ -2,6 +2,7 @@ pub mod Reply
 pub mod Session
 pub mod Desk
 pub mod Stands
+pub mod Preorder
 pub mod Run
 pub mod Refusals
 pub mod Steps

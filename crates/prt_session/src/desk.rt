@@ -8,6 +8,7 @@ pub trait Desk {
     ghost use Rattle.prt_command.specs.Storable.{IsStorable};
     ghost use Rattle.prt_listing.specs.QueryText.{query_text};
     ghost use Rattle.prt_session.specs.Desk.{DeskState, Mishap, no_memory};
+    ghost use Rattle.prt_session.specs.Preorder.{IsPreorder};
     ghost use Rattle.prt_session.specs.Stands.{Explained, Stands};
     ghost use Rattle.prt_session.specs.Steps.{CommandGives};
 
@@ -16,6 +17,9 @@ pub trait Desk {
 
     /// What may befall a request.
     ghost may: { Mishap → Type 0 };
+
+    /// What every request leaves as it was.
+    ghost keeps: { Self → Self → Type 0 };
 
     /// Checks, stores and publishes a command, whose routes and rules may be stored; gives the number of commands ever
     /// accepted.
@@ -26,7 +30,8 @@ pub trait Desk {
     fn command(&mut self, command: &Command) -> Result<u64, Refusal>
         requires { IsStorable command.now }
         ensures turn { Explained stands self.old self.new (λ before after. CommandGives may before command.now result after) }
-        ensures left { Stands stands self.old → Stands stands self.new };
+        ensures left { Stands stands self.old → Stands stands self.new }
+        ensures keeps { keeps self.old self.new };
 
     /// Appends the lines of the answer to `out`.
     ///
@@ -37,6 +42,10 @@ pub trait Desk {
         ensures turn { Explained stands self.old self.new (λ before after. (after ≡ before)
             × OnOk result (out.new.items ≡ out.old.items ++ query_text before.published query.now)) }
         ensures left { Stands stands self.old → Stands stands self.new }
+        ensures keeps { keeps self.old self.new }
         ensures err { IfErr result (λ e. (e ≡ Refusal.NoMemory) × may no_memory) }
         ensures unchanged { OnErr result (out.new.items ≡ out.old.items) };
+
+    /// So it stays over any number of requests.
+    ghost keeps_over_all: { IsPreorder keeps };
 }

@@ -9,6 +9,7 @@ pub trait Executor<C> {
     ghost use Rattle.std.specs.Prelude.{Option};
     ghost use Rattle.prt_command.specs.Storable.{IsStorableRequest};
     ghost use Rattle.prt_command.specs.declared.request.Request.{Request};
+    ghost use Rattle.prt_session.specs.Preorder.{IsPreorder};
     ghost use Rattle.prt_session.specs.Session.{Turn};
     ghost use Rattle.prt_session.specs.Stands.{Explained, Stands};
     ghost use Rattle.prt_session.specs.Steps.{Gives};
@@ -28,6 +29,9 @@ pub trait Executor<C> {
     /// Whether it may stand for this.
     ghost stands: { Self → Desk → Type 0 };
 
+    /// What every request leaves as it was.
+    ghost keeps: { Self → Self → Type 0 };
+
     /// Whether it belongs to the context.
     ghost fits: { Self → Type 0 };
 
@@ -37,5 +41,9 @@ pub trait Executor<C> {
         requires storable { IsStorableRequest request.now }
         ensures fits { fits self.new }
         ensures turn { Explained stands self.old self.new (λ before after. Gives turn may before request.now result after) }
-        ensures left { Stands stands self.old → Stands stands self.new };
+        ensures left { Stands stands self.old → Stands stands self.new }
+        ensures keeps { keeps self.old self.new };
+
+    /// So it stays over any number of requests.
+    ghost keeps_over_all: { IsPreorder keeps };
 }

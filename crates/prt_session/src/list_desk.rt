@@ -61,12 +61,16 @@ impl ListDesk {
 }
 
 impl Desk for ListDesk {
-    ghost use Rattle.std.specs.Prelude.{◌≡◌};
+    ghost use Rattle.std.specs.Prelude.{◌≡◌, ⊤};
     ghost use Rattle.prt_session.specs.Desk.{IsNoMemory, settled};
 
     ghost stands = { λ desk state. state ≡ settled desk };
 
     ghost may = { IsNoMemory };
+
+    ghost keeps = { λ _ _. ⊤ };
+
+    ghost keeps_over_all = { record { reflexive = λ _. tt; transitive = λ _ _ _ _ _. tt } };
 
     /// An `Err` is what the command is refused for or, where it is refused for nothing, want of memory.
     fn command(&mut self, command: &Command) -> Result<u64, Refusal>

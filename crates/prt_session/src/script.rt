@@ -87,6 +87,10 @@ impl<D: Desk> Executor<Global> for D {
 
     ghost stands = { D.stands };
 
+    ghost keeps = { D.keeps };
+
+    ghost keeps_over_all = { D.keeps_over_all };
+
     ghost fits = { λ _. ⊤ };
 
     fn execute(&mut self, alloc: &Global, request: &Request) -> Reply {
@@ -122,6 +126,7 @@ pub fn run_script<D: Desk, R: Read, W: Write, O: Observer>(
     ensures run { Explained D.stands desk.old desk.new (λ before after. RunIs request_turn (Befalls D.may) mode before after
         (R.remaining reader.old) (R.remaining reader.new) (W.contents writer.old) (W.contents writer.new) result) }
     ensures left { Stands D.stands desk.old → Stands D.stands desk.new }
+    ensures keeps { D.keeps desk.old desk.new }
 {
     run_session(&alloc, desk, reader, writer, mode, observer)
 }

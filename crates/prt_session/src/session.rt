@@ -21,6 +21,7 @@ fn execute_line<C, E: Executor<C>>(context: &C, executor: &mut E, line: &[u8]) -
     ensures fits { E.fits executor.new }
     ensures turn { Explained E.stands executor.old executor.new (λ before after. LineGives E.turn E.may before line.now result after) }
     ensures left { Stands E.stands executor.old → Stands E.stands executor.new }
+    ensures keeps { E.keeps executor.old executor.new }
 {
     match read_line(line) {
         Err(refusal) => Reply::Refused(refusal),
@@ -41,6 +42,7 @@ fn reply_to_whole<C, E: Executor<C>>(
     ensures turn { (content : List ℕ) → length content ≡ count → (count ≤ LONGEST_LINE → line.now ≡ content) →
         Explained E.stands executor.old executor.new (λ before after. LineGives E.turn E.may before content result after) }
     ensures left { Stands E.stands executor.old → Stands E.stands executor.new }
+    ensures keeps { E.keeps executor.old executor.new }
 {
     let is_long = count > LONGEST_LINE;
     if is_long {
@@ -56,6 +58,7 @@ fn reply_to<C, E: Executor<C>>(context: &C, executor: &mut E, read: LineRead, li
     ensures turn { (content : List ℕ) → length content ≡ read.length → (read.length ≤ LONGEST_LINE → line.now ≡ content) →
         Explained E.stands executor.old executor.new (λ before after. AnswerIs E.turn E.may before read.stop content result after) }
     ensures left { Stands E.stands executor.old → Stands E.stands executor.new }
+    ensures keeps { E.keeps executor.old executor.new }
 {
     match read.stop {
         Stop::Fault => Reply::Refused(Refusal::ReadFault),
@@ -136,6 +139,7 @@ pub fn run_session<C, E: Executor<C>, R: Read, W: Write, O: Observer>(
     ensures run { Explained E.stands executor.old executor.new (λ before after. RunIs E.turn E.may mode before after
         (R.remaining reader.old) (R.remaining reader.new) (W.contents writer.old) (W.contents writer.new) result) }
     ensures left { Stands E.stands executor.old → Stands E.stands executor.new }
+    ensures keeps { E.keeps executor.old executor.new }
 {
     let mut line = ArrayVec::<u8, LONGEST_LINE>::new();
     let mut end = ScriptEnd::OPENING;

@@ -9,6 +9,7 @@ use Rattle.prt_session.proofs.session.run_session.Goals as goal
 pub loop-count-init : goal.loop-count-init
 loop-count-init g c = record {
   fits = c.requires;
+  keeps = g.met.E.Executor.keeps_over_all.reflexive c.args.executor.now;
   left = λ stands. stands;
   served = λ now stands. (now, stands, served_at_first g.E.Executor.turn g.E.Executor.may c.args.mode (moment now (g.R.Read.remaining c.args.reader.now) (g.W.Write.contents c.args.writer.now)));
 }
@@ -43,6 +44,7 @@ returns-then-is_last-clause-run g c = λ after stands.
 pub loop-count-preserved : goal.loop-count-preserved
 loop-count-preserved g c = record {
   fits = c.reply_to-reply.ensures.fits;
+  keeps = g.met.E.Executor.keeps_over_all.transitive c.args.executor.now c.loop-count.executor c.reply_to-reply.new.executor c.loop-count.invariant.keeps c.reply_to-reply.ensures.keeps;
   left = λ stands. c.reply_to-reply.ensures.left (c.loop-count.invariant.left stands);
   served = λ after stands.
       let is = c.next_line-read.ensures in
