@@ -1,3 +1,4 @@
 pub mod Spelled
 pub mod StoreTurns
+pub mod Remaining
 pub mod Openings

@@ -2,7 +2,7 @@ ghost use Rattle.std.specs.Prelude.{◌≡◌, ◌++◌, IfErr, IfOk, IsTrue, On
 ghost use Rattle.sqlite.specs.Held.{state};
 ghost use Rattle.sqlite.specs.State.{HasCleanDisk};
 ghost use Rattle.sqlite.specs.Tree.{Trees};
-ghost use Rattle.prt_desk.specs.StoreDesk.{IsKept, IsKnown, IsStored, IsStoreMishap, MayBeStored, Opens, Spells, desk_with};
+ghost use Rattle.prt_desk.specs.StoreDesk.{IsKept, IsKnown, IsStored, IsStoreMishap, MayBeStored, Opens, Remains, Spells, desk_with};
 ghost use Rattle.prt_rows.specs.Format.{BeginsFormat1, IsFormat1};
 ghost use Rattle.prt_session.specs.Desk.{Befalls, request_turn};
 ghost use Rattle.prt_session.specs.Run.{RunIs};
@@ -123,7 +123,7 @@ impl<S: Alter + Drop> StoreDesk<S> {
     /// Runs a script over this desk, as `run_script` does: nothing but memory and the store can fail it.
     ///
     /// Whatever may be stored at its end is what the session leaves, begun on what may have been stored before. A crash,
-    /// or the end of the program, leaves a file that spells such a state.
+    /// or the end of the program, leaves a file that spells such a state. A desk that is closed stays exactly as it is.
     pub fn run_script<R: Read, W: Write, O: Observer>(
         &mut self,
         alloc: Global,
@@ -135,6 +135,7 @@ impl<S: Alter + Drop> StoreDesk<S> {
         ensures run { (stored : State) → MayBeStored S.Store self.new stored → (before : State) × MayBeStored S.Store self.old before
             × RunIs request_turn (Befalls IsStoreMishap) mode (desk_with self.old before) (desk_with self.new stored) (R.remaining reader.old) (R.remaining reader.new)
             (W.contents writer.old) (W.contents writer.new) result }
+        ensures keeps { Remains S.Store self.old self.new }
         ensures durable { IsKnown S.Store self.new.format_1 self.new.tables → (trees : Trees) → (state S.Store self.new.tables).may_leave trees →
             (stored : State) × Spells trees stored × MayBeStored S.Store self.new stored }
     {
@@ -146,7 +147,8 @@ impl<S: Alter + Drop> StoreDesk<S> {
 
 impl<S: Alter + Drop> Desk for StoreDesk<S> {
     ghost use Rattle.prt_command.specs.Storable.{IsStorable};
-    ghost use Rattle.prt_desk.specs.StoreDesk.{IsStoreMishap, StandsFor};
+    ghost use Rattle.prt_desk.proofs.Remaining.{remains_over_all};
+    ghost use Rattle.prt_desk.specs.StoreDesk.{IsStoreMishap, Remains, StandsFor};
     ghost use Rattle.prt_listing.specs.QueryText.{query_text};
     ghost use Rattle.prt_session.specs.Stands.{Explained, Stands};
     ghost use Rattle.prt_session.specs.Steps.{CommandGives};
@@ -155,11 +157,15 @@ impl<S: Alter + Drop> Desk for StoreDesk<S> {
 
     ghost may = { IsStoreMishap };
 
+    ghost keeps = { Remains S.Store };
+
+    ghost keeps_over_all = { remains_over_all S.Store };
+
     fn command(&mut self, command: &Command) -> Result<u64, Refusal>
         requires { IsStorable command.now }
         ensures turn { Explained (StandsFor S.Store) self.old self.new (λ before after. CommandGives IsStoreMishap before command.now result after) }
         ensures left { Stands (StandsFor S.Store) self.old → Stands (StandsFor S.Store) self.new }
-        ensures format { self.new.format_1 ≡ self.old.format_1 }
+        ensures keeps { Remains S.Store self.old self.new }
     {
         if self.is_closed {
             return Err(Refusal::Closed);
