@@ -1,4 +1,3 @@
 pub mod Spelled
 pub mod StoreTurns
-pub mod Remaining
 pub mod Openings

@@ -75,12 +75,6 @@ desk_with desk stored = record { published = desk.published; stored = stored; cl
 abbrev pub MayBeStored : {S : Type 0} → Ghosts S → DeskOver (Held S) → State → Type 0
 MayBeStored g desk stored = StandsFor g desk (desk_with desk stored)
 
--- what no request changes: whether our tables are the first, that the disk has failed, and all of a desk that is closed
-pub record Remains {S : Type 0} (g : Ghosts S) (old new : DeskOver (Held S)) : Type 0 where
-  pub format : new.format_1 ≡ old.format_1
-  pub clean : HasCleanDisk (state g new.tables) → HasCleanDisk (state g old.tables)
-  pub closed : old.closed ≡ true → new ≡ old
-
 -- what may befall it: memory or a store call may fail; old versions take no room, and a publication cannot fail
 abbrev pub IsStoreMishap : Mishap → Type 0
 IsStoreMishap no_room = ⊥

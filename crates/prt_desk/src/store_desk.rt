@@ -2,7 +2,8 @@ ghost use Rattle.std.specs.Prelude.{◌≡◌, ◌++◌, IfErr, IfOk, IsTrue, On
 ghost use Rattle.sqlite.specs.Held.{state};
 ghost use Rattle.sqlite.specs.State.{HasCleanDisk};
 ghost use Rattle.sqlite.specs.Tree.{Trees};
-ghost use Rattle.prt_desk.specs.StoreDesk.{IsKept, IsKnown, IsStored, IsStoreMishap, MayBeStored, Opens, Remains, Spells, desk_with};
+ghost use Rattle.prt_desk.specs.Remains.{Remains};
+ghost use Rattle.prt_desk.specs.StoreDesk.{IsKept, IsKnown, IsStored, IsStoreMishap, MayBeStored, Opens, Spells, desk_with};
 ghost use Rattle.prt_rows.specs.Format.{BeginsFormat1, IsFormat1};
 ghost use Rattle.prt_session.specs.Desk.{Befalls, request_turn};
 ghost use Rattle.prt_session.specs.Run.{RunIs};
@@ -147,8 +148,8 @@ impl<S: Alter + Drop> StoreDesk<S> {
 
 impl<S: Alter + Drop> Desk for StoreDesk<S> {
     ghost use Rattle.prt_command.specs.Storable.{IsStorable};
-    ghost use Rattle.prt_desk.proofs.Remaining.{remains_over_all};
-    ghost use Rattle.prt_desk.specs.StoreDesk.{IsStoreMishap, Remains, StandsFor};
+    ghost use Rattle.prt_desk.specs.Remains.{Remains, remains_over_all};
+    ghost use Rattle.prt_desk.specs.StoreDesk.{IsStoreMishap, StandsFor};
     ghost use Rattle.prt_listing.specs.QueryText.{query_text};
     ghost use Rattle.prt_session.specs.Stands.{Explained, Stands};
     ghost use Rattle.prt_session.specs.Steps.{CommandGives};
@@ -159,7 +160,7 @@ impl<S: Alter + Drop> Desk for StoreDesk<S> {
 
     ghost keeps = { Remains S.Store };
 
-    ghost keeps_over_all = { remains_over_all S.Store };
+    ghost keeps_over_all = { remains_over_all _ };
 
     fn command(&mut self, command: &Command) -> Result<u64, Refusal>
         requires { IsStorable command.now }
