@@ -1,6 +1,6 @@
 -- The version that is loaded of an adopted file.
 use Rattle.std.proofs.Common.{◌≡◌, inl, inr, Bool, true, [], ◌∷◌, drop, map, IsPermutation, refl, sym, subst, ◌∙◌, arith}
-use Rattle.sqlite.specs.Effect.{Database}
+use Rattle.sqlite.specs.Effect.{Database, IsDatabase}
 use Rattle.sqlite.specs.Held.{Held, state}
 use Rattle.sqlite.specs.State.{HasCleanDisk, IsUnchanged, Survives}
 use Rattle.sqlite.specs.Store.{Ghosts}
@@ -15,8 +15,9 @@ use Rattle.prt_rows.specs.Tables.{meta_table, route_table, rule_table}
 use Rattle.prt_store.specs.Adopted.{Adopts}
 use Rattle.prt_store.specs.Stored.{Stores}
 use Rattle.prt_version.specs.State.{State}
-use Rattle.prt_desk.proofs.Spelled.{other_schema, spelled_once}
-use Rattle.prt_desk.specs.StoreDesk.{IsKnown, IsStored, Opens, Spells}
+use Rattle.prt_desk.proofs.Spelled.{stored_once, stored_there}
+use Rattle.prt_desk.proofs.StoreTurns.{durable_is}
+use Rattle.prt_desk.specs.StoreDesk.{DeskOver, IsKept, IsKnown, IsStored, MayBeStored, Opens, Reopens, Spells}
 
 module _ {S : Type 0} (g : Ghosts S) (begins : Bool) (found adopted loaded : Held S) (version : State) (is : begins ≡ true → BeginsFormat1 (state g found).now.schema)
     (adopts : HasCleanDisk (state g adopted) → BeginsFormat1 (state g found).now.schema → Adopts (state g found).now (state g adopted).now)
@@ -38,13 +39,19 @@ module _ {S : Type 0} (g : Ghosts S) (begins : Bool) (found adopted loaded : Hel
   -- and it is stored
   pub is_stored : (HasCleanDisk (state g loaded) → IsFormat1 (state g adopted).now.schema → IsUnchanged (state g adopted) (state g loaded))
       → (HasCleanDisk (state g adopted) → BeginsFormat1 (state g found).now.schema → (trees : Trees) → (state g adopted).may_leave trees → trees ≡ (state g adopted).now.trees)
+      → (HasCleanDisk (state g loaded) → IsFormat1 (state g adopted).now.schema → IsDatabase (state g loaded).now)
       → IsKnown g begins loaded → IsStored g loaded version
-  is_stored same leaves known =
+  is_stored same leaves sound known =
       let held = spells known.1 (tables known) in
+      let unchanged : (state g loaded).now ≡ (state g adopted).now = (same known.1 (tables known)).0.now_is in
       record {
-        now = subst (λ (db : Database). Stores db version) (sym (same known.1 (tables known)).0.now_is) held;
+        now = subst (λ (db : Database). Stores db version) (sym unchanged) held;
         durable = λ trees may. elim ((survives known.0).crash known.1 trees may) [
-          | inl was ↦ ((state g adopted).now.schema, subst (λ (t : Trees). Stores (record { schema = (state g adopted).now.schema; trees = t }) version) (sym (leaves (clean_then known) (is known.0) trees was)) held)
+          | inl was ↦ subst (λ (t : Trees). Spells t version) (sym (leaves (clean_then known) (is known.0) trees was)) (record {
+            schema = (state g adopted).now.schema;
+            sound = subst IsDatabase unchanged (sound known.1 (tables known));
+            stores = held;
+          })
           | inr none ↦ absurd none
         ];
       }
@@ -76,15 +83,25 @@ module _ (found db : Database) (stored : State) (tables : IsFormat1 found.schema
       }
 
 -- an opening changes no tables that spell a state
-pub found_is : (found : Database) (version stored : State) → Opens found version → IsFormat1 found.schema → Spells found.trees stored → version ≡ stored
-found_is found version stored opens tables spells =
+pub found_is : (found : Database) (version stored : State) → Opens found version → IsDatabase found → Spells found.trees stored → version ≡ stored
+found_is found version stored opens sound spells =
     let db = opens.0 in
     let adopted = opens.1 in
-    let held = other_schema spells.0 found.schema found.trees stored tables spells.1 in
+    let held = stored_there found stored sound spells in
     elim adopted.rows [
-      | inl kept ↦ spelled_once db.trees version stored (db.schema, opens.2) (db.schema, still_stored found db stored tables kept.1 adopted.tables held)
+      | inl kept ↦ stored_once db.schema db.schema db.trees version stored opens.2 (still_stored found db stored held.tables kept.1 adopted.tables held)
       | inr filled ↦
-          let none = filled.empty meta_table (inr (inr (inl refl))) (has_meta found db stored tables) in
+          let none = filled.empty meta_table (inr (inr (inl refl))) (has_meta found db stored held.tables) in
           let row : kept_count stored.count ∷ [] ≡ [] = sym held.count ∙ none in
           absurd (let e = row in cc)
     ]
+
+-- ---- what a crash leaves
+
+-- where a crash leaves trees that spell a state which may be stored, an opening gives that state
+pub reopens : {S : Type 0} (g : Ghosts S) (desk : DeskOver (Held S)) → IsKept g desk → IsKnown g desk.format_1 desk.tables → Reopens g desk
+reopens g desk kept known found sound may =
+    let left = durable_is g desk kept known found.trees may in (
+      (stored_there found left.0 sound left.1).tables,
+      λ opened opens. subst (MayBeStored g desk) (sym (found_is found opened left.0 opens sound left.1)) left.2,
+    )

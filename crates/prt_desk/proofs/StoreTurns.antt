@@ -1,6 +1,8 @@
 -- Turns of a desk over a store: what each state that it may stand for after a command is explained by.
 use Rattle.std.proofs.Common.{◌≡◌, ◌⊎◌, inl, inr, ℕ, Bool, true, false, Option, Some, None, Result, Ok, Err, IfSome, refl, sym, ap, subst, ◌∙◌}
+use Rattle.sqlite.specs.Effect.{Database}
 use Rattle.sqlite.specs.Held.{Held, state}
+use Rattle.sqlite.specs.Schema.{Schema}
 use Rattle.sqlite.specs.State.{HasCleanDisk}
 use Rattle.sqlite.specs.Store.{Ghosts}
 use Rattle.sqlite.specs.Tree.{Trees}
@@ -13,13 +15,13 @@ use Rattle.prt_session.proofs.Turns.{accepted_turn, memory_refused, refused_turn
 use Rattle.prt_session.specs.Desk.{DeskState, IsNoMemory, Mishap, store_fails, commit_kept, command_or_refusal, settled, shut}
 use Rattle.prt_session.specs.Stands.{Explained}
 use Rattle.prt_session.specs.Steps.{CommandGives}
-use Rattle.prt_store.specs.Next.{IsNext}
+use Rattle.prt_store.specs.Next.{IsNext, MakesNext}
 use Rattle.prt_store.specs.Stored.{Stores}
 use Rattle.prt_version.specs.Change.{apply, put, refusal}
 use Rattle.prt_version.specs.State.{State}
 use Rattle.prt_version.specs.declared.change.Change.{Change}
 use Rattle.prt_desk.specs.StoreDesk.{DeskOver, IsKept, IsKnown, IsPerhapsStored, IsStored, IsStoreMishap, Keeps, MayBeStored, Spells, StandsBy, StandsFor, desk_with}
-use Rattle.prt_desk.proofs.Spelled.{spelled_once}
+use Rattle.prt_desk.proofs.Spelled.{database, spelled_once}
 
 -- what may befall a desk over lists may befall this one
 more_may : (mishap : Option Mishap) → IfSome mishap IsNoMemory → IfSome mishap IsStoreMishap
@@ -147,30 +149,33 @@ module _ {S : Type 0} (g : Ghosts S) (old : DeskOver (Held S)) where
 
 -- ---- a commit
 
+next_spelled : (old : Database) (next : State) (schema : Schema) (trees : Trees) → MakesNext old next (database schema trees) → Spells trees next
+next_spelled old next schema trees makes = record { schema = schema; sound = makes.sound; stores = makes.stores }
+
 module _ {S : Type 0} (g : Ghosts S) (format_1 : Bool) (old new : Held S) (published : State) (made : Change) (number : ℕ) (next : IsNext published made number)
     (clean : HasCleanDisk (state g new) → HasCleanDisk (state g old)) (kept : IsKnown g format_1 old → IsStored g old published) where
   held : IsKnown g format_1 new → IsStored g old published
   held known = kept (known.0, clean known.1)
 
   -- the desk goes over to the next version
-  pub stored_after : (HasCleanDisk (state g new) → (before : State) → IsNext before made number → Stores (state g old).now before → Stores (state g new).now (put before made))
+  pub stored_after : (HasCleanDisk (state g new) → (before : State) → IsNext before made number → Stores (state g old).now before → MakesNext (state g old).now (put before made) (state g new).now)
       → (HasCleanDisk (state g new) → (trees : Trees) → (state g new).may_leave trees → trees ≡ (state g new).now.trees)
       → IsKnown g format_1 new → IsStored g new (put published made)
-  stored_after stores leaves known =
-      let now = stores known.1 published next (held known).now in
+  stored_after makes leaves known =
+      let after = makes known.1 published next (held known).now in
       record {
-        now = now;
-        durable = λ trees left. ((state g new).now.schema, subst (λ (t : Trees). Stores (record { schema = (state g new).now.schema; trees = t }) (put published made)) (sym (leaves known.1 trees left)) now);
+        now = after.stores;
+        durable = λ trees left. subst (λ (t : Trees). Spells t (put published made)) (sym (leaves known.1 trees left)) (next_spelled (state g old).now (put published made) (state g new).now.schema (state g new).now.trees after);
       }
 
   module _ (call : StoreCall) (reason : Refusal) (is : reason ≡ StoreFailed call)
       (leaves : HasCleanDisk (state g new) → (before : State) → IsNext before made number → Stores (state g old).now before → (trees : Trees) → (state g new).may_leave trees
-      → (state g old).may_leave trees ⊎ ((reason ≡ StoreFailed Commit) × Stores (record { schema = (state g old).now.schema; trees = trees }) (put before made))) where
+      → (state g old).may_leave trees ⊎ ((reason ≡ StoreFailed Commit) × MakesNext (state g old).now (put before made) (database (state g old).now.schema trees))) where
     -- whatever a crash leaves spells the state before or after
     pub keeps_after : IsKnown g format_1 new → Keeps g new published true
     keeps_after known trees may = elim (leaves known.1 published next (held known).now trees may) [
       | inl was ↦ (published, (held known).durable trees was)
-      | inr more ↦ (put published made, ((state g old).now.schema, more.1))
+      | inr more ↦ (put published made, next_spelled (state g old).now (put published made) (state g old).now.schema trees more.1)
     ]
 
     named : reason ≡ StoreFailed Commit → call ≡ Commit
@@ -182,5 +187,5 @@ module _ {S : Type 0} (g : Ghosts S) (format_1 : Bool) (old new : Held S) (publi
         let trees = left.1.0 in
         elim (leaves left.0.1 published next (held left.0).now trees left.1.1) [
           | inl was ↦ inl (spelled_once trees stored published left.1.2 ((held left.0).durable trees was))
-          | inr more ↦ inr (named more.0, spelled_once trees stored (put published made) left.1.2 ((state g old).now.schema, more.1))
+          | inr more ↦ inr (named more.0, spelled_once trees stored (put published made) left.1.2 (next_spelled (state g old).now (put published made) (state g old).now.schema trees more.1))
         ]

@@ -1,13 +1,14 @@
 -- What a desk over a store stands for.
 use Rattle.std.specs.Prelude.{◌≡◌, ◌⊎◌, Bool, true, false, refl, ⊤}
 use Rattle.std.specs.Coded.{Coded, code_by, coded×, coded_bool}
-use Rattle.sqlite.specs.Effect.{Database}
+use Rattle.sqlite.specs.Effect.{Database, IsDatabase}
 use Rattle.sqlite.specs.Held.{Held, state}
 use Rattle.sqlite.specs.Schema.{Schema}
 use Rattle.sqlite.specs.State.{HasCleanDisk}
 use Rattle.sqlite.specs.Store.{Ghosts}
 use Rattle.sqlite.specs.Tree.{Trees}
 use Rattle.prt_session.specs.Desk.{DeskState, Mishap, no_room, no_memory, store_fails, commit_kept, publication_fails, settled}
+use Rattle.prt_rows.specs.Format.{IsFormat1}
 use Rattle.prt_store.specs.Adopted.{Adopts}
 use Rattle.prt_store.specs.Stored.{Stores}
 use Rattle.prt_version.specs.State.{State}
@@ -27,9 +28,11 @@ desk_code {T} tables =
     (λ p. record { published = p.0; closed = p.1.0; format_1 = p.1.1.0; tables = p.1.1.1 })
     (λ _. refl)
 
--- these trees, as our tables, spell the state
-abbrev pub Spells : Trees → State → Type 0
-Spells trees stored = (schema : Schema) × Stores (record { schema = schema; trees = trees }) stored
+-- These trees are those of a database whose tables spell the state.
+pub record Spells (trees : Trees) (stored : State) : Type 0 where
+  pub schema : Schema
+  pub sound : IsDatabase (record { schema = schema; trees = trees })
+  pub stores : Stores (record { schema = schema; trees = trees }) stored
 
 -- a crash may leave a file that spells the state
 abbrev pub MayLeave : {S : Type 0} → Ghosts S → Held S → State → Type 0
@@ -74,6 +77,11 @@ desk_with desk stored = record { published = desk.published; stored = stored; cl
 -- the desk may stand for this stored state
 abbrev pub MayBeStored : {S : Type 0} → Ghosts S → DeskOver (Held S) → State → Type 0
 MayBeStored g desk stored = StandsFor g desk (desk_with desk stored)
+
+-- What an opening makes of a database that a crash leaves spells a state that may be stored.
+abbrev pub Reopens : {S : Type 0} → Ghosts S → DeskOver (Held S) → Type 0
+Reopens g desk = (found : Database) → IsDatabase found → (state g desk.tables).may_leave found.trees →
+    IsFormat1 found.schema × ((opened : State) → Opens found opened → MayBeStored g desk opened)
 
 -- what may befall it: memory or a store call may fail; old versions take no room, and a publication cannot fail
 abbrev pub IsStoreMishap : Mishap → Type 0

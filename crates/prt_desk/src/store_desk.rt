@@ -3,10 +3,12 @@ ghost use Rattle.sqlite.specs.Held.{state};
 ghost use Rattle.sqlite.specs.State.{HasCleanDisk};
 ghost use Rattle.sqlite.specs.Tree.{Trees};
 ghost use Rattle.prt_desk.specs.Remains.{Remains};
-ghost use Rattle.prt_desk.specs.StoreDesk.{IsKept, IsKnown, IsStored, IsStoreMishap, MayBeStored, Opens, Spells, desk_with};
+ghost use Rattle.prt_desk.specs.StoreDesk.{IsKept, IsKnown, IsStored, IsStoreMishap, MayBeStored, Opens, Reopens, Spells, desk_with};
 ghost use Rattle.prt_rows.specs.Format.{BeginsFormat1, IsFormat1};
 ghost use Rattle.prt_session.specs.Desk.{Befalls, request_turn};
 ghost use Rattle.prt_session.specs.Run.{RunIs};
+ghost use Rattle.prt_store.specs.Loaded.{IsLoadRefusal};
+ghost use Rattle.prt_version.specs.Sound.{IsSound};
 ghost use Rattle.prt_version.specs.State.{State};
 
 use prt_listing::query_text;
@@ -84,9 +86,11 @@ impl<S: Alter + Drop> StoreDesk<S> {
     /// no state; `NoMemory`.
     pub fn open(alloc: Global, conn: Connection<S>) -> Result<StoreDesk<S>, Refusal>
         ensures open { IfOk result (λ desk. desk.closed ≡ false) }
+        ensures sound { IfOk result (λ desk. IsSound desk.published) }
+        ensures reason { IfErr result IsLoadRefusal }
         ensures format { IfOk result (λ desk. desk.format_1 ≡ true → BeginsFormat1 (state S.Store conn).now.schema) }
         ensures adopts { IfOk result (λ desk. IsKnown S.Store desk.format_1 desk.tables → Opens (state S.Store conn).now desk.published) }
-        ensures found { IfOk result (λ desk. IsKnown S.Store desk.format_1 desk.tables → IsFormat1 (state S.Store conn).now.schema → (stored : State) →
+        ensures found { IfOk result (λ desk. IsKnown S.Store desk.format_1 desk.tables → IsTrue (state S.Store conn).is_open → (stored : State) →
             Spells (state S.Store conn).now.trees stored → desk.published ≡ stored) }
     {
         let is_format_1 = begins_format_1(conn.schema());
@@ -95,12 +99,15 @@ impl<S: Alter + Drop> StoreDesk<S> {
             Err((reason, _)) => return Err(reason),
         };
         match store.load(alloc) {
-            Ok(version) => Ok(StoreDesk {
-                store,
-                version,
-                is_closed: false,
-                is_format_1,
-            }),
+            Ok(version) => {
+                let _number = version.number();
+                Ok(StoreDesk {
+                    store,
+                    version,
+                    is_closed: false,
+                    is_format_1,
+                })
+            }
             Err(reason) => Err(reason),
         }
     }
@@ -124,7 +131,8 @@ impl<S: Alter + Drop> StoreDesk<S> {
     /// Runs a script over this desk, as `run_script` does: nothing but memory and the store can fail it.
     ///
     /// Whatever may be stored at its end is what the session leaves, begun on what may have been stored before. A crash,
-    /// or the end of the program, leaves a file that spells such a state. A desk that is closed stays exactly as it is.
+    /// or the end of the program, leaves a file that spells such a state, and an opening of it gives that state. A desk that
+    /// is closed stays exactly as it is.
     pub fn run_script<R: Read, W: Write, O: Observer>(
         &mut self,
         alloc: Global,
@@ -139,6 +147,7 @@ impl<S: Alter + Drop> StoreDesk<S> {
         ensures keeps { Remains S.Store self.old self.new }
         ensures durable { IsKnown S.Store self.new.format_1 self.new.tables → (trees : Trees) → (state S.Store self.new.tables).may_leave trees →
             (stored : State) × Spells trees stored × MayBeStored S.Store self.new stored }
+        ensures reopened { IsKnown S.Store self.new.format_1 self.new.tables → Reopens S.Store self.new }
     {
         let end = run_script(alloc, self, reader, writer, mode, observer);
         let _is_closed = self.is_closed();

@@ -2,6 +2,7 @@ use Rattle.std.proofs.Common.{subst}
 use Rattle.prt_session.specs.Desk.{Befalls, DeskState, request_turn}
 use Rattle.prt_session.specs.Run.{RunIs}
 use Rattle.prt_desk.specs.StoreDesk.{IsStoreMishap, StandsFor, desk_with}
+use Rattle.prt_desk.proofs.Openings.{reopens}
 use Rattle.prt_desk.proofs.StoreTurns.{durable_is, stands_with}
 use Rattle.prt_desk.proofs.store_desk.StoreDesk.run_script.Goals as goal
 
@@ -17,3 +18,6 @@ returns-clause-run g c = λ stored may.
 
 pub returns-clause-durable : goal.returns-clause-durable
 returns-clause-durable g c = durable_is g.S.Store c.run_script-end.new.desk c.is_closed-is_closed.ensures.kept
+
+pub returns-clause-reopened : goal.returns-clause-reopened
+returns-clause-reopened g c = reopens g.S.Store c.run_script-end.new.desk c.is_closed-is_closed.ensures.kept

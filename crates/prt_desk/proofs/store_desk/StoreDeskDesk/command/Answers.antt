@@ -5,8 +5,7 @@ use Rattle.prt_addr.specs.declared.refusal.Refusal.{Refusal}
 use Rattle.prt_addr.specs.declared.refusal.Refusal.TheVariants.{NoMemory}
 use Rattle.prt_session.specs.Stands.{Explained}
 use Rattle.prt_session.specs.Steps.{CommandGives}
-use Rattle.prt_store.proofs.Nexts.{number_is}
-use Rattle.prt_store.specs.Next.{IsNext}
+use Rattle.prt_store.proofs.Nexts.{next_of, number_is}
 use Rattle.prt_version.specs.Change.{check, put_if}
 use Rattle.prt_version.specs.State.{State}
 use Rattle.prt_desk.specs.StoreDesk.{DeskOver, IsKnown, IsStored, IsStoreMishap, Keeps, StandsFor}
@@ -20,23 +19,16 @@ returns-in-Err-next-clause-turn g c =
     rw c.in-Err-next.ensures.reason (subst Turns c.self.view_is (memory_explained g.S.Store desk c.args.command.now c.if-self.false (ap result_err (sym c.in-Ok.ensures.value))))
 
 pub commit-requires : goal.commit-requires
-commit-requires g c = (
-  c.self.inside.version,
-  record {
-    sound = c.number-number.ensures.sound;
-    command = c.args.command.now;
-    storable = c.requires;
-    makes = sym c.in-Ok.ensures.value;
-    counts = ap (λ n. n + 1) c.number-number.ensures.value;
-  },
-)
+commit-requires g c =
+    let version = c.self.inside.version in
+    (version, next_of version c.args.command.now c.in-Ok.change c.number-number.result c.number-number.ensures.value c.number-number.ensures.sound c.requires c.in-Ok.ensures.value)
 
 pub invariant_of-self : goal.invariant_of-self
 invariant_of-self g c = λ known.
     let version = c.self.inside.version in
     let old = c.self.inside.store.conn in
     let new = c.commit.new.self.conn in
-    let next : IsNext version c.in-Ok.change (c.number-number.result + 1) = record { sound = c.number-number.ensures.sound; command = c.args.command.now; storable = c.requires; makes = sym c.in-Ok.ensures.value; counts = ap (λ n. n + 1) c.number-number.ensures.value } in
+    let next = next_of version c.args.command.now c.in-Ok.change c.number-number.result c.number-number.ensures.value c.number-number.ensures.sound c.requires c.in-Ok.ensures.value in
     let kept = λ (was : IsKnown g.S.Store c.self.inside.is_format_1 old). subst (λ closed. Keeps g.S.Store old version closed) c.if-self.false (c.self.invariant was) in
     let stored = stored_after g.S.Store c.self.inside.is_format_1 old new version c.in-Ok.change (c.number-number.result + 1) next c.commit.ensures.clean kept c.in-Ok-commit.ensures.ok c.in-Ok-commit.ensures.crash_ok known in
     subst (λ closed. Keeps g.S.Store new c.in-Ok-next.next closed) (sym c.if-self.false) (subst (λ (s : State). IsStored g.S.Store new s) (sym c.in-Ok-next.ensures.value) stored)
@@ -45,7 +37,7 @@ pub invariant_of-self-in-Err-commit : goal.invariant_of-self-in-Err-commit
 invariant_of-self-in-Err-commit g c =
     let version = c.self.inside.version in
     let old = c.self.inside.store.conn in
-    let next : IsNext version c.in-Ok.change (c.number-number.result + 1) = record { sound = c.number-number.ensures.sound; command = c.args.command.now; storable = c.requires; makes = sym c.in-Ok.ensures.value; counts = ap (λ n. n + 1) c.number-number.ensures.value } in
+    let next = next_of version c.args.command.now c.in-Ok.change c.number-number.result c.number-number.ensures.value c.number-number.ensures.sound c.requires c.in-Ok.ensures.value in
     let kept = λ (was : IsKnown g.S.Store c.self.inside.is_format_1 old). subst (λ closed. Keeps g.S.Store old version closed) c.if-self.false (c.self.invariant was) in
     let failed = c.in-Err-commit.ensures.reason in
     keeps_after g.S.Store c.self.inside.is_format_1 old c.commit.new.self.conn version c.in-Ok.change (c.number-number.result + 1) next c.commit.ensures.clean kept failed.0 c.in-Err-commit.reason failed.1 c.in-Err-commit.ensures.crash_err
@@ -54,7 +46,7 @@ pub returns-in-Ok-commit-clause-turn : goal.returns-in-Ok-commit-clause-turn
 returns-in-Ok-commit-clause-turn g c =
     let version = c.self.inside.version in
     let made : check version c.args.command.now ≡ Ok c.in-Ok.change = sym c.in-Ok.ensures.value in
-    let next : IsNext version c.in-Ok.change (c.number-number.result + 1) = record { sound = c.number-number.ensures.sound; command = c.args.command.now; storable = c.requires; makes = made; counts = ap (λ n. n + 1) c.number-number.ensures.value } in
+    let next = next_of version c.args.command.now c.in-Ok.change c.number-number.result c.number-number.ensures.value c.number-number.ensures.sound c.requires c.in-Ok.ensures.value in
     let counted : c.number-number.result + 1 ≡ c.in-Ok-next.next.count = number_is version c.in-Ok.change (c.number-number.result + 1) next ∙ ap (λ (s : State). s.count) (sym c.in-Ok-next.ensures.value) in
     let old : DeskOver (Held _) = record { published = version; closed = c.self.inside.is_closed; format_1 = c.self.inside.is_format_1; tables = c.self.inside.store.conn } in
     let new : DeskOver (Held _) = record { published = c.in-Ok-next.next; closed = c.self.inside.is_closed; format_1 = c.self.inside.is_format_1; tables = c.commit.new.self.conn } in
@@ -69,7 +61,7 @@ pub returns-in-Err-commit-clause-turn : goal.returns-in-Err-commit-clause-turn
 returns-in-Err-commit-clause-turn g c =
     let version = c.self.inside.version in
     let made : check version c.args.command.now ≡ Ok c.in-Ok.change = sym c.in-Ok.ensures.value in
-    let next : IsNext version c.in-Ok.change (c.number-number.result + 1) = record { sound = c.number-number.ensures.sound; command = c.args.command.now; storable = c.requires; makes = made; counts = ap (λ n. n + 1) c.number-number.ensures.value } in
+    let next = next_of version c.args.command.now c.in-Ok.change c.number-number.result c.number-number.ensures.value c.number-number.ensures.sound c.requires c.in-Ok.ensures.value in
     let before = c.self.inside.store.conn in
     let after = c.commit.new.self.conn in
     let kept = λ (was : IsKnown g.S.Store c.self.inside.is_format_1 before). subst (λ closed. Keeps g.S.Store before version closed) c.if-self.false (c.self.invariant was) in
