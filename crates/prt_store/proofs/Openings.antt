@@ -186,6 +186,16 @@ module _ {S : Type 0} (g : Ghosts S) (a b : Held S) where
   pub opens_not : (reason other : Refusal) → Advances g BeginsFormat1 IsFormat1 a b (Err reason) → OpensTables g a b (Err other)
   opens_not reason other one = record { ok = λ clean tables. tt; err = one.err; crash = one.crash }
 
+  -- an opening that is refused at its end has done what one does that is not
+  pub opened_in_part : (reason : Refusal) → OpensTables g a b (Ok tt) → OpensTables g a b (Err reason)
+  opened_in_part reason opens = record {
+    ok = λ clean tables. tt;
+    err = λ clean still_open tables.
+        let adopts = (opens.ok clean tables).0 in
+        record { tables = inr (inr (inr adopts.tables)); rows = elim adopts.rows [ inl kept ↦ inl kept.1 | inr filled ↦ inr filled ] };
+    crash = opens.crash;
+  }
+
   module _ (one : Advances g BeginsFormat1 IsFormat1 a b (Ok tt)) where
     part_made : HasCleanDisk (state g b) → BeginsFormat1 (state g a).now.schema → AdoptsPart (state g a).now (state g b).now
     part_made clean tables = let it = one.ok clean tables in record { tables = inr (inr (inr it.0)); rows = inl it.1 }

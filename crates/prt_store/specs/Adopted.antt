@@ -8,7 +8,7 @@ use Rattle.sqlite.specs.Table.{Table}
 use Rattle.sqlite.specs.Tree.{Trees}
 use Rattle.sqlite_rules.specs.Lists.{Has}
 use Rattle.prt_rows.specs.Effects.{AreEmpty, KeepsTables}
-use Rattle.prt_rows.specs.Format.{BeginsFormat1, IsFormat1}
+use Rattle.prt_rows.specs.Format.{BeginsFormat1, HasFormat1, IsFormat1}
 use Rattle.prt_rows.specs.Tables.{our_tables}
 use Rattle.prt_store.specs.Stored.{Stores}
 use Rattle.prt_version.specs.State.{opening_state}
@@ -43,9 +43,11 @@ pub record IsSettled {S : Type 0} (g : Ghosts S) (conn : Held S) : Type 0 where
   pub autocommit : (state g conn).in_transaction ≡ false
   pub committed : (state g conn).now ≡ (state g conn).committed
 
--- a connection that was found so was adopted, which made it this one
+-- A connection that was found so was adopted, which made it this one. A crash leaves what the tables show.
 pub record AdoptsOne {S : Type 0} (g : Ghosts S) (IsFound : Held S → Type 0) (now : Held S) : Type 0 where
   pub was : Held S
   pub found : IsFound was
   pub adopted : HasCleanDisk (state g now) → BeginsFormat1 (state g was).now.schema → Adopts (state g was).now (state g now).now × IsSettled g now
+  pub columns : HasFormat1 (state g now).now.schema
+  pub crash : HasCleanDisk (state g now) → BeginsFormat1 (state g was).now.schema → (trees : Trees) → (state g now).may_leave trees → trees ≡ (state g now).now.trees
   pub survives : (HasCleanDisk (state g was) → BeginsFormat1 (state g was).now.schema) → Survives (state g was) (state g now) (LeavesPart (state g was).now)

@@ -7,7 +7,7 @@ ghost use Rattle.sqlite.specs.State.{HasCleanDisk, Survives};
 ghost use Rattle.sqlite.specs.Tree.{Trees};
 ghost use Rattle.prt_addr.specs.declared.refusal.Refusal.TheVariants.{OpenFailed};
 ghost use Rattle.prt_rows.specs.Effects.{AreEmpty};
-ghost use Rattle.prt_rows.specs.Format.{BeginsFormat1};
+ghost use Rattle.prt_rows.specs.Format.{BeginsFormat1, HasFormat1};
 ghost use Rattle.prt_store.specs.Adopted.{Adopts, AdoptsOne, AdoptsPart, IsSettled, LeavesPart};
 ghost use Rattle.prt_store.specs.Stored.{Stores};
 ghost use Rattle.prt_version.specs.State.{State, opening_state};
@@ -22,8 +22,9 @@ impl<S: Alter + Drop> Store<S> {
     /// are missing, each by itself; where the three have no rows they are filled with the opening state, in one
     /// transaction, with the row of `meta` last. All other rows stay as they are, whether they spell a state or not.
     ///
-    /// The clauses speak of a file without tables, of one that an earlier opening was stopped in, and of one whose first
-    /// tables are the three. Other files are served all the same.
+    /// After `Ok` the three tables have the columns of format 1, whatever the file. The other clauses speak of a file without
+    /// tables, of one that an earlier opening was stopped in, and of one whose first tables are the three. Other files are
+    /// served all the same.
     ///
     /// # Errors
     ///
@@ -33,6 +34,7 @@ impl<S: Alter + Drop> Store<S> {
     pub fn adopt(mut conn: Connection<S>) -> Result<Store<S>, (Refusal, Connection<S>)>
         ensures ok { IfOk result (λ store. HasCleanDisk (state S.Store store.conn) → BeginsFormat1 (state S.Store conn).now.schema →
             Adopts (state S.Store conn).now (state S.Store store.conn).now) }
+        ensures columns { IfOk result (λ store. HasFormat1 (state S.Store store.conn).now.schema) }
         ensures stored { IfOk result (λ store. HasCleanDisk (state S.Store store.conn) → (stored : State) →
             Stores (state S.Store conn).now stored → Stores (state S.Store store.conn).now stored) }
         ensures opening { IfOk result (λ store. HasCleanDisk (state S.Store store.conn) → BeginsFormat1 (state S.Store conn).now.schema →

@@ -1,9 +1,10 @@
 //! The opening of a file: the three tables are made where they are missing, and filled where they have no rows.
 
-ghost use Rattle.std.specs.Prelude.{◌≡◌, ◌<◌, ◌^◌, [], IfErr};
+ghost use Rattle.std.specs.Prelude.{◌≡◌, ◌<◌, ◌^◌, [], IfErr, OnOk};
+ghost use Rattle.sqlite.specs.Held.{state};
 ghost use Rattle.prt_addr.specs.declared.refusal.Refusal.TheVariants.{OpenFailed};
 ghost use Rattle.prt_rows.specs.Effects.{AreEmpty};
-ghost use Rattle.prt_rows.specs.Format.{BeginsFormat1, IsFormat1};
+ghost use Rattle.prt_rows.specs.Format.{BeginsFormat1, HasFormat1, IsFormat1};
 ghost use Rattle.prt_rows.specs.MetaRow.{meta_row};
 ghost use Rattle.prt_rows.specs.Statements.{create_meta, create_route, create_rule, insert_meta};
 ghost use Rattle.prt_store.specs.Openings.{Advances, Commits, Fills, InsertsRule, InsertsRules, IsEmpty, MakesMissing, OpensTables, Ran, Sees, Takes, Works, look_at};
@@ -204,12 +205,8 @@ fn are_empty<S: Alter>(conn: &mut Connection<S>) -> Result<bool, Refusal>
     is_empty(conn, OurTable::Route)
 }
 
-/// Makes the three tables where they are missing, and fills them where they have no rows.
-///
-/// # Errors
-///
-/// `OpenFailed` where one of the tables has other columns than those of format 1, or a store call fails.
-pub(crate) fn open_tables<S: Alter>(conn: &mut Connection<S>) -> Result<(), Refusal>
+/// Makes the three tables where they are missing, compares their columns, and fills them where they have no rows.
+fn make_and_fill<S: Alter>(conn: &mut Connection<S>) -> Result<(), Refusal>
     ensures reason { IfErr result (λ reason. reason ≡ OpenFailed) }
     ensures opens { OpensTables S.Store conn.old conn.new result }
 {
@@ -224,4 +221,23 @@ pub(crate) fn open_tables<S: Alter>(conn: &mut Connection<S>) -> Result<(), Refu
         return Ok(());
     }
     take(conn, Step::Fill)
+}
+
+/// Makes the three tables where they are missing, and fills them where they have no rows.
+///
+/// # Errors
+///
+/// `OpenFailed` where one of the tables has other columns than those of format 1, or a store call fails.
+pub(crate) fn open_tables<S: Alter>(conn: &mut Connection<S>) -> Result<(), Refusal>
+    ensures reason { IfErr result (λ reason. reason ≡ OpenFailed) }
+    ensures columns { OnOk result (HasFormat1 (state S.Store conn.new).now.schema) }
+    ensures opens { OpensTables S.Store conn.old conn.new result }
+{
+    make_and_fill(conn)?;
+    // Compares again: what the statements leave alone is known only of files whose first tables are ours.
+    if has_format_1(conn.schema()) {
+        Ok(())
+    } else {
+        Err(Refusal::OpenFailed)
+    }
 }

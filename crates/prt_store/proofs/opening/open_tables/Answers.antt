@@ -1,30 +1,6 @@
-use Rattle.std.proofs.Common.{Ok, subst}
-use Rattle.prt_rows.specs.Effects.{AreEmpty}
-use Rattle.prt_store.proofs.Openings.{has_rows, look_failed, opens_filled, opens_refused}
-use Rattle.prt_store.specs.Openings.{Sees}
+use Rattle.prt_addr.specs.declared.refusal.Refusal.TheVariants.{OpenFailed}
+use Rattle.prt_store.proofs.Openings.{opened_in_part}
 use Rattle.prt_store.proofs.opening.open_tables.Goals as goal
 
-pub returns-then-not-has_format_1-clause-opens : goal.returns-then-not-has_format_1-clause-opens
-returns-then-not-has_format_1-clause-opens g c = opens_refused g.S.Store c.args.conn.now c.make_tables.new.conn c.in_ok-make_tables.ensures.advances _
-
-pub returns-then-not-is_autocommit-clause-opens : goal.returns-then-not-is_autocommit-clause-opens
-returns-then-not-is_autocommit-clause-opens g c = opens_refused g.S.Store c.args.conn.now c.make_tables.new.conn c.in_ok-make_tables.ensures.advances _
-
-pub returns-in_err-are_empty-clause-opens : goal.returns-in_err-are_empty-clause-opens
-returns-in_err-are_empty-clause-opens g c =
-    look_failed g.S.Store c.args.conn.now c.make_tables.new.conn c.in_ok-make_tables.ensures.advances c.are_empty.new.conn c.in_err-are_empty.field-0.0 c.from_residual-in_err-are_empty.result c.from_residual-in_err-are_empty.ensures.0
-    c.in_err-are_empty.ensures.sees (c.is_autocommit.ensures.settled c.if-not-is_autocommit.false)
-
-pub returns-then-not-branch-clause-opens : goal.returns-then-not-branch-clause-opens
-returns-then-not-branch-clause-opens g c =
-    let made = c.make_tables.new.conn in
-    let seen = c.are_empty.new.conn in
-    has_rows g.S.Store c.args.conn.now made c.in_ok-make_tables.ensures.advances seen (subst (λ b. Sees g.S.Store AreEmpty made seen (Ok b)) c.if-not-branch.true c.in_ok-are_empty.ensures.sees)
-    c.is_autocommit.result c.if-not-is_autocommit.false c.is_autocommit.ensures.value (c.is_autocommit.ensures.settled c.if-not-is_autocommit.false)
-
-pub returns-clause-opens : goal.returns-clause-opens
-returns-clause-opens g c =
-    let made = c.make_tables.new.conn in
-    let seen = c.are_empty.new.conn in
-    opens_filled g.S.Store c.args.conn.now made c.in_ok-make_tables.ensures.advances seen c.take.new.conn c.take.result (subst (λ b. Sees g.S.Store AreEmpty made seen (Ok b)) c.if-not-branch.false c.in_ok-are_empty.ensures.sees)
-    c.take.ensures.commits
+pub returns-else-has_format_1-clause-opens : goal.returns-else-has_format_1-clause-opens
+returns-else-has_format_1-clause-opens g c = opened_in_part g.S.Store c.args.conn.now c.make_and_fill.new.conn OpenFailed c.in_ok-make_and_fill.ensures.opens
