@@ -22,7 +22,7 @@ use Rattle.prt_rows.specs.Effects.{AreEmpty}
 use Rattle.prt_rows.specs.Format.{IsFormat1}
 use Rattle.prt_rows.specs.Tables.{meta_table, our_tables, route_table, rule_table, schema_with}
 use Rattle.prt_store.proofs.Loads.{commits_nothing, unchanged}
-use Rattle.prt_store.specs.Openings.{IsEmpty, Sees, look_at, tree_of}
+use Rattle.prt_store.specs.Openings.{IsEmpty, Sees, look_at, table_of}
 use Rattle.prt_store.specs.declared.opening.OurTable.{OurTable}
 use Rattle.prt_store.specs.declared.opening.OurTable.TheVariants as ours
 
@@ -55,7 +55,7 @@ plain_look table schema t = subst (λ (s : Schema). IsPlain (understood s (look_
     plain ours.Route = (look_at_routes_is t.tables t.indexes t.views).1
     plain ours.Meta = (look_at_meta_is t.tables t.indexes t.views).1
 
-looks_at : (table : OurTable) (old new : Conn) → IsFormat1 old.now.schema → (found : List Row) → Shown (look_at table) [] old new found → Looks (old.now.trees (tree_of table)) found
+looks_at : (table : OurTable) (old new : Conn) → IsFormat1 old.now.schema → (found : List Row) → Shown (look_at table) [] old new found → Looks (old.now.trees (table_of table).tree) found
 looks_at ours.Rule old new t found = looks_at_rules t.tables t.indexes t.views old new t.is found
 looks_at ours.Route old new t found = looks_at_routes t.tables t.indexes t.views old new t.is found
 looks_at ours.Meta old new t found = looks_at_meta t.tables t.indexes t.views old new t.is found
@@ -75,7 +75,7 @@ module _ {S : Type 0} (g : Ghosts S) (table : OurTable) (old new : Held S) (surv
   pub look_tells : (found : List Row) (n : ℕ) (b : Bool) → (HasCleanDisk (state g new) → Shown (look_at table) [] (state g old) (state g new) found) → n ≡ length found → b ≡ (n == 0) → Sees g (IsEmpty table) old new (Ok b)
   look_tells found n b shown long is = record {
     ok = λ clean tables. (
-      tells ((state g old).now.trees (tree_of table)) found n b (looks_at table (state g old) (state g new) tables found (shown clean)) long is,
+      tells ((state g old).now.trees (table_of table).tree) found n b (looks_at table (state g old) (state g new) tables found (shown clean)) long is,
       unchanged (look_at table) (state g old) (state g new) (plain_look table (state g old).now.schema tables) found (shown clean),
     );
     err = λ clean tables still_open settled. tt;

@@ -2,7 +2,6 @@
 use Rattle.std.proofs.Common.{◌≡◌, inl, inr, ℕ, Bool, true, false, not, [], Ok, Err, Result, IfErr, IsErr, IsTrue, OnErr, OnOk, true≢false, refl, sym, subst, ◌∙◌, arith}
 use Rattle.std.proofs.lemmas.Bool.{not-true}
 use Rattle.std.proofs.lemmas.Result.{on_err_weaker, on_ok_weaker}
-use Rattle.std.specs.Prelude.{codes}
 use Rattle.std.specs.Result.{is_err, result_or}
 use Rattle.sqlite.proofs.StateLemmas.{survives_then, survives_weaker}
 use Rattle.sqlite.specs.Effect.{Database, IsDatabase}
@@ -13,7 +12,6 @@ use Rattle.sqlite.specs.Steps.{FailsToCommit}
 use Rattle.sqlite.specs.Store.{Ghosts}
 use Rattle.sqlite.specs.Tree.{Trees}
 use Rattle.sqlite.specs.declared.error.Error.{Error}
-use Rattle.prt_addr.specs.Word.{Word}
 use Rattle.prt_addr.specs.declared.refusal.Refusal.{Refusal}
 use Rattle.prt_addr.specs.declared.refusal.Refusal.TheVariants.{OpenFailed}
 use Rattle.prt_rows.proofs.Creating.{makes_meta, makes_route, makes_rule}
@@ -25,8 +23,9 @@ use Rattle.prt_rows.specs.Tables.{no_tables, rule_alone, rule_and_route}
 use Rattle.prt_store.proofs.Filling.{fills}
 use Rattle.prt_store.proofs.Transactions.{committed, crash_after, not_committed, survives_itself}
 use Rattle.prt_store.specs.Adopted.{Adopts, AdoptsPart, IsFilled, LeavesPart}
-use Rattle.prt_store.specs.Openings.{Advances, Commits, Fills, HasDone, HasLeft, MakesMissing, OpensTables, Ran, Sees, Takes, Works, begun_from}
-use Rattle.prt_store.specs.declared.opening.Step.{Step}
+use Rattle.prt_store.specs.Openings.{Advances, Commits, Fills, HasDone, HasLeft, MakesMissing, OpensTables, Ran, Sees, Takes, Works, begun_from, table_of}
+use Rattle.prt_store.specs.declared.opening.OurTable.{OurTable}
+use Rattle.prt_store.specs.declared.opening.OurTable.TheVariants as ours
 use Rattle.prt_store.specs.declared.opening.Step.TheVariants as step
 
 on_any : {T E P : Type 0} (r : Result T E) → P → OnOk r P
@@ -87,37 +86,37 @@ leaves_later old mid trees keeps left = record { db = left.db; is = left.is; sou
 
 -- ---- a table that is made where it is missing
 
-module _ {S : Type 0} (g : Ghosts S) (name : Word) (made : Step) (From To : Schema → Type 0) (from : Schema) (there : (schema : Schema) → From schema → has_table name schema ≡ true → To schema)
-    (missing : (schema : Schema) → From schema → has_table name schema ≡ false → schema ≡ from) (begins : (schema : Schema) → From schema → BeginsFormat1 schema) (goes_on : (schema : Schema) → To schema → BeginsFormat1 schema)
-    (makes : (old : Held S) (db : Database) → (state g old).now.schema ≡ from → HasDone g (Takes g made) old db → IsDatabase db × To db.schema × KeepsTables (state g old).now db) where
-  advances : (old new : Held S) (result : Result (Unit {0}) Refusal) → MakesMissing g name made old new result → Advances g From To old new result
-  advances old new result done = go (has_table name (state g old).now.schema) refl
+module _ {S : Type 0} (g : Ghosts S) (table : OurTable) (From To : Schema → Type 0) (from : Schema) (there : (schema : Schema) → From schema → has_table (table_of table).name schema ≡ true → To schema)
+    (missing : (schema : Schema) → From schema → has_table (table_of table).name schema ≡ false → schema ≡ from) (begins : (schema : Schema) → From schema → BeginsFormat1 schema) (goes_on : (schema : Schema) → To schema → BeginsFormat1 schema)
+    (makes : (old : Held S) (db : Database) → (state g old).now.schema ≡ from → HasDone g (Takes g (step.Make table)) old db → IsDatabase db × To db.schema × KeepsTables (state g old).now db) where
+  advances : (old new : Held S) (result : Result (Unit {0}) Refusal) → MakesMissing g table old new result → Advances g From To old new result
+  advances old new result done = go (has_table (table_of table).name (state g old).now.schema) refl
     where
-      stays : has_table name (state g old).now.schema ≡ true → Advances g From To old old result
+      stays : has_table (table_of table).name (state g old).now.schema ≡ true → Advances g From To old old result
       stays is = record {
         ok = λ clean tables. on_any result (there (state g old).now.schema tables is, keeps_itself (state g old).now);
         err = λ clean still_open tables. on_err_any result (nothing_done (state g old).now (begins (state g old).now.schema tables));
         crash = λ tables. survives_itself (state g old) (LeavesPart (state g old).now);
       }
 
-      made_of : has_table name (state g old).now.schema ≡ false → From (state g old).now.schema → (db : Database) → HasDone g (Takes g made) old db → IsDatabase db × To db.schema × KeepsTables (state g old).now db
+      made_of : has_table (table_of table).name (state g old).now.schema ≡ false → From (state g old).now.schema → (db : Database) → HasDone g (Takes g (step.Make table)) old db → IsDatabase db × To db.schema × KeepsTables (state g old).now db
       made_of is tables db it = makes old db (missing (state g old).now.schema tables is) it
 
-      left_of : has_table name (state g old).now.schema ≡ false → From (state g old).now.schema → (trees : Trees) → HasLeft g (Takes g made) old trees → LeavesPart (state g old).now trees
+      left_of : has_table (table_of table).name (state g old).now.schema ≡ false → From (state g old).now.schema → (trees : Trees) → HasLeft g (Takes g (step.Make table)) old trees → LeavesPart (state g old).now trees
       left_of is tables trees left =
           let it = made_of is tables left.0 left.1 in
           record { db = left.0; is = left.2; sound = it.0; part = record { tables = goes_on left.0.schema it.1; rows = inl it.2 } }
 
-      takes : has_table name (state g old).now.schema ≡ false → Commits g (Takes g made) old new result → Advances g From To old new result
+      takes : has_table (table_of table).name (state g old).now.schema ≡ false → Commits g (Takes g (step.Make table)) old new result → Advances g From To old new result
       takes is all = record {
         ok = λ clean tables. on_ok_weaker result (λ it.
             let now = made_of is tables (state g new).committed it.0 in
             subst (λ (d : Database). To d.schema × KeepsTables (state g old).now d) (sym it.1.committed) (now.1, now.2)) (all.ok clean);
         err = λ clean still_open tables. on_err_weaker result (λ same. subst (AdoptsPart (state g old).now) (sym same) (nothing_done (state g old).now (begins (state g old).now.schema tables))) (all.err clean still_open);
-        crash = λ tables. survives_weaker (state g old) (state g new) (HasLeft g (Takes g made) old) (LeavesPart (state g old).now) (λ clean trees. left_of is (tables (omega (arith, all.crash.clean))) trees) all.crash;
+        crash = λ tables. survives_weaker (state g old) (state g new) (HasLeft g (Takes g (step.Make table)) old) (LeavesPart (state g old).now) (λ clean trees. left_of is (tables (omega (arith, all.crash.clean))) trees) all.crash;
       }
 
-      go : (b : Bool) → has_table name (state g old).now.schema ≡ b → Advances g From To old new result
+      go : (b : Bool) → has_table (table_of table).name (state g old).now.schema ≡ b → Advances g From To old new result
       go true is = subst (λ h. Advances g From To old h result) (sym (done.there is)) (stays is)
       go false is = takes is (done.missing is)
 
@@ -139,14 +138,14 @@ module _ {S : Type 0} (g : Ghosts S) where
       (made.sound, format_made (state g done.0).now.schema made.schema, keeps_rules_and_routes (state g old).now (state g done.0).now has made)
 
   module _ (old new : Held S) (result : Result (Unit {0}) Refusal) where
-    pub rules_made : MakesMissing g (codes "rule") step.MakeRules old new result → Advances g BeginsFormat1 BeginsWithRules old new result
-    rules_made = advances g (codes "rule") step.MakeRules BeginsFormat1 BeginsWithRules no_tables rules_there rules_missing (λ schema tables. tables) (λ schema tables. inr tables) makes_rules old new result
+    pub rules_made : MakesMissing g ours.Rule old new result → Advances g BeginsFormat1 BeginsWithRules old new result
+    rules_made = advances g ours.Rule BeginsFormat1 BeginsWithRules no_tables rules_there rules_missing (λ schema tables. tables) (λ schema tables. inr tables) makes_rules old new result
 
-    pub routes_made : MakesMissing g (codes "route") step.MakeRoutes old new result → Advances g BeginsWithRules BeginsWithRoutes old new result
-    routes_made = advances g (codes "route") step.MakeRoutes BeginsWithRules BeginsWithRoutes rule_alone routes_there routes_missing (λ schema tables. inr tables) (λ schema tables. inr (inr tables)) makes_routes old new result
+    pub routes_made : MakesMissing g ours.Route old new result → Advances g BeginsWithRules BeginsWithRoutes old new result
+    routes_made = advances g ours.Route BeginsWithRules BeginsWithRoutes rule_alone routes_there routes_missing (λ schema tables. inr tables) (λ schema tables. inr (inr tables)) makes_routes old new result
 
-    pub meta_made : MakesMissing g (codes "meta") step.MakeMeta old new result → Advances g BeginsWithRoutes IsFormat1 old new result
-    meta_made = advances g (codes "meta") step.MakeMeta BeginsWithRoutes IsFormat1 rule_and_route meta_there meta_missing (λ schema tables. inr (inr tables)) (λ schema tables. inr (inr (inr tables))) makes_all old new result
+    pub meta_made : MakesMissing g ours.Meta old new result → Advances g BeginsWithRoutes IsFormat1 old new result
+    meta_made = advances g ours.Meta BeginsWithRoutes IsFormat1 rule_and_route meta_there meta_missing (λ schema tables. inr (inr tables)) (λ schema tables. inr (inr (inr tables))) makes_all old new result
 
 -- ---- one after the other
 

@@ -5,6 +5,7 @@ use Rattle.sqlite.specs.Held.{Held, state}
 use Rattle.sqlite.specs.Schema.{Schema}
 use Rattle.sqlite.specs.State.{Executes, HasCleanDisk, IsUnchanged, KeepsCommit, Survives}
 use Rattle.sqlite.specs.Store.{Ghosts}
+use Rattle.sqlite.specs.Table.{Table}
 use Rattle.sqlite.specs.Tree.{Trees}
 use Rattle.sqlite.specs.declared.error.Error.{Error}
 use Rattle.sqlite_value.specs.Order.{Row}
@@ -28,6 +29,25 @@ use Rattle.prt_version.specs.State.{table_rule}
 -- the connection, with a transaction that has just begun
 abbrev pub begun_from : {S : Type 0} → Held S → Held S
 begun_from old = record old { in_transaction = true }
+
+-- ---- the three tables
+
+abbrev pub table_of : OurTable → Table
+table_of ours.Rule = rule_table
+table_of ours.Route = route_table
+table_of ours.Meta = meta_table
+
+-- the statement that makes a table
+abbrev pub create : OurTable → Word
+create ours.Rule = create_rule
+create ours.Route = create_route
+create ours.Meta = create_meta
+
+-- the statement that shows the rowids of a table
+abbrev pub look_at : OurTable → Word
+look_at ours.Rule = look_at_rules
+look_at ours.Route = look_at_routes
+look_at ours.Meta = look_at_meta
 
 -- ---- inside a transaction
 
@@ -57,9 +77,7 @@ abbrev pub Fills : {S : Type 0} → Ghosts S → Held S → Held S → Type 0
 Fills g = InTurn (InsertsRules g) (Ran g insert_meta (meta_row 0))
 
 abbrev pub Takes : {S : Type 0} → Ghosts S → Step → Held S → Held S → Type 0
-Takes g step.MakeRules = Ran g create_rule []
-Takes g step.MakeRoutes = Ran g create_route []
-Takes g step.MakeMeta = Ran g create_meta []
+Takes g (step.Make table) = Ran g (create table) []
 Takes g step.Fill = Fills g
 
 -- ---- a transaction of its own
@@ -78,10 +96,10 @@ pub record Commits {S : Type 0} (g : Ghosts S) (Does : Held S → Held S → Typ
   pub err : HasCleanDisk (state g new) → IsTrue (state g new).is_open → OnErr result ((state g new).now ≡ (state g old).now)
   pub crash : Survives (state g old) (state g new) (HasLeft g Does old)
 
--- the step was taken where there was no table of this name, and nothing was done where there was
-pub record MakesMissing {S : Type 0} (g : Ghosts S) (name : Word) (step : Step) (old new : Held S) (result : Result (Unit {0}) Refusal) : Type 0 where
-  pub there : has_table name (state g old).now.schema ≡ true → new ≡ old
-  pub missing : has_table name (state g old).now.schema ≡ false → Commits g (Takes g step) old new result
+-- the table was made where there was none of its name, and nothing was done where there was
+pub record MakesMissing {S : Type 0} (g : Ghosts S) (table : OurTable) (old new : Held S) (result : Result (Unit {0}) Refusal) : Type 0 where
+  pub there : has_table (table_of table).name (state g old).now.schema ≡ true → new ≡ old
+  pub missing : has_table (table_of table).name (state g old).now.schema ≡ false → Commits g (Takes g (step.Make table)) old new result
 
 -- ---- the opening
 
@@ -91,20 +109,9 @@ pub record Advances {S : Type 0} (g : Ghosts S) (From To : Schema → Type 0) (o
   pub err : HasCleanDisk (state g new) → IsTrue (state g new).is_open → From (state g old).now.schema → OnErr result (AdoptsPart (state g old).now (state g new).now)
   pub crash : (HasCleanDisk (state g old) → From (state g old).now.schema) → Survives (state g old) (state g new) (LeavesPart (state g old).now)
 
--- the statement that shows the rowids of a table
-abbrev pub look_at : OurTable → Word
-look_at ours.Rule = look_at_rules
-look_at ours.Route = look_at_routes
-look_at ours.Meta = look_at_meta
-
-abbrev pub tree_of : OurTable → ℕ
-tree_of ours.Rule = rule_table.tree
-tree_of ours.Route = route_table.tree
-tree_of ours.Meta = meta_table.tree
-
 -- the table has no rows
 abbrev pub IsEmpty : OurTable → Database → Type 0
-IsEmpty table db = db.trees (tree_of table) ≡ []
+IsEmpty table db = db.trees (table_of table).tree ≡ []
 
 -- what was asked of the file, where our tables are the first; nothing was changed
 pub record Sees {S : Type 0} (g : Ghosts S) (P : Database → Type 0) (old new : Held S) (result : Result Bool Refusal) : Type 0 where

@@ -6,8 +6,8 @@ ghost use Rattle.prt_addr.specs.declared.refusal.Refusal.TheVariants.{OpenFailed
 ghost use Rattle.prt_rows.specs.Effects.{AreEmpty};
 ghost use Rattle.prt_rows.specs.Format.{BeginsFormat1, HasFormat1, IsFormat1};
 ghost use Rattle.prt_rows.specs.MetaRow.{meta_row};
-ghost use Rattle.prt_rows.specs.Statements.{create_meta, create_route, create_rule, insert_meta};
-ghost use Rattle.prt_store.specs.Openings.{Advances, Commits, Fills, InsertsRule, InsertsRules, IsEmpty, MakesMissing, OpensTables, Ran, Sees, Takes, Works, look_at};
+ghost use Rattle.prt_rows.specs.Statements.{insert_meta};
+ghost use Rattle.prt_store.specs.Openings.{Advances, Commits, Fills, InsertsRule, InsertsRules, IsEmpty, MakesMissing, OpensTables, Ran, Sees, Takes, Works, create, look_at, table_of};
 ghost use Rattle.prt_version.specs.State.{table_rule};
 
 use crate::statements::insert_rule;
@@ -18,19 +18,6 @@ use prt_rule::Rule;
 use prt_version::table_rule;
 use sqlite::{Alter, Connection, Error, Transaction};
 
-/// A step of an opening.
-#[derive(Clone, Copy)]
-enum Step {
-    /// Makes the table `rule`.
-    MakeRules,
-    /// Makes the table `route`.
-    MakeRoutes,
-    /// Makes the table `meta`.
-    MakeMeta,
-    /// Puts the three opening rules and the count 0.
-    Fill,
-}
-
 /// One of the three tables.
 #[derive(Clone, Copy)]
 enum OurTable {
@@ -39,37 +26,35 @@ enum OurTable {
     Meta,
 }
 
-/// Makes the table of rules.
-fn create_rules<S: Alter>(tx: &mut Transaction<'_, S>) -> Result<usize, Error>
-    ensures same_reference { tx.new.conn.ghost_name ≡ tx.old.conn.ghost_name }
-    ensures works { Works S.Store (Ran S.Store create_rule []) tx.old.conn.now tx.new.conn.now result }
-{
-    tx.execute(
-        "CREATE TABLE IF NOT EXISTS rule (id INTEGER PRIMARY KEY NOT NULL, priority INTEGER NOT NULL, inverted INTEGER NOT NULL, src_net INTEGER NOT NULL, src_len INTEGER NOT NULL, dst_net INTEGER NOT NULL, dst_len INTEGER NOT NULL, iif TEXT NOT NULL, mark INTEGER NOT NULL, mask INTEGER NOT NULL, act INTEGER NOT NULL, tbl INTEGER NOT NULL) STRICT",
-        &[],
-    )
+/// A step of an opening.
+#[derive(Clone, Copy)]
+enum Step {
+    /// Makes a table.
+    Make(OurTable),
+    /// Puts the three opening rules and the count 0.
+    Fill,
 }
 
-/// Makes the table of routes.
-fn create_routes<S: Alter>(tx: &mut Transaction<'_, S>) -> Result<usize, Error>
-    ensures same_reference { tx.new.conn.ghost_name ≡ tx.old.conn.ghost_name }
-    ensures works { Works S.Store (Ran S.Store create_route []) tx.old.conn.now tx.new.conn.now result }
+/// The statement that makes a table.
+fn create(table: OurTable) -> &'static str
+    ensures { result.now ≡ create table }
 {
-    tx.execute(
-        "CREATE TABLE IF NOT EXISTS route (tbl INTEGER NOT NULL, net INTEGER NOT NULL, len INTEGER NOT NULL, metric INTEGER NOT NULL, kind INTEGER NOT NULL, via INTEGER NOT NULL, dev TEXT NOT NULL, src INTEGER NOT NULL, proto INTEGER NOT NULL, scope INTEGER NOT NULL, PRIMARY KEY (tbl, net, len, metric)) STRICT",
-        &[],
-    )
+    match table {
+        OurTable::Rule =>
+            "CREATE TABLE IF NOT EXISTS rule (id INTEGER PRIMARY KEY NOT NULL, priority INTEGER NOT NULL, inverted INTEGER NOT NULL, src_net INTEGER NOT NULL, src_len INTEGER NOT NULL, dst_net INTEGER NOT NULL, dst_len INTEGER NOT NULL, iif TEXT NOT NULL, mark INTEGER NOT NULL, mask INTEGER NOT NULL, act INTEGER NOT NULL, tbl INTEGER NOT NULL) STRICT",
+        OurTable::Route =>
+            "CREATE TABLE IF NOT EXISTS route (tbl INTEGER NOT NULL, net INTEGER NOT NULL, len INTEGER NOT NULL, metric INTEGER NOT NULL, kind INTEGER NOT NULL, via INTEGER NOT NULL, dev TEXT NOT NULL, src INTEGER NOT NULL, proto INTEGER NOT NULL, scope INTEGER NOT NULL, PRIMARY KEY (tbl, net, len, metric)) STRICT",
+        OurTable::Meta =>
+            "CREATE TABLE IF NOT EXISTS meta (id INTEGER PRIMARY KEY NOT NULL, format INTEGER NOT NULL, count INTEGER NOT NULL) STRICT",
+    }
 }
 
-/// Makes the table of the count.
-fn create_meta<S: Alter>(tx: &mut Transaction<'_, S>) -> Result<usize, Error>
+/// Makes a table.
+fn create_table<S: Alter>(tx: &mut Transaction<'_, S>, table: OurTable) -> Result<usize, Error>
     ensures same_reference { tx.new.conn.ghost_name ≡ tx.old.conn.ghost_name }
-    ensures works { Works S.Store (Ran S.Store create_meta []) tx.old.conn.now tx.new.conn.now result }
+    ensures works { Works S.Store (Ran S.Store (create table) []) tx.old.conn.now tx.new.conn.now result }
 {
-    tx.execute(
-        "CREATE TABLE IF NOT EXISTS meta (id INTEGER PRIMARY KEY NOT NULL, format INTEGER NOT NULL, count INTEGER NOT NULL) STRICT",
-        &[],
-    )
+    tx.execute(create(table), &[])
 }
 
 /// Inserts a rule that looks up a table for every packet.
@@ -122,9 +107,7 @@ fn perform<S: Alter>(tx: &mut Transaction<'_, S>, step: Step) -> Result<usize, E
     ensures works { Works S.Store (Takes S.Store step) tx.old.conn.now tx.new.conn.now result }
 {
     match step {
-        Step::MakeRules => create_rules(tx),
-        Step::MakeRoutes => create_routes(tx),
-        Step::MakeMeta => create_meta(tx),
+        Step::Make(table) => create_table(tx, table),
         Step::Fill => fill(tx),
     }
 }
@@ -148,15 +131,26 @@ fn take<S: Alter>(conn: &mut Connection<S>, step: Step) -> Result<(), Refusal>
     tx.commit().or(Err(Refusal::OpenFailed))
 }
 
-/// Takes the step that makes a table, where the file has none of this name.
-fn make_missing<S: Alter>(conn: &mut Connection<S>, name: &str, step: Step) -> Result<(), Refusal>
-    ensures reason { IfErr result (λ reason. reason ≡ OpenFailed) }
-    ensures makes { MakesMissing S.Store name.now step conn.old conn.new result }
+/// The name of a table.
+fn name(table: OurTable) -> &'static str
+    ensures { result.now ≡ (table_of table).name }
 {
-    if has_table(conn.schema(), name) {
+    match table {
+        OurTable::Rule => "rule",
+        OurTable::Route => "route",
+        OurTable::Meta => "meta",
+    }
+}
+
+/// Makes a table, where the file has none of its name.
+fn make_missing<S: Alter>(conn: &mut Connection<S>, table: OurTable) -> Result<(), Refusal>
+    ensures reason { IfErr result (λ reason. reason ≡ OpenFailed) }
+    ensures makes { MakesMissing S.Store table conn.old conn.new result }
+{
+    if has_table(conn.schema(), name(table)) {
         return Ok(());
     }
-    take(conn, step)
+    take(conn, Step::Make(table))
 }
 
 /// Makes the three tables, each where it is missing.
@@ -164,9 +158,9 @@ fn make_tables<S: Alter>(conn: &mut Connection<S>) -> Result<(), Refusal>
     ensures reason { IfErr result (λ reason. reason ≡ OpenFailed) }
     ensures advances { Advances S.Store BeginsFormat1 IsFormat1 conn.old conn.new result }
 {
-    make_missing(conn, "rule", Step::MakeRules)?;
-    make_missing(conn, "route", Step::MakeRoutes)?;
-    make_missing(conn, "meta", Step::MakeMeta)
+    make_missing(conn, OurTable::Rule)?;
+    make_missing(conn, OurTable::Route)?;
+    make_missing(conn, OurTable::Meta)
 }
 
 /// The statement that shows the rowid of each row of a table.

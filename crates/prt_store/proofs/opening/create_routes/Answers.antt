@@ -1,7 +1,0 @@
-use Rattle.std.proofs.Common.{[]}
-use Rattle.prt_rows.specs.Statements.{create_route}
-use Rattle.prt_store.proofs.Transactions.{statement_works}
-use Rattle.prt_store.proofs.opening.create_routes.Goals as goal
-
-pub returns-clause-works : goal.returns-clause-works
-returns-clause-works g c = statement_works g.S.Store create_route [] c.args.tx.now.conn.now c.execute.new.self.conn.now c.execute.result c.execute.ensures.runs c.execute.ensures.survives
