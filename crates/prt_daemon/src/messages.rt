@@ -120,9 +120,9 @@ fn progress_message(alloc: Global, lines: u64, rate: u64) -> Result<String, Allo
     format!(in alloc; "{lines}, {rate} a second")
 }
 
-/// Writes which file could not be opened, and the system's reason. A fault of writing changes nothing.
-pub(crate) fn tell_cause<E: Write, D: Display>(errors: &mut E, path: &str, reason: &D) {
-    let _ = writeln!(errors, "prt: {path}: {reason}");
+/// Makes the message of why a file could not be opened, in the words of what refused it; none where memory is refused.
+pub(crate) fn cause_message<D: Display>(alloc: Global, path: &str, reason: &D) -> Option<String> {
+    format!(in alloc; "prt: {path}: {reason}\n").ok()
 }
 
 /// Looks on at a run, and tells of its lines on standard error.
