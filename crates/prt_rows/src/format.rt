@@ -6,9 +6,9 @@ ghost use Rattle.sqlite_rules.specs.Lists.{Has};
 ghost use Rattle.sqlite_schema.specs.Rules.{guards};
 ghost use Rattle.sqlite_schema.specs.declared.schema.Reference.{Reference as Referring};
 ghost use Rattle.sqlite.specs.Table.{Table as Declared};
-ghost use Rattle.prt_rows.specs.Format.{HasFormat1, IsFormat1, SuitsName, has_table};
+ghost use Rattle.prt_rows.specs.Format.{BeginsFormat1, HasFormat1, IsFormat1, SuitsName, has_table};
 ghost use Rattle.prt_rows.specs.Others.{AreNotOfRoutes, AreOthers, IsElsewhere, IsOther};
-ghost use Rattle.prt_rows.specs.Tables.{key_places, meta_table, plain_table, route_key, route_table, rule_table, strict_column};
+ghost use Rattle.prt_rows.specs.Tables.{key_places, meta_table, no_tables, plain_table, route_key, route_table, rule_alone, rule_and_route, rule_table, strict_column};
 
 use sqlite_schema::names::same_name;
 use sqlite_schema::schema::{Column, Index, Kind, Reference, Schema, Table};
@@ -231,14 +231,27 @@ fn are_not_of_routes(indexes: &[Index]) -> bool
     true
 }
 
+/// Whether it is the table of rules, in its place.
+fn is_rule_in_place(table: &Table) -> bool
+    ensures { IsTrue result ↔ (table.now ≡ rule_table) }
+{
+    table.tree == 0 && is_rule_table(table)
+}
+
+/// Whether it is the table of routes, in its place.
+fn is_route_in_place(table: &Table) -> bool
+    ensures { IsTrue result ↔ (table.now ≡ route_table) }
+{
+    table.tree == 1 && is_route_table(table)
+}
+
 /// Whether they are the three tables and the index of the key of routes, each in its place.
 fn are_ours(rule: &Table, route: &Table, meta: &Table, key: &Index) -> bool
     ensures { IsTrue result ↔ ((rule.now ≡ rule_table) × (route.now ≡ route_table) × (meta.now ≡ meta_table) × (key.now ≡ route_key)) }
 {
-    let are_placed = rule.tree == 0 && route.tree == 1 && meta.tree == 3;
-    are_placed
-        && is_rule_table(rule)
-        && is_route_table(route)
+    is_rule_in_place(rule)
+        && is_route_in_place(route)
+        && meta.tree == 3
         && is_meta_table(meta)
         && is_route_index(key)
 }
@@ -260,6 +273,49 @@ pub fn is_format_1(schema: &Schema) -> bool
         return false;
     }
     are_not_of_routes(&indexes[1..])
+}
+
+/// Whether the file has no tables.
+fn has_no_tables(schema: &Schema) -> bool
+    ensures { IsTrue result ↔ (schema.now ≡ no_tables) }
+{
+    schema.tables.is_empty() && schema.indexes.is_empty() && schema.views.is_empty()
+}
+
+/// Whether the file has the table of rules alone.
+fn has_rule_alone(schema: &Schema) -> bool
+    ensures { IsTrue result ↔ (schema.now ≡ rule_alone) }
+{
+    match schema.tables.as_slice() {
+        [rule] => is_rule_in_place(rule) && schema.indexes.is_empty() && schema.views.is_empty(),
+        _ => false,
+    }
+}
+
+/// Whether the file has the tables of rules and of routes alone.
+fn has_rule_and_route(schema: &Schema) -> bool
+    ensures { IsTrue result ↔ (schema.now ≡ rule_and_route) }
+{
+    match (schema.tables.as_slice(), schema.indexes.as_slice()) {
+        ([rule, route], [key]) => {
+            is_rule_in_place(rule)
+                && is_route_in_place(route)
+                && is_route_index(key)
+                && schema.views.is_empty()
+        }
+        _ => false,
+    }
+}
+
+/// Whether the file has no tables, those that an opening of an empty file had made when it was stopped, or those of format 1
+/// first.
+pub fn begins_format_1(schema: &Schema) -> bool
+    ensures { IsTrue result ↔ BeginsFormat1 schema.now }
+{
+    has_no_tables(schema)
+        || has_rule_alone(schema)
+        || has_rule_and_route(schema)
+        || is_format_1(schema)
 }
 
 /// Whether the file has a table of this name, in whatever case.

@@ -14,7 +14,7 @@ mod selector;
 mod tests;
 mod value;
 
-pub use format::{has_format_1, has_table, is_format_1};
+pub use format::{begins_format_1, has_format_1, has_table, is_format_1};
 pub use laws::{rows_read_back, rows_selected};
 pub use meta_row::{count_of_rows, meta_values};
 pub use route_row::{route_of_row, route_values};
