@@ -31,7 +31,7 @@ use Rattle.prt_rows.specs.Tables.{meta_table, our_tables, route_table, rule_tabl
 use Rattle.prt_rule.specs.declared.rule.Rule.{Rule}
 use Rattle.prt_version.proofs.Successor.{opens_sound}
 use Rattle.prt_version.specs.State.{opening_rules, opening_state, table_rule}
-use Rattle.prt_store.proofs.Changes.{keyed_rules}
+use Rattle.prt_store.proofs.Changes.{among_others, keyed_rules}
 use Rattle.prt_store.proofs.Looks.{no_meta_rows, no_route_rows, no_rule_rows, our_table}
 use Rattle.prt_store.proofs.Once.{IsOnce, once_mapped, same_members}
 use Rattle.prt_store.proofs.Spelling.{map_id}
@@ -161,16 +161,10 @@ module _ (a b c d e : Database) (tables : IsFormat1 a.schema) (empty : AreEmpty 
 
   others_stay : (table : Table) → Has a.schema.tables table → (Has our_tables table → ⊥) → Has e.schema.tables table × (e.trees table.tree ≡ a.trees table.tree)
   others_stay table there not_ours =
-      let other = apart_from table (subst (λ (s : Schema). Has s.tables table) tables.is there) not_ours in (
+      let other = among_others a.schema tables table there not_ours in (
         subst (λ (s : Schema). Has s.tables table) (sym (schema_stays a b c d e one.only two.only three.only four.only)) there,
         stays a b c d e one.only two.only three.only four.only table there (λ is. absurd (eqb-false table.tree 0 (tables.others.rule table other) is)) (λ is. absurd (eqb-false table.tree 3 (tables.others.meta table other) is)),
       )
-    where
-      apart_from : (table : Table) → Has (schema_with tables.tables tables.indexes tables.views).tables table → (Has our_tables table → ⊥) → Has tables.tables table
-      apart_from table (inl is) not_ours = absurd (not_ours (inl is))
-      apart_from table (inr (inl is)) not_ours = absurd (not_ours (inr (inl is)))
-      apart_from table (inr (inr (inl is))) not_ours = absurd (not_ours (inr (inr (inl is))))
-      apart_from table (inr (inr (inr other))) not_ours = other
 
   filled : IsFilled a e
   filled = record {

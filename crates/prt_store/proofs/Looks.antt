@@ -1,5 +1,5 @@
 -- What the statements that look at the tables tell, one after the other.
-use Rattle.std.proofs.Common.{◌≡◌, inl, inr, ℕ, Bool, true, false, List, [], ◌∷◌, length, Ok, Err, Result, IsErr, IsTrue, true≢false, refl, sym, ap, subst, ◌∙◌, arith}
+use Rattle.std.proofs.Common.{◌≡◌, ◌⊎◌, inl, inr, ℕ, Bool, true, false, List, [], ◌∷◌, length, Ok, Err, Result, IsErr, IsTrue, true≢false, refl, sym, ap, subst, ◌∙◌, arith}
 use Rattle.std.proofs.lemmas.Bool.{ne_eqb}
 use Rattle.std.specs.Prelude.{◌==◌, MatchBool}
 use Rattle.sqlite.proofs.Callers.{IsPlain, unchanged_then}
@@ -8,32 +8,27 @@ use Rattle.sqlite.specs.Effect.{Database}
 use Rattle.sqlite.specs.Held.{Held, state}
 use Rattle.sqlite.specs.Listing.{understood}
 use Rattle.sqlite.specs.Schema.{Schema}
-use Rattle.sqlite.specs.State.{CommitsShowing, FailsToQuery, HasCleanDisk, IsNotRun, Shown, State as Conn, Survives}
+use Rattle.sqlite.specs.State.{CommitsShowing, FailsToQuery, HasCleanDisk, IsRolledBack, IsUnchanged, Shown, State as Conn, Survives}
 use Rattle.sqlite.specs.Store.{Ghosts}
 use Rattle.sqlite.specs.Table.{Table}
 use Rattle.sqlite.specs.declared.error.Error.{Error}
 use Rattle.sqlite_rules.specs.Lists.{Has}
 use Rattle.sqlite_value.specs.Order.{Row}
-use Rattle.prt_addr.specs.Word.{Word}
 use Rattle.prt_addr.specs.declared.refusal.Refusal.{Refusal}
 use Rattle.prt_rows.proofs.Looking.{Looks, looks_at_meta, looks_at_routes, looks_at_rules}
 use Rattle.prt_rows.proofs.Texts.{look_at_meta_is, look_at_routes_is, look_at_rules_is}
 use Rattle.prt_rows.specs.Effects.{AreEmpty}
 use Rattle.prt_rows.specs.Format.{IsFormat1}
 use Rattle.prt_rows.specs.Tables.{meta_table, our_tables, route_table, rule_table, schema_with}
-use Rattle.prt_store.proofs.Loads.{commits_nothing, unchanged}
+use Rattle.prt_store.proofs.Loads.{commits_nothing, failed_query, unchanged}
 use Rattle.prt_store.specs.Openings.{IsEmpty, Sees, look_at, table_of}
 use Rattle.prt_store.specs.declared.opening.OurTable.{OurTable}
 use Rattle.prt_store.specs.declared.opening.OurTable.TheVariants as ours
 
--- a query that fails leaves what was there, if the connection is still still_open
-failed_query : (sql : Word) (old new : Conn) (e : Error) → IsPlain (understood old.now.schema sql) → FailsToQuery sql [] old new e → IsTrue new.is_open → (IsTrue old.is_open → old.now ≡ old.committed) → new.now ≡ old.now
-unfolding FailsToQuery IsNotRun
-failed_query sql old new e plain (inl (inl refused)) still_open settled = refused.1.0.now_is
-failed_query sql old new e plain (inl (inr failed)) still_open settled = (failed.3.undone still_open).0 ∙ sym (settled (failed.3.was_open still_open))
-failed_query sql old new e plain (inr ran) still_open settled =
-    let bare = subst IsPlain ran.1.is plain in
-    (rw (bare.0) at ran.2).3.0.now_is
+-- a query that fails leaves what was there, if the connection is still open
+still_there : (old new : Conn) → IsUnchanged old new ⊎ IsRolledBack old new → IsTrue new.is_open → (IsTrue old.is_open → old.now ≡ old.committed) → new.now ≡ old.now
+still_there old new (inl same) still_open settled = same.0.now_is
+still_there old new (inr undone) still_open settled = (undone.undone still_open).0 ∙ sym (settled (undone.was_open still_open))
 
 no_length : (rows : List Row) → length rows ≡ 0 → rows ≡ []
 no_length [] none = refl
@@ -68,7 +63,7 @@ module _ {S : Type 0} (g : Ghosts S) (table : OurTable) (old new : Held S) (surv
   pub look_fails : (e : Error) (reason : Refusal) → (HasCleanDisk (state g new) → FailsToQuery (look_at table) [] (state g old) (state g new) e) → Sees g (IsEmpty table) old new (Err reason)
   look_fails e reason fails = record {
     ok = λ clean tables. tt;
-    err = λ clean tables still_open settled. failed_query (look_at table) (state g old) (state g new) e (plain_look table (state g old).now.schema tables) (fails clean) still_open settled;
+    err = λ clean tables still_open settled. still_there (state g old) (state g new) (failed_query (look_at table) (state g old) (state g new) e (plain_look table (state g old).now.schema tables) (fails clean)) still_open settled;
     quiet = look_quiet;
   }
 
