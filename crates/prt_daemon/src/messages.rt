@@ -5,40 +5,12 @@ ghost use Rattle.prt_daemon.specs.Messages.{complaint, lines_text, place, progre
 use prt_session::{Observer, Refusal, Reply};
 use std::alloc::{AllocError, Global};
 use std::fmt::Display;
-use std::io::{IsTerminal, Write};
+use std::io::Write;
 use std::rt::Clock;
 use std::time::Instant;
 
 /// Goes over the line of progress, whose at most 31 characters it covers with spaces.
 const BLANK: &str = "\r                                        \r";
-
-/// What is told.
-#[derive(Clone, Copy)]
-pub(crate) enum Telling {
-    Nothing,
-    /// Each refused line, and at the end how many lines there were.
-    Refusals,
-    /// The same, and while the run goes on how many lines are done.
-    RefusalsAndProgress,
-}
-
-/// Chooses what is told: nothing, unless it is asked for or standard error is a terminal.
-///
-/// Where the replies go to a terminal, they show the progress themselves.
-pub(crate) fn telling_of<W: IsTerminal, E: IsTerminal>(
-    is_asked_for: bool,
-    output: &W,
-    errors: &E,
-) -> Telling {
-    if !is_asked_for && !errors.is_terminal() {
-        return Telling::Nothing;
-    }
-    if output.is_terminal() {
-        Telling::Refusals
-    } else {
-        Telling::RefusalsAndProgress
-    }
-}
 
 /// Gives the character that stands for a byte of a line: what can't be printed could be a command to the terminal.
 fn shown(byte: u8) -> char
@@ -120,22 +92,25 @@ fn progress_message(alloc: Global, lines: u64, rate: u64) -> Result<String, Allo
     format!(in alloc; "{lines}, {rate} a second")
 }
 
-/// Makes the message of why a file could not be opened, in the words of what refused it; none where memory is refused.
-pub(crate) fn cause_message<D: Display>(alloc: Global, path: &str, reason: &D) -> Option<String> {
-    format!(in alloc; "prt: {path}: {reason}\n").ok()
+/// Makes the message of why a file could not be opened, in the words of what refused it.
+fn cause_message<D: Display>(alloc: Global, path: &str, reason: &D) -> Result<String, AllocError> {
+    format!(in alloc; "prt: {path}: {reason}\n")
 }
 
-/// Looks on at a run, and tells of its lines on standard error.
+/// Looks on at a run, and tells of it on standard error, where that is a terminal or is asked for.
 ///
 /// A fault of the clock, of memory or of writing loses a message and changes nothing else.
 #[derive(Drop)]
 pub(crate) struct Messages<'a, E: Write + Drop, K: Clock + Drop> {
     alloc: Global,
-    errors: E,
+    pub(crate) errors: E,
     clock: K,
+    /// Whether anything is told.
+    is_on: bool,
+    /// The message of why a file could not be opened.
+    cause: Option<String>,
     /// The name of the script.
     file: &'a str,
-    telling: Telling,
     /// When the run began; none where no progress is told.
     begun: Option<Instant>,
     /// How many whole seconds had passed when progress was told last.
@@ -147,29 +122,45 @@ pub(crate) struct Messages<'a, E: Write + Drop, K: Clock + Drop> {
 }
 
 impl<'a, E: Write + Drop, K: Clock + Drop> Messages<'a, E, K> {
-    /// Begins to look on at a run of the script of this name.
-    pub(crate) fn new(
-        alloc: Global,
-        errors: E,
-        clock: K,
-        file: &'a str,
-        telling: Telling,
-    ) -> Messages<'a, E, K> {
-        let begun = match telling {
-            Telling::RefusalsAndProgress => Instant::now(&clock).ok(),
-            _ => None,
-        };
+    /// Tells of nothing yet; whether anything is told is known here, unless it is asked for later.
+    pub(crate) fn new(alloc: Global, errors: E, clock: K, is_terminal: bool) -> Messages<'a, E, K> {
         Messages {
             alloc,
             errors,
             clock,
-            file,
-            telling,
-            begun,
+            is_on: is_terminal,
+            cause: None,
+            file: "",
+            begun: None,
             seconds: 0,
             is_shown: false,
             lines: 0,
             refused: 0,
+        }
+    }
+
+    /// Begins to look on at a run of the script of this name.
+    ///
+    /// Where its replies go to a terminal, they show the progress themselves.
+    pub(crate) fn begin(&mut self, file: &'a str, is_asked_for: bool, output_is_terminal: bool) {
+        self.file = file;
+        self.is_on = self.is_on || is_asked_for;
+        if self.is_on && !output_is_terminal {
+            self.begun = Instant::now(&self.clock).ok();
+        }
+    }
+
+    /// Keeps why a file could not be opened.
+    pub(crate) fn keep_cause<D: Display>(&mut self, path: &str, reason: &D) {
+        if self.is_on {
+            self.cause = cause_message(self.alloc, path, reason).ok();
+        }
+    }
+
+    /// Tells why a file could not be opened, if that was kept.
+    pub(crate) fn tell_cause(&mut self) {
+        if let Some(cause) = &self.cause {
+            let _ = self.errors.write_all(cause.as_bytes());
         }
     }
 
@@ -214,18 +205,16 @@ impl<'a, E: Write + Drop, K: Clock + Drop> Messages<'a, E, K> {
         }
         self.seconds = seconds;
         self.wipe();
-        self.write(progress_message(self.alloc, self.lines, self.lines / seconds));
+        let rate = self.lines / seconds;
+        self.write(progress_message(self.alloc, self.lines, rate));
         self.is_shown = true;
     }
 
     /// Tells at the end of a run how many lines there were.
     pub(crate) fn finish(&mut self) {
-        match self.telling {
-            Telling::Nothing => {}
-            Telling::Refusals | Telling::RefusalsAndProgress => {
-                self.wipe();
-                self.write(total_message(self.alloc, self.lines, self.refused));
-            }
+        if self.is_on {
+            self.wipe();
+            self.write(total_message(self.alloc, self.lines, self.refused));
         }
     }
 }
@@ -234,7 +223,7 @@ impl<'a, E: Write + Drop, K: Clock + Drop> Observer for Messages<'a, E, K> {
     fn before(&mut self, _line: u64) {}
 
     fn after(&mut self, line: u64, text: &[u8], reply: &Reply) {
-        if matches!(self.telling, Telling::Nothing) {
+        if !self.is_on {
             return;
         }
         self.lines = line;
