@@ -1,4 +1,4 @@
-ghost use Rattle.std.specs.Prelude.{◌≡◌, ◌++◌, IfErr, IfOk, IsTrue, OnErr, OnOk, false, true};
+ghost use Rattle.std.specs.Prelude.{◌≡◌, ◌++◌, ◌↔◌, IfErr, IfOk, IsTrue, OnErr, OnOk, false, true};
 ghost use Rattle.sqlite.specs.Held.{state};
 ghost use Rattle.sqlite.specs.State.{HasCleanDisk};
 ghost use Rattle.sqlite.specs.Tree.{Trees};
@@ -12,12 +12,11 @@ ghost use Rattle.prt_version.specs.Sound.{IsSound};
 ghost use Rattle.prt_version.specs.State.{State};
 
 use prt_listing::query_text;
-use prt_rows::is_format_1;
+use prt_rows::begins_format_1;
 use prt_session::{Command, Desk, Observer, OnRefusal, Query, Refusal, ScriptEnd, run_script};
 use prt_store::Store;
 use prt_version::Version;
 use sqlite::{Alter, Connection};
-use sqlite_schema::schema::Schema;
 use std::alloc::Global;
 use std::io::{Read, Write};
 use std::marker::Model;
@@ -49,31 +48,17 @@ impl<S: Alter + Drop> Model for StoreDesk<S> {
     ghost invariant = { λ d. IsKept S.Store (record { published = d.version; closed = d.is_closed; format_1 = d.is_format_1; tables = d.store.conn }) };
 }
 
-/// Tells whether a file has no tables, or ours as the first.
-fn begins_format_1(schema: &Schema) -> bool
-    ensures { IsTrue result → BeginsFormat1 schema.now }
-{
-    if is_format_1(schema) {
-        return true;
-    }
-    schema.tables.as_slice().is_empty()
-        && schema.indexes.as_slice().is_empty()
-        && schema.views.as_slice().is_empty()
-}
-
 impl<S: Alter + Drop> StoreDesk<S> {
-    /// Makes an open desk over a store and the version that its tables spell.
+    /// Makes an open desk over a store and the version that its tables spell, which are the first of their file.
     pub fn new(store: Store<S>, version: Version) -> StoreDesk<S>
-        requires { IsFormat1 (state S.Store store.conn).now.schema → HasCleanDisk (state S.Store store.conn) → IsStored S.Store store.conn version }
-        ensures open { result ≡ record { published = version; closed = false; format_1 = result.format_1; tables = store.conn } }
-        ensures format { result.format_1 ≡ true → IsFormat1 (state S.Store store.conn).now.schema }
+        requires { HasCleanDisk (state S.Store store.conn) → IsStored S.Store store.conn version }
+        ensures { result ≡ record { published = version; closed = false; format_1 = true; tables = store.conn } }
     {
-        let is_format_1 = store.is_format_1();
         StoreDesk {
             store,
             version,
             is_closed: false,
-            is_format_1,
+            is_format_1: true,
         }
     }
 
@@ -88,28 +73,30 @@ impl<S: Alter + Drop> StoreDesk<S> {
         ensures open { IfOk result (λ desk. desk.closed ≡ false) }
         ensures sound { IfOk result (λ desk. IsSound desk.published) }
         ensures reason { IfErr result IsLoadRefusal }
-        ensures format { IfOk result (λ desk. desk.format_1 ≡ true → BeginsFormat1 (state S.Store conn).now.schema) }
+        ensures format { IfOk result (λ desk. (desk.format_1 ≡ true) ↔ BeginsFormat1 (state S.Store conn).now.schema) }
         ensures adopts { IfOk result (λ desk. IsKnown S.Store desk.format_1 desk.tables → Opens (state S.Store conn).now desk.published) }
-        ensures found { IfOk result (λ desk. IsKnown S.Store desk.format_1 desk.tables → IsTrue (state S.Store conn).is_open → (stored : State) →
-            Spells (state S.Store conn).now.trees stored → desk.published ≡ stored) }
+        ensures found { IfOk result (λ desk. HasCleanDisk (state S.Store desk.tables) → IsTrue (state S.Store conn).is_open → (stored : State) →
+            Spells (state S.Store conn).now.trees stored → (desk.format_1 ≡ true) × (desk.published ≡ stored)) }
     {
         let is_format_1 = begins_format_1(conn.schema());
         let mut store = match Store::adopt(conn) {
             Ok(store) => store,
             Err((reason, _)) => return Err(reason),
         };
-        match store.load(alloc) {
-            Ok(version) => {
-                let _number = version.number();
-                Ok(StoreDesk {
-                    store,
-                    version,
-                    is_closed: false,
-                    is_format_1,
-                })
-            }
-            Err(reason) => Err(reason),
+        let version = match store.load(alloc) {
+            Ok(version) => version,
+            Err(reason) => return Err(reason),
+        };
+        let _number = version.number();
+        if is_format_1 {
+            return Ok(StoreDesk::new(store, version));
         }
+        Ok(StoreDesk {
+            store,
+            version,
+            is_closed: false,
+            is_format_1,
+        })
     }
 
     /// Tells whether a commit failed, after which no command is accepted.

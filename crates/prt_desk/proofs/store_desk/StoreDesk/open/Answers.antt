@@ -1,21 +1,47 @@
-use Rattle.std.proofs.Common.{subst}
-use Rattle.sqlite.specs.Held.{state}
+use Rattle.std.proofs.Common.{◌≡◌, true, false, inr, ap, refl, subst, sym, ◌∙◌}
+use Rattle.sqlite.specs.Held.{Held, state}
+use Rattle.sqlite.specs.State.{HasCleanDisk}
+use Rattle.std.specs.Prelude.{IsTrue}
 use Rattle.prt_rows.specs.Format.{BeginsFormat1}
+use Rattle.prt_version.specs.State.{State}
+use Rattle.prt_desk.specs.StoreDesk.{DeskOver, IsKnown, Opens, Spells}
 use Rattle.prt_desk.proofs.Openings.{found_is, is_stored, opens}
+use Rattle.prt_desk.proofs.Spelled.{stored_there}
 use Rattle.prt_desk.proofs.store_desk.StoreDesk.open.Goals as goal
 
-pub invariant_of-result : goal.invariant_of-result
-invariant_of-result g c =
-    is_stored g.S.Store c.begins_format_1-is_format_1.result c.args.conn c.in-Ok.store.conn c.load.new.self.conn c.in-Ok-load.version (λ begins. subst BeginsFormat1 c.schema.ensures.value (c.begins_format_1-is_format_1.ensures begins))
-    c.in-Ok.ensures.ok c.in-Ok-load.ensures.ok c.in-Ok-load.ensures.quiet c.in-Ok-load.ensures.same c.in-Ok.ensures.crash_ok c.in-Ok-load.ensures.sound
+pub new-requires : goal.new-requires
+new-requires g c = λ clean.
+    let begins = subst BeginsFormat1 c.schema.ensures.value (c.begins_format_1-is_format_1.ensures.0 c.if-is_format_1.true) in
+    is_stored g.S.Store true c.args.conn c.in-Ok.store.conn c.load.new.self.conn c.in-Ok-load.version (λ _. begins) c.in-Ok.ensures.ok c.in-Ok-load.ensures.ok c.in-Ok-load.ensures.quiet
+    c.in-Ok-load.ensures.same c.in-Ok.ensures.crash_ok c.in-Ok-load.ensures.sound (refl, clean)
 
-pub returns-in-Ok-load-clause-adopts : goal.returns-in-Ok-load-clause-adopts
-returns-in-Ok-load-clause-adopts g c =
-    opens g.S.Store c.begins_format_1-is_format_1.result c.args.conn c.in-Ok.store.conn c.load.new.self.conn c.in-Ok-load.version (λ begins. subst BeginsFormat1 c.schema.ensures.value (c.begins_format_1-is_format_1.ensures begins))
-    c.in-Ok.ensures.ok c.in-Ok-load.ensures.ok c.in-Ok-load.ensures.quiet
+pub returns-then-is_format_1-clause-format : goal.returns-then-is_format_1-clause-format
+returns-then-is_format_1-clause-format g c = (
+  λ _. subst BeginsFormat1 c.schema.ensures.value (c.begins_format_1-is_format_1.ensures.0 c.if-is_format_1.true),
+  λ _. ap (λ (desk : DeskOver (Held _)). desk.format_1) c.new.ensures,
+)
 
-pub returns-in-Ok-load-clause-found : goal.returns-in-Ok-load-clause-found
-returns-in-Ok-load-clause-found g c = λ known is_open stored spells.
-    found_is (state g.S.Store c.args.conn).now c.in-Ok-load.version stored
-    (opens g.S.Store c.begins_format_1-is_format_1.result c.args.conn c.in-Ok.store.conn c.load.new.self.conn c.in-Ok-load.version (λ begins. subst BeginsFormat1 c.schema.ensures.value (c.begins_format_1-is_format_1.ensures begins))
-    c.in-Ok.ensures.ok c.in-Ok-load.ensures.ok c.in-Ok-load.ensures.quiet known) (c.schema.ensures.live is_open).0 spells
+pub returns-then-is_format_1-clause-adopts : goal.returns-then-is_format_1-clause-adopts
+returns-then-is_format_1-clause-adopts g c =
+    let begins = subst BeginsFormat1 c.schema.ensures.value (c.begins_format_1-is_format_1.ensures.0 c.if-is_format_1.true) in
+    subst (λ (desk : DeskOver (Held _)). IsKnown g.S.Store desk.format_1 desk.tables → Opens (state g.S.Store c.args.conn).now desk.published) (sym c.new.ensures)
+    (opens g.S.Store true c.args.conn c.in-Ok.store.conn c.load.new.self.conn c.in-Ok-load.version (λ _. begins) c.in-Ok.ensures.ok c.in-Ok-load.ensures.ok c.in-Ok-load.ensures.quiet)
+
+pub returns-then-is_format_1-clause-found : goal.returns-then-is_format_1-clause-found
+returns-then-is_format_1-clause-found g c =
+    let found = (state g.S.Store c.args.conn).now in
+    let begins = subst BeginsFormat1 c.schema.ensures.value (c.begins_format_1-is_format_1.ensures.0 c.if-is_format_1.true) in
+    subst (λ (desk : DeskOver (Held _)). HasCleanDisk (state g.S.Store desk.tables) → IsTrue (state g.S.Store c.args.conn).is_open → (stored : State) → Spells found.trees stored → (desk.format_1 ≡ true) × (desk.published ≡ stored))
+    (sym c.new.ensures) (λ clean is_open stored spells. (
+      refl,
+      found_is found c.in-Ok-load.version stored
+          (opens g.S.Store true c.args.conn c.in-Ok.store.conn c.load.new.self.conn c.in-Ok-load.version (λ _. begins) c.in-Ok.ensures.ok c.in-Ok-load.ensures.ok c.in-Ok-load.ensures.quiet (refl, clean))
+          (c.schema.ensures.live is_open).0 spells,
+    ))
+
+-- a database whose tables spell a state is of format 1
+pub returns-clause-found : goal.returns-clause-found
+returns-clause-found g c = λ clean is_open stored spells.
+    let held = stored_there (state g.S.Store c.args.conn).now stored (c.schema.ensures.live is_open).0 spells in
+    let known : c.begins_format_1-is_format_1.result ≡ true = c.begins_format_1-is_format_1.ensures.1 (subst BeginsFormat1 (sym c.schema.ensures.value) (inr (inr (inr held.tables)))) in
+    absurd (let both : false ≡ true = sym c.if-is_format_1.false ∙ known in cc)
