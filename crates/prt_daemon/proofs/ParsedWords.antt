@@ -12,10 +12,11 @@ use Rattle.clap.specs.Faults.{turn_fault, walk_fault, level_fault, entered_fault
 use Rattle.clap.specs.Simple.{Shape, built, entered, names_of, subcommand_of}
 use Rattle.clap.specs.Walk.{Names, Row, Text, Walk, walked, bundle_met, walk_from, nothing_held, settled, finished, rows_after}
 use Rattle.clap.specs.declared.error.kind.ErrorKind.TheVariants as kind
-use Rattle.prt_daemon.specs.CommandLine.{command_line, subcommand_name, named_file, force_flag}
-use Rattle.prt_daemon.specs.Invocation.{Invocation, Subcommand, Batch, Replay, Word, asked_by, invocation, help, nothing_given, usage_error, is_help}
-use Rattle.prt_daemon.proofs.WordClasses.{IsMistake, rules_of, shape_of, same_bytes, long_name, long_of_is, before_none, no_value_in, no_name_of, differs}
-use Rattle.prt_daemon.proofs.CommandWords.{Agrees, name_of, subcommand_reads}
+use Rattle.prt_daemon.specs.CommandLine.{command_line}
+use Rattle.prt_daemon.specs.Invocation.{Invocation, Subcommand, Batch, Replay, Word, anywhere, asked_by, invocation, help, nothing_given, usage_error, is_help}
+use Rattle.prt_daemon.proofs.WordClasses.{IsMistake, rules_of, shape_of, same_bytes, long_name, long_of_is, before_none, no_value_in, no_name_of, differs, flipped}
+use Rattle.prt_daemon.proofs.CommandWords.{subcommand_reads}
+use Rattle.prt_daemon.proofs.Walks.{Agrees, name_of}
 
 abbrev top : Shape
 top = (built command_line).top
@@ -128,11 +129,8 @@ or_else-nil : (kinds : Kinds) → or_else kinds [] ≡ kinds
 or_else-nil [] = refl
 or_else-nil (k ∷ kinds) = refl
 
-abbrev pub AgreesBy : Invocation → Kinds → Option (Text × List Row) → Type 0
-AgreesBy asked kinds found = Agrees asked kinds (subcommand_name found) (named_file found) (force_flag found)
-
 abbrev pub AgreesOn : Invocation → List Text → Type 0
-AgreesOn asked words = AgreesBy asked (fault_of command_line words) (subcommand_of command_line words)
+AgreesOn asked words = Agrees asked (fault_of command_line words) (subcommand_of command_line words)
 
 -- the kinds of error after the walk over the program's own words
 abbrev kinds_after : Walk → Kinds
@@ -160,14 +158,14 @@ unfolding walked
 subcommand_found Batch program words = ap (λ (at : Walk). entered (built command_line) at.stopped) (stays Batch [] words)
 subcommand_found Replay program words = ap (λ (at : Walk). entered (built command_line) at.stopped) (stays Replay [] words)
 
-own_words_agree : (s : Subcommand) (words : List Text) → AgreesBy (asked_by s nothing_given words) (own_fault s words) (found_by s words)
+own_words_agree : (s : Subcommand) (words : List Text) → Agrees (asked_by s words anywhere nothing_given) (own_fault s words) (found_by s words)
 own_words_agree Batch words = subcommand_reads Batch words
 own_words_agree Replay words = subcommand_reads Replay words
 
-agrees_on_subcommand : (s : Subcommand) (program : Text) (words : List Text) → AgreesOn (asked_by s nothing_given words) (program ∷ name_of s ∷ words)
+agrees_on_subcommand : (s : Subcommand) (program : Text) (words : List Text) → AgreesOn (asked_by s words anywhere nothing_given) (program ∷ name_of s ∷ words)
 agrees_on_subcommand s program words =
-    subst (λ kinds. AgreesBy (asked_by s nothing_given words) kinds (subcommand_of command_line (program ∷ name_of s ∷ words))) (sym (fault_of_subcommand s program words))
-    (subst (AgreesBy (asked_by s nothing_given words) (own_fault s words)) (sym (subcommand_found s program words)) (own_words_agree s words))
+    subst (λ kinds. Agrees (asked_by s words anywhere nothing_given) kinds (subcommand_of command_line (program ∷ name_of s ∷ words))) (sym (fault_of_subcommand s program words))
+    (subst (Agrees (asked_by s words anywhere nothing_given) (own_fault s words)) (sym (subcommand_found s program words)) (own_words_agree s words))
 
 first_refused : (program word : Text) (words : List Text) (kinds : Kinds) → first_turn word ≡ kinds
     → fault_of command_line (program ∷ word ∷ words) ≡ or_else (or_else kinds (walk_fault top names (walked top.rules names start word) words)) (kinds_after (walk_over (walked top.rules names start word) words))
@@ -187,12 +185,6 @@ after_delimiter : (program : Text) (words : List Text) → IsMistake (fault_of c
 unfolding walked walk_fault defaults_fault
 after_delimiter program [] = refl
 after_delimiter program (word ∷ words) = refl
-
-flipped : (a b : Text) → bytes_eq a b ≡ false → bytes_eq b a ≡ false
-flipped a b e = differs b a (λ same. absurd (true≢false (sym (bytes_eq-refl a) ∙ ap (bytes_eq a) (sym same) ∙ e)))
-  where
-    bytes_eq-refl : (text : Text) → bytes_eq text text ≡ true
-    bytes_eq-refl text = (bytes_eq-Decides text text).1 refl
 
 asks_help : (word : Word) (words : List Word) → IsOther word → is_help word ≡ true → invocation (word ∷ words) ≡ help
 asks_help word words other h = rw (flipped (codes "batch") word other.no_batch, flipped (codes "replay") word other.no_replay, flipped (codes "help") word other.no_help, h) refl

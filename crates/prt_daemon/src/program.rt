@@ -1,7 +1,7 @@
-ghost use Rattle.std.specs.Prelude.{◌≡◌, ◌≢◌, ◌⊎◌, IfErr, IfOk, MatchResult, OnErr, Some, codes, false, option_and_then, option_map};
+ghost use Rattle.std.specs.Prelude.{◌≡◌, ◌≢◌, ◌⊎◌, IfErr, IfOk, MatchResult, OnErr, Some, codes, false, true, option_and_then, option_map};
 ghost use Rattle.clap.specs.Words.{app_of, first_of, found_of, kind_of, one_of, rows_of, rule_of, subcommand_rows_of};
 ghost use Rattle.prt_addr.specs.declared.refusal.Refusal.TheVariants.{NoMemory, ReadFault};
-ghost use Rattle.prt_daemon.specs.CommandLine.{IsTaskOf, batch_line, command_line, file_rule, has_globals, invocation_of, replay_line};
+ghost use Rattle.prt_daemon.specs.CommandLine.{IsTaskOf, batch_line, command_line, database_rule, file_rule, flag_rule, has_globals, invocation_of, replay_line};
 ghost use Rattle.prt_daemon.specs.Faults.{IsFault, FaultOf, IsWordsFault, fault_status};
 ghost use Rattle.prt_daemon.specs.declared.program.Fault.TheVariants.{Opening};
 ghost use Rattle.prt_daemon.specs.Invocation.{arguments, file_of, invocation, usage_error};
@@ -80,7 +80,11 @@ impl From<Refusal> for Fault {
 struct Batch<'a> {
     /// The path of the script; standard input where there is none.
     file: Option<&'a str>,
+    /// The path of the database; a new one in memory where there is none.
+    database: Option<&'a str>,
     mode: OnRefusal,
+    /// Whether a person is told of it, wherever standard error goes.
+    is_verbose: bool,
 }
 
 /// What the words ask for.
@@ -100,22 +104,52 @@ fn file_operand<'a>(alloc: Global, help: &'a str) -> Arg<'a>
     Arg::new(alloc, "file").value_name("FILE").help(help)
 }
 
+/// A flag of this name.
+fn flag<'a>(alloc: Global, name: &'a str, help: &'a str) -> Arg<'a>
+    ensures rule { rule_of result ≡ flag_rule name.entry.now }
+    ensures own { result.global ≡ false }
+{
+    Arg::new(alloc, name)
+        .long(name)
+        .action(ArgAction::SetTrue)
+        .help(help)
+}
+
+/// The option that names a database.
+fn database_option<'a>(alloc: Global) -> Arg<'a>
+    ensures rule { rule_of result ≡ database_rule }
+    ensures own { result.global ≡ false }
+{
+    Arg::new(alloc, "db").long("db").value_name("PATH").help(
+        "The database file, made where there is none; without it a new database in memory",
+    )
+}
+
 /// The words after `batch`.
 fn batch_line<'a>(alloc: Global) -> Result<Command<'a>, AllocError>
     ensures line { IfOk result (λ command. app_of command ≡ batch_line) }
     ensures own { IfOk result (λ command. has_globals command ≡ false) }
 {
-    let force = Arg::new(alloc, "force")
-        .long("force")
-        .action(ArgAction::SetTrue)
-        .help("Go on with the next line after a refused one");
+    let force = flag(
+        alloc,
+        "force",
+        "Go on with the next line after a refused one",
+    );
+    let database = database_option(alloc);
+    let verbose = flag(
+        alloc,
+        "verbose",
+        "Tell of each refused line on standard error, also where that is no terminal",
+    );
     let file = file_operand(
         alloc,
         "The script; standard input where it is missing or `-`",
     );
     Command::new(alloc, "batch")
-        .about("Runs a script of route and rule commands over a new database in memory")
+        .about("Runs a script of route and rule commands over a database")
         .arg(force)?
+        .arg(database)?
+        .arg(verbose)?
         .arg(file)
 }
 
@@ -186,12 +220,27 @@ fn file_in<'a>(matches: &ArgMatches<'a>) -> Option<&'a str>
     matches.get_str("file").and_then(file_of)
 }
 
+/// The path that the matches of `batch` have for `--db`.
+fn database_in<'a>(matches: &ArgMatches<'a>) -> Option<&'a str>
+    ensures { option_map (λ path. path.now) result ≡ first_of (codes "db") (rows_of (found_of matches.now)) }
+{
+    matches.get_str("db")
+}
+
+/// Whether the matches of `batch` have a flag.
+fn has_flag(matches: &ArgMatches<'_>, name: &str) -> bool
+    ensures given { one_of name.now (rows_of (found_of matches.now)) ≡ Some (codes "true") → result ≡ true }
+    ensures left_out { one_of name.now (rows_of (found_of matches.now)) ≡ Some (codes "false") → result ≡ false }
+{
+    matches.get_flag(name)
+}
+
 /// What a script goes on after, by the matches of `batch`.
 fn mode_in(matches: &ArgMatches<'_>) -> OnRefusal
     ensures goes_on { one_of (codes "force") (rows_of (found_of matches.now)) ≡ Some (codes "true") → result ≡ OnRefusal.GoOn }
     ensures stops { one_of (codes "force") (rows_of (found_of matches.now)) ≡ Some (codes "false") → result ≡ OnRefusal.Stop }
 {
-    if matches.get_flag("force") {
+    if has_flag(matches, "force") {
         OnRefusal::GoOn
     } else {
         OnRefusal::Stop
@@ -205,7 +254,9 @@ fn task_of<'a>(matches: &ArgMatches<'a>) -> Task<'a>
     let Some((name, found)) = matches.subcommand() else {
         return Task::Batch(Batch {
             file: None,
+            database: None,
             mode: OnRefusal::Stop,
+            is_verbose: false,
         });
     };
     let file = file_in(found);
@@ -214,7 +265,9 @@ fn task_of<'a>(matches: &ArgMatches<'a>) -> Task<'a>
     }
     Task::Batch(Batch {
         file,
+        database: database_in(found),
         mode: mode_in(found),
+        is_verbose: has_flag(found, "verbose"),
     })
 }
 

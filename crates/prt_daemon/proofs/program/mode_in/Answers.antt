@@ -1,12 +1,8 @@
-use Rattle.std.proofs.Common.{◌∙◌, codes, sym, true≢false}
-use Rattle.clap.proofs.WalkLemmas.{one_text-rows}
-use Rattle.clap.specs.Words.{found_of}
+use Rattle.std.proofs.Common.{◌∙◌, sym, true≢false}
 use Rattle.prt_daemon.proofs.program.mode_in.Goals as goal
 
-pub returns-then-get_flag-clause-stops : goal.returns-then-get_flag-clause-stops
-returns-then-get_flag-clause-stops c given =
-    absurd (true≢false (sym c.if-get_flag.true ∙ c.get_flag.ensures.other (one_text-rows (found_of c.args.matches.now) (codes "force") ∙ given)))
+pub returns-then-has_flag-clause-stops : goal.returns-then-has_flag-clause-stops
+returns-then-has_flag-clause-stops c left_out = absurd (true≢false (sym c.if-has_flag.true ∙ c.has_flag.ensures.left_out left_out))
 
-pub returns-else-get_flag-clause-goes_on : goal.returns-else-get_flag-clause-goes_on
-returns-else-get_flag-clause-goes_on c given =
-    absurd (true≢false (sym (c.get_flag.ensures.value (one_text-rows (found_of c.args.matches.now) (codes "force") ∙ given)) ∙ c.if-get_flag.false))
+pub returns-else-has_flag-clause-goes_on : goal.returns-else-has_flag-clause-goes_on
+returns-else-has_flag-clause-goes_on c given = absurd (true≢false (sym (c.has_flag.ensures.given given) ∙ c.if-has_flag.false))

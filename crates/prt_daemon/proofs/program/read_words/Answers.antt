@@ -3,7 +3,7 @@ use Rattle.std.proofs.lemmas.Result.{err_from_is_err_and}
 use Rattle.std.specs.Prelude.{string_bytes}
 use Rattle.clap.specs.Kinds.{HasKind}
 use Rattle.clap.specs.Words.{App, fault_of, is_simple, is_simple_and_free, subcommand_of, subcommand_rows_of}
-use Rattle.prt_daemon.specs.CommandLine.{IsTaskOf, command_line, subcommand_name, named_file, force_flag}
+use Rattle.prt_daemon.specs.CommandLine.{IsTaskOf, command_line}
 use Rattle.prt_daemon.specs.Invocation.{invocation, arguments}
 use Rattle.prt_daemon.proofs.WordClasses.{simple_line, free_line}
 use Rattle.prt_daemon.proofs.ParsedWords.{words_agree}
@@ -19,8 +19,7 @@ returns-in_err-matches-clause-fault c =
     let has : HasKind (fault_of command_line texts) error =
     subst (λ (a : App). HasKind (fault_of a texts) error) line (c.in_err-matches.ensures.kinds (ap is_simple_and_free line ∙ free_line)) in
     let given = err_from_is_err_and c.from_residual-in_err-matches.result c.from_residual-in_err-matches.ensures.1 in
-    rw given.1 (words_fault (invocation (arguments c.args.words.now)) (fault_of command_line texts)
-    (subcommand_name found) (named_file found) (force_flag found) error given.0 (words_agree texts) has given.2)
+    rw given.1 (words_fault (invocation (arguments c.args.words.now)) (fault_of command_line texts) found error given.0 (words_agree texts) has given.2)
 
 pub returns-clause-task : goal.returns-clause-task
 returns-clause-task c =
