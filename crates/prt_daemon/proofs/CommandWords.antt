@@ -3,13 +3,12 @@ use Rattle.std.proofs.Common.{◌≡◌, ◌∙◌, ◌&&◌, ℕ, Bool, cond, t
 use Rattle.std.specs.Prelude.{option_and_then}
 use Rattle.clap.specs.Kinds.{Kinds, or_else}
 use Rattle.clap.specs.Faults.{turn_fault, walk_fault, settle_fault, defaults_fault, check_fault}
-use Rattle.clap.specs.Walk.{Held, Row, Text, Walk, has_row, idle, option as waits_for, pushed, settled_rows, walked}
+use Rattle.clap.specs.Walk.{Held, Row, Text, Walk, has_row, option as waits_for, pushed, settled_rows, walked}
 use Rattle.clap.specs.declared.parser.matches.ValueSource.TheVariants.{CommandLine}
 use Rattle.clap.specs.declared.builder.value_parser.Reading.TheVariants.{AsWritten}
 use Rattle.clap.specs.declared.error.kind.ErrorKind.TheVariants as kind
 use Rattle.clap.proofs.OnLiterals.{clap_on_literals}
-use Rattle.prt_session.specs.declared.script.OnRefusal.TheVariants.{Stop, GoOn}
-use Rattle.prt_daemon.specs.Invocation.{Argument, Force, Verbose, Database, File, Given, Invocation, Place, Part, anywhere, at_path, at_operands, asks_help, argument, awaits_path, delimiter, unknown, Subcommand, Batch, Replay, Word, asked, asked_by, file_of, has_given, is_delimiter, is_option, mode_of, nothing_given, part_of, usage_error, with_given}
+use Rattle.prt_daemon.specs.Invocation.{Argument, Force, Verbose, Database, File, Given, Invocation, anywhere, at_path, at_operands, asks_help, argument, unknown, Subcommand, Batch, Replay, Word, asked, asked_by, file_of, has_given, is_delimiter, is_option, mode_of, nothing_given, usage_error, with_given}
 use Rattle.prt_daemon.proofs.Rows.{used_once}
 use Rattle.prt_daemon.proofs.Arguments.{AreGiven, both_quiet, checks_quiet, database_at_end, defaults_quiet, file_at_end, forced_at_end, given_has, one_more, row_of, verbose_at_end}
 use Rattle.prt_daemon.proofs.LostWords.{end_lost, lost, lost_operands, option_mistaken, position_of}

@@ -1,5 +1,5 @@
 -- Places among the words of `batch` from which every list of words is a mistake: where what is pending cannot be used.
-use Rattle.std.proofs.Common.{◌≡◌, ◌∙◌, ℕ, Bool, cond, true, false, refl, sym, ap, subst, List, [], ◌∷◌, Option, Some, None, is_some, codes, eqb-true, true≢false}
+use Rattle.std.proofs.Common.{◌≡◌, ◌∙◌, ℕ, Bool, cond, true, false, refl, sym, subst, List, [], ◌∷◌, Option, Some, None, is_some, codes, eqb-true, true≢false}
 use Rattle.std.specs.Prelude.{◌==◌, drop, encode_utf8, length, slice_get}
 use Rattle.std.specs.Str.{chars}
 use Rattle.clap.specs.Kinds.{Kinds, or_else}
@@ -8,7 +8,7 @@ use Rattle.clap.specs.Faults.{turn_fault, walk_fault, word_fault, step_fault, se
 use Rattle.clap.specs.Walk.{Held, Row, Rule, Text, Waiting, arg_by_long, arg_by_short, walked, word_met, settled, reacted, takes_values, attached_value, subcommand_met, idle, option as waits_for, positional}
 use Rattle.clap.specs.declared.error.kind.ErrorKind.TheVariants as kind
 use Rattle.prt_daemon.specs.Invocation.{Batch, Word, is_delimiter, is_option, usage_error}
-use Rattle.prt_daemon.proofs.Walks.{Reads, faults_after, word_mistaken, word_taken}
+use Rattle.prt_daemon.proofs.Walks.{Reads, word_mistaken, word_taken}
 use Rattle.prt_daemon.proofs.WordClasses.{Class, IsMistake, awaits_option, class_of, held_at, mistaken_or, rules_of, settles, shape_of, value_turn, walk_at, walk_when}
 use Rattle.prt_daemon.proofs.WordClasses as class
 

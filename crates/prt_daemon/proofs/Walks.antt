@@ -1,5 +1,5 @@
 -- What a walk over the words of a subcommand comes to, and when that is what the words ask for.
-use Rattle.std.proofs.Common.{◌≡◌, ◌∙◌, Bool, true, false, refl, sym, ap, subst, List, [], ◌∷◌, Option, Some, None, codes}
+use Rattle.std.proofs.Common.{◌≡◌, Bool, true, false, sym, ap, subst, List, [], ◌∷◌, Option, Some, codes}
 use Rattle.std.specs.Prelude.{option_and_then}
 use Rattle.std.specs.List.{fold}
 use Rattle.clap.specs.Kinds.{Kinds, or_else}

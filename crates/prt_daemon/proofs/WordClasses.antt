@@ -15,7 +15,7 @@ use Rattle.clap.specs.Walk.{bundle_met, Held, Row, Rule, Text, Waiting, Walk, wa
 use Rattle.clap.specs.declared.error.kind.ErrorKind.{ErrorKind}
 use Rattle.clap.specs.declared.error.kind.ErrorKind.TheVariants as kind
 use Rattle.prt_daemon.specs.CommandLine.{command_line, batch_line, replay_line, flag_rule, database_rule, file_rule}
-use Rattle.prt_daemon.specs.Invocation.{Argument, Force, Verbose, Database, File, Part, delimiter as delimits, asks_help, argument, awaits_path, unknown as unknown_part, Subcommand, Batch, Replay, Word, is_delimiter, is_equals, is_help, is_option, option_part, part_of}
+use Rattle.prt_daemon.specs.Invocation.{Argument, Force, Verbose, Database, File, asks_help, argument, unknown as unknown_part, Subcommand, Batch, Replay, is_delimiter, is_equals, is_help, is_option, option_part, part_of}
 
 pub simple_line : is_simple command_line ≡ true
 simple_line = refl

@@ -1,13 +1,15 @@
 -- The exit status where nothing is run.
-use Rattle.std.specs.Prelude.{◌≡◌, ◌≢◌, ◌⊎◌, ℕ}
+use Rattle.std.specs.Prelude.{◌≡◌, ◌≢◌, ◌⊎◌, ℕ, Option, Some, None}
 use Rattle.clap.specs.Words.{kind_of}
 use Rattle.clap.specs.declared.error.Error.{Error}
 use Rattle.clap.specs.declared.error.kind.ErrorKind.{ErrorKind}
 use Rattle.clap.specs.declared.error.kind.ErrorKind.TheVariants.{DisplayHelp, DisplayVersion, OutOfMemory}
+use Rattle.prt_addr.specs.declared.refusal.Refusal.{Refusal}
 use Rattle.prt_addr.specs.declared.refusal.Refusal.TheVariants.{NoMemory, ReadFault}
-use Rattle.prt_daemon.specs.Invocation.{Invocation, batch, replay, help, help_on, usage_error}
+use Rattle.prt_daemon.specs.Invocation.{Invocation, Word, batch, replay, help, help_on, usage_error}
 use Rattle.prt_daemon.specs.declared.program.Fault.{Fault}
 use Rattle.prt_daemon.specs.declared.program.Fault.TheVariants.{Words, Opening}
+use Rattle.prt_store.specs.Loaded.{IsLoadRefusal}
 
 -- 0 for help, 2 for bad words
 abbrev pub words_status : ErrorKind → ℕ
@@ -37,7 +39,26 @@ abbrev pub IsWordsFault : Invocation → Fault → Type 0
 IsWordsFault asked (Words error) = IsStatusOf asked (words_status (kind_of error))
 IsWordsFault asked (Opening reason) = reason ≡ NoMemory
 
--- the same, or that the file could not be opened
+-- the database at this path, or a new one in memory, could not be opened
+abbrev pub IsDatabaseFault : Option Word → Refusal → Type 0
+IsDatabaseFault None reason = reason ≡ NoMemory
+IsDatabaseFault (Some path) reason = IsLoadRefusal reason
+
+-- the script or its database could not be opened
+abbrev pub IsScriptFault : Option Word → Refusal → Type 0
+IsScriptFault database reason = (reason ≡ ReadFault) ⊎ IsDatabaseFault database reason
+
+-- the fault is one of opening, for such a reason
+abbrev pub IsOpening : (Refusal → Type 0) → Fault → Type 0
+IsOpening may (Words error) = ⊥
+IsOpening may (Opening reason) = may reason
+
+-- which database is asked for; none for one in memory
+abbrev pub database_of : Invocation → Option Word
+database_of (batch script) = script.database
+database_of asked = None
+
+-- what running the words may answer in place of a run
 abbrev pub IsFault : Invocation → Fault → Type 0
 IsFault asked (Words error) = IsStatusOf asked (words_status (kind_of error))
-IsFault asked (Opening reason) = (reason ≡ NoMemory) ⊎ (reason ≡ ReadFault)
+IsFault asked (Opening reason) = IsScriptFault (database_of asked) reason

@@ -1,12 +1,12 @@
 -- What the program does: it runs the session or the replay that its words ask for, or it says why it does not.
 use Rattle.std.specs.Prelude.{◌≡◌, ◌≢◌, ◌⊎◌, ℕ, Bool, true, false, List, Option, Some, None}
 use Rattle.prt_addr.specs.declared.refusal.Refusal.{Refusal}
-use Rattle.prt_daemon.specs.Faults.{IsStatusOf}
+use Rattle.prt_daemon.specs.Faults.{IsStatusOf, database_of}
 use Rattle.prt_daemon.specs.Invocation.{Invocation, Word, batch, replay}
 use Rattle.prt_daemon.specs.Replay.{ReplayIs}
-use Rattle.prt_session.specs.Desk.{Befalls, DeskState, IsNoMemory, request_turn, settled}
+use Rattle.prt_session.specs.Desk.{Befalls, DeskState, IsNoMemory, Mishap, request_turn, settled}
 use Rattle.prt_session.specs.Run.{RunIs}
-use Rattle.prt_version.specs.State.{opening_state}
+use Rattle.prt_version.specs.State.{State, opening_state}
 use Rattle.prt_session.specs.declared.script.OnRefusal.{OnRefusal}
 use Rattle.prt_session.specs.declared.script.ScriptEnd.{ScriptEnd}
 
@@ -19,13 +19,23 @@ status_by None false = 0
 abbrev pub exit_status : ScriptEnd → ℕ
 exit_status end = status_by end.fault end.refused
 
--- A session over a new database was run, and this is its exit status.
-pub record RunsBatch (mode : OnRefusal) (reader0 writer0 writer : Option (List ℕ)) (status : ℕ) : Type 0 where
+-- the desk stands for this state and no other
+pub record IsOpenOn {X : Type 0} (stands : X → DeskState → Type 0) (desk : X) (opened : State) : Type 0 where
+  pub there : stands desk (settled opened)
+  pub alone : (seen : DeskState) → stands desk seen → seen ≡ settled opened
+
+-- A session that begins with this state was run, and this is its exit status.
+pub record RunsFrom (opened : State) (may : Mishap → Type 0) (mode : OnRefusal) (reader0 writer0 writer : Option (List ℕ)) (status : ℕ) : Type 0 where
   pub desk : DeskState
   pub reader : Option (List ℕ)
   pub end : ScriptEnd
-  pub run : RunIs request_turn (Befalls IsNoMemory) mode (settled opening_state) desk reader0 reader writer0 writer end
+  pub run : RunIs request_turn (Befalls may) mode (settled opened) desk reader0 reader writer0 writer end
   pub status_is : status ≡ exit_status end
+
+-- a session over a new database in memory, or over the one at this path: `holds` are the states that it may have, `may` what may befall a session over it
+abbrev pub RunsBatch : (Word → State → Type 0) → (Mishap → Type 0) → Option Word → OnRefusal → (reader0 writer0 writer : Option (List ℕ)) → ℕ → Type 0
+RunsBatch holds may None mode reader0 writer0 writer status = RunsFrom opening_state IsNoMemory mode reader0 writer0 writer status
+RunsBatch holds may (Some path) mode reader0 writer0 writer status = (opened : State) × holds path opened × RunsFrom opened may mode reader0 writer0 writer status
 
 -- A replay was run, and this is its exit status.
 pub record RunsReplay (reader0 writer0 writer : Option (List ℕ)) (status : ℕ) : Type 0 where
@@ -39,10 +49,10 @@ RunsOver bytes Run None input writer0 writer status = Run input writer0 writer s
 RunsOver {File} bytes Run (Some path) input writer0 writer status = (file : File) × Run (bytes file) writer0 writer status
 
 -- what the words ask for was run
-abbrev pub Runs : {File : Type 0} → (File → Option (List ℕ)) → Invocation → (input writer0 writer : Option (List ℕ)) → ℕ → Type 0
-Runs bytes (batch script) input writer0 writer status = RunsOver bytes (RunsBatch script.mode) script.file input writer0 writer status
-Runs bytes (replay file) input writer0 writer status = RunsOver bytes RunsReplay file input writer0 writer status
-Runs bytes asked input writer0 writer status = ⊥
+abbrev pub Runs : {File : Type 0} → (File → Option (List ℕ)) → (Word → State → Type 0) → (Mishap → Type 0) → Invocation → (input writer0 writer : Option (List ℕ)) → ℕ → Type 0
+Runs bytes holds may (batch script) input writer0 writer status = RunsOver bytes (RunsBatch holds may script.database script.mode) script.file input writer0 writer status
+Runs bytes holds may (replay file) input writer0 writer status = RunsOver bytes RunsReplay file input writer0 writer status
+Runs bytes holds may asked input writer0 writer status = ⊥
 
 -- Nothing was run: the words ask for none, or there was a fault of opening. What the writer had is there alone, unless help was asked for.
 abbrev pub RunsNothing : Invocation → Option (List ℕ) → Option (List ℕ) → ℕ → Type 0
@@ -57,3 +67,7 @@ abbrev pub LeavesInput : Invocation → Option (List ℕ) → Option (List ℕ) 
 LeavesInput (batch script) input0 input = LeavesInputFor script.file input0 input
 LeavesInput (replay file) input0 input = LeavesInputFor file input0 input
 LeavesInput asked input0 input = input ≡ input0
+
+-- databases are touched for a run over one alone
+abbrev pub LeavesDatabases : {D : Type 0} → Invocation → D → D → Type 0
+LeavesDatabases asked old new = database_of asked ≡ None → new ≡ old

@@ -1,16 +1,18 @@
-ghost use Rattle.std.specs.Prelude.{◌≡◌, ◌≢◌, ◌⊎◌, IfErr, IfOk, MatchResult, OnErr, Some, codes, false, true, option_and_then, option_map};
+ghost use Rattle.std.specs.Prelude.{◌≡◌, ◌≢◌, ◌⊎◌, IfErr, IfOk, MatchResult, OnErr, None, Some, codes, false, true, option_and_then, option_map};
 ghost use Rattle.clap.specs.Words.{app_of, first_of, found_of, kind_of, one_of, rows_of, rule_of, subcommand_rows_of};
 ghost use Rattle.prt_addr.specs.declared.refusal.Refusal.TheVariants.{NoMemory, ReadFault};
 ghost use Rattle.prt_daemon.specs.CommandLine.{IsTaskOf, batch_line, command_line, database_rule, file_rule, flag_rule, has_globals, invocation_of, replay_line};
-ghost use Rattle.prt_daemon.specs.Faults.{IsFault, FaultOf, IsWordsFault, fault_status};
+ghost use Rattle.prt_daemon.specs.Faults.{IsDatabaseFault, IsFault, IsOpening, IsScriptFault, FaultOf, IsWordsFault, fault_status};
 ghost use Rattle.prt_daemon.specs.declared.program.Fault.TheVariants.{Opening};
 ghost use Rattle.prt_daemon.specs.Invocation.{arguments, file_of, invocation, usage_error};
-ghost use Rattle.prt_daemon.specs.Program.{LeavesInput, LeavesInputFor, Runs, RunsBatch, RunsNothing, RunsOver, RunsReplay, exit_status};
+ghost use Rattle.prt_daemon.specs.Program.{IsOpenOn, LeavesDatabases, LeavesInput, LeavesInputFor, Runs, RunsBatch, RunsFrom, RunsNothing, RunsOver, RunsReplay, exit_status};
+ghost use Rattle.prt_version.specs.State.{State};
 
+use crate::databases::Databases;
 use crate::replay::run_replay;
 use clap::error::ErrorKind;
 use clap::{Arg, ArgAction, ArgMatches, Command};
-use prt_session::{ListDesk, OnRefusal, Refusal, ScriptEnd, Unobserved};
+use prt_session::{Desk, ListDesk, OnRefusal, Refusal, ScriptEnd, Unobserved, run_script};
 use std::alloc::{AllocError, Global};
 use std::fs::{self, Files};
 use std::io::{self, BufReader, Read, Write};
@@ -291,15 +293,34 @@ fn exit_status(end: ScriptEnd) -> u8
     }
 }
 
-/// Runs a script over a new database in memory, and gives the exit status of the session.
-fn run_batch<R: Read + Drop, W: Write>(
+/// Runs a script over a desk, and gives the exit status of the session.
+fn run_over<D: Desk + Drop, R: Read, W: Write>(
     alloc: Global,
+    mut desk: D,
+    reader: &mut R,
+    output: &mut W,
+    mode: OnRefusal,
+) -> u8
+    ensures { (opened : State) → IsOpenOn D.stands desk opened →
+        RunsFrom opened D.may mode (R.remaining reader.old) (W.contents output.old) (W.contents output.new) result }
+{
+    let end = run_script(alloc, &mut desk, reader, output, mode, &mut Unobserved);
+    exit_status(end)
+}
+
+/// Runs a script over the database that is asked for, and gives the exit status of the session.
+fn run_batch<D: Databases, R: Read + Drop, W: Write>(
+    alloc: Global,
+    databases: &mut D,
+    database: Option<&str>,
     input: R,
     output: &mut W,
     mode: OnRefusal,
 ) -> Result<u8, Fault>
-    ensures run { IfOk result (RunsBatch mode (R.remaining input) (W.contents output.old) (W.contents output.new)) }
-    ensures fault { IfErr result (λ fault. fault ≡ Opening NoMemory) }
+    ensures run { IfOk result (RunsBatch (D.holds databases.old) D.Opened.may (option_map (λ path. path.now) database.entry) mode
+        (R.remaining input) (W.contents output.old) (W.contents output.new)) }
+    ensures fault { IfErr result (IsOpening (IsDatabaseFault (option_map (λ path. path.now) database.entry))) }
+    ensures unopened { option_map (λ path. path.now) database.entry ≡ None → databases.new ≡ databases.old }
     ensures unwritten { OnErr result (W.contents output.new ≡ W.contents output.old) }
 {
     // A session takes its bytes one by one; the buffer takes them from the input in blocks.
@@ -307,9 +328,16 @@ fn run_batch<R: Read + Drop, W: Write>(
         Ok(reader) => reader,
         Err(_) => return Err(Fault::Opening(Refusal::NoMemory)),
     };
-    let mut desk = ListDesk::opening(alloc)?;
-    let end = desk.run_script(alloc, &mut reader, output, mode, &mut Unobserved);
-    Ok(exit_status(end))
+    match database {
+        Some(path) => {
+            let desk = databases.open(alloc, path)?;
+            Ok(run_over(alloc, desk, &mut reader, output, mode))
+        }
+        None => {
+            let desk = ListDesk::opening(alloc)?;
+            Ok(run_over(alloc, desk, &mut reader, output, mode))
+        }
+    }
 }
 
 /// Replays a list of events, and gives the exit status.
@@ -329,26 +357,29 @@ fn open_file<F: Files>(files: &F, path: &str) -> Result<F::File, Fault>
     }
 }
 
-/// Runs the script that is asked for, over its file or the input.
-fn run_script_of<F: Files, R: Read, W: Write>(
+/// Runs the script that is asked for, over its file or the input: a file that can't be opened leaves no new database.
+fn run_script_of<F: Files, D: Databases, R: Read, W: Write>(
     files: &F,
+    databases: &mut D,
     alloc: Global,
     batch: Batch<'_>,
     input: &mut R,
     output: &mut W,
 ) -> Result<u8, Fault>
-    ensures run { IfOk result (RunsOver F.File.remaining (RunsBatch batch.entry.mode) (option_map (λ path. path.now) batch.entry.file)
-        (R.remaining input.old) (W.contents output.old) (W.contents output.new)) }
+    ensures run { IfOk result (RunsOver F.File.remaining (RunsBatch (D.holds databases.old) D.Opened.may (option_map (λ path. path.now) batch.entry.database) batch.entry.mode)
+        (option_map (λ path. path.now) batch.entry.file) (R.remaining input.old) (W.contents output.old) (W.contents output.new)) }
     ensures unread { LeavesInputFor (option_map (λ path. path.now) batch.entry.file) (R.remaining input.old) (R.remaining input.new) }
-    ensures fault { IfErr result (λ fault. (fault ≡ Opening NoMemory) ⊎ (fault ≡ Opening ReadFault)) }
+    ensures fault { IfErr result (IsOpening (IsScriptFault (option_map (λ path. path.now) batch.entry.database))) }
+    ensures unopened { option_map (λ path. path.now) batch.entry.database ≡ None → databases.new ≡ databases.old }
+    ensures file_first { IfErr result (λ fault. fault ≡ Opening ReadFault → databases.new ≡ databases.old) }
     ensures unwritten { OnErr result (W.contents output.new ≡ W.contents output.old) }
 {
     match batch.file {
         Some(path) => {
             let file = open_file(files, path)?;
-            run_batch(alloc, file, output, batch.mode)
+            run_batch(alloc, databases, batch.database, file, output, batch.mode)
         }
-        None => run_batch(alloc, input, output, batch.mode),
+        None => run_batch(alloc, databases, batch.database, input, output, batch.mode),
     }
 }
 
@@ -376,21 +407,24 @@ fn replay_of<F: Files, R: Read, W: Write>(
 }
 
 /// Runs what the words ask for, and gives the exit status of the run.
-fn run<F: Files, R: Read, W: Write>(
+fn run<F: Files, D: Databases, R: Read, W: Write>(
     files: &F,
+    databases: &mut D,
     alloc: Global,
     words: &[String],
     input: &mut R,
     output: &mut W,
 ) -> Result<u8, Fault>
-    ensures run { IfOk result (Runs F.File.remaining (invocation (arguments words.now))
+    ensures run { IfOk result (Runs F.File.remaining (D.holds databases.old) D.Opened.may (invocation (arguments words.now))
         (R.remaining input.old) (W.contents output.old) (W.contents output.new)) }
     ensures unread { LeavesInput (invocation (arguments words.now)) (R.remaining input.old) (R.remaining input.new) }
     ensures fault { IfErr result (IsFault (invocation (arguments words.now))) }
+    ensures unopened { LeavesDatabases (invocation (arguments words.now)) databases.old databases.new }
+    ensures file_first { IfErr result (λ fault. fault ≡ Opening ReadFault → databases.new ≡ databases.old) }
     ensures unwritten { OnErr result (W.contents output.new ≡ W.contents output.old) }
 {
     match read_words(alloc, words)? {
-        Task::Batch(batch) => run_script_of(files, alloc, batch, input, output),
+        Task::Batch(batch) => run_script_of(files, databases, alloc, batch, input, output),
         Task::Replay(path) => replay_of(files, alloc, path, input, output),
     }
 }
@@ -420,23 +454,25 @@ pub fn report<W: Write, E: Write>(fault: &Fault, output: &mut W, errors: &mut E)
 
 /// Runs the program with these words, the first of which is its own name, and gives its exit status.
 ///
-/// `batch [--force] [FILE]` runs a script over a new database in memory, and `replay [FILE]` replays a list of events.
-/// The status is 0 where nothing was refused and after help, 1 where a line was refused, 2 for bad words, and 3 for a
-/// fault of opening, of the reader or of the writer.
-pub fn program<F: Files, R: Read, W: Write, E: Write>(
+/// `batch [--force] [--db PATH] [--verbose] [FILE]` runs a script over the database at PATH or a new one in memory, and
+/// `replay [FILE]` replays a list of events. The status is 0 where nothing was refused and after help, 1 where a line was
+/// refused, 2 for bad words, and 3 for a fault of opening, of the store, of the reader or of the writer.
+pub fn program<F: Files, D: Databases, R: Read, W: Write, E: Write>(
     files: &F,
+    databases: &mut D,
     alloc: Global,
     words: &[String],
     input: &mut R,
     output: &mut W,
     errors: &mut E,
 ) -> u8
-    ensures run { Runs F.File.remaining (invocation (arguments words.now))
+    ensures run { Runs F.File.remaining (D.holds databases.old) D.Opened.may (invocation (arguments words.now))
         (R.remaining input.old) (W.contents output.old) (W.contents output.new) result
         ⊎ RunsNothing (invocation (arguments words.now)) (W.contents output.old) (W.contents output.new) result }
     ensures unread { LeavesInput (invocation (arguments words.now)) (R.remaining input.old) (R.remaining input.new) }
+    ensures unopened { LeavesDatabases (invocation (arguments words.now)) databases.old databases.new }
 {
-    match run(files, alloc, words, input, output) {
+    match run(files, databases, alloc, words, input, output) {
         Ok(status) => status,
         Err(fault) => report(&fault, output, errors),
     }

@@ -1,8 +1,26 @@
 use super::{program, report, words_fault};
-use std::alloc::AllocError;
+use crate::databases::Databases;
+use prt_session::{ListDesk, Refusal};
+use std::alloc::{AllocError, Global};
 use std::io;
 use std::io::Read;
 use std::test::Fail;
+
+/// Databases of which none can be opened.
+#[derive(Clone, Copy)]
+struct Unreachable;
+
+impl Databases for Unreachable {
+    ghost use Rattle.std.specs.Prelude.{⊤};
+
+    type Opened = ListDesk;
+
+    ghost holds = { λ _ _ _. ⊤ };
+
+    fn open(&mut self, _alloc: Global, _path: &str) -> Result<ListDesk, Refusal> {
+        Err(Refusal::OpenFailed)
+    }
+}
 
 /// The exit status of the program, and what it wrote.
 #[derive(Drop)]
@@ -24,7 +42,15 @@ fn ending_of<R: Read>(
         .try_collect(alloc)?;
     let mut output = Vec::new(alloc);
     let mut errors = Vec::new(alloc);
-    let status = program(rt, alloc, words.as_slice(), input, &mut output, &mut errors);
+    let status = program(
+        rt,
+        &mut Unreachable,
+        alloc,
+        words.as_slice(),
+        input,
+        &mut output,
+        &mut errors,
+    );
     Ok(Ending {
         status,
         output,
@@ -78,6 +104,15 @@ fn replays_a_stop_within_a_commit(rt: HostRuntime) -> Result<(), Fail> {
     let trace = b"prepared 1\nbegin\nwrite\ncount\nstop\nreopen 1\n";
     assert!(rt; ending.output.as_slice() == trace.as_slice());
     assert!(rt; ending.status == 0 && ending.errors.is_empty());
+    Ok(())
+}
+
+#[test]
+fn opens_the_database_that_is_named(rt: HostRuntime) -> Result<(), Fail> {
+    let mut input: &[u8] = b"rule flush\n";
+    let ending = ending_of(&rt, &["prt", "batch", "-", "--db=a"], &mut input)?;
+    assert!(rt; ending.errors.as_slice() == b"prt: error 31 OpenFailed\n".as_slice());
+    assert!(rt; ending.status == 3 && ending.output.is_empty());
     Ok(())
 }
 
