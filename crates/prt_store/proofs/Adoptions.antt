@@ -72,4 +72,4 @@ goes_on old mid new part adopts = record {
 
 -- what an open says of the connection that it gave holds of the one that was adopted
 pub adopts_found : {S : Type 0} (g : Ghosts S) (IsFound : Held S → Type 0) (opened : Result (Held S) Error) → IfOk opened IsFound → (now : Held S) → AdoptsOne g (λ was. opened ≡ Ok was) now → AdoptsOne g IsFound now
-adopts_found {S = S} g IsFound opened found now one = record { was = one.was; found = subst (λ (r : Result (Held S) Error). IfOk r IsFound) one.found found; adopted = one.adopted; columns = one.columns; crash = one.crash; survives = one.survives }
+adopts_found {S = S} g IsFound opened found now one = record { was = one.was; found = subst (λ (r : Result (Held S) Error). IfOk r IsFound) one.found found; adopted = one.adopted; columns = one.columns; rest = one.rest; survives = one.survives }

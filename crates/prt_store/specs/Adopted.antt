@@ -43,11 +43,16 @@ pub record IsSettled {S : Type 0} (g : Ghosts S) (conn : Held S) : Type 0 where
   pub autocommit : (state g conn).in_transaction ≡ false
   pub committed : (state g conn).now ≡ (state g conn).committed
 
--- A connection that was found so was adopted, which made it this one. A crash leaves what the tables show.
+-- nothing is pending, and a crash leaves what the tables show
+pub record IsAtRest {S : Type 0} (g : Ghosts S) (conn : Held S) : Type 0 where
+  pub settled : IsSettled g conn
+  pub crash : (trees : Trees) → (state g conn).may_leave trees → trees ≡ (state g conn).now.trees
+
+-- a connection that was found so was adopted, which made it this one
 pub record AdoptsOne {S : Type 0} (g : Ghosts S) (IsFound : Held S → Type 0) (now : Held S) : Type 0 where
   pub was : Held S
   pub found : IsFound was
   pub adopted : HasCleanDisk (state g now) → BeginsFormat1 (state g was).now.schema → Adopts (state g was).now (state g now).now × IsSettled g now
   pub columns : HasFormat1 (state g now).now.schema
-  pub crash : HasCleanDisk (state g now) → BeginsFormat1 (state g was).now.schema → (trees : Trees) → (state g now).may_leave trees → trees ≡ (state g now).now.trees
+  pub rest : IsTrue (state g now).is_open → IsAtRest g now
   pub survives : (HasCleanDisk (state g was) → BeginsFormat1 (state g was).now.schema) → Survives (state g was) (state g now) (LeavesPart (state g was).now)

@@ -8,7 +8,7 @@ ghost use Rattle.sqlite.specs.Tree.{Trees};
 ghost use Rattle.prt_addr.specs.declared.refusal.Refusal.TheVariants.{OpenFailed};
 ghost use Rattle.prt_rows.specs.Effects.{AreEmpty};
 ghost use Rattle.prt_rows.specs.Format.{BeginsFormat1, HasFormat1};
-ghost use Rattle.prt_store.specs.Adopted.{Adopts, AdoptsOne, AdoptsPart, IsSettled, LeavesPart};
+ghost use Rattle.prt_store.specs.Adopted.{Adopts, AdoptsOne, AdoptsPart, IsAtRest, IsSettled, LeavesPart};
 ghost use Rattle.prt_store.specs.Stored.{Stores};
 ghost use Rattle.prt_version.specs.State.{State, opening_state};
 
@@ -22,9 +22,9 @@ impl<S: Alter + Drop> Store<S> {
     /// are missing, each by itself; where the three have no rows they are filled with the opening state, in one
     /// transaction, with the row of `meta` last. All other rows stay as they are, whether they spell a state or not.
     ///
-    /// After `Ok` the three tables have the columns of format 1, whatever the file. The other clauses speak of a file without
-    /// tables, of one that an earlier opening was stopped in, and of one whose first tables are the three. Other files are
-    /// served all the same.
+    /// After `Ok` the three tables have the columns of format 1, nothing is pending, and a crash leaves what the tables show,
+    /// whatever the file. The other clauses speak of a file without tables, of one that an earlier opening was stopped in, and
+    /// of one whose first tables are the three. Other files are served all the same.
     ///
     /// # Errors
     ///
@@ -43,6 +43,7 @@ impl<S: Alter + Drop> Store<S> {
             IsSettled S.Store store.conn) }
         ensures crash_ok { IfOk result (λ store. HasCleanDisk (state S.Store store.conn) → BeginsFormat1 (state S.Store conn).now.schema → (trees : Trees) →
             (state S.Store store.conn).may_leave trees → trees ≡ (state S.Store store.conn).now.trees) }
+        ensures at_rest { IfOk result (λ store. IsTrue (state S.Store store.conn).is_open → IsAtRest S.Store store.conn) }
         ensures survives_ok { IfOk result (λ store. (HasCleanDisk (state S.Store conn) → BeginsFormat1 (state S.Store conn).now.schema) →
             Survives (state S.Store conn) (state S.Store store.conn) (LeavesPart (state S.Store conn).now)) }
         ensures reason { IfErr result (λ refused. refused.0 ≡ OpenFailed) }

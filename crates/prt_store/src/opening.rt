@@ -1,12 +1,13 @@
 //! The opening of a file: the three tables are made where they are missing, and filled where they have no rows.
 
-ghost use Rattle.std.specs.Prelude.{◌≡◌, ◌<◌, ◌^◌, [], IfErr, OnOk};
+ghost use Rattle.std.specs.Prelude.{◌≡◌, ◌<◌, ◌^◌, [], IfErr, IsTrue, OnOk};
 ghost use Rattle.sqlite.specs.Held.{state};
 ghost use Rattle.prt_addr.specs.declared.refusal.Refusal.TheVariants.{OpenFailed};
 ghost use Rattle.prt_rows.specs.Effects.{AreEmpty};
 ghost use Rattle.prt_rows.specs.Format.{BeginsFormat1, HasFormat1, IsFormat1};
 ghost use Rattle.prt_rows.specs.MetaRow.{meta_row};
 ghost use Rattle.prt_rows.specs.Statements.{insert_meta};
+ghost use Rattle.prt_store.specs.Adopted.{IsSettled};
 ghost use Rattle.prt_store.specs.Openings.{Advances, Commits, Fills, InsertsRule, InsertsRules, IsEmpty, MakesMissing, OpensTables, Ran, Sees, Takes, Works, create, look_at, table_of};
 ghost use Rattle.prt_version.specs.State.{table_rule};
 
@@ -225,11 +226,12 @@ fn make_and_fill<S: Alter>(conn: &mut Connection<S>) -> Result<(), Refusal>
 pub(crate) fn open_tables<S: Alter>(conn: &mut Connection<S>) -> Result<(), Refusal>
     ensures reason { IfErr result (λ reason. reason ≡ OpenFailed) }
     ensures columns { OnOk result (HasFormat1 (state S.Store conn.new).now.schema) }
+    ensures settled { OnOk result (IsTrue (state S.Store conn.new).is_open → IsSettled S.Store conn.new) }
     ensures opens { OpensTables S.Store conn.old conn.new result }
 {
     make_and_fill(conn)?;
-    // Compares again: what the statements leave alone is known only of files whose first tables are ours.
-    if has_format_1(conn.schema()) {
+    // Asks again: what the statements leave alone is known only of files whose first tables are ours.
+    if has_format_1(conn.schema()) && conn.is_autocommit() {
         Ok(())
     } else {
         Err(Refusal::OpenFailed)

@@ -6,6 +6,6 @@ returns-in-Ok-adopt-clause-ok g c = record {
   found = c.in-Ok.is;
   adopted = λ clean tables. (c.in-Ok-adopt.ensures.ok clean tables, c.in-Ok-adopt.ensures.settled clean tables);
   columns = c.in-Ok-adopt.ensures.columns;
-  crash = c.in-Ok-adopt.ensures.crash_ok;
+  rest = c.in-Ok-adopt.ensures.at_rest;
   survives = c.in-Ok-adopt.ensures.survives_ok;
 }

@@ -14,7 +14,10 @@ returns-in-Ok-clause-stored g c clean stored held =
 pub returns-in-Ok-clause-opening : goal.returns-in-Ok-clause-opening
 returns-in-Ok-clause-opening g c clean tables empty = opening_stored (state g.S.Store c.args.conn).now (state g.S.Store c.open_tables.new.conn).now (c.in-Ok.ensures.opens.ok clean tables).0 empty
 
+pub returns-in-Ok-clause-at_rest : goal.returns-in-Ok-clause-at_rest
+returns-in-Ok-clause-at_rest g c is_open =
+    let settled = c.in-Ok.ensures.settled is_open in
+    record { settled = settled; crash = λ trees leaves. g.met.S.Store.settled c.open_tables.new.conn.store trees is_open leaves ∙ ap (λ (d : Database). d.trees) (sym settled.committed) }
+
 pub returns-in-Ok-clause-crash_ok : goal.returns-in-Ok-clause-crash_ok
-returns-in-Ok-clause-crash_ok g c clean tables trees leaves =
-    let settled = (c.in-Ok.ensures.opens.ok clean tables).1 in
-    g.met.S.Store.settled c.open_tables.new.conn.store trees settled.is_open leaves ∙ ap (λ (d : Database). d.trees) (sym settled.committed)
+returns-in-Ok-clause-crash_ok g c clean tables = (returns-in-Ok-clause-at_rest g c (c.in-Ok.ensures.opens.ok clean tables).1.is_open).crash
