@@ -41,7 +41,10 @@ pub(crate) fn desk_over<S: Alter + Drop>(
     ensures reason { IfErr result IsLoadRefusal }
 {
     match conn {
-        Ok(conn) => StoreDesk::open(alloc, conn),
+        Ok(conn) => match StoreDesk::open(alloc, conn) {
+            Ok(desk) => Ok(desk),
+            Err((reason, _)) => Err(reason),
+        },
         Err(_) => Err(Refusal::OpenFailed),
     }
 }

@@ -2,6 +2,7 @@ ghost use Rattle.std.specs.Prelude.{◌≡◌, ◌++◌, ◌↔◌, IfErr, IfOk,
 ghost use Rattle.sqlite.specs.Held.{state};
 ghost use Rattle.sqlite.specs.State.{HasCleanDisk};
 ghost use Rattle.sqlite.specs.Tree.{Trees};
+ghost use Rattle.prt_addr.specs.declared.refusal.Refusal.TheVariants.{Damaged};
 ghost use Rattle.prt_desk.specs.Remains.{Remains};
 ghost use Rattle.prt_desk.specs.StoreDesk.{IsKept, IsKnown, IsStored, IsStoreMishap, MayBeStored, Opens, Reopens, Spells, desk_with};
 ghost use Rattle.prt_rows.specs.Format.{BeginsFormat1, IsFormat1};
@@ -67,12 +68,17 @@ impl<S: Alter + Drop> StoreDesk<S> {
     ///
     /// # Errors
     ///
-    /// `OpenFailed` where one of the tables has other columns, or a store call fails; `Damaged` only where the tables spell
-    /// no state; `NoMemory`.
-    pub fn open(alloc: Global, conn: Connection<S>) -> Result<StoreDesk<S>, Refusal>
+    /// With the connection: `OpenFailed` where one of the tables has other columns, or a store call fails; `Damaged` only
+    /// where the tables spell no state; `NoMemory`. The connection is to be closed and opened again before it is used.
+    pub fn open(
+        alloc: Global,
+        conn: Connection<S>,
+    ) -> Result<StoreDesk<S>, (Refusal, Connection<S>)>
         ensures open { IfOk result (λ desk. desk.closed ≡ false) }
         ensures sound { IfOk result (λ desk. IsSound desk.published) }
-        ensures reason { IfErr result IsLoadRefusal }
+        ensures reason { IfErr result (λ refused. IsLoadRefusal refused.0) }
+        ensures damaged { IfErr result (λ refused. refused.0 ≡ Damaged → HasCleanDisk (state S.Store refused.1) → IsTrue (state S.Store conn).is_open → (stored : State) →
+            Spells (state S.Store conn).now.trees stored → ⊥) }
         ensures format { IfOk result (λ desk. (desk.format_1 ≡ true) ↔ BeginsFormat1 (state S.Store conn).now.schema) }
         ensures adopts { IfOk result (λ desk. IsKnown S.Store desk.format_1 desk.tables → Opens (state S.Store conn).now desk.published) }
         ensures found { IfOk result (λ desk. HasCleanDisk (state S.Store desk.tables) → IsTrue (state S.Store conn).is_open → (stored : State) →
@@ -81,11 +87,11 @@ impl<S: Alter + Drop> StoreDesk<S> {
         let is_format_1 = begins_format_1(conn.schema());
         let mut store = match Store::adopt(conn) {
             Ok(store) => store,
-            Err((reason, _)) => return Err(reason),
+            Err(refused) => return Err(refused),
         };
         let version = match store.load(alloc) {
             Ok(version) => version,
-            Err(reason) => return Err(reason),
+            Err(reason) => return Err((reason, store.release())),
         };
         let _number = version.number();
         if is_format_1 {

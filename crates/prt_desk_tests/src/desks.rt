@@ -28,13 +28,24 @@ fn replies<D: Desk>(alloc: Global, desk: &mut D, script: &str) -> Vec<u8> {
     text
 }
 
+/// A desk over the database of a connection.
+fn opened<S: Alter + Drop>(
+    alloc: Global,
+    connection: Connection<S>,
+) -> Result<StoreDesk<S>, Refusal> {
+    match StoreDesk::open(alloc, connection) {
+        Ok(desk) => Ok(desk),
+        Err((reason, _)) => Err(reason),
+    }
+}
+
 /// Whether a desk over the connection replies to a script as one over lists does.
 fn replies_as_lists<S: Alter + Drop>(
     alloc: Global,
     connection: Connection<S>,
     script: &str,
 ) -> Result<bool, Refusal> {
-    let mut stored = StoreDesk::open(alloc, connection)?;
+    let mut stored = opened(alloc, connection)?;
     let mut listed = ListDesk::opening(alloc)?;
     let wanted = replies(alloc, &mut listed, script);
     Ok(replies(alloc, &mut stored, script).as_slice() == wanted.as_slice())
@@ -46,7 +57,7 @@ fn run_over<S: Alter + Drop>(
     connection: Connection<S>,
     script: &str,
 ) -> Result<(Vec<u8>, Connection<S>), Refusal> {
-    let mut desk = StoreDesk::open(alloc, connection)?;
+    let mut desk = opened(alloc, connection)?;
     let text = replies(alloc, &mut desk, script);
     Ok((text, desk.release()))
 }
@@ -76,7 +87,7 @@ fn run_unheard<S: Alter + Drop>(
     connection: Connection<S>,
     script: &str,
 ) -> Result<(ScriptEnd, Connection<S>), Refusal> {
-    let mut desk = StoreDesk::open(alloc, connection)?;
+    let mut desk = opened(alloc, connection)?;
     let mut lines = script.as_bytes();
     let end = desk.run_script(
         alloc,

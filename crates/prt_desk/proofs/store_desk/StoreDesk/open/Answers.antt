@@ -1,4 +1,4 @@
-use Rattle.std.proofs.Common.{◌≡◌, true, false, inr, ap, refl, subst, sym, ◌∙◌}
+use Rattle.std.proofs.Common.{◌≡◌, true, false, inr, ap, arith, refl, subst, sym, ◌∙◌}
 use Rattle.sqlite.specs.Held.{Held, state}
 use Rattle.sqlite.specs.State.{HasCleanDisk}
 use Rattle.std.specs.Prelude.{IsTrue}
@@ -45,3 +45,13 @@ returns-clause-found g c = λ clean is_open stored spells.
     let held = stored_there (state g.S.Store c.args.conn).now stored (c.schema.ensures.live is_open).0 spells in
     let known : c.begins_format_1-is_format_1.result ≡ true = c.begins_format_1-is_format_1.ensures.1 (subst BeginsFormat1 (sym c.schema.ensures.value) (inr (inr (inr held.tables)))) in
     absurd (let both : false ≡ true = sym c.if-is_format_1.false ∙ known in cc)
+
+-- tables that spell a state spell it once they are adopted, so their load finds no damage
+pub returns-in-Err-load-clause-damaged : goal.returns-in-Err-load-clause-damaged
+returns-in-Err-load-clause-damaged g c = λ is released is_open stored spells.
+    let held = stored_there (state g.S.Store c.args.conn).now stored (c.schema.ensures.live is_open).0 spells in
+    let adopts = λ (clean : HasCleanDisk (state g.S.Store c.in-Ok.store.conn)). c.in-Ok.ensures.ok clean (inr (inr (inr held.tables))) in
+    let loaded : HasCleanDisk (state g.S.Store c.load.new.self.conn) = subst (λ (conn : Held _). HasCleanDisk (state g.S.Store conn)) c.release.ensures released in
+    let survives = c.in-Err-load.ensures.quiet (λ clean. (adopts clean).tables) in
+    let adopted : HasCleanDisk (state g.S.Store c.in-Ok.store.conn) = omega (arith, survives.clean, loaded) in
+    c.in-Err-load.ensures.damaged loaded (adopts adopted).tables is stored (c.in-Ok.ensures.stored adopted stored held)
