@@ -1,5 +1,6 @@
 -- Turns of a desk over a store: what each state that it may stand for after a command is explained by.
 use Rattle.std.proofs.Common.{◌≡◌, ◌⊎◌, inl, inr, ℕ, Bool, true, false, Option, Some, None, Result, Ok, Err, IfSome, refl, sym, ap, subst, ◌∙◌}
+use Rattle.std.specs.Prelude.{IsTrue}
 use Rattle.sqlite.specs.Effect.{Database}
 use Rattle.sqlite.specs.Held.{Held, state}
 use Rattle.sqlite.specs.Schema.{Schema}
@@ -22,6 +23,7 @@ use Rattle.prt_version.specs.State.{State}
 use Rattle.prt_version.specs.declared.change.Change.{Change}
 use Rattle.prt_desk.specs.StoreDesk.{DeskOver, IsKept, IsKnown, IsPerhapsStored, IsStored, IsStoreMishap, Keeps, MayBeStored, Spells, StandsBy, StandsFor, desk_with}
 use Rattle.prt_desk.proofs.Spelled.{database, spelled_once}
+use Rattle.prt_desk.specs.Remains.{IsSeen, Remains, SparesOthers}
 
 -- what may befall a desk over lists may befall this one
 more_may : (mishap : Option Mishap) → IfSome mishap IsNoMemory → IfSome mishap IsStoreMishap
@@ -149,6 +151,22 @@ module _ {S : Type 0} (g : Ghosts S) (old : DeskOver (Held S)) where
 
 -- ---- a commit
 
+-- what an open desk leaves where it is written to
+pub remains_of_open : {S : Type 0} (g : Ghosts S) (old new : DeskOver (Held S)) → old.closed ≡ false → new.format_1 ≡ old.format_1 → (HasCleanDisk (state g new.tables) → HasCleanDisk (state g old.tables))
+    → (IsKnown g new.format_1 new.tables → IsSeen g new → SparesOthers (state g old.tables).now (state g new.tables).now) → Remains g old new
+remains_of_open g old new is_open format clean others = record {
+  format = format;
+  clean = clean;
+  closed = λ closed. absurd (let both : false ≡ true = sym is_open ∙ closed in cc);
+  others = others;
+}
+
+-- a failed one leaves a closed desk, whose tables are as they were if the connection is open
+pub spares_unwritten : {S : Type 0} (g : Ghosts S) (old : Database) (new : DeskOver (Held S)) → new.closed ≡ true → (IsTrue (state g new.tables).is_open → (state g new.tables).now ≡ old)
+    → IsSeen g new → SparesOthers old (state g new.tables).now
+spares_unwritten g old new closed same (inl is_open) = absurd (let both : true ≡ false = sym closed ∙ is_open in cc)
+spares_unwritten g old new closed same (inr is_open) = subst (SparesOthers old) (sym (same is_open)) (record { schema = refl; rows = λ _ _ _. refl })
+
 next_spelled : (old : Database) (next : State) (schema : Schema) (trees : Trees) → MakesNext old next (database schema trees) → Spells trees next
 next_spelled old next schema trees makes = record { schema = schema; sound = makes.sound; stores = makes.stores }
 
@@ -167,6 +185,11 @@ module _ {S : Type 0} (g : Ghosts S) (format_1 : Bool) (old new : Held S) (publi
         now = after.stores;
         durable = λ trees left. subst (λ (t : Trees). Spells t (put published made)) (sym (leaves known.1 trees left)) (next_spelled (state g old).now (put published made) (state g new).now.schema (state g new).now.trees after);
       }
+
+  -- and the other tables stay
+  pub spares_after : (HasCleanDisk (state g new) → (before : State) → IsNext before made number → Stores (state g old).now before → MakesNext (state g old).now (put before made) (state g new).now)
+      → IsKnown g format_1 new → SparesOthers (state g old).now (state g new).now
+  spares_after makes known = let after = makes known.1 published next (held known).now in record { schema = after.schema; rows = after.others }
 
   module _ (call : StoreCall) (reason : Refusal) (is : reason ≡ StoreFailed call)
       (leaves : HasCleanDisk (state g new) → (before : State) → IsNext before made number → Stores (state g old).now before → (trees : Trees) → (state g new).may_leave trees

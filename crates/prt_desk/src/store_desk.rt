@@ -125,7 +125,7 @@ impl<S: Alter + Drop> StoreDesk<S> {
     ///
     /// Whatever may be stored at its end is what the session leaves, begun on what may have been stored before. A crash,
     /// or the end of the program, leaves a file that spells such a state, and an opening of it gives that state. A desk that
-    /// is closed stays exactly as it is.
+    /// is closed stays exactly as it is, and the other tables of a file are never changed.
     pub fn run_script<R: Read, W: Write, O: Observer>(
         &mut self,
         alloc: Global,

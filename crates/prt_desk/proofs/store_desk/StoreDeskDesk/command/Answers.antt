@@ -1,6 +1,6 @@
-use Rattle.std.proofs.Common.{◌≡◌, ◌+◌, ℕ, true, inl, inr, Ok, Err, ap, sym, subst, ◌∙◌}
+use Rattle.std.proofs.Common.{◌≡◌, ◌+◌, ℕ, true, inl, inr, Ok, Err, ap, refl, sym, subst, ◌∙◌}
 use Rattle.std.specs.Result.{result_err}
-use Rattle.sqlite.specs.Held.{Held}
+use Rattle.sqlite.specs.Held.{Held, state}
 use Rattle.prt_addr.specs.declared.refusal.Refusal.{Refusal}
 use Rattle.prt_addr.specs.declared.refusal.Refusal.TheVariants.{NoMemory}
 use Rattle.prt_session.specs.Stands.{Explained}
@@ -8,8 +8,9 @@ use Rattle.prt_session.specs.Steps.{CommandGives}
 use Rattle.prt_store.proofs.Nexts.{next_of, number_is}
 use Rattle.prt_version.specs.Change.{check, put_if}
 use Rattle.prt_version.specs.State.{State}
+use Rattle.prt_desk.specs.Remains.{Remains}
 use Rattle.prt_desk.specs.StoreDesk.{DeskOver, IsKnown, IsStored, IsStoreMishap, Keeps, StandsFor}
-use Rattle.prt_desk.proofs.StoreTurns.{accepted_explained, either_stored, failed_explained, keeps_after, memory_explained, something, stored_after}
+use Rattle.prt_desk.proofs.StoreTurns.{accepted_explained, either_stored, failed_explained, keeps_after, memory_explained, remains_of_open, something, spares_after, spares_unwritten, stored_after}
 use Rattle.prt_desk.proofs.store_desk.StoreDeskDesk.command.Goals as goal
 
 pub returns-in-Err-next-clause-turn : goal.returns-in-Err-next-clause-turn
@@ -78,3 +79,22 @@ returns-in-Err-commit-clause-turn g c =
 
 pub returns-in-Err-commit-clause-left : goal.returns-in-Err-commit-clause-left
 returns-in-Err-commit-clause-left g c = λ _. something g.S.Store (record { published = c.self.inside.version; closed = true; format_1 = c.self.inside.is_format_1; tables = c.commit.new.self.conn })
+
+pub returns-in-Ok-commit-clause-keeps : goal.returns-in-Ok-commit-clause-keeps
+returns-in-Ok-commit-clause-keeps g c =
+    let version = c.self.inside.version in
+    let next = next_of version c.args.command.now c.in-Ok.change c.number-number.result c.number-number.ensures.value c.number-number.ensures.sound c.requires c.in-Ok.ensures.value in
+    let before = c.self.inside.store.conn in
+    let kept = λ (was : IsKnown g.S.Store c.self.inside.is_format_1 before). subst (λ closed. Keeps g.S.Store before version closed) c.if-self.false (c.self.invariant was) in
+    let old : DeskOver (Held _) = record { published = version; closed = c.self.inside.is_closed; format_1 = c.self.inside.is_format_1; tables = before } in
+    let new : DeskOver (Held _) = record { published = c.in-Ok-next.next; closed = c.self.inside.is_closed; format_1 = c.self.inside.is_format_1; tables = c.commit.new.self.conn } in
+    let spares = spares_after g.S.Store c.self.inside.is_format_1 before c.commit.new.self.conn version c.in-Ok.change (c.number-number.result + 1) next c.commit.ensures.clean kept c.in-Ok-commit.ensures.ok in
+    subst (λ (d : DeskOver (Held _)). Remains g.S.Store d new) c.self.view_is (remains_of_open g.S.Store old new c.if-self.false refl c.commit.ensures.clean (λ known _. spares known))
+
+pub returns-in-Err-commit-clause-keeps : goal.returns-in-Err-commit-clause-keeps
+returns-in-Err-commit-clause-keeps g c =
+    let before = c.self.inside.store.conn in
+    let old : DeskOver (Held _) = record { published = c.self.inside.version; closed = c.self.inside.is_closed; format_1 = c.self.inside.is_format_1; tables = before } in
+    let new : DeskOver (Held _) = record { published = c.self.inside.version; closed = true; format_1 = c.self.inside.is_format_1; tables = c.commit.new.self.conn } in
+    subst (λ (d : DeskOver (Held _)). Remains g.S.Store d new) c.self.view_is (remains_of_open g.S.Store old new c.if-self.false refl c.commit.ensures.clean
+    (λ known. spares_unwritten g.S.Store (state g.S.Store before).now new refl (c.in-Err-commit.ensures.err known.1)))
