@@ -98,8 +98,8 @@ found_is found version stored opens sound spells =
 
 -- ---- what a crash leaves
 
--- where a crash leaves trees that spell a state which may be stored, an opening gives that state
-pub reopens : {S : Type 0} (g : Ghosts S) (desk : DeskOver (Held S)) → IsKept g desk → IsKnown g desk.format_1 desk.tables → Reopens g desk
+-- a crash leaves trees that spell a state which may be stored, and an opening gives that state
+pub reopens : {S : Type 0} (g : Ghosts S) (desk : DeskOver (Held S)) → IsKept g desk → IsKnown g desk.format_1 desk.tables → Reopens g desk.tables (MayBeStored g desk)
 reopens g desk kept known found sound may =
     let left = durable_is g desk kept known found.trees may in (
       (stored_there found left.0 sound left.1).tables,

@@ -1,5 +1,5 @@
 -- What a desk over a store stands for.
-use Rattle.std.specs.Prelude.{◌≡◌, ◌⊎◌, Bool, true, false, refl, ⊤}
+use Rattle.std.specs.Prelude.{◌≡◌, ◌⊎◌, ℕ, Bool, true, false, List, Option, refl, ⊤}
 use Rattle.std.specs.Coded.{Coded, code_by, coded×, coded_bool}
 use Rattle.sqlite.specs.Effect.{Database, IsDatabase}
 use Rattle.sqlite.specs.Held.{Held, state}
@@ -7,7 +7,10 @@ use Rattle.sqlite.specs.Schema.{Schema}
 use Rattle.sqlite.specs.State.{HasCleanDisk}
 use Rattle.sqlite.specs.Store.{Ghosts}
 use Rattle.sqlite.specs.Tree.{Trees}
-use Rattle.prt_session.specs.Desk.{DeskState, Mishap, no_room, no_memory, store_fails, commit_kept, publication_fails, settled}
+use Rattle.prt_session.specs.Desk.{Befalls, DeskState, Mishap, no_room, no_memory, store_fails, commit_kept, publication_fails, request_turn, settled}
+use Rattle.prt_session.specs.Run.{RunIs}
+use Rattle.prt_session.specs.declared.script.OnRefusal.{OnRefusal}
+use Rattle.prt_session.specs.declared.script.ScriptEnd.{ScriptEnd}
 use Rattle.prt_rows.specs.Format.{IsFormat1}
 use Rattle.prt_store.specs.Adopted.{Adopts}
 use Rattle.prt_store.specs.Stored.{Stores}
@@ -78,10 +81,9 @@ desk_with desk stored = record { published = desk.published; stored = stored; cl
 abbrev pub MayBeStored : {S : Type 0} → Ghosts S → DeskOver (Held S) → State → Type 0
 MayBeStored g desk stored = StandsFor g desk (desk_with desk stored)
 
--- What an opening makes of a database that a crash leaves spells a state that may be stored.
-abbrev pub Reopens : {S : Type 0} → Ghosts S → DeskOver (Held S) → Type 0
-Reopens g desk = (found : Database) → IsDatabase found → (state g desk.tables).may_leave found.trees →
-    IsFormat1 found.schema × ((opened : State) → Opens found opened → MayBeStored g desk opened)
+-- what an opening makes of a database that a crash leaves spells a state of which this holds
+abbrev pub Reopens : {S : Type 0} → Ghosts S → Held S → (State → Type 0) → Type 0
+Reopens g tables Left = (found : Database) → IsDatabase found → (state g tables).may_leave found.trees → IsFormat1 found.schema × ((opened : State) → Opens found opened → Left opened)
 
 -- what may befall it: memory or a store call may fail; old versions take no room, and a publication cannot fail
 abbrev pub IsStoreMishap : Mishap → Type 0
@@ -90,3 +92,8 @@ IsStoreMishap no_memory = ⊤
 IsStoreMishap (store_fails call) = ⊤
 IsStoreMishap commit_kept = ⊤
 IsStoreMishap publication_fails = ⊥
+
+-- the run of a session, begun on a state that may have been stored before, left this one
+abbrev pub SessionLeaves : {S : Type 0} → Ghosts S → OnRefusal → DeskOver (Held S) → DeskOver (Held S) → (reader0 reader writer0 writer : Option (List ℕ)) → ScriptEnd → State → Type 0
+SessionLeaves g mode old new reader0 reader writer0 writer end stored =
+    (before : State) × MayBeStored g old before × RunIs request_turn (Befalls IsStoreMishap) mode (desk_with old before) (desk_with new stored) reader0 reader writer0 writer end

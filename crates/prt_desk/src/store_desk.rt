@@ -4,10 +4,8 @@ ghost use Rattle.sqlite.specs.State.{HasCleanDisk};
 ghost use Rattle.sqlite.specs.Tree.{Trees};
 ghost use Rattle.prt_addr.specs.declared.refusal.Refusal.TheVariants.{Damaged};
 ghost use Rattle.prt_desk.specs.Remains.{Remains};
-ghost use Rattle.prt_desk.specs.StoreDesk.{IsKept, IsKnown, IsStored, IsStoreMishap, MayBeStored, Opens, Reopens, Spells, desk_with};
+ghost use Rattle.prt_desk.specs.StoreDesk.{IsKept, IsKnown, IsStored, MayBeStored, Opens, Reopens, SessionLeaves, Spells};
 ghost use Rattle.prt_rows.specs.Format.{BeginsFormat1, IsFormat1};
-ghost use Rattle.prt_session.specs.Desk.{Befalls, request_turn};
-ghost use Rattle.prt_session.specs.Run.{RunIs};
 ghost use Rattle.prt_store.specs.Loaded.{IsLoadRefusal};
 ghost use Rattle.prt_version.specs.Sound.{IsSound};
 ghost use Rattle.prt_version.specs.State.{State};
@@ -125,7 +123,7 @@ impl<S: Alter + Drop> StoreDesk<S> {
     ///
     /// Whatever may be stored at its end is what the session leaves, begun on what may have been stored before. A crash,
     /// or the end of the program, leaves a file that spells such a state, and an opening of it gives that state. A desk that
-    /// is closed stays exactly as it is, and the other tables of a file are never changed.
+    /// is closed stays exactly as it is, and so do the other tables of the file.
     pub fn run_script<R: Read, W: Write, O: Observer>(
         &mut self,
         alloc: Global,
@@ -134,13 +132,13 @@ impl<S: Alter + Drop> StoreDesk<S> {
         mode: OnRefusal,
         observer: &mut O,
     ) -> ScriptEnd
-        ensures run { (stored : State) → MayBeStored S.Store self.new stored → (before : State) × MayBeStored S.Store self.old before
-            × RunIs request_turn (Befalls IsStoreMishap) mode (desk_with self.old before) (desk_with self.new stored) (R.remaining reader.old) (R.remaining reader.new)
-            (W.contents writer.old) (W.contents writer.new) result }
+        ensures run { (stored : State) → MayBeStored S.Store self.new stored →
+            SessionLeaves S.Store mode self.old self.new (R.remaining reader.old) (R.remaining reader.new) (W.contents writer.old) (W.contents writer.new) result stored }
         ensures keeps { Remains S.Store self.old self.new }
         ensures durable { IsKnown S.Store self.new.format_1 self.new.tables → (trees : Trees) → (state S.Store self.new.tables).may_leave trees →
             (stored : State) × Spells trees stored × MayBeStored S.Store self.new stored }
-        ensures reopened { IsKnown S.Store self.new.format_1 self.new.tables → Reopens S.Store self.new }
+        ensures reopened { IsKnown S.Store self.new.format_1 self.new.tables → Reopens S.Store self.new.tables
+            (SessionLeaves S.Store mode self.old self.new (R.remaining reader.old) (R.remaining reader.new) (W.contents writer.old) (W.contents writer.new) result) }
     {
         let end = run_script(alloc, self, reader, writer, mode, observer);
         let _is_closed = self.is_closed();

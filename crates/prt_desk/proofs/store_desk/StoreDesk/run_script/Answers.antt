@@ -20,4 +20,6 @@ pub returns-clause-durable : goal.returns-clause-durable
 returns-clause-durable g c = durable_is g.S.Store c.run_script-end.new.desk c.is_closed-is_closed.ensures.kept
 
 pub returns-clause-reopened : goal.returns-clause-reopened
-returns-clause-reopened g c = reopens g.S.Store c.run_script-end.new.desk c.is_closed-is_closed.ensures.kept
+returns-clause-reopened g c = λ known found sound may.
+    let opens = reopens g.S.Store c.run_script-end.new.desk c.is_closed-is_closed.ensures.kept known found sound may in
+    (opens.0, λ opened made. returns-clause-run g c opened (opens.1 opened made))
