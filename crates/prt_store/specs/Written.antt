@@ -1,19 +1,17 @@
 -- What the statements of a commit do.
-use Rattle.std.specs.Prelude.{◌≡◌, ◌≤◌, ◌<◌, ◌^◌, ℕ, true, [], Result, Ok, IsTrue}
-use Rattle.sqlite.specs.Effect.{Database}
+use Rattle.std.specs.Prelude.{◌≤◌, ◌<◌, ◌^◌, ℕ, [], Result, IsTrue}
 use Rattle.sqlite.specs.Held.{Held, state}
-use Rattle.sqlite.specs.State.{Executes, ExecutesInside, HasCleanDisk, Survives}
+use Rattle.sqlite.specs.State.{ExecutesInside, HasCleanDisk, Survives}
 use Rattle.sqlite.specs.Store.{Ghosts}
-use Rattle.sqlite.specs.Tree.{Trees}
 use Rattle.sqlite.specs.declared.error.Error.{Error}
 use Rattle.sqlite_value.specs.Order.{Row}
 use Rattle.prt_addr.specs.Word.{Word}
 use Rattle.prt_route.specs.declared.edit.RouteEdit.TheVariants.{Put, Remove, Flush}
-use Rattle.prt_rows.specs.Kept.{count_values, id_values, key_values}
+use Rattle.prt_rows.specs.Kept.{id_values, key_values}
 use Rattle.prt_rows.specs.RouteRow.{IsInRange, route_row}
 use Rattle.prt_rows.specs.RuleRow.{IsRule, rule_row}
 use Rattle.prt_rows.specs.Selecting.{IsSelector, selector_row}
-use Rattle.prt_rows.specs.Statements.{delete_route, delete_rule, flush_routes, flush_rules, insert_rule, put_route, set_count}
+use Rattle.prt_rows.specs.Statements.{delete_route, delete_rule, flush_routes, flush_rules, insert_rule, put_route}
 use Rattle.prt_rule.specs.Storable.{IsStorableAction}
 use Rattle.prt_version.specs.declared.change.Change.{Change}
 use Rattle.prt_version.specs.declared.change.Change.TheVariants as change
@@ -56,16 +54,3 @@ IsTyped (change.Route (Put route)) = IsInRange route
 IsTyped (change.Route (Flush selector)) = IsSelector selector
 IsTyped (change.RulePut rule) = 1 ≤ rule.id → IsStorableAction rule.action → IsRule rule.id rule
 IsTyped _ = Unit {0}
-
--- in a transaction the change was made and then the count set, which left this
-pub record IsWritten {S : Type 0} (g : Ghosts S) (made : Change) (number : ℕ) (old : Held S) (db : Database) : Type 0 where
-  pub changed : Held S
-  pub counted : Held S
-  pub rows : ℕ × ℕ
-  pub change : Executes (text_of made) (values_of made) (state g (record old { in_transaction = true })) (state g changed) (Ok rows.0)
-  pub count : Executes set_count (count_values number) (state g changed) (state g counted) (Ok rows.1)
-  pub is : db ≡ (state g counted).now
-
--- the trees are those that it left
-abbrev pub AreWritten : {S : Type 0} → Ghosts S → Change → ℕ → Held S → Trees → Type 0
-AreWritten g made number old trees = (db : Database) × IsWritten g made number old db × (trees ≡ db.trees)

@@ -4,7 +4,9 @@ ghost use Rattle.std.specs.Prelude.{◌≡◌, ◌↔◌, ◌<◌, ◌^◌, Err,
 ghost use Rattle.sqlite.specs.Held.{state};
 ghost use Rattle.sqlite.specs.State.{HasCleanDisk, Survives};
 ghost use Rattle.prt_store.specs.Adopted.{IsSettled};
-ghost use Rattle.prt_store.specs.Written.{AreWritten, CommitsNothing, HasStorableIds, IsTyped, IsWritten, RunsInside, text_of, values_of};
+ghost use Rattle.prt_store.specs.Made.{MakesChange};
+ghost use Rattle.prt_store.specs.Openings.{HasDone, HasLeft};
+ghost use Rattle.prt_store.specs.Written.{CommitsNothing, HasStorableIds, IsTyped, RunsInside, text_of, values_of};
 
 use crate::statements::{
     delete_route, delete_rule, flush_routes, flush_rules, insert_rule, put_route, set_count,
@@ -44,7 +46,7 @@ pub(crate) fn run<S: Alter>(
 ) -> Result<(), StoreCall>
     requires ids { HasStorableIds change.now }
     requires number { number < 2 ^ 63 }
-    ensures ok { HasCleanDisk (state S.Store conn.new) → OnOk result (IsTyped change.now × IsWritten S.Store change.now number conn.old (state S.Store conn.new).committed × IsSettled S.Store conn.new) }
+    ensures ok { HasCleanDisk (state S.Store conn.new) → OnOk result (IsTyped change.now × HasDone S.Store (MakesChange S.Store change.now number) conn.old (state S.Store conn.new).committed × IsSettled S.Store conn.new) }
     ensures clean { HasCleanDisk (state S.Store conn.new) → OnOk result (HasCleanDisk (state S.Store conn.old)) }
     ensures begin { (result ≡ Err StoreCall.Begin) ↔ IsTrue conn.old.in_transaction }
     ensures not_begun { result ≡ Err StoreCall.Begin → conn.new ≡ conn.old }
@@ -52,7 +54,7 @@ pub(crate) fn run<S: Alter>(
     ensures err { HasCleanDisk (state S.Store conn.new) → IsTrue (state S.Store conn.new).is_open →
         OnErr result (((state S.Store conn.new).now ≡ (state S.Store conn.old).now) × ((state S.Store conn.new).committed ≡ (state S.Store conn.old).committed)) }
     ensures crash_err { IfErr result (λ call. Survives (state S.Store conn.old) (state S.Store conn.new)
-        (λ trees. (call ≡ StoreCall.Commit) × IsTyped change.now × AreWritten S.Store change.now number conn.old trees)) }
+        (λ trees. (call ≡ StoreCall.Commit) × IsTyped change.now × HasLeft S.Store (MakesChange S.Store change.now number) conn.old trees)) }
 {
     if !conn.is_autocommit() {
         return Err(StoreCall::Begin);
