@@ -22,29 +22,30 @@ pub trait Databases {
     /// The states that the database at a path may hold.
     ghost holds: { Self → List ℕ → State → Type 0 };
 
-    /// Opens the database at a path, and makes it where there is none.
+    /// Opens the database at a path, and makes it where there is none. With a refusal comes the error of the file, if that
+    /// could not be opened.
     ///
     /// # Errors
     ///
     /// `OpenFailed`, `Damaged` where it holds no state, or `NoMemory`.
-    fn open(&mut self, alloc: Global, path: &str) -> Result<Self::Opened, Refusal>
+    fn open(&mut self, alloc: Global, path: &str) -> Result<Self::Opened, (Refusal, Option<Error>)>
         ensures opened { IfOk result (λ desk. (opened : State) × holds self.old path.now opened × IsOpenOn Self.Opened.stands desk opened) }
-        ensures reason { IfErr result IsLoadRefusal };
+        ensures reason { IfErr result (λ refused. IsLoadRefusal refused.0) };
 }
 
 /// The desk over the database of a connection that an open gave.
 pub(crate) fn desk_over<S: Alter + Drop>(
     alloc: Global,
     conn: Result<Connection<S>, Error>,
-) -> Result<StoreDesk<S>, Refusal>
+) -> Result<StoreDesk<S>, (Refusal, Option<Error>)>
     ensures opened { IfOk result (λ desk. IsSound desk.published × IsOpenOn (StandsFor S.Store) desk desk.published) }
-    ensures reason { IfErr result IsLoadRefusal }
+    ensures reason { IfErr result (λ refused. IsLoadRefusal refused.0) }
 {
     match conn {
         Ok(conn) => match StoreDesk::open(alloc, conn) {
             Ok(desk) => Ok(desk),
-            Err((reason, _)) => Err(reason),
+            Err((refusal, _)) => Err((refusal, None)),
         },
-        Err(_) => Err(Refusal::OpenFailed),
+        Err(error) => Err((Refusal::OpenFailed, Some(error))),
     }
 }

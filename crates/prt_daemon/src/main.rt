@@ -14,7 +14,7 @@ pub use prt_session::{
     Desk, LONGEST_UNENDED, ListDesk, MOST_LINES, OnRefusal, Refusal, ScriptEnd, run_script,
 };
 pub use replay::run_replay;
-use sqlite::{Connection, File, FileStore};
+use sqlite::{Connection, Error, File, FileStore};
 use std::alloc::Global;
 use std::process::ExitCode;
 use std::{env, io};
@@ -32,7 +32,11 @@ impl<'a> Databases for DatabaseFiles<'a> {
 
     ghost holds = { λ _ _ opened. IsSound opened };
 
-    fn open(&mut self, alloc: Global, path: &str) -> Result<StoreDesk<FileStore<File>>, Refusal> {
+    fn open(
+        &mut self,
+        alloc: Global,
+        path: &str,
+    ) -> Result<StoreDesk<FileStore<File>>, (Refusal, Option<Error>)> {
         desk_over(alloc, Connection::open(self.rt, path))
     }
 }

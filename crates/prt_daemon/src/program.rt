@@ -9,13 +9,15 @@ ghost use Rattle.prt_daemon.specs.Program.{IsOpenOn, LeavesDatabases, LeavesInpu
 ghost use Rattle.prt_version.specs.State.{State};
 
 use crate::databases::Databases;
+use crate::messages::Messages;
 use crate::replay::run_replay;
 use clap::error::ErrorKind;
 use clap::{Arg, ArgAction, ArgMatches, Command};
-use prt_session::{Desk, ListDesk, OnRefusal, Refusal, ScriptEnd, Unobserved, run_script};
+use prt_session::{Desk, ListDesk, Observer, OnRefusal, Refusal, ScriptEnd, run_script};
 use std::alloc::{AllocError, Global};
 use std::fs::{self, Files};
-use std::io::{self, BufReader, Read, Write};
+use std::io::{self, BufReader, IsTerminal, Read, Write};
+use std::rt::Clock;
 use thiserror::Error;
 
 /// The exit status where no line was refused, and after help.
@@ -294,28 +296,30 @@ fn exit_status(end: ScriptEnd) -> u8
 }
 
 /// Runs a script over a desk, and gives the exit status of the session.
-fn run_over<D: Desk + Drop, R: Read, W: Write>(
+fn run_over<D: Desk + Drop, R: Read, W: Write, O: Observer>(
     alloc: Global,
     mut desk: D,
     reader: &mut R,
     output: &mut W,
     mode: OnRefusal,
+    observer: &mut O,
 ) -> u8
     ensures { (opened : State) → IsOpenOn D.stands desk opened →
         RunsFrom opened D.may mode (R.remaining reader.old) (W.contents output.old) (W.contents output.new) result }
 {
-    let end = run_script(alloc, &mut desk, reader, output, mode, &mut Unobserved);
+    let end = run_script(alloc, &mut desk, reader, output, mode, observer);
     exit_status(end)
 }
 
 /// Runs a script over the database that is asked for, and gives the exit status of the session.
-fn run_batch<D: Databases, R: Read + Drop, W: Write>(
+fn run_batch<D: Databases, R: Read + Drop, W: Write, E: Write + Drop, K: Clock + Drop>(
     alloc: Global,
     databases: &mut D,
     database: Option<&str>,
     input: R,
     output: &mut W,
     mode: OnRefusal,
+    messages: &mut Messages<'_, E, K>,
 ) -> Result<u8, Fault>
     ensures run { IfOk result (RunsBatch (D.holds databases.old) D.Opened.may (option_map (λ path. path.now) database.entry) mode
         (R.remaining input) (W.contents output.old) (W.contents output.new)) }
@@ -330,12 +334,20 @@ fn run_batch<D: Databases, R: Read + Drop, W: Write>(
     };
     match database {
         Some(path) => {
-            let desk = databases.open(alloc, path)?;
-            Ok(run_over(alloc, desk, &mut reader, output, mode))
+            let desk = match databases.open(alloc, path) {
+                Ok(desk) => desk,
+                Err((refusal, error)) => {
+                    if let Some(error) = error {
+                        messages.keep_cause(path, &error);
+                    }
+                    return Err(Fault::Opening(refusal));
+                }
+            };
+            Ok(run_over(alloc, desk, &mut reader, output, mode, messages))
         }
         None => {
             let desk = ListDesk::opening(alloc)?;
-            Ok(run_over(alloc, desk, &mut reader, output, mode))
+            Ok(run_over(alloc, desk, &mut reader, output, mode, messages))
         }
     }
 }
@@ -348,23 +360,39 @@ fn replay<R: Read, W: Write>(alloc: Global, input: &mut R, output: &mut W) -> u8
 }
 
 /// Opens the file of this path.
-fn open_file<F: Files>(files: &F, path: &str) -> Result<F::File, Fault>
+fn open_file<F: Files, E: Write + Drop, K: Clock + Drop>(
+    files: &F,
+    path: &str,
+    messages: &mut Messages<'_, E, K>,
+) -> Result<F::File, Fault>
     ensures { IfErr result (λ fault. fault ≡ Opening ReadFault) }
 {
     match fs::open(files, path) {
         Ok(file) => Ok(file),
-        Err(_) => Err(Fault::Opening(Refusal::ReadFault)),
+        Err(error) => {
+            messages.keep_cause(path, &error);
+            Err(Fault::Opening(Refusal::ReadFault))
+        }
     }
 }
 
 /// Runs the script that is asked for, over its file or the input: a file that can't be opened leaves no new database.
-fn run_script_of<F: Files, D: Databases, R: Read, W: Write>(
+fn run_script_of<
+    'a,
+    F: Files,
+    D: Databases,
+    R: Read,
+    W: Write + IsTerminal,
+    E: Write + Drop,
+    K: Clock + Drop,
+>(
     files: &F,
     databases: &mut D,
     alloc: Global,
-    batch: Batch<'_>,
+    batch: Batch<'a>,
     input: &mut R,
     output: &mut W,
+    messages: &mut Messages<'a, E, K>,
 ) -> Result<u8, Fault>
     ensures run { IfOk result (RunsOver F.File.remaining (RunsBatch (D.holds databases.old) D.Opened.may (option_map (λ path. path.now) batch.entry.database) batch.entry.mode)
         (option_map (λ path. path.now) batch.entry.file) (R.remaining input.old) (W.contents output.old) (W.contents output.new)) }
@@ -374,22 +402,28 @@ fn run_script_of<F: Files, D: Databases, R: Read, W: Write>(
     ensures file_first { IfErr result (λ fault. fault ≡ Opening ReadFault → databases.new ≡ databases.old) }
     ensures unwritten { OnErr result (W.contents output.new ≡ W.contents output.old) }
 {
-    match batch.file {
+    let (database, mode) = (batch.database, batch.mode);
+    let name = batch.file.unwrap_or(STANDARD_INPUT);
+    messages.begin(name, batch.is_verbose, output.is_terminal());
+    let status = match batch.file {
         Some(path) => {
-            let file = open_file(files, path)?;
-            run_batch(alloc, databases, batch.database, file, output, batch.mode)
+            let file = open_file(files, path, messages)?;
+            run_batch(alloc, databases, database, file, output, mode, messages)?
         }
-        None => run_batch(alloc, databases, batch.database, input, output, batch.mode),
-    }
+        None => run_batch(alloc, databases, database, input, output, mode, messages)?,
+    };
+    messages.finish();
+    Ok(status)
 }
 
 /// Replays the events that are asked for, of a file or of the input.
-fn replay_of<F: Files, R: Read, W: Write>(
+fn replay_of<F: Files, R: Read, W: Write, E: Write + Drop, K: Clock + Drop>(
     files: &F,
     alloc: Global,
     path: Option<&str>,
     input: &mut R,
     output: &mut W,
+    messages: &mut Messages<'_, E, K>,
 ) -> Result<u8, Fault>
     ensures run { IfOk result (RunsOver F.File.remaining RunsReplay (option_map (λ path. path.now) path.entry)
         (R.remaining input.old) (W.contents output.old) (W.contents output.new)) }
@@ -399,7 +433,7 @@ fn replay_of<F: Files, R: Read, W: Write>(
 {
     match path {
         Some(path) => {
-            let mut file = open_file(files, path)?;
+            let mut file = open_file(files, path, messages)?;
             Ok(replay(alloc, &mut file, output))
         }
         None => Ok(replay(alloc, input, output)),
@@ -407,13 +441,22 @@ fn replay_of<F: Files, R: Read, W: Write>(
 }
 
 /// Runs what the words ask for, and gives the exit status of the run.
-fn run<F: Files, D: Databases, R: Read, W: Write>(
+fn run<
+    'a,
+    F: Files,
+    D: Databases,
+    R: Read,
+    W: Write + IsTerminal,
+    E: Write + Drop,
+    K: Clock + Drop,
+>(
     files: &F,
     databases: &mut D,
     alloc: Global,
-    words: &[String],
+    words: &'a [String],
     input: &mut R,
     output: &mut W,
+    messages: &mut Messages<'a, E, K>,
 ) -> Result<u8, Fault>
     ensures run { IfOk result (Runs F.File.remaining (D.holds databases.old) D.Opened.may (invocation (arguments words.now))
         (R.remaining input.old) (W.contents output.old) (W.contents output.new)) }
@@ -424,8 +467,10 @@ fn run<F: Files, D: Databases, R: Read, W: Write>(
     ensures unwritten { OnErr result (W.contents output.new ≡ W.contents output.old) }
 {
     match read_words(alloc, words)? {
-        Task::Batch(batch) => run_script_of(files, databases, alloc, batch, input, output),
-        Task::Replay(path) => replay_of(files, alloc, path, input, output),
+        Task::Batch(batch) => run_script_of(
+            files, databases, alloc, batch, input, output, messages,
+        ),
+        Task::Replay(path) => replay_of(files, alloc, path, input, output, messages),
     }
 }
 
@@ -457,7 +502,13 @@ pub fn report<W: Write, E: Write>(fault: &Fault, output: &mut W, errors: &mut E)
 /// `batch [--force] [--db PATH] [--verbose] [FILE]` runs a script over the database at PATH or a new one in memory, and
 /// `replay [FILE]` replays a list of events. The status is 0 where nothing was refused and after help, 1 where a line was
 /// refused, 2 for bad words, and 3 for a fault of opening, of the store, of the reader or of the writer.
-pub fn program<F: Files, D: Databases, R: Read, W: Write, E: Write>(
+pub fn program<
+    F: Files + Clock,
+    D: Databases,
+    R: Read,
+    W: Write + IsTerminal,
+    E: Write + IsTerminal,
+>(
     files: &F,
     databases: &mut D,
     alloc: Global,
@@ -472,9 +523,15 @@ pub fn program<F: Files, D: Databases, R: Read, W: Write, E: Write>(
     ensures unread { LeavesInput (invocation (arguments words.now)) (R.remaining input.old) (R.remaining input.new) }
     ensures unopened { LeavesDatabases (invocation (arguments words.now)) databases.old databases.new }
 {
-    match run(files, databases, alloc, words, input, output) {
+    let is_terminal = errors.is_terminal();
+    let mut messages = Messages::new(alloc, &mut *errors, files, is_terminal);
+    match run(files, databases, alloc, words, input, output, &mut messages) {
         Ok(status) => status,
-        Err(fault) => report(&fault, output, errors),
+        Err(fault) => {
+            let status = report(&fault, output, &mut *messages.errors);
+            messages.tell_cause();
+            status
+        }
     }
 }
 

@@ -3,8 +3,8 @@ use Rattle.prt_daemon.specs.Invocation.{invocation, arguments}
 use Rattle.prt_daemon.proofs.Reports.{reported}
 use Rattle.prt_daemon.proofs.program.program.Goals as goal
 
-pub returns-in-Err-clause-run : goal.returns-in-Err-clause-run
-returns-in-Err-clause-run g c =
+pub returns-clause-run : goal.returns-clause-run
+returns-clause-run g c =
     let contents = g.W.Write.contents in
-    inr (reported (invocation (arguments c.args.words.now)) c.in-Err.fault c.report.result (contents c.args.output.now) (contents c.run.new.output) (contents c.report.new.output)
-    c.in-Err.ensures.fault c.report.ensures.status c.in-Err.ensures.unwritten c.report.ensures.unwritten)
+    inr (reported (invocation (arguments c.args.words.now)) c.in-Err.fault c.report-status.result (contents c.args.output.now) (contents c.run.new.output) (contents c.report-status.new.output)
+    c.in-Err.ensures.fault c.report-status.ensures.status c.in-Err.ensures.unwritten c.report-status.ensures.unwritten)
