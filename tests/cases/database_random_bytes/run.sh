@@ -3,4 +3,4 @@ head -c 8192 /dev/urandom >random.db
 cp random.db before.db
 echo 'route add 10/8 dev eth0' | "$1" batch --db random.db 2>&1
 echo "status $?"
-cmp random.db before.db && ls
+cmp random.db before.db && echo unchanged

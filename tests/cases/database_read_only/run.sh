@@ -3,6 +3,11 @@
 as_other() {
   if [ "$(id -u)" -eq 0 ]; then setpriv --reuid=65534 --regid=65534 --clear-groups "$@"; else "$@"; fi
 }
+# Who opens a database has to be able to go through all folders above it.
+work=$(mktemp -d)
+trap 'rm -rf "$work"' EXIT
+chmod 755 "$work"
+cd "$work" || exit
 cp "$1" prt
 mkdir folder open
 chmod 777 open
