@@ -31,6 +31,9 @@ pub trait Databases {
     fn open(&mut self, alloc: Global, path: &str) -> Result<Self::Opened, (Refusal, Option<Error>)>
         ensures opened { IfOk result (λ desk. (opened : State) × holds self.old path.now opened × IsOpenOn Self.Opened.stands desk opened) }
         ensures reason { IfErr result (λ refused. IsLoadRefusal refused.0) };
+
+    /// Closes a database, so that its file alone has all of it. A fault of closing loses nothing that was acknowledged.
+    fn close(&mut self, desk: Self::Opened);
 }
 
 /// The desk over the database of a connection that an open gave.

@@ -39,6 +39,10 @@ impl<'a> Databases for DatabaseFiles<'a> {
     ) -> Result<StoreDesk<FileStore<File>>, (Refusal, Option<Error>)> {
         desk_over(alloc, Connection::open(self.rt, path))
     }
+
+    fn close(&mut self, desk: StoreDesk<FileStore<File>>) {
+        let _ = desk.release().close();
+    }
 }
 
 /// Reads the words, and runs the program over the standard streams.

@@ -296,18 +296,18 @@ fn exit_status(end: ScriptEnd) -> u8
 }
 
 /// Runs a script over a desk, and gives the exit status of the session.
-fn run_over<D: Desk + Drop, R: Read, W: Write, O: Observer>(
+fn run_over<D: Desk, R: Read, W: Write, O: Observer>(
     alloc: Global,
-    mut desk: D,
+    desk: &mut D,
     reader: &mut R,
     output: &mut W,
     mode: OnRefusal,
     observer: &mut O,
 ) -> u8
-    ensures { (opened : State) → IsOpenOn D.stands desk opened →
+    ensures { (opened : State) → IsOpenOn D.stands desk.old opened →
         RunsFrom opened D.may mode (R.remaining reader.old) (W.contents output.old) (W.contents output.new) result }
 {
-    let end = run_script(alloc, &mut desk, reader, output, mode, observer);
+    let end = run_script(alloc, desk, reader, output, mode, observer);
     exit_status(end)
 }
 
@@ -334,7 +334,7 @@ fn run_batch<D: Databases, R: Read + Drop, W: Write, E: Write + Drop, K: Clock +
     };
     match database {
         Some(path) => {
-            let desk = match databases.open(alloc, path) {
+            let mut desk = match databases.open(alloc, path) {
                 Ok(desk) => desk,
                 Err((refusal, error)) => {
                     if let Some(error) = error {
@@ -343,11 +343,13 @@ fn run_batch<D: Databases, R: Read + Drop, W: Write, E: Write + Drop, K: Clock +
                     return Err(Fault::Opening(refusal));
                 }
             };
-            Ok(run_over(alloc, desk, &mut reader, output, mode, messages))
+            let status = run_over(alloc, &mut desk, &mut reader, output, mode, messages);
+            databases.close(desk);
+            Ok(status)
         }
         None => {
-            let desk = ListDesk::opening(alloc)?;
-            Ok(run_over(alloc, desk, &mut reader, output, mode, messages))
+            let mut desk = ListDesk::opening(alloc)?;
+            Ok(run_over(alloc, &mut desk, &mut reader, output, mode, messages))
         }
     }
 }

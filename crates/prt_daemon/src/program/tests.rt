@@ -20,6 +20,8 @@ impl Databases for Unreachable {
     fn open(&mut self, _alloc: Global, _path: &str) -> Result<ListDesk, Refusal> {
         Err(Refusal::OpenFailed)
     }
+
+    fn close(&mut self, _desk: ListDesk) {}
 }
 
 /// The exit status of the program, and what it wrote.

@@ -8,5 +8,5 @@ pub returns-clause-run : goal.returns-clause-run
 returns-clause-run g c =
     let opening = c.in_ok-desk-in-None.ensures.opening in
     let begun : IsOpenOn {X = State} (λ desk seen. seen ≡ settled desk) c.in_ok-desk-in-None.desk opening_state = record { there = sym opening; alone = λ seen is. is ∙ opening } in
-    let ran = c.run_over-in-None.ensures opening_state begun in
+    let ran = c.run_over.ensures opening_state begun in
     search (rules, ran, c.in-None.is)
