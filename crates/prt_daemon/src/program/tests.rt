@@ -1,9 +1,9 @@
 use super::{program, report, words_fault};
 use crate::databases::Databases;
 use prt_session::{ListDesk, Refusal};
+use sqlite::Error;
 use std::alloc::{AllocError, Global};
-use std::io;
-use std::io::Read;
+use std::io::{self, IsTerminal, Read, Write};
 use std::test::Fail;
 
 /// Databases of which none can be opened.
@@ -17,11 +17,31 @@ impl Databases for Unreachable {
 
     ghost holds = { λ _ _ _. ⊤ };
 
-    fn open(&mut self, _alloc: Global, _path: &str) -> Result<ListDesk, Refusal> {
-        Err(Refusal::OpenFailed)
+    fn open(&mut self, _alloc: Global, _path: &str) -> Result<ListDesk, (Refusal, Option<Error>)> {
+        Err((Refusal::OpenFailed, None))
     }
 
     fn close(&mut self, _desk: ListDesk) {}
+}
+
+/// A stream that is no terminal, with what was written to it.
+#[derive(Drop)]
+struct Pipe(Vec<u8>);
+
+impl Write for Pipe {
+    fn write(&mut self, buf: &[u8]) -> io::Result<usize> {
+        self.0.write(buf)
+    }
+
+    fn flush(&mut self) -> io::Result<()> {
+        Ok(())
+    }
+}
+
+impl IsTerminal for Pipe {
+    fn is_terminal(&self) -> bool {
+        false
+    }
 }
 
 /// The exit status of the program, and what it wrote.
@@ -42,8 +62,8 @@ fn ending_of<R: Read>(
         .iter()
         .map(|word| String::from_str(alloc, word))
         .try_collect(alloc)?;
-    let mut output = Vec::new(alloc);
-    let mut errors = Vec::new(alloc);
+    let mut output = Pipe(Vec::new(alloc));
+    let mut errors = Pipe(Vec::new(alloc));
     let status = program(
         rt,
         &mut Unreachable,
@@ -55,8 +75,8 @@ fn ending_of<R: Read>(
     );
     Ok(Ending {
         status,
-        output,
-        errors,
+        output: output.0,
+        errors: errors.0,
     })
 }
 
