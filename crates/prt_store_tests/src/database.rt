@@ -1,27 +1,27 @@
 //! Databases, and what they spell.
 
-use prt_command::{Range, Selector};
-use prt_listing::{TablePart, route_text, rule_text};
+use prt_command::{Query, Range, Selector};
+use prt_listing::query_text;
 use prt_store::Store;
 use prt_version::{Refusal, Version};
 use sqlite::{Alter, Connection, Error};
 use std::alloc::Global;
-use std::test::Fail;
 
 /// `rule show` of a new database.
 pub const OPENING_RULES: &str =
-    "0:\tfrom all lookup local\n32766:\tfrom all lookup main\n32767:\tfrom all lookup default\n";
+    "0:\tfrom all lookup local\n32766:\tfrom all lookup main\n32767:\tfrom all lookup default\nend 3\n";
 
-const ALL_ROUTES: Selector = Selector {
+/// `route show table all`.
+const ALL_ROUTES: Query = Query::RouteShow(Selector {
     table: None,
     range: Range::All,
     kind: None,
     proto: None,
     scope: None,
     dev: None,
-};
+});
 
-/// What a database spells: how many commands it accepted, and the lines of its rules and of its routes.
+/// What a database spells: how many commands it accepted, and the answers to `rule show` and `route show table all`.
 pub struct Contents {
     pub number: u64,
     pub rules: &'static str,
@@ -46,19 +46,11 @@ pub fn loaded<S: Alter + Drop>(alloc: Global, store: &mut Store<S>) -> Result<Ve
     store.load(alloc)
 }
 
-/// The rules and the routes of the version, a line each.
-fn texts(alloc: Global, version: &Version) -> Result<(Vec<u8>, Vec<u8>), Fail> {
-    let mut rules = Vec::new(alloc);
-    for rule in version.rules() {
-        rule_text(&mut rules, rule)?;
-        rules.push(b'\n')?;
-    }
-    let mut routes = Vec::new(alloc);
-    for route in &version.routes(&ALL_ROUTES)? {
-        route_text(&mut routes, route, TablePart::Shown)?;
-        routes.push(b'\n')?;
-    }
-    Ok((rules, routes))
+/// The lines that answer a query.
+fn answer(alloc: Global, version: &Version, query: &Query) -> Result<Vec<u8>, Refusal> {
+    let mut text = Vec::new(alloc);
+    query_text(&mut text, version, query)?;
+    Ok(text)
 }
 
 /// The connection, and whether its database spells this once it is adopted.
@@ -66,10 +58,11 @@ pub fn spells<S: Alter + Drop>(
     alloc: Global,
     connection: Connection<S>,
     contents: &Contents,
-) -> Result<(bool, Connection<S>), Fail> {
+) -> Result<(bool, Connection<S>), Refusal> {
     let mut store = adopted(connection)?;
     let version = loaded(alloc, &mut store)?;
-    let (rules, routes) = texts(alloc, &version)?;
+    let rules = answer(alloc, &version, &Query::RuleShow)?;
+    let routes = answer(alloc, &version, &ALL_ROUTES)?;
     let is_same = version.number() == contents.number
         && rules.as_slice() == contents.rules.as_bytes()
         && routes.as_slice() == contents.routes.as_bytes();

@@ -1,6 +1,7 @@
-//! Commands that are committed to a file, which is closed and opened again after each.
+//! Commands that are committed to a file, which is closed and opened again after each. What has the type of a file stands in
+//! functions of few lines, since each costs the prover half a minute.
 
-use crate::database::spells;
+use crate::database::{Contents, spells};
 use crate::steps::{OPENING, STEPS, committed};
 use prt_store::Store;
 use prt_version::Refusal;
@@ -12,35 +13,31 @@ use std::test::Fail;
 const FOLDER: &str = "prt_store_tests_files";
 
 /// The connection of a store that was opened.
-fn opened(rt: &HostRuntime) -> Result<Connection<FileStore<File>>, Fail> {
+fn opened(rt: &HostRuntime) -> Result<Connection<FileStore<File>>, Refusal> {
     Ok(Store::open(rt, "prt_store_tests_files/routes.db")?.release())
 }
 
-/// The first command after which the tables of the file spell something else.
-fn misstored_line(rt: &HostRuntime) -> Result<Option<&'static str>, Fail> {
-    let alloc = rt.alloc();
-    let (is_new, mut connection) = spells(alloc, opened(rt)?, &OPENING)?;
-    if !is_new {
-        return Ok(Some("the opening state"));
-    }
-    for (line, contents) in &STEPS {
-        committed(alloc, connection, line)?.close()?;
-        let (is_same, same) = spells(alloc, opened(rt)?, contents)?;
-        if !is_same {
-            return Ok(Some(line));
-        }
-        connection = same;
-    }
-    Ok(None)
+/// Commits the command of a line to the file, and closes it.
+fn commit(rt: &HostRuntime, line: &str) -> Result<(), Fail> {
+    Ok(committed(rt.alloc(), opened(rt)?, line)?.close()?)
+}
+
+/// Whether the file spells this.
+fn holds(rt: &HostRuntime, contents: &Contents) -> Result<bool, Refusal> {
+    let (is_same, _connection) = spells(rt.alloc(), opened(rt)?, contents)?;
+    Ok(is_same)
 }
 
 #[test]
 fn commits_to_a_file(rt: HostRuntime) -> Result<(), Fail> {
     let _ = fs::remove_dir_all(&rt, FOLDER);
-    let missing = Store::open(&rt, "prt_store_tests_files/routes.db").err();
-    assert_eq!(rt; missing, Some(Refusal::OpenFailed));
+    assert_eq!(rt; holds(&rt, &OPENING), Err(Refusal::OpenFailed));
     fs::create_dir(&rt, FOLDER)?;
-    assert_eq!(rt; misstored_line(&rt)?, None);
+    assert!(rt; holds(&rt, &OPENING)?);
+    for (line, contents) in &STEPS {
+        commit(&rt, line)?;
+        assert!(rt; holds(&rt, contents)?, "{line}");
+    }
     fs::remove_dir_all(&rt, FOLDER)?;
     Ok(())
 }

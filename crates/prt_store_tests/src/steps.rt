@@ -11,7 +11,7 @@ use std::test::Fail;
 pub const OPENING: Contents = Contents {
     number: 0,
     rules: OPENING_RULES,
-    routes: "",
+    routes: "end 0\n",
 };
 
 /// One command for each statement, and one that puts a route in the place of another; with each, what the tables then
@@ -22,7 +22,7 @@ pub const STEPS: [(&str, Contents); 8] = [
         Contents {
             number: 1,
             rules: OPENING_RULES,
-            routes: "10.1.0.0/16 via 192.0.2.1 dev eth0 src 192.0.2.10 metric 5\n",
+            routes: "10.1.0.0/16 via 192.0.2.1 dev eth0 src 192.0.2.10 metric 5\nend 1\n",
         },
     ),
     (
@@ -30,7 +30,7 @@ pub const STEPS: [(&str, Contents); 8] = [
         Contents {
             number: 2,
             rules: OPENING_RULES,
-            routes: "throw 10.0.0.0/8 table 7\n10.1.0.0/16 via 192.0.2.1 dev eth0 src 192.0.2.10 metric 5\n",
+            routes: "throw 10.0.0.0/8 table 7\n10.1.0.0/16 via 192.0.2.1 dev eth0 src 192.0.2.10 metric 5\nend 2\n",
         },
     ),
     (
@@ -38,7 +38,7 @@ pub const STEPS: [(&str, Contents); 8] = [
         Contents {
             number: 3,
             rules: OPENING_RULES,
-            routes: "throw 10.0.0.0/8 table 7\n10.1.0.0/16 dev eth1 scope link metric 5\n",
+            routes: "throw 10.0.0.0/8 table 7\n10.1.0.0/16 dev eth1 scope link metric 5\nend 2\n",
         },
     ),
     (
@@ -46,15 +46,15 @@ pub const STEPS: [(&str, Contents); 8] = [
         Contents {
             number: 4,
             rules: OPENING_RULES,
-            routes: "throw 10.0.0.0/8 table 7\n",
+            routes: "throw 10.0.0.0/8 table 7\nend 1\n",
         },
     ),
     (
         "rule add not from 10/8 iif eth0 fwmark 7/0xff priority 5 table 100",
         Contents {
             number: 5,
-            rules: "0:\tfrom all lookup local\n5:\tnot from 10.0.0.0/8 fwmark 0x7/0xff iif eth0 lookup 100\n32766:\tfrom all lookup main\n32767:\tfrom all lookup default\n",
-            routes: "throw 10.0.0.0/8 table 7\n",
+            rules: "0:\tfrom all lookup local\n5:\tnot from 10.0.0.0/8 fwmark 0x7/0xff iif eth0 lookup 100\n32766:\tfrom all lookup main\n32767:\tfrom all lookup default\nend 4\n",
+            routes: "throw 10.0.0.0/8 table 7\nend 1\n",
         },
     ),
     (
@@ -62,23 +62,23 @@ pub const STEPS: [(&str, Contents); 8] = [
         Contents {
             number: 6,
             rules: OPENING_RULES,
-            routes: "throw 10.0.0.0/8 table 7\n",
+            routes: "throw 10.0.0.0/8 table 7\nend 1\n",
         },
     ),
     (
         "rule flush",
         Contents {
             number: 7,
-            rules: "0:\tfrom all lookup local\n",
-            routes: "throw 10.0.0.0/8 table 7\n",
+            rules: "0:\tfrom all lookup local\nend 1\n",
+            routes: "throw 10.0.0.0/8 table 7\nend 1\n",
         },
     ),
     (
         "route flush table 7",
         Contents {
             number: 8,
-            rules: "0:\tfrom all lookup local\n",
-            routes: "",
+            rules: "0:\tfrom all lookup local\nend 1\n",
+            routes: "end 0\n",
         },
     ),
 ];
@@ -88,19 +88,22 @@ pub fn committed<S: Alter + Drop>(
     alloc: Global,
     connection: Connection<S>,
     line: &str,
-) -> Result<Connection<S>, Fail> {
+) -> Result<Connection<S>, Refusal> {
     let mut store = adopted(connection)?;
     let version = loaded(alloc, &mut store)?;
     match read_line(line.as_bytes())? {
         Some(Request::Command(command)) => submit(&mut store, &version, &command)?,
-        _ => return Err(Fail::from(Refusal::UnknownVerb)),
+        _ => return Err(Refusal::UnknownVerb),
     };
     Ok(store.release())
 }
 
-/// The first command after which the tables in memory spell something else.
-fn misstored_line(alloc: Global) -> Result<Option<&'static str>, Fail> {
-    let (is_new, mut connection) = spells(alloc, Connection::open_in_memory(alloc)?, &OPENING)?;
+/// The first command after which the tables of a new database spell something else.
+fn misstored_line<S: Alter + Drop>(
+    alloc: Global,
+    connection: Connection<S>,
+) -> Result<Option<&'static str>, Refusal> {
+    let (is_new, mut connection) = spells(alloc, connection, &OPENING)?;
     if !is_new {
         return Ok(Some("the opening state"));
     }
@@ -117,6 +120,7 @@ fn misstored_line(alloc: Global) -> Result<Option<&'static str>, Fail> {
 
 #[test]
 fn commits_in_memory(rt: HostRuntime) -> Result<(), Fail> {
-    assert_eq!(rt; misstored_line(rt.alloc())?, None);
+    let connection = Connection::open_in_memory(rt.alloc())?;
+    assert_eq!(rt; misstored_line(rt.alloc(), connection)?, None);
     Ok(())
 }
