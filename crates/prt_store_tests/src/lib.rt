@@ -5,6 +5,8 @@ mod caller;
 #[cfg(test)]
 mod database;
 #[cfg(test)]
+mod failures;
+#[cfg(test)]
 mod files;
 #[cfg(test)]
 mod openings;

@@ -1,0 +1,43 @@
+//! Commits on a disk that fails.
+
+use crate::steps::committed;
+use prt_addr::StoreCall;
+use prt_version::Refusal;
+use sqlite::{Connection, Files, Options};
+use sqlite_disk::{Fuse, Memory};
+use std::alloc::Global;
+
+/// Why a command is refused in a new database whose log takes so many calls and then fails. Each page is read from the log
+/// anew, so that each statement calls it.
+fn refusal_after(alloc: Global, calls: u64) -> Option<Refusal> {
+    let files = Files {
+        log: Fuse::new(Memory::new(alloc), calls),
+        db: Fuse::new(Memory::new(alloc), u64::MAX),
+    };
+    let options = Options {
+        cache_pages: 1,
+        spill_pages: 1,
+        checkpoint_frames: 1000,
+        seed: 9,
+    };
+    match Connection::open_files(alloc, files, options) {
+        Ok(connection) => committed(alloc, connection, "route add 10/8 dev a").err(),
+        Err(_) => Some(Refusal::OpenFailed),
+    }
+}
+
+#[test]
+fn names_the_call_that_failed(rt: HostRuntime) {
+    for (calls, failed) in [
+        (75, Some(StoreCall::Write)),
+        (76, Some(StoreCall::Count)),
+        (78, Some(StoreCall::Commit)),
+        (83, None),
+    ] {
+        assert_eq!(rt;
+            refusal_after(rt.alloc(), calls),
+            failed.map(Refusal::StoreFailed),
+            "{calls}"
+        );
+    }
+}
