@@ -1,5 +1,6 @@
-ghost use Rattle.std.specs.Prelude.{◌≡◌, ◌≤◌, ◌∷◌, [], codes, IfErr, IfOk, MatchOption};
+ghost use Rattle.std.specs.Prelude.{◌≡◌, ◌≤◌, ◌∷◌, [], codes, length, nat_lt, IfErr, IfOk, MatchOption};
 ghost use Rattle.prt_addr.specs.Refusal.{code_of};
+ghost use Rattle.prt_command.specs.Lines.{longest_line};
 ghost use Rattle.prt_command.specs.Reading.{skip_word, object_request, reading, verb_request, words, words_request, before_comment};
 ghost use Rattle.prt_command.specs.Storable.{IsStorableLine};
 
@@ -74,6 +75,13 @@ pub fn read_text(text: &[u8]) -> Result<Option<Request>, Refusal>
     }
 }
 
+/// Tells whether a line has more bytes than one may have.
+fn is_too_long(line: &[u8]) -> bool
+    ensures { result ≡ nat_lt longest_line (length line.now) }
+{
+    line.len() > LONGEST_LINE
+}
+
 /// Reads a line of the command language, which has the words of ip-route(8) and ip-rule(8): what it asks for, or None
 /// where it is blank or a comment.
 ///
@@ -89,7 +97,7 @@ pub fn read_line(line: &[u8]) -> Result<Option<Request>, Refusal>
     ensures storable { IfOk result IsStorableLine }
     ensures number { IfErr result (λ refusal. code_of refusal ≤ 17) }
 {
-    if line.len() > LONGEST_LINE {
+    if is_too_long(line) {
         return Err(Refusal::LineTooLong);
     }
     let text = text_of(line).ok_or(Refusal::NotAscii)?;
