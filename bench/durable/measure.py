@@ -1,10 +1,12 @@
-"""Time of `prt batch` in memory and on a database file, beside the same transactions by SQLite's library.
+"""Time of `prt batch` in memory and on a database file, beside the same transactions by SQLite's library, which a
+program in C and Python's sqlite3 module call.
 
 usage: measure.py PROGRAM TRANSACTIONS FOLDER
 """
 
 import os
 import random
+import sqlite3
 import sys
 import tempfile
 import time
@@ -16,6 +18,18 @@ PROGRAM, TRANSACTIONS, FOLDER = sys.argv[1:]
 # How many lines a script has, and how often it is run: the least time counts.
 SCRIPTS = ((1_000, 5), (10_000, 3), (100_000, 1))
 SYNCS = 1_000
+
+TABLES = """
+CREATE TABLE route (tbl INTEGER NOT NULL, net INTEGER NOT NULL, len INTEGER NOT NULL, metric INTEGER NOT NULL,
+  kind INTEGER NOT NULL, via INTEGER NOT NULL, dev TEXT NOT NULL, src INTEGER NOT NULL, proto INTEGER NOT NULL,
+  scope INTEGER NOT NULL, PRIMARY KEY (tbl, net, len, metric)) STRICT;
+CREATE TABLE meta (id INTEGER PRIMARY KEY NOT NULL, format INTEGER NOT NULL, count INTEGER NOT NULL) STRICT;
+INSERT INTO meta VALUES (1, 1, 0);
+"""
+PUT = """
+INSERT INTO route (tbl, net, len, metric, kind, via, dev, src, proto, scope) VALUES (?1, ?2, ?3, ?4, ?5, ?6, ?7, ?8, ?9, ?10)
+ON CONFLICT (tbl, net, len, metric) DO UPDATE SET kind = ?5, via = ?6, dev = ?7, src = ?8, proto = ?9, scope = ?10
+"""
 
 
 def spent(words, given):
@@ -29,11 +43,31 @@ def spent(words, given):
     return wall, usage.ru_utime + usage.ru_stime
 
 
-def on_new_file(words, folder, given):
-    """The times of a run on a database file that isn't there yet; the file stays."""
+def new_file(folder):
+    """The path of a database file that isn't there yet."""
     for left in folder.glob("routes.db*"):
         left.unlink()
-    return spent([*words, str(folder / "routes.db")], given)
+    return str(folder / "routes.db")
+
+
+def on_new_file(words, folder, given):
+    """The times of a run on a new database file, which stays."""
+    return spent([*words, new_file(folder)], given)
+
+
+def by_python(folder, prefixes):
+    """The wall time and the processor time of the same transactions by Python's module."""
+    database = sqlite3.connect(new_file(folder), isolation_level=None)
+    database.executescript("PRAGMA journal_mode = WAL; PRAGMA synchronous = FULL;" + TABLES)
+    start, before = time.monotonic(), time.process_time()
+    for number, (bits, length) in enumerate(prefixes, 1):
+        database.execute("BEGIN")
+        database.execute(PUT, (254, bits, length, 0, 1, 3221225985, "eth0", -1, 3, 0))
+        database.execute("UPDATE meta SET count = ?1", (number,))
+        database.execute("COMMIT")
+    times = time.monotonic() - start, time.process_time() - before
+    database.close()
+    return times
 
 
 def sync_seconds(folder):
@@ -53,20 +87,21 @@ def show_script(folder, numbers, count, turns):
     rows.write_text("".join(f"{bits} {length}\n" for bits, length in prefixes))
     nothing.write_text("")
     program = [PROGRAM, "batch"]
-    runs = {"in memory": [], "on a file": [], "by SQLite's library": []}
+    runs = {"in memory": [], "on a file": [], "by SQLite's library from C": [], "by SQLite's library from Python": []}
     openings = []
     # One after the other, since what a sync takes changes from minute to minute.
     for _ in range(turns):
         runs["in memory"].append(spent(program, script))
-        runs["by SQLite's library"].append(on_new_file([TRANSACTIONS], folder, rows))
+        runs["by SQLite's library from C"].append(on_new_file([TRANSACTIONS], folder, rows))
+        runs["by SQLite's library from Python"].append(by_python(folder, prefixes))
         runs["on a file"].append(on_new_file([*program, "--db"], folder, script))
         openings.append(spent([*program, "--db", str(folder / "routes.db")], nothing))
     print(f"{count} route add, where a sync takes {sync_seconds(folder) * 1e6:.0f} us")
     for name, times in runs.items():
         wall, processor = min(times)
         print(f"  {name}: {wall:.2f} s, {count / wall:.0f} lines a second, {processor / count * 1e6:.0f} us of processor a line")
-    ratio = min(runs["on a file"])[0] / min(runs["by SQLite's library"])[0]
-    print(f"  on a file: {ratio:.2f} times the library; opened again in {min(openings)[0]:.3f} s")
+    ours, from_c, from_python = (min(times)[0] for times in list(runs.values())[1:])
+    print(f"  on a file: {ours / from_c:.2f} times the library from C, {ours / from_python:.2f} from Python; opened again in {min(openings)[0]:.3f} s")
 
 
 def main():

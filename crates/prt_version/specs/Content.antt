@@ -28,13 +28,19 @@ action_pair Blackhole = (1, 0)
 action_pair Unreachable = (2, 0)
 action_pair Prohibit = (3, 0)
 
+abbrev pub iif_cmp : Rule → Rule → Ordering
+iif_cmp a b = option_cmp (slice_cmp nat_cmp) a.iif b.iif
+
+abbrev pub mark_cmp : Rule → Rule → Ordering
+mark_cmp a b = option_cmp (λ x y. pair_cmp (mark_pair x) (mark_pair y)) a.mark b.mark
+
 abbrev pub selector_cmp : Rule → Rule → Ordering
 selector_cmp a b =
     ordering_then (ordering_then (ordering_then
     (pair_cmp (prefix_pair a.from) (prefix_pair b.from))
     (pair_cmp (prefix_pair a.to) (prefix_pair b.to)))
-    (option_cmp (slice_cmp nat_cmp) a.iif b.iif))
-    (option_cmp (λ x y. pair_cmp (mark_pair x) (mark_pair y)) a.mark b.mark)
+    (iif_cmp a b))
+    (mark_cmp a b)
 
 -- by priority, `not`, selector and action
 abbrev pub content_cmp : Rule → Rule → Ordering

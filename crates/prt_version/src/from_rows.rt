@@ -8,12 +8,12 @@ ghost use Rattle.prt_route.specs.Route.{is_listed_before};
 ghost use Rattle.prt_rule.specs.Sound.{IsInOrder};
 ghost use Rattle.prt_rule.specs.Same.{is_same_rule};
 ghost use Rattle.prt_trie.specs.Table.{has_same_key};
-ghost use Rattle.prt_version.specs.Content.{action_pair, content_cmp, selector_cmp};
+ghost use Rattle.prt_version.specs.Content.{action_pair, content_cmp, iif_cmp, mark_cmp, mark_pair, selector_cmp};
 ghost use Rattle.prt_version.specs.Ordered.{AreRoutes, AreRules, has_same_id, is_rule_of, is_storable_route};
 
 use crate::{Action, MOST_COMMANDS, MOST_ROUTES, MOST_RULES, Refusal, Route, Rule};
 use prt_route::{GLOBAL_SCOPE, Kind};
-use prt_rule::{Dev, Prefix};
+use prt_rule::{Dev, Mark, Prefix};
 use std::cmp::Ordering;
 
 /// Whether the rule may be one of a database that accepted so many commands.
@@ -77,17 +77,37 @@ fn action_pair(action: &Action) -> (u8, u32)
     }
 }
 
+/// What marks are sorted by: the value, then the mask.
+fn mark_pair(mark: Mark) -> (u32, u32)
+    ensures { result ≡ mark_pair mark }
+{
+    (mark.mark, mark.mask)
+}
+
+/// The order of rules by their interfaces.
+fn iif_cmp(rule: &Rule, other: &Rule) -> Ordering
+    ensures { result ≡ iif_cmp rule.now other.now }
+{
+    let iif = rule.iif.as_ref().map(Dev::as_bytes);
+    iif.cmp(&other.iif.as_ref().map(Dev::as_bytes))
+}
+
+/// The order of rules by their marks.
+fn mark_cmp(rule: &Rule, other: &Rule) -> Ordering
+    ensures { result ≡ mark_cmp rule.now other.now }
+{
+    rule.mark.map(mark_pair).cmp(&other.mark.map(mark_pair))
+}
+
 /// The order of rules by what they select.
 fn selector_cmp(rule: &Rule, other: &Rule) -> Ordering
     ensures { result ≡ selector_cmp rule.now other.now }
 {
-    let iif = rule.iif.as_ref().map(Dev::as_bytes);
-    let mark = rule.mark.map(|mark| (mark.mark, mark.mask));
     prefix_pair(&rule.from)
         .cmp(&prefix_pair(&other.from))
         .then(prefix_pair(&rule.to).cmp(&prefix_pair(&other.to)))
-        .then(iif.cmp(&other.iif.as_ref().map(Dev::as_bytes)))
-        .then(mark.cmp(&other.mark.map(|mark| (mark.mark, mark.mask))))
+        .then(iif_cmp(rule, other))
+        .then(mark_cmp(rule, other))
 }
 
 /// An order of rules by all but the id, which brings equal ones together.
