@@ -7,8 +7,6 @@ mod node;
 mod pieces;
 mod place;
 mod table;
-#[cfg(test)]
-mod tests;
 mod tree;
 
 pub use prt_route::{Addr, Prefix, Refusal, Route, RouteChoice, RouteEdit, RouteKey};

@@ -181,6 +181,13 @@ impl Table {
         Ok(Table { pieces, len })
     }
 
+    /// The pieces, each with its owners: the tables that share it.
+    pub fn pieces(&self) -> &[Arc<Tree>]
+        ensures { map arc_value result.now ≡ pieces_from 0 257 self.now }
+    {
+        self.pieces.as_slice()
+    }
+
     /// The table of the routes, which are given in any order, each with a key of its own.
     ///
     /// # Errors
@@ -305,14 +312,5 @@ impl Table {
         read_edit(edit);
         let alloc = *self.pieces.allocator();
         Table::from_pieces(pieces_after(alloc, self.pieces.as_slice(), edit)?)
-    }
-
-    /// How many pieces another table has too.
-    #[cfg(test)]
-    pub(crate) fn count_shared(&self) -> usize {
-        self.pieces
-            .iter()
-            .filter(|piece| Arc::strong_count(piece) == 2)
-            .count()
     }
 }

@@ -12,12 +12,11 @@ pub mod owners;
 mod rows;
 mod select;
 mod tables;
-#[cfg(test)]
-mod tests;
 mod version;
 
 pub use answer::{Answer, Verdict};
 pub use change::Change;
 pub use limits::{MOST_COMMANDS, MOST_ROUTES, MOST_RULES};
 pub use prt_command::{Action, Command, NewRule, Packet, Refusal, Route, Rule};
+pub use tables::Tables;
 pub use version::{Version, table_rule};

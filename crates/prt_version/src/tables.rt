@@ -1,5 +1,6 @@
 //! The routes of a version, in one table for each number that has any.
 ghost use Rattle.std.specs.Prelude.{◌≡◌, ◌<◌, ◌≤◌, ◌++◌, [], length, filter, nat_lt, position, unwrap_or, IfErr, IfOk, OnOk, option_map};
+ghost use Rattle.std.specs.Arc.{arc_value};
 ghost use Rattle.std.specs.List.{AllByRecursion as Each};
 ghost use Rattle.std.specs.Option.{option_copied};
 ghost use Rattle.prt_addr.specs.Order.{insert_by};
@@ -40,7 +41,7 @@ impl Model for SharedTable {
 
 /// The routes in the order of listings: each table's rows, by the tables' numbers.
 #[derive(Drop)]
-pub(crate) struct Tables {
+pub struct Tables {
     tables: Vec<SharedTable>,
     len: usize,
 }
@@ -311,11 +312,18 @@ impl Tables {
         Ok(Tables::from_tables(tables))
     }
 
+    /// The table of this number, with its owners; `None` where it has no routes.
+    pub fn shared_table(&self, number: u32) -> Option<&Arc<Table>>
+        ensures { unwrap_or (option_map (λ table. arc_value table.now) result) [] ≡ rows_of_table number self.now }
+    {
+        Some(&find_table(&self.tables, number)?.table)
+    }
+
     /// The table of this number, if it has routes.
     fn table(&self, number: u32) -> Option<&Table>
         ensures { unwrap_or (option_map (λ table. table.now) result) [] ≡ rows_of_table number self.now }
     {
-        Some(&find_table(&self.tables, number)?.table)
+        Some(self.shared_table(number)?)
     }
 
     /// The best route of the table for the address: longest match, then lowest metric (RFC 1812, section 5.2.4.3).
@@ -385,16 +393,5 @@ impl Tables {
         let alloc = *self.tables.allocator();
         let tables = tables_with(alloc, &self.tables, edit)?;
         Ok(Tables::from_tables(tables))
-    }
-}
-
-#[cfg(test)]
-impl Tables {
-    /// How many owners the table of this number has; 0 where there is no such table.
-    pub(crate) fn owners(&self, number: u32) -> usize {
-        match find_table(&self.tables, number) {
-            Some(shared) => Arc::strong_count(&shared.table),
-            None => 0,
-        }
     }
 }

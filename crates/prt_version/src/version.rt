@@ -149,6 +149,20 @@ impl Version {
         self.rules.as_slice()
     }
 
+    /// The rules with their owners: the versions that share them.
+    pub fn shared_rules(&self) -> &Arc<Vec<Rule>>
+        ensures { (arc_value result.now).items ≡ self.now.rules }
+    {
+        &self.rules
+    }
+
+    /// The routes with their owners: the versions that share them.
+    pub fn shared_routes(&self) -> &Arc<Tables>
+        ensures { arc_value result.now ≡ self.now.routes }
+    {
+        &self.routes
+    }
+
     /// The routes, table by table.
     pub(crate) fn tables(&self) -> &Tables
         ensures { result.now ≡ self.now.routes }
@@ -261,18 +275,5 @@ impl Version {
             number: self.count,
             verdict: verdict_of(&self.rules, &self.routes, packet),
         }
-    }
-}
-
-#[cfg(test)]
-impl Version {
-    /// How many owners the rules have.
-    pub(crate) fn rule_owners(&self) -> usize {
-        Arc::strong_count(&self.rules)
-    }
-
-    /// How many owners all tables have together.
-    pub(crate) fn route_owners(&self) -> usize {
-        Arc::strong_count(&self.routes)
     }
 }

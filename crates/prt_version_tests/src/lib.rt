@@ -1,4 +1,4 @@
-//! Tests of the public calls for lines, versions and texts.
+//! Tests of the public calls for tables, lines, versions and texts.
 //!
 //! Lines and texts are worked examples of `ip-route(8)` and `ip-rule(8)`.
 #![tactic(auto)]
@@ -9,5 +9,9 @@ mod from_rows;
 mod lines;
 #[cfg(test)]
 mod script;
+#[cfg(test)]
+mod sharing;
+#[cfg(test)]
+mod tables;
 #[cfg(test)]
 mod versions;

@@ -1,7 +1,7 @@
 use Rattle.std.proofs.Common.{◌≡◌, [], arith}
 use Rattle.std.specs.List.{IsDistinct}
 use Rattle.std.proofs.lemmas.List.Sorted.{All-permutation}
-use Rattle.prt_trie.proofs.tests.empty_table.Goals as goal
+use Rattle.prt_version_tests.proofs.tables.empty_table.Goals as goal
 
 pub build-requires-clause-distinct : goal.build-requires-clause-distinct
 unfolding IsDistinct

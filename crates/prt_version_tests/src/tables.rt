@@ -1,15 +1,17 @@
+//! Tables of routes and trees: what each public call answers, and the best route as a comparison of all finds it.
 ghost use Rattle.std.specs.Prelude.{◌≡◌, ◌≤◌, IfOk};
 ghost use Rattle.prt_trie.specs.Table.{IsOfTable};
 
-use crate::{Addr, Prefix, Refusal, Route, RouteChoice, RouteEdit, RouteKey, Table, Tree};
-use prt_route::{Kind, Range, Selector};
+use prt_command::{Addr, Kind, Prefix, Refusal, Route};
+use prt_route::{RouteChoice, RouteEdit};
+use prt_trie::{Table, Tree};
 use std::alloc::Global;
 use std::process::Abort;
 use std::test::Fail;
 
-const MAIN: u32 = 254;
+pub const MAIN: u32 = 254;
 
-fn route(bits: u32, len: u8, metric: u32) -> Route
+pub fn route(bits: u32, len: u8, metric: u32) -> Route
     requires { len ≤ 32 }
     ensures { result.table ≡ 254 }
 {
@@ -27,7 +29,7 @@ fn route(bits: u32, len: u8, metric: u32) -> Route
 }
 
 /// A table with one more route of main.
-fn with_route(table: &Table, route: Route) -> Result<Table, Refusal>
+pub fn with_route(table: &Table, route: Route) -> Result<Table, Refusal>
     requires table { IsOfTable 254 table.now }
     requires route { route.table ≡ 254 }
     ensures { IfOk result (λ table. IsOfTable 254 table) }
@@ -108,20 +110,8 @@ fn compare(rt: &impl Abort, rows: &[Route], tree: &Tree, table: &Table, addr: u3
     );
 }
 
-/// All routes of main with prefixes in this one.
-fn all_within(prefix: Prefix) -> Selector {
-    Selector {
-        table: Some(MAIN),
-        range: Range::Root(prefix),
-        kind: None,
-        proto: None,
-        scope: None,
-        dev: None,
-    }
-}
-
 /// A default route, and routes of the octets 10, 11 and 255.
-fn small_table(alloc: Global) -> Result<Table, Refusal>
+pub fn small_table(alloc: Global) -> Result<Table, Refusal>
     ensures { IfOk result (λ table. IsOfTable 254 table) }
 {
     let table = empty_table(alloc)?;
@@ -130,30 +120,6 @@ fn small_table(alloc: Global) -> Result<Table, Refusal>
     let table = with_route(&table, route(0x0a010000, 16, 3))?;
     let table = with_route(&table, route(0xffffffff, 32, 0))?;
     with_route(&table, route(0, 0, 0))
-}
-
-#[test]
-fn edits_share_the_other_pieces(rt: HostRuntime) -> Result<(), Fail> {
-    let table = small_table(rt.alloc())?;
-    let put = with_route(&table, route(0x0a020000, 16, 0))?;
-    assert_eq!(rt; table.count_shared(), 256);
-    drop(put);
-    let default = RouteKey {
-        table: MAIN,
-        prefix: Prefix::masked(0, 0),
-        metric: 0,
-    };
-    let removed = table.with_change(&RouteEdit::Remove(default))?;
-    assert_eq!(rt; table.count_shared(), 256);
-    drop(removed);
-    let flushed = table.with_change(&RouteEdit::Flush(all_within(Prefix::masked(0x0a000000, 7))))?;
-    assert_eq!(rt; table.count_shared(), 255);
-    assert_eq!(rt; (table.len(), flushed.len()), (5, 2));
-    drop(flushed);
-    let same = table.with_change(&RouteEdit::Flush(all_within(Prefix::masked(0x0c000000, 8))))?;
-    assert_eq!(rt; table.count_shared(), 257);
-    assert_eq!(rt; same.len(), 5);
-    Ok(())
 }
 
 #[test]
