@@ -1,18 +1,22 @@
 -- What the statements that make the tables do.
-use Rattle.std.proofs.Common.{◌≡◌, ℕ, [], false, Ok, refl, sym, ap, subst, ◌∙◌}
+use Rattle.std.proofs.Common.{◌≡◌, ℕ, [], false, Ok, Err, Result, refl, sym, ap, subst, ◌∙◌}
+use Rattle.std.specs.Prelude.{if◌then◌else◌}
 use Rattle.sqlite.proofs.Callers.{runs_as, statement_of}
 use Rattle.sqlite.specs.Change.{KeepsRows, created, next_tree}
 use Rattle.sqlite.specs.Command.TheVariants.{CreateTable}
 use Rattle.sqlite.specs.Compile.{table_defined_by}
 use Rattle.sqlite.specs.Does.{MakesTable, Tally, lacks_sequence}
 use Rattle.sqlite.specs.Effect.{Database}
-use Rattle.sqlite.specs.Listing.{understood}
+use Rattle.sqlite.specs.Listing.{if_select, listing_schema, misses_table, understood}
 use Rattle.sqlite.specs.Schema.{Schema}
-use Rattle.sqlite.specs.State.{Executes, State}
+use Rattle.sqlite.specs.State.{Executes, State, text_of}
 use Rattle.sqlite.specs.Table.{Table}
+use Rattle.sqlite_resolve.specs.Compile.{compiled}
+use Rattle.sqlite_resolve.specs.declared.compiled.Compiled.{Compiled}
+use Rattle.sqlite_resolve.specs.declared.error.CompileError.{CompileError}
 use Rattle.sqlite_tied.specs.Compute.{everything}
 use Rattle.prt_addr.specs.Word.{Word}
-use Rattle.prt_rows.proofs.Texts.{Means, meta_is, route_is, rule_is}
+use Rattle.prt_rows.proofs.Texts.{IsCommand, Means, means, meta_is, route_is, rule_is}
 use Rattle.prt_rows.proofs.Writing.{same_value, went}
 use Rattle.prt_rows.specs.Effects.{Makes}
 use Rattle.prt_rows.specs.Statements.{create_meta, create_route, create_rule}
@@ -37,17 +41,34 @@ module _ (sql : Word) (from : Schema) (defined : Table) (means : Means from sql 
         kept = subst (λ (d : Database). KeepsRows old.now.schema.tables old.now.trees d.trees) (sym now) made.others;
       }
 
+-- what the text is compiled to makes a table, and is the whole text
+abbrev IsMaking : Word → Result Compiled CompileError → Type 0
+IsMaking text (Ok c) = IsCommand (Ok c) CreateTable × (text_of text c ≡ text)
+IsMaking text (Err e) = ⊥
+
+plainly : (text : Word) (r : Result Compiled CompileError) → IsMaking text r → IsCommand r CreateTable
+plainly text (Ok c) is = is.0
+plainly text (Err e) is = absurd is
+
+whole : (text : Word) (listed r : Result Compiled CompileError) → IsMaking text r → statement_of text (if misses_table r then listed else r) ≡ text
+whole text listed (Ok c) is = is.1
+whole text listed (Err e) is = absurd is
+
+made : (from : Schema) (text : Word) → IsMaking text (compiled from text) → Means from text CreateTable × (statement_of text (understood from text) ≡ text)
+unfolding understood
+made from text is = (means from text CreateTable (plainly text (compiled from text) is), whole text (if_select (compiled listing_schema text)) (compiled from text) is)
+
 rule_made : Means no_tables create_rule CreateTable × (statement_of create_rule (understood no_tables create_rule) ≡ create_rule)
-unfolding understood everything
-rule_made = ((refl, (refl, refl)), refl)
+unfolding everything
+rule_made = made no_tables create_rule ((refl, (refl, refl)), refl)
 
 route_made : Means rule_alone create_route CreateTable × (statement_of create_route (understood rule_alone create_route) ≡ create_route)
-unfolding understood everything
-route_made = ((refl, (refl, refl)), refl)
+unfolding everything
+route_made = made rule_alone create_route ((refl, (refl, refl)), refl)
 
 meta_made : Means rule_and_route create_meta CreateTable × (statement_of create_meta (understood rule_and_route create_meta) ≡ create_meta)
-unfolding understood everything
-meta_made = ((refl, (refl, refl)), refl)
+unfolding everything
+meta_made = made rule_and_route create_meta ((refl, (refl, refl)), refl)
 
 -- its index is named after it
 route_becomes : created rule_alone (record route_table { tree = 0 }) ≡ rule_and_route

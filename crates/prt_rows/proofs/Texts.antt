@@ -1,12 +1,15 @@
 -- The texts mean their commands, in a file whose first tables are ours.
-use Rattle.std.proofs.Common.{◌≡◌, List, Ok, refl}
-use Rattle.std.specs.Prelude.{codes, false}
+use Rattle.std.proofs.Common.{◌≡◌, [], List, None, Ok, Err, Result, refl}
+use Rattle.std.specs.Prelude.{codes, false, if◌then◌else◌}
 use Rattle.sqlite.proofs.Callers.{IsPlain, command_of}
 use Rattle.sqlite.specs.Command.{Command}
 use Rattle.sqlite.specs.Compile.{table_defined_by}
-use Rattle.sqlite.specs.Listing.{reads_listing, understood}
+use Rattle.sqlite.specs.Listing.{if_select, listing_schema, misses_table, reads_listing, understood}
 use Rattle.sqlite.specs.Schema.{Schema}
 use Rattle.sqlite.specs.Table.{Table}
+use Rattle.sqlite_resolve.specs.Compile.{compiled}
+use Rattle.sqlite_resolve.specs.declared.compiled.Compiled.{Compiled}
+use Rattle.sqlite_resolve.specs.declared.error.CompileError.{CompileError}
 use Rattle.sqlite_schema.specs.declared.schema.Index.{Index}
 use Rattle.sqlite_schema.specs.declared.schema.View.{View}
 use Rattle.sqlite_tied.specs.Compute.{everything}
@@ -22,6 +25,23 @@ Means schema text command = (command_of (understood schema text) ≡ command) ×
 -- the text is a query that is understood so, and reads tables of the file alone
 abbrev pub Asks : Schema → Word → Command → Type 0
 Asks schema text command = (command_of (understood schema text) ≡ command) × IsPlain (understood schema text) × (reads_listing schema text ≡ false)
+
+-- what a text is compiled to is the command, without more
+abbrev pub IsCommand : Result Compiled CompileError → Command → Type 0
+IsCommand (Ok c) command = (c.command ≡ command) × ((c.returning ≡ None) × (c.formats ≡ []))
+IsCommand (Err e) command = ⊥
+
+found : (listed r : Result Compiled CompileError) (command : Command) → IsCommand r command → (command_of (if misses_table r then listed else r) ≡ command) × IsPlain (if misses_table r then listed else r) × (misses_table r ≡ false)
+found listed (Ok c) command is = (is.0, is.1, refl)
+found listed (Err e) command is = absurd is
+
+-- so a text is compiled once to tell all that is said of it
+asks : (schema : Schema) (text : Word) (command : Command) → IsCommand (compiled schema text) command → Asks schema text command
+unfolding understood
+asks schema text command is = found (if_select (compiled listing_schema text)) (compiled schema text) command is
+
+pub means : (schema : Schema) (text : Word) (command : Command) → IsCommand (compiled schema text) command → Means schema text command
+means schema text command is = let all = asks schema text command is in (all.0, all.1)
 
 pub rule_is : table_defined_by create_rule ≡ Ok rule_table
 unfolding everything
@@ -40,57 +60,57 @@ module _ (tables : List Table) (indexes : List Index) (views : List View) where
   schema = schema_with tables indexes views
 
   pub read_rules_is : Asks schema read_rules read_rules_command
-  unfolding understood everything
-  read_rules_is = (refl, (refl, refl), refl)
+  unfolding everything
+  read_rules_is = asks schema read_rules read_rules_command (refl, (refl, refl))
 
   pub read_routes_is : Asks schema read_routes read_routes_command
-  unfolding understood everything
-  read_routes_is = (refl, (refl, refl), refl)
+  unfolding everything
+  read_routes_is = asks schema read_routes read_routes_command (refl, (refl, refl))
 
   pub read_meta_is : Asks schema read_meta read_meta_command
-  unfolding understood everything
-  read_meta_is = (refl, (refl, refl), refl)
+  unfolding everything
+  read_meta_is = asks schema read_meta read_meta_command (refl, (refl, refl))
 
   pub look_at_rules_is : Asks schema look_at_rules (look_at 0 (codes "id"))
-  unfolding understood everything
-  look_at_rules_is = (refl, (refl, refl), refl)
+  unfolding everything
+  look_at_rules_is = asks schema look_at_rules (look_at 0 (codes "id")) (refl, (refl, refl))
 
   pub look_at_routes_is : Asks schema look_at_routes (look_at 1 (codes "rowid"))
-  unfolding understood everything
-  look_at_routes_is = (refl, (refl, refl), refl)
+  unfolding everything
+  look_at_routes_is = asks schema look_at_routes (look_at 1 (codes "rowid")) (refl, (refl, refl))
 
   pub look_at_meta_is : Asks schema look_at_meta (look_at 3 (codes "id"))
-  unfolding understood everything
-  look_at_meta_is = (refl, (refl, refl), refl)
+  unfolding everything
+  look_at_meta_is = asks schema look_at_meta (look_at 3 (codes "id")) (refl, (refl, refl))
 
   pub put_route_is : Means schema put_route put_route_command
-  unfolding understood everything
-  put_route_is = (refl, (refl, refl))
+  unfolding everything
+  put_route_is = means schema put_route put_route_command (refl, (refl, refl))
 
   pub delete_route_is : Means schema delete_route delete_route_command
-  unfolding understood everything
-  delete_route_is = (refl, (refl, refl))
+  unfolding everything
+  delete_route_is = means schema delete_route delete_route_command (refl, (refl, refl))
 
   pub flush_routes_is : Means schema flush_routes flush_routes_command
-  unfolding understood everything
-  flush_routes_is = (refl, (refl, refl))
+  unfolding everything
+  flush_routes_is = means schema flush_routes flush_routes_command (refl, (refl, refl))
 
   pub insert_meta_is : Means schema insert_meta insert_meta_command
-  unfolding understood everything
-  insert_meta_is = (refl, (refl, refl))
+  unfolding everything
+  insert_meta_is = means schema insert_meta insert_meta_command (refl, (refl, refl))
 
   pub insert_rule_is : Means schema insert_rule insert_rule_command
-  unfolding understood everything
-  insert_rule_is = (refl, (refl, refl))
+  unfolding everything
+  insert_rule_is = means schema insert_rule insert_rule_command (refl, (refl, refl))
 
   pub delete_rule_is : Means schema delete_rule delete_rule_command
-  unfolding understood everything
-  delete_rule_is = (refl, (refl, refl))
+  unfolding everything
+  delete_rule_is = means schema delete_rule delete_rule_command (refl, (refl, refl))
 
   pub flush_rules_is : Means schema flush_rules flush_rules_command
-  unfolding understood everything
-  flush_rules_is = (refl, (refl, refl))
+  unfolding everything
+  flush_rules_is = means schema flush_rules flush_rules_command (refl, (refl, refl))
 
   pub set_count_is : Means schema set_count set_count_command
-  unfolding understood everything
-  set_count_is = (refl, (refl, refl))
+  unfolding everything
+  set_count_is = means schema set_count set_count_command (refl, (refl, refl))
