@@ -4,7 +4,7 @@ ghost use Rattle.std.specs.Prelude.{◌≡◌, ◌<◌, ◌^◌, [], ◌∷◌, 
 ghost use Rattle.sqlite.specs.Values.{bound};
 ghost use Rattle.sqlite_value.specs.Order.{column};
 ghost use Rattle.prt_rows.specs.Decodes.{Decodes};
-ghost use Rattle.prt_rows.specs.Cell.{IsWithin, flag, number};
+ghost use Rattle.prt_rows.specs.Cell.{IsWithin, flag, number, optional_number};
 ghost use Rattle.prt_rows.specs.RuleRow.{IsAction, IsOptionalMark, IsRule, action_cells, action_code, action_table, mark_cells, rule_row};
 
 use crate::column::{RULE_COLUMNS, RuleColumn as At};
@@ -13,17 +13,25 @@ use prt_rule::{Action, Mark, Rule};
 use sqlite::Row;
 use sqlite::types::ValueRef;
 
-/// The mark in two cells, or none for -1 in both.
-fn mark(row: &Row, mark_at: usize, mask_at: usize) -> Option<Option<Mark>>
-    ensures { Decodes mark_cells IsOptionalMark (column row.now mark_at ∷ column row.now mask_at ∷ []) result }
+/// The mark of these two parts, or none where neither is there.
+fn both(mark: Option<u32>, mask: Option<u32>) -> Option<Option<Mark>>
+    ensures { Decodes mark_cells IsOptionalMark (optional_number mark ∷ optional_number mask ∷ []) result }
 {
-    let mark = cell::optional_number(row, mark_at)?;
-    let mask = cell::optional_number(row, mask_at)?;
     match (mark, mask) {
         (Some(mark), Some(mask)) => Some(Some(Mark { mark, mask })),
         (None, None) => Some(None),
         _ => None,
     }
+}
+
+/// The mark in two cells, or none for -1 in both.
+fn mark(row: &Row, mark_at: usize, mask_at: usize) -> Option<Option<Mark>>
+    ensures { Decodes mark_cells IsOptionalMark (column row.now mark_at ∷ column row.now mask_at ∷ []) result }
+{
+    both(
+        cell::optional_number(row, mark_at)?,
+        cell::optional_number(row, mask_at)?,
+    )
 }
 
 /// The action in two cells.

@@ -1,9 +1,22 @@
-use Rattle.std.proofs.Common.{rules, ◌≡◌, length}
+use Rattle.std.proofs.Common.{◌≡◌, length, ap, sym, ◌∙◌}
+use Rattle.sqlite_value.specs.Order.{Row, column}
 use Rattle.prt_rows.specs.RuleRow.{rule_columns}
 use Rattle.prt_rows.proofs.Columns.{row_of_cells}
 use Rattle.prt_rows.proofs.rule_row.rule_of_row.Goals as goal
 
+first : {r s : Row} → r ≡ s → column r 0 ≡ column s 0
+first is = ap (λ (row : Row). column row 0) is
+
+second : {r s : Row} → r ≡ s → column r 1 ≡ column s 1
+second is = ap (λ (row : Row). column row 1) is
+
 pub returns : goal.returns
 returns c =
-    let whole : length c.args.row.now ≡ 12 = cc in
-    (search rules, row_of_cells rule_columns _ _ whole (search rules))
+    let whole : length c.args.row.now ≡ 12 = sym c.column_count.ensures ∙ c.if-column_count-ne-RULE_COLUMNS.false in
+    let from = c.in_ok-prefix.ensures in
+    let to = c.in_ok-prefix-2.ensures in
+    let mark = c.in_ok-mark.ensures in
+    let action = c.in_ok-action.ensures in (
+      record { id = c.in_ok-number_within.ensures.0; priority = c.in_ok-number.ensures.0; from = from.0; to = to.0; iif = c.in_ok-optional_name.ensures.0; mark = mark.0; action = action.0 },
+      row_of_cells rule_columns _ _ whole (c.in_ok-number_within.ensures.1, (c.in_ok-number.ensures.1, (c.in_ok-flag.ensures.1, (first from.1, (second from.1, (first to.1, (second to.1, (c.in_ok-optional_name.ensures.1, (first mark.1, (second mark.1, (first action.1, (second action.1, tt)))))))))))),
+    )
