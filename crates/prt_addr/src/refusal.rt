@@ -1,5 +1,5 @@
 ghost use Rattle.std.specs.Prelude.{◌≡◌, ◌++◌, Some, codes, decimal};
-ghost use Rattle.prt_addr.specs.Refusal.{code_of, name_of, refusal_text};
+ghost use Rattle.prt_addr.specs.Refusal.{code_of, entry_of, name_of, refusal_text};
 
 use std::error::Error;
 use std::fmt;
@@ -87,8 +87,7 @@ pub enum Refusal {
 impl Refusal {
     /// The number and the name: the one table of both.
     fn entry(&self) -> (u32, &'static str)
-        ensures code { result.0 ≡ code_of self.now }
-        ensures name { result.1.now ≡ name_of self.now }
+        ensures { (result.0, result.1.now) ≡ entry_of self.now }
     {
         match self {
             Refusal::LineTooLong => (1, "LineTooLong"),
