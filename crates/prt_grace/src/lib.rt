@@ -11,8 +11,6 @@ mod limits;
 mod place;
 mod registry;
 mod retired;
-#[cfg(test)]
-mod tests;
 
 pub use limits::{MOST_RETIRED, PLACES};
 pub use place::{Place, PlaceState};

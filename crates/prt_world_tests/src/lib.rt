@@ -1,8 +1,10 @@
-//! Tests of the public calls for replays.
+//! Tests of the public calls for grace periods and replays.
 #![tactic(auto)]
 
 #[cfg(test)]
 mod files;
+#[cfg(test)]
+mod registry;
 #[cfg(test)]
 mod replays;
 #[cfg(test)]

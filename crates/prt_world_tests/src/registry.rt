@@ -1,5 +1,7 @@
-use crate::{Registry, Version};
-use prt_version::{Command, Refusal};
+//! The registry of grace periods, each of its calls.
+
+use prt_command::{Command, Refusal};
+use prt_grace::{Registry, Version};
 use std::sync::Arc;
 use std::test::Fail;
 
