@@ -1,5 +1,7 @@
-//! Tests of the desk over a store, on a database in memory.
+//! Tests of sessions on streams that fail, and of the desk over a store, on a database in memory.
 #![tactic(auto)]
 
 #[cfg(test)]
 mod desks;
+#[cfg(test)]
+mod streams;

@@ -12,8 +12,6 @@ mod reply;
 mod script;
 pub mod scripts;
 mod session;
-#[cfg(test)]
-mod tests;
 
 pub use desk::Desk;
 pub use executor::Executor;

@@ -1,7 +1,6 @@
 //! Faults of the streams: each of these readers and writers fails once and would then go on.
 
-use super::*;
-use prt_command::Refusal;
+use prt_session::{ListDesk, Observer, OnRefusal, Refusal, Reply, Unobserved, run_session};
 use std::io;
 use std::io::{Read, Write};
 use std::test::Fail;
