@@ -61,6 +61,10 @@ module _ {S : Type 0} (g : Ghosts S) (First Next : Held S → Held S → Type 0)
 
 -- ---- the whole transaction
 
+-- if it is clean and still open, it shows what it showed, and that is committed as it was
+abbrev pub IsLeftAlone : {S : Type 0} → Ghosts S → Held S → Held S → Type 0
+IsLeftAlone g old end = HasCleanDisk (state g end) → IsTrue (state g end).is_open → ((state g end).now ≡ (state g old).now) × ((state g end).committed ≡ (state g old).committed)
+
 pub of_ok : {T P : Type 0} (r : Result T Error) → is_err r ≡ false → OnOk r P → P
 of_ok (Ok n) fine it = it
 of_ok (Err e) fine it = absurd (let bad = fine in cc)
@@ -81,6 +85,13 @@ module _ {S : Type 0} (g : Ghosts S) (Does : Held S → Held S → Type 0) (old 
       let keeps = last_keeps (omega (arith, less)) in
       let was_open = undone.was_open still_open in
       (undone.undone still_open).0 ∙ keeps.committed was_open ∙ sym (settled (keeps.was_open was_open))
+
+  pub left_alone : (end : Held S) → (doubt (state g last).is_clean ≤ doubt (state g end).is_clean) → (HasCleanDisk (state g end) → IsRolledBack (state g last) (state g end))
+      → (IsTrue (state g old).is_open → (state g old).now ≡ (state g old).committed) → IsLeftAlone g old end
+  left_alone end less undone settled clean still_open =
+      let back = undone clean in
+      let keeps = last_keeps (omega (arith, less)) in
+      (rolled_back end clean less back settled still_open, (back.undone still_open).1 ∙ keeps.committed (back.was_open still_open))
 
   pub stopped : (end : Held S) (P : Trees → Type 0) → Survives (state g last) (state g end) (λ _. ⊥) → Survives (state g old) (state g end) P
   stopped end P rest = survives_then (state g old) (state g last) (state g end) _ _ P (λ _ db none. absurd none) (λ _ db none. absurd none) last_quiet rest
@@ -105,3 +116,13 @@ module _ {S : Type 0} (g : Ghosts S) (Does : Held S → Held S → Type 0) (old 
     not_committed end (Ok x) bad clean less failed settled still_open = absurd (true≢false (sym bad))
     not_committed end (Err e) bad clean less (inl failed) settled still_open = rolled_back end clean less failed.3 settled still_open
     not_committed end (Err e) bad clean less (inr ended) settled still_open = absurd (true≢false (sym (of_ok result fine (works.done (omega (arith, less)) (rw was))).1 ∙ ended.1))
+
+    -- and nothing of it is committed
+    pub not_made : (end : Held S) (done : Result (Unit {0}) Error) → is_err done ≡ true → (doubt (state g last).is_clean ≤ doubt (state g end).is_clean)
+        → (HasCleanDisk (state g end) → IfErr done (FailsToCommit (state g last) (state g end))) → (IsTrue (state g old).is_open → (state g old).now ≡ (state g old).committed) → IsLeftAlone g old end
+    not_made end done bad less fails settled clean still_open = go done bad (fails clean)
+      where
+        go : (done : Result (Unit {0}) Error) → is_err done ≡ true → IfErr done (FailsToCommit (state g last) (state g end)) → ((state g end).now ≡ (state g old).now) × ((state g end).committed ≡ (state g old).committed)
+        go (Ok x) bad failed = absurd (true≢false (sym bad))
+        go (Err e) bad (inl failed) = left_alone end less (λ _. failed.3) settled clean still_open
+        go (Err e) bad (inr ended) = absurd (true≢false (sym (of_ok result fine (works.done (omega (arith, less)) (rw was))).1 ∙ ended.1))

@@ -3,13 +3,13 @@ use Rattle.sqlite.proofs.StateLemmas.{survives_weaker}
 use Rattle.sqlite.specs.Held.{state}
 use Rattle.sqlite.specs.State.{HasCleanDisk, Survives}
 use Rattle.sqlite.specs.Tree.{Trees}
-use Rattle.prt_addr.specs.declared.refusal.StoreCall.TheVariants.{Commit}
+use Rattle.prt_addr.specs.declared.refusal.StoreCall.TheVariants.{Commit, Count, Write}
 use Rattle.prt_store.specs.Adopted.{IsSettled}
 use Rattle.prt_store.specs.Made.{MakesChange}
-use Rattle.prt_store.specs.Openings.{HasDone, HasLeft}
-use Rattle.prt_store.specs.Written.{IsTyped}
+use Rattle.prt_store.specs.Openings.{HasDone, HasLeft, Ran}
+use Rattle.prt_store.specs.Written.{IsTyped, text_of, values_of}
 use Rattle.prt_store.proofs.Calls.{makes_change}
-use Rattle.prt_store.proofs.Transactions.{committed, crash_after}
+use Rattle.prt_store.proofs.Transactions.{IsLeftAlone, committed, crash_after, left_alone, not_made, statement_works, stopped}
 use Rattle.prt_store.proofs.commit.run.Goals as goal
 
 pub returns-clause-ok : goal.returns-clause-ok
@@ -51,3 +51,73 @@ returns-clause-clean g c clean =
     let counted : HasCleanDisk (state g.S.Store c.write.new.tx.conn.now) = omega (arith, c.set_count.ensures.survives.clean, ended) in
     let begun : HasCleanDisk (state g.S.Store c.transaction-tx.result.conn.now) = omega (arith, c.write.ensures.survives.clean, counted) in
     subst (λ h. HasCleanDisk (state g.S.Store h)) c.transaction-tx.ensures.begun begun
+
+pub returns-then-is_err-clause-err : goal.returns-then-is_err-clause-err
+returns-then-is_err-clause-err g c clean still_open =
+    let old = c.args.conn.now in
+    let begun = c.transaction-tx.result.conn.now in
+    let last = c.write.new.tx.conn.now in
+    let end = c.drop-tx.new.self.0 in
+    let same : end ≡ c.conn-1.given.0 = search rules in
+    let text = text_of c.args.change.now in
+    let values = values_of c.args.change.now in
+    let works = statement_works g.S.Store text values begun last c.write.result c.write.ensures.runs c.write.ensures.survives in
+    let left = left_alone g.S.Store (Ran g.S.Store text values) old begun last c.write.result c.transaction-tx.ensures.begun works end c.drop-tx.ensures.survives.clean c.drop-tx.ensures.undone
+    (c.is_autocommit.ensures.settled c.if-not-is_autocommit.false) in
+    subst (IsLeftAlone g.S.Store old) same left clean still_open
+
+pub returns-then-is_err-clause-crash_err : goal.returns-then-is_err-clause-crash_err
+returns-then-is_err-clause-crash_err g c =
+    let old = c.args.conn.now in
+    let begun = c.transaction-tx.result.conn.now in
+    let last = c.write.new.tx.conn.now in
+    let end = c.drop-tx.new.self.0 in
+    let same : end ≡ c.conn-1.given.0 = search rules in
+    let text = text_of c.args.change.now in
+    let values = values_of c.args.change.now in
+    let works = statement_works g.S.Store text values begun last c.write.result c.write.ensures.runs c.write.ensures.survives in
+    let P = λ (trees : Trees). (Write ≡ Commit) × IsTyped c.args.change.now × HasLeft g.S.Store (MakesChange g.S.Store c.args.change.now c.args.number) old trees in
+    subst (λ h. Survives (state g.S.Store old) (state g.S.Store h) P) same
+    (stopped g.S.Store (Ran g.S.Store text values) old begun last c.write.result c.transaction-tx.ensures.begun works end P c.drop-tx.ensures.survives)
+
+pub returns-then-is_err-2-clause-err : goal.returns-then-is_err-2-clause-err
+returns-then-is_err-2-clause-err g c clean still_open =
+    let made = MakesChange g.S.Store c.args.change.now c.args.number in
+    let old = c.args.conn.now in
+    let begun = c.transaction-tx.result.conn.now in
+    let last = c.set_count.new.tx.conn.now in
+    let end = c.drop-tx-then-is_err-2.new.self.0 in
+    let same : end ≡ c.conn-then-is_err-2-1.given.0 = search rules in
+    let works = makes_change g.S.Store c.args.change.now c.args.number begun c.write.new.tx.conn.now last c.write.result c.set_count.result (sym c.is_err.ensures.value ∙ c.if-is_err.false)
+    c.write.ensures.runs c.write.ensures.survives c.set_count.ensures.runs c.set_count.ensures.survives in
+    let left = left_alone g.S.Store made old begun last c.set_count.result c.transaction-tx.ensures.begun works end c.drop-tx-then-is_err-2.ensures.survives.clean c.drop-tx-then-is_err-2.ensures.undone
+    (c.is_autocommit.ensures.settled c.if-not-is_autocommit.false) in
+    subst (IsLeftAlone g.S.Store old) same left clean still_open
+
+pub returns-then-is_err-2-clause-crash_err : goal.returns-then-is_err-2-clause-crash_err
+returns-then-is_err-2-clause-crash_err g c =
+    let made = MakesChange g.S.Store c.args.change.now c.args.number in
+    let old = c.args.conn.now in
+    let begun = c.transaction-tx.result.conn.now in
+    let last = c.set_count.new.tx.conn.now in
+    let end = c.drop-tx-then-is_err-2.new.self.0 in
+    let same : end ≡ c.conn-then-is_err-2-1.given.0 = search rules in
+    let works = makes_change g.S.Store c.args.change.now c.args.number begun c.write.new.tx.conn.now last c.write.result c.set_count.result (sym c.is_err.ensures.value ∙ c.if-is_err.false)
+    c.write.ensures.runs c.write.ensures.survives c.set_count.ensures.runs c.set_count.ensures.survives in
+    let P = λ (trees : Trees). (Count ≡ Commit) × IsTyped c.args.change.now × HasLeft g.S.Store made old trees in
+    subst (λ h. Survives (state g.S.Store old) (state g.S.Store h) P) same
+    (stopped g.S.Store made old begun last c.set_count.result c.transaction-tx.ensures.begun works end P c.drop-tx-then-is_err-2.ensures.survives)
+
+pub returns-then-is_err-3-clause-err : goal.returns-then-is_err-3-clause-err
+returns-then-is_err-3-clause-err g c clean still_open =
+    let made = MakesChange g.S.Store c.args.change.now c.args.number in
+    let old = c.args.conn.now in
+    let begun = c.transaction-tx.result.conn.now in
+    let last = c.set_count.new.tx.conn.now in
+    let end = c.commit.new.self.0 in
+    let same : end ≡ c.conn-2-1.given.0 = search rules in
+    let works = makes_change g.S.Store c.args.change.now c.args.number begun c.write.new.tx.conn.now last c.write.result c.set_count.result (sym c.is_err.ensures.value ∙ c.if-is_err.false)
+    c.write.ensures.runs c.write.ensures.survives c.set_count.ensures.runs c.set_count.ensures.survives in
+    let left = not_made g.S.Store made old begun last c.set_count.result c.transaction-tx.ensures.begun works (sym c.is_err-2.ensures.value ∙ c.if-is_err-2.false) end c.commit.result
+    (sym c.is_err-3.ensures.value ∙ c.if-is_err-3.true) c.commit.ensures.survives.clean c.commit.ensures.err (c.is_autocommit.ensures.settled c.if-not-is_autocommit.false) in
+    subst (IsLeftAlone g.S.Store old) same left clean still_open
