@@ -1,19 +1,20 @@
 //! Commits on a disk that fails.
 
+ghost use Rattle.std.specs.Prelude.{IsTrue};
+
 use crate::steps::committed;
 use prt_addr::StoreCall;
 use prt_version::Refusal;
 use sqlite::{Connection, Files, Options};
-use sqlite_disk::{Fuse, Memory};
+use sqlite_disk::{Disk, Fuse, Memory};
 use std::alloc::Global;
 
-/// Why a command is refused in a new database whose log takes so many calls and then fails. Each page is read from the log
-/// anew, so that each statement calls it.
-fn refusal_after(alloc: Global, calls: u64) -> Option<Refusal> {
-    let files = Files {
-        log: Fuse::new(Memory::new(alloc), calls),
-        db: Fuse::new(Memory::new(alloc), u64::MAX),
-    };
+/// Why a command is refused in the database of these files. Each page is read from the log anew, so that each statement calls
+/// it. For files of whatever kind, so that the proof knows nothing of them.
+fn refusal_in<D: Disk + Drop>(alloc: Global, files: Files<D>) -> Option<Refusal>
+    requires log { IsTrue (D.Disk.is_usable files.log) }
+    requires db { IsTrue (D.Disk.is_usable files.db) }
+{
     let options = Options {
         cache_pages: 1,
         spill_pages: 1,
@@ -26,6 +27,12 @@ fn refusal_after(alloc: Global, calls: u64) -> Option<Refusal> {
     }
 }
 
+/// Why a command is refused in a new database whose log takes so many calls and then fails.
+fn refusal_after(alloc: Global, calls: u64) -> Option<Refusal> {
+    let log = Fuse::new(Memory::new(alloc), calls);
+    let db = Fuse::new(Memory::new(alloc), u64::MAX);
+    refusal_in(alloc, Files { log, db })
+}
 #[test]
 fn names_the_call_that_failed(rt: HostRuntime) {
     for (calls, failed) in [
