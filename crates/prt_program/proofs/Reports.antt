@@ -1,0 +1,21 @@
+-- A fault that was reported, and an input that was left alone.
+use Rattle.std.proofs.Common.{◌≡◌, ◌≢◌, ◌∙◌, ℕ, inl, inr, refl, List, Option, Some, None}
+use Rattle.prt_program.specs.Faults.{fault_status, IsFault}
+use Rattle.prt_program.specs.Invocation.{Invocation, Word, batch, replay}
+use Rattle.prt_program.specs.Program.{LeavesInput, LeavesInputFor, RunsNothing}
+use Rattle.prt_program.specs.declared.prt.Fault.{Fault}
+use Rattle.prt_program.specs.declared.prt.Fault.TheVariants.{Words, Opening}
+
+pub reported : (asked : Invocation) (fault : Fault) (status : ℕ) (writer0 writer1 writer : Option (List ℕ)) → IsFault asked fault → status ≡ fault_status fault
+    → writer1 ≡ writer0 → (status ≢ 0 → writer ≡ writer1) → RunsNothing asked writer0 writer status
+reported asked (Words error) status writer0 writer1 writer may is same kept = (inl (rw is may), λ other. kept other ∙ same)
+reported asked (Opening reason) status writer0 writer1 writer may is same kept = (inr is, λ other. kept other ∙ same)
+
+unread_for : (file : Option Word) (input : Option (List ℕ)) → LeavesInputFor file input input
+unread_for None input = tt
+unread_for (Some path) input = refl
+
+pub unread : (asked : Invocation) (input : Option (List ℕ)) → LeavesInput asked input input
+unread (batch script) input = unread_for script.file input
+unread (replay file) input = unread_for file input
+unread _ input = refl

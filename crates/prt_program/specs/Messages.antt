@@ -1,0 +1,32 @@
+-- What is told on standard error while a script is run.
+use Rattle.std.specs.Prelude.{ℕ, nat_lt, ◌==◌, ◌&&◌, ◌||◌, if◌then◌else◌, List, ◌++◌, map, codes, decimal}
+use Rattle.prt_addr.specs.Refusal.{refusal_text}
+use Rattle.prt_addr.specs.declared.refusal.Refusal.{Refusal}
+
+-- printable ASCII and tabs (9) as they are, any other byte as `?` (63)
+abbrev pub shown : ℕ → ℕ
+shown byte = if byte == 9 || (nat_lt 31 byte && nat_lt byte 127) then byte else 63
+
+-- where a line stands: `FILE:LINE`
+abbrev pub place : List ℕ → ℕ → List ℕ
+place file line = file ++ codes ":" ++ decimal line
+
+-- what is wrong with a line: `error C NAME: TEXT`
+abbrev pub complaint : Refusal → List ℕ → List ℕ
+complaint reason text = refusal_text reason ++ codes ": " ++ map shown text
+
+-- of a refused line
+abbrev pub refused_message : List ℕ → ℕ → Refusal → List ℕ → List ℕ
+refused_message file line reason text = place file line ++ codes ": " ++ complaint reason text ++ codes "\n"
+
+-- a number of lines
+abbrev pub lines_text : ℕ → List ℕ
+lines_text count = decimal count ++ (if count == 1 then codes " line" else codes " lines")
+
+-- at the end, with how many of the lines were refused: `499 lines, 1 refused`
+abbrev pub total_message : ℕ → ℕ → List ℕ
+total_message lines refused = lines_text lines ++ codes ", " ++ decimal refused ++ codes " refused\n"
+
+-- on the way, with how many are done in a second: `12000 lines, 4000 a second`
+abbrev pub progress_message : ℕ → ℕ → List ℕ
+progress_message lines rate = lines_text lines ++ codes ", " ++ decimal rate ++ codes " a second"

@@ -1,0 +1,68 @@
+-- What the program does: it runs the session or the replay that its words ask for, or it says why it does not.
+use Rattle.std.specs.Prelude.{◌≡◌, ◌≢◌, ◌⊎◌, ℕ, Bool, true, false, List, Option, Some, None}
+use Rattle.prt_addr.specs.declared.refusal.Refusal.{Refusal}
+use Rattle.prt_program.specs.Faults.{IsStatusOf, database_of}
+use Rattle.prt_program.specs.Invocation.{Invocation, Word, batch, replay}
+use Rattle.prt_program.specs.Replay.{ReplayIs}
+use Rattle.prt_session.specs.Desk.{Befalls, DeskState, IsNoMemory, Mishap, request_turn, settled}
+use Rattle.prt_session.specs.Run.{RunIs}
+use Rattle.prt_version.specs.State.{State, opening_state}
+use Rattle.prt_session.specs.declared.script.OnRefusal.{OnRefusal}
+use Rattle.prt_session.specs.declared.script.ScriptEnd.{ScriptEnd}
+
+-- 3 for a fault, else 1 for a refused line, else 0
+abbrev pub status_by : Option Refusal → Bool → ℕ
+status_by (Some fault) refused = 3
+status_by None true = 1
+status_by None false = 0
+
+abbrev pub exit_status : ScriptEnd → ℕ
+exit_status end = status_by end.fault end.refused
+
+-- A session that begins with this state was run, and this is its exit status.
+pub record RunsFrom (opened : State) (may : Mishap → Type 0) (mode : OnRefusal) (reader0 writer0 writer : Option (List ℕ)) (status : ℕ) : Type 0 where
+  pub desk : DeskState
+  pub reader : Option (List ℕ)
+  pub end : ScriptEnd
+  pub run : RunIs request_turn (Befalls may) mode (settled opened) desk reader0 reader writer0 writer end
+  pub status_is : status ≡ exit_status end
+
+-- a session over a new database in memory, or over the one at this path: `holds` are the states that it may have, `may` what may befall a session over it
+abbrev pub RunsBatch : (Word → State → Type 0) → (Mishap → Type 0) → Option Word → OnRefusal → (reader0 writer0 writer : Option (List ℕ)) → ℕ → Type 0
+RunsBatch holds may None mode reader0 writer0 writer status = RunsFrom opening_state IsNoMemory mode reader0 writer0 writer status
+RunsBatch holds may (Some path) mode reader0 writer0 writer status = (opened : State) × holds path opened × RunsFrom opened may mode reader0 writer0 writer status
+
+-- A replay was run, and this is its exit status.
+pub record RunsReplay (reader0 writer0 writer : Option (List ℕ)) (status : ℕ) : Type 0 where
+  pub end : ScriptEnd
+  pub run : ReplayIs reader0 writer0 writer end
+  pub status_is : status ≡ exit_status end
+
+-- a run over a file: the input, or an open file, of which nothing is known
+abbrev pub RunsOver : {File : Type 0} → (File → Option (List ℕ)) → ((reader0 writer0 writer : Option (List ℕ)) → ℕ → Type 0) → Option Word → (input writer0 writer : Option (List ℕ)) → ℕ → Type 0
+RunsOver bytes Run None input writer0 writer status = Run input writer0 writer status
+RunsOver {File} bytes Run (Some path) input writer0 writer status = (file : File) × Run (bytes file) writer0 writer status
+
+-- what the words ask for was run
+abbrev pub Runs : {File : Type 0} → (File → Option (List ℕ)) → (Word → State → Type 0) → (Mishap → Type 0) → Invocation → (input writer0 writer : Option (List ℕ)) → ℕ → Type 0
+Runs bytes holds may (batch script) input writer0 writer status = RunsOver bytes (RunsBatch holds may script.database script.mode) script.file input writer0 writer status
+Runs bytes holds may (replay file) input writer0 writer status = RunsOver bytes RunsReplay file input writer0 writer status
+Runs bytes holds may asked input writer0 writer status = ⊥
+
+-- Nothing was run: the words ask for none, or there was a fault of opening. What the writer had is there alone, unless help was asked for.
+abbrev pub RunsNothing : Invocation → Option (List ℕ) → Option (List ℕ) → ℕ → Type 0
+RunsNothing asked writer0 writer status = (IsStatusOf asked status ⊎ (status ≡ 3)) × (status ≢ 0 → writer ≡ writer0)
+
+-- the input is read for a run over it alone
+abbrev pub LeavesInputFor : Option Word → Option (List ℕ) → Option (List ℕ) → Type 0
+LeavesInputFor None input0 input = Unit {0}
+LeavesInputFor (Some path) input0 input = input ≡ input0
+
+abbrev pub LeavesInput : Invocation → Option (List ℕ) → Option (List ℕ) → Type 0
+LeavesInput (batch script) input0 input = LeavesInputFor script.file input0 input
+LeavesInput (replay file) input0 input = LeavesInputFor file input0 input
+LeavesInput asked input0 input = input ≡ input0
+
+-- databases are touched for a run over one alone
+abbrev pub LeavesDatabases : {D : Type 0} → Invocation → D → D → Type 0
+LeavesDatabases asked old new = database_of asked ≡ None → new ≡ old

@@ -1,0 +1,40 @@
+//! Databases that are opened by their paths.
+ghost use Rattle.std.specs.Prelude.{IfErr, IfOk};
+ghost use Rattle.prt_program.specs.Databases.{IsOpenOn, IsOpenRefusal};
+ghost use Rattle.prt_version.specs.State.{State};
+
+use prt_session::{Desk, Refusal};
+use std::alloc::Global;
+use std::fmt::Display;
+
+/// Opens databases.
+pub trait Databases {
+    ghost use Rattle.std.specs.Prelude.{List, ℕ};
+    ghost use Rattle.prt_version.specs.State.{State};
+
+    /// A desk over an open database.
+    type Opened: Desk + Drop;
+
+    /// The error of a file that could not be opened.
+    type Error: Display + Drop;
+
+    /// The states that the database at a path may hold.
+    ghost holds: { Self → List ℕ → State → Type 0 };
+
+    /// Opens the database at a path, and makes it where there is none. With a refusal comes the error of the file, if that
+    /// could not be opened.
+    ///
+    /// # Errors
+    ///
+    /// `OpenFailed`, `Damaged` where it holds no state, or `NoMemory`.
+    fn open(
+        &mut self,
+        alloc: Global,
+        path: &str,
+    ) -> Result<Self::Opened, (Refusal, Option<Self::Error>)>
+        ensures opened { IfOk result (λ desk. (opened : State) × holds self.old path.now opened × IsOpenOn Self.Opened.stands desk opened) }
+        ensures reason { IfErr result (λ refused. IsOpenRefusal refused.0) };
+
+    /// Closes a database, so that its file alone has all of it. A fault of closing loses nothing that was acknowledged.
+    fn close(&mut self, desk: Self::Opened);
+}

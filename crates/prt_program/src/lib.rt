@@ -1,0 +1,14 @@
+//! The program `prt` over any databases, files and streams: scripts, replays, and what a person is told of a run.
+#![tactic(auto)]
+
+mod databases;
+mod messages;
+mod prt;
+mod replay;
+
+pub use databases::Databases;
+pub use prt::{Fault, program, report, words_fault};
+pub use prt_session::{
+    Desk, LONGEST_UNENDED, ListDesk, MOST_LINES, OnRefusal, Refusal, ScriptEnd, run_script,
+};
+pub use replay::run_replay;

@@ -1,0 +1,235 @@
+//! What is told on standard error while a script is run.
+ghost use Rattle.std.specs.Prelude.{◌≡◌, ◌<◌, IfOk, map, string_bytes};
+ghost use Rattle.prt_program.specs.Messages.{complaint, lines_text, place, progress_message, refused_message, shown, total_message};
+
+use prt_session::{Observer, Refusal, Reply};
+use std::alloc::{AllocError, Global};
+use std::fmt::Display;
+use std::io::Write;
+use std::rt::Clock;
+use std::time::Instant;
+
+/// Goes over the line of progress, whose at most 31 characters it covers with spaces.
+const BLANK: &str = "\r                                        \r";
+
+/// Gives the character that stands for a byte of a line: what can't be printed could be a command to the terminal.
+fn shown(byte: u8) -> char
+    ensures value { result ≡ shown byte }
+    ensures ascii { result < 128 }
+{
+    if byte == b'\t' || (byte > 31 && byte < 127) {
+        char::from(byte)
+    } else {
+        '?'
+    }
+}
+
+/// Makes a text of the bytes of a line.
+fn shown_text(alloc: Global, line: &[u8]) -> Result<String, AllocError>
+    ensures { IfOk result (λ text. string_bytes text ≡ map shown line.now) }
+{
+    let mut text = String::new(alloc);
+    for byte in line {
+        text.push(shown(*byte))?;
+    }
+    Ok(text)
+}
+
+/// Makes the text of where a line stands.
+fn place(alloc: Global, file: &str, line: u64) -> Result<String, AllocError>
+    ensures { IfOk result (λ text. string_bytes text ≡ place file.now line) }
+{
+    let mut text = String::from_str(alloc, file)?;
+    write!(text, ":{line}")?;
+    Ok(text)
+}
+
+/// Makes the text of what is wrong with a line.
+fn complaint(alloc: Global, refusal: Refusal, text: &[u8]) -> Result<String, AllocError>
+    ensures { IfOk result (λ made. string_bytes made ≡ complaint refusal text.now) }
+{
+    let reason = refusal.to_string(alloc)?;
+    let text = shown_text(alloc, text)?;
+    format!(in alloc; "{reason}: {text}")
+}
+
+/// Makes the message of a refused line.
+fn refused_message(
+    alloc: Global,
+    file: &str,
+    line: u64,
+    refusal: Refusal,
+    text: &[u8],
+) -> Result<String, AllocError>
+    ensures { IfOk result (λ message. string_bytes message ≡ refused_message file.now line refusal text.now) }
+{
+    let place = place(alloc, file, line)?;
+    let complaint = complaint(alloc, refusal, text)?;
+    format!(in alloc; "{place}: {complaint}\n")
+}
+
+/// Makes the text of a number of lines.
+fn lines_text(alloc: Global, count: u64) -> Result<String, AllocError>
+    ensures { IfOk result (λ text. string_bytes text ≡ lines_text count) }
+{
+    let unit = if count == 1 { " line" } else { " lines" };
+    format!(in alloc; "{count}{unit}")
+}
+
+/// Makes the message at the end.
+fn total_message(alloc: Global, lines: u64, refused: u64) -> Result<String, AllocError>
+    ensures { IfOk result (λ message. string_bytes message ≡ total_message lines refused) }
+{
+    let lines = lines_text(alloc, lines)?;
+    format!(in alloc; "{lines}, {refused} refused\n")
+}
+
+/// Makes the line of progress.
+fn progress_message(alloc: Global, lines: u64, rate: u64) -> Result<String, AllocError>
+    ensures { IfOk result (λ message. string_bytes message ≡ progress_message lines rate) }
+{
+    let lines = lines_text(alloc, lines)?;
+    format!(in alloc; "{lines}, {rate} a second")
+}
+
+/// Makes the message of why a file could not be opened, in the words of what refused it.
+fn cause_message<D: Display>(alloc: Global, path: &str, reason: &D) -> Result<String, AllocError> {
+    format!(in alloc; "prt: {path}: {reason}\n")
+}
+
+/// Looks on at a run, and tells of it on standard error, where that is a terminal or is asked for.
+///
+/// A fault of the clock, of memory or of writing loses a message and changes nothing else.
+#[derive(Drop)]
+pub(crate) struct Messages<'a, E: Write + Drop, K: Clock + Drop> {
+    alloc: Global,
+    pub(crate) errors: E,
+    clock: K,
+    /// Whether anything is told.
+    is_on: bool,
+    /// The message of why a file could not be opened.
+    cause: Option<String>,
+    /// The name of the script.
+    file: &'a str,
+    /// When the run began; none where no progress is told.
+    begun: Option<Instant>,
+    /// How many whole seconds had passed when progress was told last.
+    seconds: u64,
+    /// Whether the line of progress stands.
+    is_shown: bool,
+    lines: u64,
+    refused: u64,
+}
+
+impl<'a, E: Write + Drop, K: Clock + Drop> Messages<'a, E, K> {
+    /// Tells of nothing yet; whether anything is told is known here, unless it is asked for later.
+    pub(crate) fn new(alloc: Global, errors: E, clock: K, is_terminal: bool) -> Messages<'a, E, K> {
+        Messages {
+            alloc,
+            errors,
+            clock,
+            is_on: is_terminal,
+            cause: None,
+            file: "",
+            begun: None,
+            seconds: 0,
+            is_shown: false,
+            lines: 0,
+            refused: 0,
+        }
+    }
+
+    /// Begins to look on at a run of the script of this name.
+    ///
+    /// Where its replies go to a terminal, they show the progress themselves.
+    pub(crate) fn begin(&mut self, file: &'a str, is_asked_for: bool, output_is_terminal: bool) {
+        self.file = file;
+        self.is_on = self.is_on || is_asked_for;
+        if self.is_on && !output_is_terminal {
+            self.begun = Instant::now(&self.clock).ok();
+        }
+    }
+
+    /// Keeps why a file could not be opened.
+    pub(crate) fn keep_cause<D: Display>(&mut self, path: &str, reason: &D) {
+        if self.is_on {
+            self.cause = cause_message(self.alloc, path, reason).ok();
+        }
+    }
+
+    /// Tells why a file could not be opened, if that was kept.
+    pub(crate) fn tell_cause(&mut self) {
+        if let Some(cause) = &self.cause {
+            let _ = self.errors.write_all(cause.as_bytes());
+        }
+    }
+
+    /// Writes a message, if there was memory for it.
+    fn write(&mut self, message: Result<String, AllocError>) {
+        if let Ok(message) = message {
+            let _ = self.errors.write_all(message.as_bytes());
+        }
+    }
+
+    /// Takes the line of progress away.
+    fn wipe(&mut self) {
+        if self.is_shown {
+            let _ = self.errors.write_all(BLANK.as_bytes());
+            self.is_shown = false;
+        }
+    }
+
+    /// Tells of a refused line.
+    fn tell_refused(&mut self, line: u64, refusal: Refusal, text: &[u8]) {
+        self.refused = self.refused.saturating_add(1);
+        self.wipe();
+        self.write(refused_message(self.alloc, self.file, line, refusal, text));
+    }
+
+    /// The whole seconds since the run began; 0 where no progress is told.
+    fn seconds_passed(&self) -> u64 {
+        match self.begun {
+            Some(begun) => match begun.elapsed(&self.clock) {
+                Ok(passed) => passed.as_secs(),
+                Err(_) => 0,
+            },
+            None => 0,
+        }
+    }
+
+    /// Tells how many lines are done, if a further second has passed.
+    fn tell_progress(&mut self) {
+        let seconds = self.seconds_passed();
+        if seconds <= self.seconds {
+            return;
+        }
+        self.seconds = seconds;
+        self.wipe();
+        let rate = self.lines / seconds;
+        self.write(progress_message(self.alloc, self.lines, rate));
+        self.is_shown = true;
+    }
+
+    /// Tells at the end of a run how many lines there were.
+    pub(crate) fn finish(&mut self) {
+        if self.is_on {
+            self.wipe();
+            self.write(total_message(self.alloc, self.lines, self.refused));
+        }
+    }
+}
+
+impl<'a, E: Write + Drop, K: Clock + Drop> Observer for Messages<'a, E, K> {
+    fn before(&mut self, _line: u64) {}
+
+    fn after(&mut self, line: u64, text: &[u8], reply: &Reply) {
+        if !self.is_on {
+            return;
+        }
+        self.lines = line;
+        if let Reply::Refused(refusal) = reply {
+            self.tell_refused(line, *refusal, text);
+        }
+        self.tell_progress();
+    }
+}
