@@ -1,49 +1,12 @@
-//! The program `prt`.
+//! The program `prt`, over the files and streams of this machine.
 #![tactic(auto)]
 
-mod databases;
-mod messages;
-mod program;
-mod replay;
+mod files;
 
-pub use databases::Databases;
-use databases::desk_over;
-pub use program::{Fault, program, report, words_fault};
-use prt_desk::StoreDesk;
-pub use prt_session::{
-    Desk, LONGEST_UNENDED, ListDesk, MOST_LINES, OnRefusal, Refusal, ScriptEnd, run_script,
-};
-pub use replay::run_replay;
-use sqlite::{Connection, Error, File, FileStore};
-use std::alloc::Global;
+use files::DatabaseFiles;
+use prt_program::{program, report, words_fault};
 use std::process::ExitCode;
 use std::{env, io};
-
-/// The database files of this machine.
-#[derive(Clone, Copy)]
-struct DatabaseFiles<'a> {
-    rt: &'a HostRuntime,
-}
-
-impl<'a> Databases for DatabaseFiles<'a> {
-    ghost use Rattle.prt_version.specs.Sound.{IsSound};
-
-    type Opened = StoreDesk<FileStore<File>>;
-
-    ghost holds = { λ _ _ opened. IsSound opened };
-
-    fn open(
-        &mut self,
-        alloc: Global,
-        path: &str,
-    ) -> Result<StoreDesk<FileStore<File>>, (Refusal, Option<Error>)> {
-        desk_over(alloc, Connection::open(self.rt, path))
-    }
-
-    fn close(&mut self, desk: StoreDesk<FileStore<File>>) {
-        let _ = desk.release().close();
-    }
-}
 
 /// Reads the words, and runs the program over the standard streams.
 fn main(rt: HostRuntime) -> ExitCode {

@@ -1,6 +1,0 @@
-use Rattle.prt_daemon.specs.Invocation.{invocation, arguments}
-use Rattle.prt_daemon.proofs.Reports.{unread}
-use Rattle.prt_daemon.proofs.program.run.Goals as goal
-
-pub returns-in_err-batch-clause-unread : goal.returns-in_err-batch-clause-unread
-returns-in_err-batch-clause-unread g c = unread (invocation (arguments c.args.words.now)) (g.R.Read.remaining c.args.input.now)
