@@ -7,7 +7,7 @@ use Rattle.sqlite.proofs.StateLemmas.{survives_then, survives_weaker}
 use Rattle.sqlite.specs.Effect.{Database, IsDatabase}
 use Rattle.sqlite.specs.Held.{Held, state}
 use Rattle.sqlite.specs.Schema.{Schema}
-use Rattle.sqlite.specs.State.{HasCleanDisk, KeepsCounts, Shows, Survives}
+use Rattle.sqlite.specs.State.{HasCleanDisk, IsRolledBack, KeepsCounts, Shows, Survives}
 use Rattle.sqlite.specs.Steps.{FailsToCommit}
 use Rattle.sqlite.specs.Store.{Ghosts}
 use Rattle.sqlite.specs.Tree.{Trees}
@@ -21,7 +21,7 @@ use Rattle.prt_rows.specs.Format.{BeginsFormat1, BeginsWithRoutes, BeginsWithRul
 use Rattle.prt_rows.specs.Statements.{create_meta, create_route, create_rule}
 use Rattle.prt_rows.specs.Tables.{no_tables, rule_alone, rule_and_route}
 use Rattle.prt_store.proofs.Filling.{fills}
-use Rattle.prt_store.proofs.Transactions.{committed, crash_after, not_committed, survives_itself}
+use Rattle.prt_store.proofs.Transactions.{committed, crash_after, left_alone, not_committed, stopped, survives_itself}
 use Rattle.prt_store.specs.Adopted.{Adopts, AdoptsPart, IsFilled, LeavesPart}
 use Rattle.prt_store.specs.Openings.{Advances, Commits, Fills, HasDone, HasLeft, MakesMissing, OpensTables, Ran, Sees, Takes, Works, begun_from, table_of}
 use Rattle.prt_store.specs.declared.opening.OurTable.{OurTable}
@@ -54,6 +54,15 @@ module _ {S : Type 0} (g : Ghosts S) (Does : Held S → Held S → Type 0) (old 
     err = λ clean still_open. not_committed g Does old begun last result was works fine end (Err e) refl clean survives.clean (fails clean) settled still_open;
     crash = crash_after g Does old begun last result was works fine end survives;
   }
+
+-- what was refused is rolled back
+pub stops : {S : Type 0} (g : Ghosts S) (Does : Held S → Held S → Type 0) (old begun last end : Held S) (result : Result ℕ Error) → begun ≡ begun_from old → Works g Does begun last result → (IsTrue (state g old).is_open → (state g old).now ≡ (state g old).committed)
+    → Survives (state g last) (state g end) (λ _. ⊥) → (HasCleanDisk (state g end) → IsRolledBack (state g last) (state g end)) → Commits g Does old end (Err OpenFailed)
+stops g Does old begun last end result was works settled survives undone = record {
+  ok = λ clean. tt;
+  err = λ clean still_open. (left_alone g Does old begun last result was works end survives.clean undone settled clean still_open).0;
+  crash = stopped g Does old begun last result was works end (HasLeft g Does old) survives;
+}
 
 -- ---- what is left of an opening
 

@@ -8,3 +8,6 @@ pub returns-clause-runs : goal.returns-clause-runs
 returns-clause-runs g c clean inside =
     let P = λ (values : _). ExecutesInside 0 insert_rule values (state g.S.Store c.args.tx.now.conn.now) (state g.S.Store c.execute.new.self.conn.now) c.execute.result in
     subst P c.rule_values.ensures (c.execute.ensures.runs clean inside)
+
+pub returns-clause-survives : goal.returns-clause-survives
+returns-clause-survives g c = c.execute.ensures.survives

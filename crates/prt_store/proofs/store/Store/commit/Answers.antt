@@ -41,3 +41,6 @@ returns-in-Ok-clause-clean g c clean = c.in-Ok.ensures.clean clean
 
 pub returns-in-Err-clause-clean : goal.returns-in-Err-clause-clean
 returns-in-Err-clause-clean g c clean = omega (arith, c.in-Err.ensures.crash_err.clean, clean)
+
+pub returns-in-Err-clause-err : goal.returns-in-Err-clause-err
+returns-in-Err-clause-err g c clean still_open = (c.in-Err.ensures.err clean still_open).0

@@ -1,0 +1,4 @@
+use Rattle.prt_store.proofs.statements.put_route.Goals as goal
+
+pub returns-clause-survives : goal.returns-clause-survives
+returns-clause-survives g c = c.execute.ensures.survives
