@@ -10,8 +10,6 @@ mod route_row;
 mod rows;
 mod rule_row;
 mod selector;
-#[cfg(test)]
-mod tests;
 mod value;
 
 pub use format::{begins_format_1, has_format_1, has_table, is_format_1};

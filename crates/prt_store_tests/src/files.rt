@@ -1,42 +1,38 @@
-//! Commands that are committed to a file, which is closed and opened again after each. What has the type of a file stands in
-//! functions of few lines, since each costs the prover half a minute.
+//! A store over a file. What has the type of a file stands in the test alone, since each such function is dear to prove.
 
-use crate::database::{Contents, spells};
-use crate::steps::{OPENING, STEPS, committed};
+use crate::database::spells;
+use crate::steps::OPENING;
 use prt_store::Store;
 use prt_version::Refusal;
-use sqlite::{Connection, File, FileStore};
+use sqlite::Alter;
+use std::alloc::Global;
 use std::fs;
 use std::test::Fail;
 
 /// The folder of the database that the test makes.
 const FOLDER: &str = "prt_store_tests_files";
 
-/// The connection of a store that was opened.
-fn opened(rt: &HostRuntime) -> Result<Connection<FileStore<File>>, Refusal> {
-    Ok(Store::open(rt, "prt_store_tests_files/routes.db")?.release())
-}
+/// The database that the test makes.
+const PATH: &str = "prt_store_tests_files/routes.db";
 
-/// Commits the command of a line to the file, and closes it.
-fn commit(rt: &HostRuntime, line: &str) -> Result<(), Fail> {
-    Ok(committed(rt.alloc(), opened(rt)?, line)?.close()?)
-}
-
-/// Whether the file spells this.
-fn holds(rt: &HostRuntime, contents: &Contents) -> Result<bool, Refusal> {
-    let (is_same, _connection) = spells(rt.alloc(), opened(rt)?, contents)?;
-    Ok(is_same)
+/// Whether the store that was opened spells the opening state.
+fn is_new<S: Alter + Drop>(
+    alloc: Global,
+    opened: Result<Store<S>, Refusal>,
+) -> Result<bool, Refusal> {
+    match opened {
+        Ok(store) => Ok(spells(alloc, store.release(), &OPENING)?.0),
+        Err(reason) => Err(reason),
+    }
 }
 
 #[test]
-fn commits_to_a_file(rt: HostRuntime) -> Result<(), Fail> {
+fn opens_a_file(rt: HostRuntime) -> Result<(), Fail> {
     let _ = fs::remove_dir_all(&rt, FOLDER);
-    assert_eq!(rt; holds(&rt, &OPENING), Err(Refusal::OpenFailed));
-    fs::create_dir(&rt, FOLDER)?;
-    assert!(rt; holds(&rt, &OPENING)?);
-    for (line, contents) in &STEPS {
-        commit(&rt, line)?;
-        assert!(rt; holds(&rt, contents)?, "{line}");
+    for want in [Err(Refusal::OpenFailed), Ok(true), Ok(true)] {
+        let found = is_new(rt.alloc(), Store::open(&rt, PATH));
+        assert_eq!(rt; found, want);
+        let _ = fs::create_dir(&rt, FOLDER);
     }
     fs::remove_dir_all(&rt, FOLDER)?;
     Ok(())

@@ -1,4 +1,4 @@
-//! Tests of the store, and a caller of it.
+//! Tests of the store and of the rows of its file, and a caller of it.
 #![tactic(auto)]
 
 mod caller;
@@ -10,6 +10,8 @@ mod failures;
 mod files;
 #[cfg(test)]
 mod openings;
+#[cfg(test)]
+mod rows;
 #[cfg(test)]
 mod steps;
 

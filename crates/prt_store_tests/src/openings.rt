@@ -2,6 +2,7 @@
 
 use crate::database::{adopted, loaded, run, spells};
 use crate::steps::OPENING;
+use prt_rows::is_format_1;
 use prt_version::Refusal;
 use sqlite::Connection;
 use std::alloc::Global;
@@ -62,5 +63,25 @@ fn refuses_other_columns(rt: HostRuntime) -> Result<(), Fail> {
         "CREATE TABLE route (tbl INTEGER NOT NULL) STRICT",
     )?;
     assert_eq!(rt; adopted(connection).err(), Some(Refusal::OpenFailed));
+    Ok(())
+}
+
+/// The tables of routes and of the count, as format 1 has them.
+const OTHER_TABLES: &str =
+    "CREATE TABLE route (tbl INTEGER NOT NULL, net INTEGER NOT NULL, len INTEGER NOT NULL, metric INTEGER NOT NULL, kind INTEGER NOT NULL, via INTEGER NOT NULL, dev TEXT NOT NULL, src INTEGER NOT NULL, proto INTEGER NOT NULL, scope INTEGER NOT NULL, PRIMARY KEY (tbl, net, len, metric)) STRICT; CREATE TABLE meta (id INTEGER PRIMARY KEY NOT NULL, format INTEGER NOT NULL, count INTEGER NOT NULL) STRICT";
+
+#[test]
+fn knows_format_1(rt: HostRuntime) -> Result<(), Fail> {
+    let mut connection = Connection::open_in_memory(rt.alloc())?;
+    assert!(rt; !is_format_1(connection.schema()));
+    run(&mut connection, RULE_TABLE)?;
+    assert!(rt; !is_format_1(connection.schema()));
+    run(&mut connection, OTHER_TABLES)?;
+    assert!(rt; is_format_1(connection.schema()));
+    run(
+        &mut connection,
+        "CREATE TABLE note (rule INTEGER REFERENCES rule (id))",
+    )?;
+    assert!(rt; !is_format_1(connection.schema()));
     Ok(())
 }

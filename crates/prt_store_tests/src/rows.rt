@@ -1,12 +1,12 @@
-use crate::{
-    count_of_rows, is_format_1, meta_values, route_of_row, route_values, routes_of_rows,
-    rule_of_row, rule_values, rules_of_rows, selector_values,
+//! Rows of the three tables: what is written is read back, and what no table holds is refused.
+
+use prt_command::{Action, Addr, Dev, Kind, Mark, Prefix, Range, Refusal, Route, Rule, Selector};
+use prt_rows::{
+    count_of_rows, meta_values, route_of_row, route_values, routes_of_rows, rule_of_row,
+    rule_values, rules_of_rows, selector_values,
 };
-use prt_addr::{Addr, Prefix, Refusal};
-use prt_route::{Dev, Kind, Range, Route, Selector};
-use prt_rule::{Action, Mark, Rule};
+use sqlite::Row;
 use sqlite::types::ValueRef;
-use sqlite::{Alter, Connection, Error, Row};
 use sqlite_exec::work::FromRow;
 use sqlite_value::row;
 use std::alloc::{AllocError, Global};
@@ -165,29 +165,6 @@ fn reads_whole_tables(rt: HostRuntime) -> Result<(), Fail> {
         Some(Refusal::Damaged)
     );
     assert_eq!(rt; count_of_rows(&counts), None);
-    Ok(())
-}
-
-/// Runs statements; without a clause, so that the proof of a test does not carry what they do.
-fn run<S: Alter>(connection: &mut Connection<S>, sql: &str) -> Result<(), Error> {
-    connection.execute_batch(sql)
-}
-
-/// The three tables of format 1.
-const TABLES: &str =
-    "CREATE TABLE rule (id INTEGER PRIMARY KEY NOT NULL, priority INTEGER NOT NULL, inverted INTEGER NOT NULL, src_net INTEGER NOT NULL, src_len INTEGER NOT NULL, dst_net INTEGER NOT NULL, dst_len INTEGER NOT NULL, iif TEXT NOT NULL, mark INTEGER NOT NULL, mask INTEGER NOT NULL, act INTEGER NOT NULL, tbl INTEGER NOT NULL) STRICT; CREATE TABLE route (tbl INTEGER NOT NULL, net INTEGER NOT NULL, len INTEGER NOT NULL, metric INTEGER NOT NULL, kind INTEGER NOT NULL, via INTEGER NOT NULL, dev TEXT NOT NULL, src INTEGER NOT NULL, proto INTEGER NOT NULL, scope INTEGER NOT NULL, PRIMARY KEY (tbl, net, len, metric)) STRICT; CREATE TABLE meta (id INTEGER PRIMARY KEY NOT NULL, format INTEGER NOT NULL, count INTEGER NOT NULL) STRICT";
-
-#[test]
-fn knows_format_1(rt: HostRuntime) -> Result<(), Fail> {
-    let mut connection = Connection::open_in_memory(rt.alloc())?;
-    assert!(rt; !is_format_1(connection.schema()));
-    run(&mut connection, TABLES)?;
-    assert!(rt; is_format_1(connection.schema()));
-    run(
-        &mut connection,
-        "CREATE TABLE note (rule INTEGER REFERENCES rule (id))",
-    )?;
-    assert!(rt; !is_format_1(connection.schema()));
     Ok(())
 }
 
