@@ -7,8 +7,8 @@ use Rattle.prt_rows.proofs.route_row.route_of_cells.Goals as goal
 pub returns : goal.returns
 returns c =
     let whole : length c.args.row.now ≡ 11 = sym c.column_count.ensures ∙ c.if-column_count.false in
-    let net = ap (λ (row : Row). column row 0) c.in_ok-prefix.ensures.1 in
-    let len = ap (λ (row : Row). column row 1) c.in_ok-prefix.ensures.1 in (
+    let net = ap (λ (cells : Row). column cells 0) c.in_ok-prefix.ensures.1 in
+    let len = ap (λ (cells : Row). column cells 1) c.in_ok-prefix.ensures.1 in (
       record {
         table = c.in_ok-number.ensures.0;
         prefix = c.in_ok-prefix.ensures.0;

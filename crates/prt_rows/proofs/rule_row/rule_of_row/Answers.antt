@@ -5,10 +5,10 @@ use Rattle.prt_rows.proofs.Columns.{row_of_cells}
 use Rattle.prt_rows.proofs.rule_row.rule_of_row.Goals as goal
 
 first : {r s : Row} → r ≡ s → column r 0 ≡ column s 0
-first is = ap (λ (row : Row). column row 0) is
+first is = ap (λ (cells : Row). column cells 0) is
 
 second : {r s : Row} → r ≡ s → column r 1 ≡ column s 1
-second is = ap (λ (row : Row). column row 1) is
+second is = ap (λ (cells : Row). column cells 1) is
 
 pub returns : goal.returns
 returns c =
