@@ -33,6 +33,7 @@ fn refusal_after(alloc: Global, calls: u64) -> Option<Refusal> {
     let db = Fuse::new(Memory::new(alloc), u64::MAX);
     refusal_in(alloc, Files { log, db })
 }
+
 #[test]
 fn names_the_call_that_failed(rt: HostRuntime) {
     for (calls, failed) in [
