@@ -1,6 +1,6 @@
 //! The opening of a file: the three tables are made where they are missing, and filled where they have no rows.
 
-ghost use Rattle.std.specs.Prelude.{◌≡◌, ◌<◌, ◌^◌, [], IfErr, IsTrue, OnOk};
+ghost use Rattle.std.specs.Prelude.{◌≡◌, ◌<◌, ◌^◌, [], false, IfErr, IsTrue, OnOk};
 ghost use Rattle.sqlite.specs.Held.{state};
 ghost use Rattle.prt_addr.specs.declared.refusal.Refusal.TheVariants.{OpenFailed};
 ghost use Rattle.prt_rows.specs.Effects.{AreEmpty};
@@ -200,16 +200,22 @@ fn are_empty<S: Alter>(conn: &mut Connection<S>) -> Result<bool, Refusal>
     is_empty(conn, OurTable::Route)
 }
 
+/// Whether the three tables have the columns of format 1, and nothing is pending.
+fn is_ready<S: Alter>(conn: &Connection<S>) -> bool
+    ensures columns { IsTrue result → HasFormat1 (state S.Store conn.now).now.schema }
+    ensures alone { IsTrue result → (state S.Store conn.now).in_transaction ≡ false }
+    ensures settled { IsTrue result → IsTrue (state S.Store conn.now).is_open → (state S.Store conn.now).now ≡ (state S.Store conn.now).committed }
+{
+    has_format_1(conn.schema()) && conn.is_autocommit()
+}
+
 /// Makes the three tables where they are missing, compares their columns, and fills them where they have no rows.
 fn make_and_fill<S: Alter>(conn: &mut Connection<S>) -> Result<(), Refusal>
     ensures reason { IfErr result (λ reason. reason ≡ OpenFailed) }
     ensures opens { OpensTables S.Store conn.old conn.new result }
 {
     make_tables(conn)?;
-    if !has_format_1(conn.schema()) {
-        return Err(Refusal::OpenFailed);
-    }
-    if !conn.is_autocommit() {
+    if !is_ready(conn) {
         return Err(Refusal::OpenFailed);
     }
     if !are_empty(conn)? {
@@ -231,7 +237,7 @@ pub(crate) fn open_tables<S: Alter>(conn: &mut Connection<S>) -> Result<(), Refu
 {
     make_and_fill(conn)?;
     // Asks again: what the statements leave alone is known only of files whose first tables are ours.
-    if has_format_1(conn.schema()) && conn.is_autocommit() {
+    if is_ready(conn) {
         Ok(())
     } else {
         Err(Refusal::OpenFailed)

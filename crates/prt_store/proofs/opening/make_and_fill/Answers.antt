@@ -1,26 +1,24 @@
-use Rattle.std.proofs.Common.{Ok, subst}
+use Rattle.std.proofs.Common.{Ok, ap, not, refl, subst}
+use Rattle.sqlite.specs.Held.{state}
 use Rattle.prt_rows.specs.Effects.{AreEmpty}
 use Rattle.prt_store.proofs.Openings.{has_rows, look_failed, opens_filled, opens_refused}
 use Rattle.prt_store.specs.Openings.{Sees}
 use Rattle.prt_store.proofs.opening.make_and_fill.Goals as goal
 
-pub returns-then-not-has_format_1-clause-opens : goal.returns-then-not-has_format_1-clause-opens
-returns-then-not-has_format_1-clause-opens g c = opens_refused g.S.Store c.args.conn.now c.make_tables.new.conn c.in_ok-make_tables.ensures.advances _
-
-pub returns-then-not-is_autocommit-clause-opens : goal.returns-then-not-is_autocommit-clause-opens
-returns-then-not-is_autocommit-clause-opens g c = opens_refused g.S.Store c.args.conn.now c.make_tables.new.conn c.in_ok-make_tables.ensures.advances _
+pub returns-then-not-is_ready-clause-opens : goal.returns-then-not-is_ready-clause-opens
+returns-then-not-is_ready-clause-opens g c = opens_refused g.S.Store c.args.conn.now c.make_tables.new.conn c.in_ok-make_tables.ensures.advances _
 
 pub returns-in_err-are_empty-clause-opens : goal.returns-in_err-are_empty-clause-opens
 returns-in_err-are_empty-clause-opens g c =
     look_failed g.S.Store c.args.conn.now c.make_tables.new.conn c.in_ok-make_tables.ensures.advances c.are_empty.new.conn c.in_err-are_empty.field-0.0 c.from_residual-in_err-are_empty.result c.from_residual-in_err-are_empty.ensures.0
-    c.in_err-are_empty.ensures.sees (c.is_autocommit.ensures.settled c.if-not-is_autocommit.false)
+    c.in_err-are_empty.ensures.sees (c.is_ready.ensures.settled c.if-not-is_ready.false)
 
 pub returns-then-not-branch-clause-opens : goal.returns-then-not-branch-clause-opens
 returns-then-not-branch-clause-opens g c =
     let made = c.make_tables.new.conn in
     let seen = c.are_empty.new.conn in
     has_rows g.S.Store c.args.conn.now made c.in_ok-make_tables.ensures.advances seen (subst (λ b. Sees g.S.Store AreEmpty made seen (Ok b)) c.if-not-branch.true c.in_ok-are_empty.ensures.sees)
-    c.is_autocommit.result c.if-not-is_autocommit.false c.is_autocommit.ensures.value (c.is_autocommit.ensures.settled c.if-not-is_autocommit.false)
+    (not (state g.S.Store made).in_transaction) (ap not (c.is_ready.ensures.alone c.if-not-is_ready.false)) refl (c.is_ready.ensures.settled c.if-not-is_ready.false)
 
 pub returns-clause-opens : goal.returns-clause-opens
 returns-clause-opens g c =
