@@ -9,6 +9,7 @@ pub mod Ranges
 pub mod Blocks
 pub mod Bests
 pub mod Rows
+pub mod Parts
 pub mod Finds
 pub mod Places
 pub mod Choices

@@ -4,3 +4,4 @@ pub mod Place
 pub mod Walk
 pub mod Index
 pub mod Pieces
+pub mod Parts

@@ -4,6 +4,7 @@
 mod edit;
 mod listing;
 mod node;
+mod part;
 mod pieces;
 mod place;
 mod table;

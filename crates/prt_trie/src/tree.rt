@@ -11,6 +11,7 @@ ghost use Rattle.prt_trie.specs.Table.{IsOfOneTable, IsOfTable, IsRising, IsTabl
 
 use crate::listing::sort_rows;
 use crate::node::{Halves, Node, last_row, node_of};
+use crate::part::Part;
 use crate::place::{chosen_route, has_key};
 use crate::{Addr, Refusal, Route, RouteChoice, RouteKey};
 use std::alloc::{AllocError, Global};
@@ -100,7 +101,13 @@ impl Tree {
         let Ok(mut halves) = Vec::with_capacity(alloc, given.len()) else {
             return Err(Refusal::NoMemory);
         };
-        let Ok(root) = node_of(&mut halves, given, 0, given.len(), 0, 0) else {
+        let all = Part {
+            start: 0,
+            end: given.len(),
+            first: 0,
+            len: 0,
+        };
+        let Ok(root) = node_of(&mut halves, given, all) else {
             return Err(Refusal::NoMemory);
         };
         Ok(Tree { rows, halves, root })

@@ -2,7 +2,7 @@ use Rattle.std.proofs.Common.{◌≡◌, ℕ, ◌+◌, ◌*◌, ◌-◌, ◌%◌
 use Rattle.std.proofs.lemmas.Nat.{pow_pos, one_shl}
 use Rattle.prt_trie.specs.Block.{size}
 use Rattle.prt_trie.proofs.Blocks.{size_of_halves, first_of_low, first_of_high}
-use Rattle.prt_trie.proofs.node.middle_of.Goals as goal
+use Rattle.prt_trie.proofs.part.middle_of.Goals as goal
 
 half : (len : ℕ) → len < 32 → (1 * 2 ^ (31 - len)) % 2 ^ 32 ≡ size (len + 1)
 half len h = search (rules, one_shl)
