@@ -1,4 +1,6 @@
+use Rattle.std.proofs.Common.{arith}
 use Rattle.std.proofs.lemmas.Result.{IfOk-weaker}
+use Rattle.prt_trie.proofs.Ways.{within_still}
 use Rattle.prt_trie.proofs.Parts.{fork_node, half_node, node_still}
 use Rattle.prt_trie.proofs.node.+node_of.Goals as goal
 
@@ -17,3 +19,31 @@ returns-in_ok-high-in-Fork-clause-node t c =
     (node_still c.args.rows.now c.in-Fork.low_part middle after low.low low.ensures.halves high.ensures.halves high.ensures.kept low.ensures.node)
     high.ensures.node)
     c.fork.ensures.node
+
+pub node_of-requires : goal.node_of-requires
+node_of-requires t c =
+    let half = c.in-Half.ensures in
+    (omega (arith, half.len, half.half_part.short), (c.requires.halves, (c.requires.rows, (c.requires.fits, half.half_part))))
+
+pub node_of-requires-in-Fork : goal.node_of-requires-in-Fork
+node_of-requires-in-Fork t c =
+    let parts = c.in-Fork.ensures.halves in
+    (omega (arith, parts.low_len, parts.low_part.short), (c.requires.halves, (c.requires.rows, (c.requires.fits, parts.low_part))))
+
+pub node_of-requires-in-Fork-2 : goal.node_of-requires-in-Fork-2
+node_of-requires-in-Fork-2 t c =
+    let parts = c.in-Fork.ensures.halves in
+    (omega (arith, parts.high_len, parts.high_part.short), (c.in_ok-low-in-Fork.ensures.halves, (c.requires.rows, (c.requires.fits, parts.high_part))))
+
+pub fork-requires-clause-low : goal.fork-requires-clause-low
+fork-requires-clause-low t c =
+    within_still c.node_of-in-Fork.new.halves.items c.node_of-in-Fork-2.new.halves.items c.in_ok-low-in-Fork.low c.in_ok-high-in-Fork.ensures.kept c.in_ok-low-in-Fork.ensures.node.below
+
+pub returns-in-Leaf-clause-node : goal.returns-in-Leaf-clause-node
+returns-in-Leaf-clause-node t c = c.in-Leaf.ensures c.args.halves.now.items c.requires.halves.fits
+
+pub returns-in-Half-clause-halves : goal.returns-in-Half-clause-halves
+returns-in-Half-clause-halves t c = c.node_of.ensures.halves
+
+pub returns-in-Half-clause-kept : goal.returns-in-Half-clause-kept
+returns-in-Half-clause-kept t c = c.node_of.ensures.kept
