@@ -1,5 +1,5 @@
 -- Parts of a table's rows, and the nodes over them.
-use Rattle.std.proofs.Common.{◌≡◌, ℕ, ◌+◌, ◌%◌, ◌^◌, ◌<◌, ◌≤◌, List, length, true, false, None, arith, refl, sym, ◌∙◌}
+use Rattle.std.proofs.Common.{◌≡◌, ℕ, ◌+◌, ◌%◌, ◌^◌, ◌<◌, ◌≤◌, List, length, true, false, None, arith, refl, sym, subst, ◌∙◌}
 use Rattle.std.specs.List.{AllWithin, slice_get}
 use Rattle.std.proofs.lemmas.Option.{slice_get_past}
 use Rattle.prt_addr.specs.Block.{Block}
@@ -109,6 +109,15 @@ low_half rows part low high own halves first last =
 pub high_half : (rows : List Route) (part low high : Part) (own : ℕ) → AreHalvesOf rows part own low high → part.start ≡ own → high.start ≡ own → IsHalfOf rows part high
 high_half rows part low high own halves first last =
     record { half_part = halves.high_part; start = last ∙ sym first; end = halves.end; first = omega (arith, halves.middle); len = halves.high_len }
+
+pub fork_of : (rows : List Route) (part : Part) (block : Node) (low high : Part) (own : ℕ) → IsOwnEnd rows part own → AreHalvesOf rows part own low high → IsBlockOf part own block → IsForkOf rows part block low high
+fork_of rows part block low high own ends halves is =
+    let same : own ≡ low.start = sym halves.start in
+    record {
+      own = subst (λ n. IsOwnEnd rows part n) same ends;
+      halves = subst (λ n. AreHalvesOf rows part n low high) same halves;
+      is_block = subst (λ n. IsBlockOf part n block) same is;
+    }
 
 -- the node of a half in which all rows lie is one of the whole
 pub half_node : (rows : List Route) (part half : Part) (halves : List Halves) (node : Node) → IsHalfOf rows part half → IsNodeOf rows half halves node → IsNodeOf rows part halves node

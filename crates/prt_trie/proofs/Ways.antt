@@ -1,5 +1,5 @@
 -- The way down to an address.
-use Rattle.std.proofs.Common.{◌≡◌, ◌⊎◌, inl, inr, ℕ, zero, suc, ◌<◌, ◌≤◌, List, [], ◌∷◌, ◌++◌, length, true, false, cond, ltb, arith, append_assoc, length-append, Some, None, refl, ap, sym, ◌∙◌, ⊎_elim}
+use Rattle.std.proofs.Common.{◌≡◌, ◌⊎◌, inl, inr, ℕ, zero, suc, ◌+◌, ◌%◌, ◌^◌, ◌<◌, ◌≤◌, List, [], ◌∷◌, ◌++◌, length, true, false, cond, ltb, arith, append_assoc, length-append, Some, None, refl, ap, sym, ◌∙◌, ⊎_elim}
 use Rattle.std.specs.List.{slice_get}
 use Rattle.std.specs.Prelude.{get_or}
 use Rattle.std.proofs.lemmas.Bool.{cases_Bool, cases_lt}
@@ -67,6 +67,15 @@ step (first ∷ others) node pair addr before below inside at =
 -- the end of the way
 pub stop : (halves : List Halves) (node : Node) (addr before : ℕ) → has node addr ≡ true → slice_get halves node.below ≡ None → last_row halves node addr before ≡ row_or node.row before
 stop halves node addr before inside none = rw (inside, none) refl
+
+-- nothing is found outside the node's block
+pub out_of : (halves : List Halves) (node : Node) (addr before : ℕ) → has node addr ≡ false → last_row halves node addr before ≡ before
+out_of halves node addr before outside = rw outside refl
+
+-- a place below is before the node's, where `nowhere` counts as before all
+pub further_down : (count : ℕ) (node half : Node) → count ≤ nowhere → node.below < count → IsWithin node.below half → (half.below + 1) % 2 ^ 64 < (node.below + 1) % 2 ^ 64
+further_down count node half few lt within =
+    ⊎_elim (λ (less : half.below < node.below). omega arith) (λ (past : half.below ≡ nowhere). omega arith) (below_or_nowhere node.below half within)
 
 get_pushed : {X : Type 0} (xs : List X) (x y : X) (k : ℕ) → slice_get (xs ++ x ∷ []) k ≡ Some y → (slice_get xs k ≡ Some y) ⊎ ((k ≡ length xs) × (x ≡ y))
 get_pushed [] x y zero e = inr (refl, cc)
