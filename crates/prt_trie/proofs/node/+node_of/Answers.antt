@@ -1,6 +1,6 @@
-use Rattle.std.proofs.Common.{arith}
-use Rattle.std.proofs.lemmas.Result.{IfOk-weaker}
-use Rattle.prt_trie.proofs.Ways.{within_still}
+use Rattle.std.proofs.Common.{[], append-nil, arith, sym}
+use Rattle.std.proofs.lemmas.Result.{IfOk-from_err, IfOk-weaker}
+use Rattle.prt_trie.proofs.Ways.{extends_further, within_still}
 use Rattle.prt_trie.proofs.Parts.{fork_node, half_node, node_still}
 use Rattle.prt_trie.proofs.node.+node_of.Goals as goal
 
@@ -47,3 +47,40 @@ returns-in-Half-clause-halves t c = c.node_of.ensures.halves
 
 pub returns-in-Half-clause-kept : goal.returns-in-Half-clause-kept
 returns-in-Half-clause-kept t c = c.node_of.ensures.kept
+
+pub fork-requires-clause-halves : goal.fork-requires-clause-halves
+fork-requires-clause-halves t c = c.in_ok-high-in-Fork.ensures.halves
+
+pub fork-requires-clause-high : goal.fork-requires-clause-high
+fork-requires-clause-high t c = c.in_ok-high-in-Fork.ensures.node.below
+
+pub returns-in-Leaf-clause-kept : goal.returns-in-Leaf-clause-kept
+returns-in-Leaf-clause-kept t c = ([], sym (append-nil c.args.halves.now.items))
+
+pub returns-in_ok-high-in-Fork-clause-halves : goal.returns-in_ok-high-in-Fork-clause-halves
+returns-in_ok-high-in-Fork-clause-halves t c = c.fork.ensures.halves
+
+pub returns-in_ok-high-in-Fork-clause-kept : goal.returns-in_ok-high-in-Fork-clause-kept
+returns-in_ok-high-in-Fork-clause-kept t c =
+    let old = c.args.halves.now.items in
+    let middle = c.node_of-in-Fork.new.halves.items in
+    let after = c.node_of-in-Fork-2.new.halves.items in
+    IfOk-weaker c.fork.result _ _ (λ node kept. extends_further old after c.fork.new.halves.items (extends_further old middle after c.in_ok-low-in-Fork.ensures.kept c.in_ok-high-in-Fork.ensures.kept) kept) c.fork.ensures.kept
+
+pub returns-in_err-low-in-Fork-clause-node : goal.returns-in_err-low-in-Fork-clause-node
+returns-in_err-low-in-Fork-clause-node t c = IfOk-from_err c.from_residual.result _ c.from_residual.ensures.0
+
+pub returns-in_err-low-in-Fork-clause-halves : goal.returns-in_err-low-in-Fork-clause-halves
+returns-in_err-low-in-Fork-clause-halves t c = IfOk-from_err c.from_residual.result _ c.from_residual.ensures.0
+
+pub returns-in_err-low-in-Fork-clause-kept : goal.returns-in_err-low-in-Fork-clause-kept
+returns-in_err-low-in-Fork-clause-kept t c = IfOk-from_err c.from_residual.result _ c.from_residual.ensures.0
+
+pub returns-in_err-high-in-Fork-clause-node : goal.returns-in_err-high-in-Fork-clause-node
+returns-in_err-high-in-Fork-clause-node t c = IfOk-from_err c.from_residual-in_err-high-in-Fork.result _ c.from_residual-in_err-high-in-Fork.ensures.0
+
+pub returns-in_err-high-in-Fork-clause-halves : goal.returns-in_err-high-in-Fork-clause-halves
+returns-in_err-high-in-Fork-clause-halves t c = IfOk-from_err c.from_residual-in_err-high-in-Fork.result _ c.from_residual-in_err-high-in-Fork.ensures.0
+
+pub returns-in_err-high-in-Fork-clause-kept : goal.returns-in_err-high-in-Fork-clause-kept
+returns-in_err-high-in-Fork-clause-kept t c = IfOk-from_err c.from_residual-in_err-high-in-Fork.result _ c.from_residual-in_err-high-in-Fork.ensures.0
