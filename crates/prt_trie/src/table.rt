@@ -250,6 +250,7 @@ impl Table {
     }
 
     /// The best route for the address, if one contains it (RFC 1812, section 5.2.4.3). It takes no memory.
+    #[tactic(auto, using(crate::proofs::Matches::best_in_piece, crate::proofs::Matches::best_in_short))]
     pub fn find(&self, addr: Addr) -> Option<&Route>
         ensures { (table : ℕ) → IsOfTable table self.now → option_copied result ≡ best self.now table addr }
     {
