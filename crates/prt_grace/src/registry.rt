@@ -42,6 +42,13 @@ impl Registry {
         }
     }
 
+    /// The number of the version noted last.
+    pub fn noted(&self) -> u64
+        ensures { result ≡ self.now.noted.count }
+    {
+        self.noted.number()
+    }
+
     /// Writes what is known of one place.
     fn put(&mut self, index: usize, state: PlaceState)
         requires { index < PLACES }
@@ -99,7 +106,7 @@ impl Registry {
         ensures registry { self.new ≡ with_place self.old place.old.index (Online result) }
         ensures known { HasPlace self.new place.new }
     {
-        let announced = place.announced.unwrap_or(self.noted.number());
+        let announced = place.announced.unwrap_or(self.noted());
         self.set_announced(place, Some(announced));
         announced
     }

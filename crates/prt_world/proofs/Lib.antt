@@ -12,3 +12,4 @@ pub mod LookersFollow
 pub mod WholeRuns
 pub mod FileLines
 pub mod EventSteps
+pub mod LookerNumbers

@@ -25,8 +25,8 @@ pub record IsSeat (registry : RegistryState) (seats : List SeatState) (i looker 
   pub is : seat ≡ get_or seats i seat
 
 -- the seat that was read
-pub read : (registry : RegistryState) (seats : List SeatState) (i n looker : ℕ) (inside seat : SeatState) → AreSeated registry seats → i ≡ n → n ≡ looker → n < PLACES → inside ≡ seat → seat ≡ get_or seats i seat → IsSeat registry seats i looker inside
-read registry seats i n looker inside seat seated here same within shown is = record { seated = seated; same = here ∙ same; within = omega arith; is = subst (λ s. s ≡ get_or seats i s) (sym shown) is }
+pub read : (registry : RegistryState) (seats : List SeatState) (i looker : ℕ) (inside seat : SeatState) → AreSeated registry seats → i ≡ looker → i < PLACES → inside ≡ seat → seat ≡ get_or seats i seat → IsSeat registry seats i looker inside
+read registry seats i looker inside seat seated same within shown is = record { seated = seated; same = same; within = within; is = subst (λ s. s ≡ get_or seats i s) (sym shown) is }
 
 index_is : (registry : RegistryState) (seats : List SeatState) (i looker : ℕ) (seat : SeatState) → IsSeat registry seats i looker seat → seat.place.index ≡ i
 index_is registry seats i looker seat h = ap (λ s. s.place.index) h.is ∙ h.seated.numbered i seat h.within

@@ -140,10 +140,9 @@ outcomes_more m after outcome trace events i event within is made =
     ∙ ap (λ es. trace ++ machine_outcomes m es) (sym (drop_more events i event within))
 
 -- none is left
-pub outcomes_done : (m : MachineState) (trace : List Outcome) (events : List Event) (i : ℕ) → length events ≤ i → trace ++ machine_outcomes m (drop i events) ≡ machine_outcomes (opened opening_state) events → trace ≡ outcomes_from start events
+pub outcomes_done : (m : MachineState) (trace outcomes : List Outcome) (events : List Event) (i : ℕ) → length events ≤ i → trace ++ machine_outcomes m (drop i events) ≡ outcomes → trace ≡ outcomes
 unfolding machine_outcomes
-outcomes_done m trace events i over whole =
+outcomes_done m trace outcomes events i over whole =
     sym (append-nil trace)
     ∙ ap (λ es. trace ++ machine_outcomes m es) (sym (drop_all i events over))
     ∙ whole
-    ∙ run_follows events

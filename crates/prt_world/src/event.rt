@@ -43,6 +43,14 @@ impl LookerNumber {
     {
         self.number
     }
+
+    /// The index of what belongs to the looker.
+    pub(crate) fn index(self) -> usize
+        ensures value { result ≡ self }
+        ensures low { result < 64 }
+    {
+        usize::from(self.number)
+    }
 }
 
 /// What a failure or a stop makes of a transaction whose commit it cuts short.

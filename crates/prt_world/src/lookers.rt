@@ -1,10 +1,10 @@
 //! The lookers of a replay, each with its place in the registry.
-ghost use Rattle.std.specs.Prelude.{◌≡◌, ◌<◌, ◌+◌, ◌++◌, ◌∷◌, [], OnOk, true, None, Some, IfErr, IfNone, IfOk, IfSome, is_some, length, nat_lt, option_map, slice_get};
+ghost use Rattle.std.specs.Prelude.{◌≡◌, ◌<◌, ◌≤◌, ◌+◌, ◌++◌, ◌∷◌, [], OnOk, true, None, Some, IfErr, IfNone, IfOk, IfSome, IsSome, is_some, length, nat_lt, option_map, slice_get};
 ghost use Rattle.std.specs.Arc.{arc_value};
 ghost use Rattle.prt_addr.specs.declared.refusal.Refusal.TheVariants.{NoMemory};
 ghost use Rattle.prt_grace.specs.Registry.{new_registry, reclaimed, with_noted};
 ghost use Rattle.prt_grace.specs.declared.limits.TheConstants.{MOST_RETIRED, PLACES};
-ghost use Rattle.prt_world.specs.Machine.{announced_at, can_announce, hold, new_lookers, seat_of, sit, with_registry};
+ghost use Rattle.prt_world.specs.Machine.{announceable, announced_at, can_announce, hold, new_lookers, seat_of, sit, with_registry};
 
 use crate::{LookerNumber, Refusal};
 use prt_grace::{PLACES, Place, Registry};
@@ -28,6 +28,20 @@ impl Model for Seat {
     ghost Value = { SeatState };
 
     ghost view = { λ seat. record { place = seat.place; held = option_map arc_value seat.held } };
+}
+
+impl Seat {
+    /// The number of the version that the looker holds, where it is online and has announced no later one.
+    fn announceable(&self) -> Option<u64>
+        ensures number { result ≡ announceable self.now.place.announced self.now.held }
+        ensures online { IfSome result (λ _. IsSome self.now.place.announced) }
+        ensures later { IfSome result (λ number. IfSome self.now.place.announced (λ before. before ≤ number)) }
+    {
+        match (self.place.announced(), &self.held) {
+            (Some(before), Some(version)) if before <= version.number() => Some(version.number()),
+            _ => None,
+        }
+    }
 }
 
 /// The registry, and the lookers in the order of their numbers.
@@ -74,7 +88,7 @@ impl Lookers {
         ensures some { IfSome result (λ number. (announced_at self.old looker ≡ None) × (number ≡ self.old.registry.noted.count)) }
         ensures after { IfSome result (λ number. self.new ≡ sit self.old looker (Some number) None) }
     {
-        let seat = &mut self.seats[usize::from(looker.get())];
+        let seat = &mut self.seats[looker.index()];
         if seat.place.announced().is_some() {
             return None;
         }
@@ -88,11 +102,8 @@ impl Lookers {
         ensures number { result ≡ can_announce self.old looker }
         ensures after { IfSome result (λ number. self.new ≡ sit self.old looker (Some number) (seat_of self.old looker).held) }
     {
-        let seat = &mut self.seats[usize::from(looker.get())];
-        let number = seat.held.as_ref()?.number();
-        if seat.place.announced()? > number {
-            return None;
-        }
+        let seat = &mut self.seats[looker.index()];
+        let number = seat.announceable()?;
         self.registry.announce(&mut seat.place, number);
         Some(number)
     }
@@ -101,7 +112,7 @@ impl Lookers {
     pub(crate) fn offline(&mut self, looker: LookerNumber)
         ensures { self.new ≡ sit self.old looker None None }
     {
-        let seat = &mut self.seats[usize::from(looker.get())];
+        let seat = &mut self.seats[looker.index()];
         seat.held = None;
         self.registry.offline(&mut seat.place);
     }
@@ -110,7 +121,7 @@ impl Lookers {
     pub(crate) fn is_online(&self, looker: LookerNumber) -> bool
         ensures { result ≡ is_some (announced_at self.now looker) }
     {
-        let seat = &self.seats[usize::from(looker.get())];
+        let seat = &self.seats[looker.index()];
         seat.place.announced().is_some()
     }
 
@@ -118,7 +129,7 @@ impl Lookers {
     pub(crate) fn hold(&mut self, looker: LookerNumber, version: Arc<Version>)
         ensures { self.new ≡ hold self.old looker (Some (arc_value version)) }
     {
-        let seat = &mut self.seats[usize::from(looker.get())];
+        let seat = &mut self.seats[looker.index()];
         seat.held = Some(version);
     }
 
@@ -126,11 +137,18 @@ impl Lookers {
     pub(crate) fn held(&self, looker: LookerNumber) -> Option<&Version>
         ensures { option_map (λ version. version.now) result ≡ (seat_of self.now looker).held }
     {
-        let seat = &self.seats[usize::from(looker.get())];
+        let seat = &self.seats[looker.index()];
         match &seat.held {
             Some(version) => Some(version),
             None => None,
         }
+    }
+
+    /// The number of the version noted last.
+    pub(crate) fn noted(&self) -> u64
+        ensures { result ≡ self.now.registry.noted.count }
+    {
+        self.registry.noted()
     }
 
     /// Whether one more version can be retired.

@@ -2,12 +2,12 @@
 ghost use Rattle.std.specs.Prelude.{◌≡◌, IfErr, IfOk, Ok, true};
 ghost use Rattle.std.specs.Arc.{arc_value};
 ghost use Rattle.prt_addr.specs.declared.refusal.Refusal.TheVariants.{NoMemory};
-ghost use Rattle.prt_version.specs.Change.{IsChecked};
+ghost use Rattle.prt_version.specs.Change.{IsChecked, put};
 ghost use Rattle.prt_version.specs.State.{opening_state};
 ghost use Rattle.prt_addr.specs.declared.refusal.StoreCall.TheVariants.{Commit};
 ghost use Rattle.prt_world.specs.World.{is_stopped};
 ghost use Rattle.prt_world.specs.declared.outcome.Outcome.TheVariants as outcomes;
-ghost use Rattle.prt_world.specs.declared.phase.Phase.TheVariants.{Prepared, Ready};
+ghost use Rattle.prt_world.specs.declared.phase.Phase.TheVariants.{Prepared, Ready, Stopped};
 ghost use Rattle.prt_world.specs.Machine.{acknowledge_by, announce_by, announced_at, call_by, can_announce, fail_by, fail_publication_by, fetch_by, in_phase, left_by, look_by, machine_step, note_by, offline_by, online_by, opened, prepare_next, publish_by, reclaim_by, reopen_by, running_step, seat_of, stop_by, submit_by};
 
 use crate::lookers::Lookers;
@@ -18,6 +18,18 @@ use std::alloc::Global;
 use std::marker::Model;
 use std::sync::Arc;
 
+/// The first owner of the version after a change.
+fn next_owner(alloc: Global, version: &Version, change: &Change) -> Result<Arc<Version>, Refusal>
+    requires { IsChecked version.now change.now }
+    ensures value { IfOk result (λ next. arc_value next ≡ put version.now change.now) }
+    ensures reason { IfErr result (λ reason. reason ≡ NoMemory) }
+{
+    match version.next(change) {
+        Ok(next) => first_owner(alloc, next),
+        Err(reason) => Err(reason),
+    }
+}
+
 /// What the service, its disk and its lookers hold.
 #[derive(Drop)]
 pub(crate) struct Machine {
@@ -26,21 +38,16 @@ pub(crate) struct Machine {
     disk: Arc<Version>,
     /// The version after the command that is under way.
     next: Arc<Version>,
-    /// The number that the registry noted last.
-    noted: u64,
     phase: Phase,
 }
 
 impl Model for Machine {
-    ghost use Rattle.std.specs.Prelude.{◌≡◌};
     ghost use Rattle.std.specs.Arc.{arc_value};
     ghost use Rattle.prt_world.specs.Machine.{MachineState};
 
     ghost Value = { MachineState };
 
     ghost view = { λ m. record { lookers = m.lookers; published = arc_value m.published; disk = arc_value m.disk; next = arc_value m.next; phase = m.phase } };
-
-    ghost invariant = { λ m. m.noted ≡ m.lookers.registry.noted.count };
 }
 
 impl Machine {
@@ -53,7 +60,6 @@ impl Machine {
         let published = share(&disk)?;
         let next = share(&disk)?;
         Ok(Machine {
-            noted: noted.number(),
             lookers: Lookers::new(alloc, noted)?,
             published,
             disk,
@@ -113,10 +119,7 @@ impl Machine {
         ensures value { IfOk result (λ outcome. record { machine = self.new; outcome = outcome } ≡ prepare_next self.old command.now (Ok change.now) true) }
         ensures reason { IfErr result (λ reason. reason ≡ NoMemory) }
     {
-        match self.published.next(change) {
-            Ok(next) => self.next = first_owner(alloc, next)?,
-            Err(reason) => return Err(reason),
-        }
+        self.next = next_owner(alloc, &self.published, change)?;
         self.phase = Phase::Prepared(*command, StoreCall::Begin);
         Ok(Outcome::Prepared(self.next.number()))
     }
@@ -199,12 +202,23 @@ impl Machine {
         ensures reason { IfErr result (λ reason. reason ≡ NoMemory) }
     {
         match self.phase {
-            Phase::Closed | Phase::Stopped => {
-                let number = self.disk.number();
-                *self = Machine::opened(alloc, share(&self.disk)?)?;
-                Ok(Outcome::Reopened(number))
-            }
+            Phase::Closed | Phase::Stopped => self.open_again(alloc),
             _ => Ok(Outcome::Nothing),
+        }
+    }
+
+    /// Opens the database with what is on its disk.
+    fn open_again(&mut self, alloc: Global) -> Result<Outcome, Refusal>
+        ensures value { IfOk result (λ outcome. record { machine = self.new; outcome = outcome } ≡ reopen_by self.old Stopped) }
+        ensures reason { IfErr result (λ reason. reason ≡ NoMemory) }
+    {
+        let disk = share(&self.disk)?;
+        match Machine::opened(alloc, disk) {
+            Ok(machine) => {
+                *self = machine;
+                Ok(Outcome::Reopened(self.disk.number()))
+            }
+            Err(reason) => Err(reason),
         }
     }
 
@@ -241,11 +255,10 @@ impl Machine {
             return Ok(Outcome::Nothing);
         };
         let number = self.published.number();
-        if !self.lookers.has_room() || number <= self.noted {
+        if !self.lookers.has_room() || number <= self.lookers.noted() {
             return Ok(Outcome::Nothing);
         }
         self.lookers.note(share(&self.published)?);
-        self.noted = number;
         self.phase = Phase::Noted(command);
         Ok(Outcome::Noted(number))
     }

@@ -1,11 +1,27 @@
 //! The outcomes of lists of events.
 ghost use Rattle.std.specs.Prelude.{◌≡◌, IfErr, IfOk};
 ghost use Rattle.prt_addr.specs.declared.refusal.Refusal.TheVariants.{NoMemory};
+ghost use Rattle.prt_world.specs.Machine.{machine_outcomes};
 ghost use Rattle.prt_world.specs.World.{outcomes_from, start};
 
 use crate::machine::Machine;
 use crate::{Event, Refusal, Trace};
 use std::alloc::Global;
+
+/// The outcomes of these events, beginning with what the machine keeps.
+fn play(alloc: Global, machine: &mut Machine, events: &[Event]) -> Result<Trace, Refusal>
+    ensures value { IfOk result (λ trace. trace ≡ machine_outcomes machine.old events.now) }
+    ensures reason { IfErr result (λ reason. reason ≡ NoMemory) }
+{
+    let mut trace = Trace::new(alloc);
+    for event in events {
+        match machine.step(alloc, event) {
+            Ok(outcome) => trace.push(outcome)?,
+            Err(reason) => return Err(reason),
+        }
+    }
+    Ok(trace)
+}
 
 /// The outcomes of these events, from a new database with no looker online.
 ///
@@ -19,12 +35,5 @@ pub fn run(alloc: Global, events: &[Event]) -> Result<Trace, Refusal>
     ensures reason { IfErr result (λ reason. reason ≡ NoMemory) }
 {
     let mut machine = Machine::new(alloc)?;
-    let mut trace = Trace::new(alloc);
-    for event in events {
-        match machine.step(alloc, event) {
-            Ok(outcome) => trace.push(outcome)?,
-            Err(reason) => return Err(reason),
-        }
-    }
-    Ok(trace)
+    play(alloc, &mut machine, events)
 }

@@ -1,13 +1,10 @@
-use Rattle.std.proofs.Common.{◌++◌, ◌+◌, ap, drop, ◌∙◌}
+use Rattle.std.proofs.Common.{◌≡◌, IfOk, ap, subst, ◌∙◌}
 use Rattle.prt_world.specs.Machine.{machine_outcomes}
-use Rattle.prt_world.proofs.WholeRuns.{outcomes_done, outcomes_more}
+use Rattle.prt_world.proofs.WholeRuns.{run_follows}
 use Rattle.prt_world.proofs.replay.run.Goals as goal
 
-pub loop-event-preserved : goal.loop-event-preserved
-loop-event-preserved c =
-    ap (λ trace. trace ++ machine_outcomes c.step.new.self (drop (c.loop-event.event-index + 1) c.args.events.now)) c.in_ok-push-in-Ok.ensures.ok
-    ∙ outcomes_more _ _ c.in-Ok.outcome c.loop-event.trace c.args.events.now c.loop-event.event-index c.event-item.result c.loop-event-test.true c.event-item.is c.in-Ok.ensures.value
-    ∙ c.loop-event.invariant
-
 pub returns-clause-value : goal.returns-clause-value
-returns-clause-value c = outcomes_done _ _ _ _ c.loop-event-test.false c.loop-event.invariant
+returns-clause-value c =
+    subst (λ outcomes. IfOk c.play.result (λ trace. trace ≡ outcomes))
+    (ap (λ machine. machine_outcomes machine c.args.events.now) c.in_ok-machine.ensures.value ∙ run_follows c.args.events.now)
+    c.play.ensures.value

@@ -1,7 +1,0 @@
-use Rattle.std.proofs.Common.{◌≡◌, ◌++◌, drop}
-use Rattle.prt_version.specs.State.{opening_state}
-use Rattle.prt_world.specs.Machine.{machine_outcomes, opened}
-use Rattle.prt_world.proofs.replay.run.Given as goal
-
-abbrev pub invariant-loop-event : goal.invariant-loop-event
-invariant-loop-event l = l.trace ++ machine_outcomes l.machine (drop l.event-index l.events) ≡ machine_outcomes (opened opening_state) l.events
