@@ -1,24 +1,16 @@
 //! The registry of grace periods, each of its calls.
 
-use prt_command::{Command, Refusal};
+use crate::script::next_version;
 use prt_grace::{Registry, Version};
 use std::sync::Arc;
 use std::test::Fail;
-
-/// The version after one more command.
-fn next_version(version: &Version) -> Result<Version, Refusal> {
-    match version.check(&Command::RuleFlush) {
-        Ok(change) => version.next(&change),
-        Err(reason) => Err(reason),
-    }
-}
 
 #[test]
 fn gives_up_what_nobody_holds(rt: HostRuntime) -> Result<(), Fail> {
     let alloc = rt.alloc();
     let opening = Version::opening(alloc)?;
-    let first = next_version(&opening)?;
-    let second = next_version(&first)?;
+    let first = next_version(&opening, "rule flush")?;
+    let second = next_version(&first, "rule flush")?;
     assert!(rt; opening.number() < first.number());
     assert!(rt; first.number() < second.number());
     let mut registry = Registry::new(Arc::new(alloc, opening)?);
@@ -26,7 +18,8 @@ fn gives_up_what_nobody_holds(rt: HostRuntime) -> Result<(), Fail> {
     assert_eq!(rt; (place.announced(), registry.online(&mut place)), (None, 0));
     registry.note(Arc::new(alloc, first)?);
     registry.note(Arc::new(alloc, second)?);
-    assert_eq!(rt; (registry.has_room(), registry.reclaim()), (true, 0));
+    assert_eq!(rt; (registry.noted(), registry.has_room()), (2, true));
+    assert_eq!(rt; registry.reclaim(), 0);
     registry.announce(&mut place, 1);
     assert_eq!(rt; (place.announced(), registry.reclaim()), (Some(1), 1));
     registry.offline(&mut place);
