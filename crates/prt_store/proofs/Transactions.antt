@@ -21,6 +21,10 @@ use Rattle.prt_store.specs.Written.{CommitsNothing, RunsInside}
 pub survives_itself : (a : Conn) (P : Trees → Type 0) → Survives a a P
 survives_itself a P = record { clean = omega arith; shield = λ h. h; counts = omega arith; limit = refl; closes = λ clean still_open. inl still_open; crash = λ clean db leaves. inl leaves }
 
+-- the statement runs with these parameters, which are those that it was given
+pub runs_with : {S : Type 0} (g : Ghosts S) (sql : Word) (given params : Row) (old new : Held S) (result : Result ℕ Error) → RunsInside g sql given old new result → given ≡ params → RunsInside g sql params old new result
+runs_with g sql given params old new result runs same = subst (λ (values : Row). RunsInside g sql values old new result) same runs
+
 pub statement_works : {S : Type 0} (g : Ghosts S) (sql : Word) (params : Row) (old new : Held S) (result : Result ℕ Error) → RunsInside g sql params old new result → CommitsNothing g old new → Works g (Ran g sql params) old new result
 statement_works g sql params old new (Ok count) runs quiet = record {
   done = λ clean inside. let ran = runs clean inside in ((count, ran.0), ran.1.mode);

@@ -1,13 +1,11 @@
-use Rattle.std.proofs.Common.{subst}
-use Rattle.sqlite.specs.Held.{state}
-use Rattle.sqlite.specs.State.{ExecutesInside}
+use Rattle.prt_rows.specs.RuleRow.{rule_row}
 use Rattle.prt_rows.specs.Statements.{insert_rule}
+use Rattle.prt_store.proofs.Transactions.{runs_with}
 use Rattle.prt_store.proofs.statements.insert_rule.Goals as goal
 
 pub returns-clause-runs : goal.returns-clause-runs
-returns-clause-runs g c clean inside =
-    let P = λ (values : _). ExecutesInside 0 insert_rule values (state g.S.Store c.args.tx.now.conn.now) (state g.S.Store c.execute.new.self.conn.now) c.execute.result in
-    subst P c.rule_values.ensures (c.execute.ensures.runs clean inside)
+returns-clause-runs g c =
+    runs_with g.S.Store insert_rule _ (rule_row c.args.rule.now) c.args.tx.now.conn.now c.execute.new.self.conn.now c.execute.result c.execute.ensures.runs c.rule_values.ensures
 
 pub returns-clause-survives : goal.returns-clause-survives
 returns-clause-survives g c = c.execute.ensures.survives
