@@ -55,3 +55,20 @@ returns-in-Err-load-clause-damaged g c = λ is released is_open stored spells.
     let survives = c.in-Err-load.ensures.quiet (λ clean. (adopts clean).tables) in
     let adopted : HasCleanDisk (state g.S.Store c.in-Ok.store.conn) = omega (arith, survives.clean, loaded) in
     c.in-Err-load.ensures.damaged loaded (adopts adopted).tables is stored (c.in-Ok.ensures.stored adopted stored held)
+
+-- a store that can't be adopted is not called damaged
+pub returns-in-Err-clause-damaged : goal.returns-in-Err-clause-damaged
+returns-in-Err-clause-damaged g c = λ is clean is_open stored spells. absurd (let other = c.in-Err.ensures.reason in cc)
+
+-- of a file whose first tables are others nothing is known
+pub invariant_of-result : goal.invariant_of-result
+invariant_of-result g c = λ known. absurd (let other : false ≡ true = sym c.if-is_format_1.false ∙ known.0 in cc)
+
+pub returns-clause-adopts : goal.returns-clause-adopts
+returns-clause-adopts g c = λ known. absurd (let other : false ≡ true = sym c.if-is_format_1.false ∙ known.0 in cc)
+
+pub returns-clause-format : goal.returns-clause-format
+returns-clause-format g c = (
+  λ is. subst BeginsFormat1 c.schema.ensures.value (c.begins_format_1-is_format_1.ensures.0 is),
+  λ begins. c.begins_format_1-is_format_1.ensures.1 (subst BeginsFormat1 (sym c.schema.ensures.value) begins),
+)
