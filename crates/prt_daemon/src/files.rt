@@ -7,6 +7,7 @@ ghost use Rattle.prt_version.specs.Sound.{IsSound};
 use prt_desk::StoreDesk;
 use prt_program::{Databases, Refusal};
 use sqlite::{Alter, Connection, Error, File, FileStore};
+use sqlite_disk::Disk;
 use std::alloc::Global;
 
 /// The database files of this machine.
@@ -33,7 +34,7 @@ impl<'a> Databases for DatabaseFiles<'a> {
     }
 
     fn close(&mut self, desk: StoreDesk<FileStore<File>>) {
-        desk.close();
+        close_desk(desk);
     }
 }
 
@@ -52,4 +53,11 @@ fn desk_over<S: Alter + Drop>(
         },
         Err(error) => Err((Refusal::OpenFailed, Some(error))),
     }
+}
+
+/// Closes the database, so that its file alone has all of it.
+///
+/// A fault of closing is not told of: what was committed stays in the log beside the file.
+fn close_desk<D: Disk + Drop>(desk: StoreDesk<FileStore<D>>) {
+    let _ = desk.release().close();
 }

@@ -1,7 +1,6 @@
 //! The durable desk: a desk over a store, whose commands are acknowledged once they are committed.
 #![tactic(auto)]
 
-mod closing;
 mod store_desk;
 
 pub use store_desk::StoreDesk;
