@@ -100,7 +100,7 @@ impl Prefix {
         self.len
     }
 
-    /// Whether the address begins with the prefix's bits (Basic Match of RFC 1812, section 5.2.4.3).
+    /// Tells whether the address begins with the prefix's bits (Basic Match of RFC 1812, section 5.2.4.3).
     #[tactic(auto, using(crate::proofs::Ranges::is_in_reach))]
     pub fn contains(&self, addr: Addr) -> bool
         ensures { result ≡ contains self.now addr }
@@ -108,7 +108,7 @@ impl Prefix {
         addr.0.wrapping_sub(self.bits) <= self.host_mask
     }
 
-    /// Whether every address of this prefix is one of the other's.
+    /// Tells whether every address of this prefix is one of the other's.
     pub fn within(&self, other: &Prefix) -> bool
         ensures { result ≡ within self.now other.now }
     {
@@ -142,7 +142,7 @@ pub fn read_net(word: &[u8]) -> Result<Prefix, Refusal>
     Ok(Prefix::masked(addr.0, len))
 }
 
-/// Whether the word stands for every address.
+/// Tells whether the word stands for every address.
 fn is_everything(word: &[u8]) -> bool
     ensures { result ≡ is_one_of word.now everything_words }
 {

@@ -1,15 +1,21 @@
 ghost use Rattle.std.specs.Prelude.{◌≡◌, ◌++◌, Some, codes, decimal};
 ghost use Rattle.prt_addr.specs.Refusal.{code_of, entry_of, name_of, refusal_text};
+ghost use Rattle.prt_addr.specs.declared.refusal.Refusal.TheVariants.{NoMemory};
 
+use std::alloc::{AllocError, AllocFailed};
 use std::error::Error;
 use std::fmt;
 
-/// The store call of a commit that failed.
+/// A call of a commit to the store, in the order in which a commit makes them.
 #[derive(Clone, Copy, Debug, PartialEq, Eq)]
 pub enum StoreCall {
+    /// Begins the transaction.
     Begin,
+    /// Writes the rows that the command changes.
     Write,
+    /// Sets the count of accepted commands.
     Count,
+    /// Commits the transaction.
     Commit,
 }
 
@@ -152,3 +158,19 @@ impl fmt::Display for Refusal {
 }
 
 impl Error for Refusal {}
+
+impl From<AllocError> for Refusal {
+    ghost from_gives = { λ _ refusal. refusal ≡ NoMemory };
+
+    fn from(_refused: AllocError) -> Refusal {
+        Refusal::NoMemory
+    }
+}
+
+impl<T: Drop> From<AllocFailed<T>> for Refusal {
+    ghost from_gives = { λ _ refusal. refusal ≡ NoMemory };
+
+    fn from(_refused: AllocFailed<T>) -> Refusal {
+        Refusal::NoMemory
+    }
+}

@@ -2,7 +2,7 @@ ghost use Rattle.std.specs.Prelude.{◌≡◌, ◌∷◌, ◌==◌, bytes_eq, op
 ghost use Rattle.prt_addr.specs.Word.{parts_at};
 ghost use Rattle.prt_addr.specs.Steps.{parts_of_rest};
 
-/// Whether the word is this one.
+/// Tells whether the word is this one.
 pub(crate) fn is(word: &[u8], name: &str) -> bool
     ensures { result ≡ bytes_eq name.now word.now }
 {

@@ -39,7 +39,7 @@ fn opened<S: Alter + Drop>(
     }
 }
 
-/// Whether a desk over the connection replies to a script as one over lists does.
+/// Tells whether a desk over the connection replies to a script as one over lists does.
 fn replies_as_lists<S: Alter + Drop>(
     alloc: Global,
     connection: Connection<S>,

@@ -14,7 +14,7 @@ pub enum PlaceState {
 }
 
 impl PlaceState {
-    /// Whether a looker can still have it.
+    /// Tells whether a looker can still have it.
     pub(crate) fn is_free(&self) -> bool
         ensures { result ≡ is_free self.now }
     {

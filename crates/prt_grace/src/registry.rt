@@ -134,7 +134,7 @@ impl Registry {
         self.set_announced(place, None);
     }
 
-    /// Whether one more version can be retired: false exactly where [`MOST_RETIRED`] are.
+    /// Tells whether one more version can be retired: false exactly where [`MOST_RETIRED`] are.
     pub fn has_room(&self) -> bool
         ensures { IsTrue result ↔ (length self.now.retired < MOST_RETIRED) }
     {

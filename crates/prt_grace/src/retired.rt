@@ -45,7 +45,7 @@ impl RetiredVersions {
         self.slots.len()
     }
 
-    /// Whether there is room for one more.
+    /// Tells whether there is room for one more.
     pub(crate) fn has_room(&self) -> bool
         ensures { result ≡ nat_lt (length self.now) MOST_RETIRED }
     {
@@ -80,7 +80,7 @@ fn keep_slots(slots: &mut ArrayVec<Option<Arc<Version>>, MOST_RETIRED>, lowest: 
     );
 }
 
-/// Whether a looker who announced `lowest` may hold the slot's version.
+/// Tells whether a looker who announced `lowest` may hold the slot's version.
 fn slot_may_be_held(slot: &Option<Arc<Version>>, lowest: Option<u64>) -> bool
     ensures { result ≡ slot_may_be_held lowest slot.now }
 {

@@ -233,7 +233,7 @@ fn database_in<'a>(matches: &ArgMatches<'a>) -> Option<&'a str>
     matches.get_str("db")
 }
 
-/// Whether the matches of `batch` have a flag.
+/// Tells whether the matches of `batch` have a flag.
 fn has_flag(matches: &ArgMatches<'_>, name: &str) -> bool
     ensures given { one_of name.now (rows_of (found_of matches.now)) ≡ Some (codes "true") → result ≡ true }
     ensures left_out { one_of name.now (rows_of (found_of matches.now)) ≡ Some (codes "false") → result ≡ false }

@@ -88,28 +88,28 @@ pub fn read_dev(word: &[u8]) -> Result<Dev, Refusal>
     })
 }
 
-/// Whether the byte stands in no name.
+/// Tells whether the byte stands in no name.
 fn is_barred(byte: u8) -> bool
     ensures { result ≡ is_barred byte }
 {
     matches!(byte, b'/' | b':' | b' ' | b'\t' | b'\r')
 }
 
-/// Whether the word is the name of a folder in itself or of the one above it.
+/// Tells whether the word is the name of a folder in itself or of the one above it.
 fn is_dots(word: &[u8]) -> bool
     ensures { result ≡ is_one_of word.now (codes "." ∷ codes ".." ∷ []) }
 {
     word == b".".as_slice() || word == b"..".as_slice()
 }
 
-/// Whether a byte of the word stands in no name.
+/// Tells whether a byte of the word stands in no name.
 fn has_barred(word: &[u8]) -> bool
     ensures { result ≡ list_any is_barred word.now }
 {
     word.iter().any(|byte| is_barred(*byte))
 }
 
-/// Whether the word is a name.
+/// Tells whether the word is a name.
 fn is_name(word: &[u8]) -> bool
     ensures { result ≡ is_name word.now }
 {

@@ -47,7 +47,7 @@ impl Route {
         }
     }
 
-    /// Whether this route is better than the other one of its table for an address in both.
+    /// Tells whether this route is better than the other one of its table for an address in both.
     ///
     /// The longer prefix is better, and of equal lengths the lower metric (RFC 1812, section 5.2.4.3).
     pub fn better(&self, other: &Route) -> bool

@@ -52,7 +52,7 @@ const META: [(&str, Kind); 3] = [
     ("count", Kind::Integer),
 ];
 
-/// Whether it is a column of this name and type of a STRICT table, and takes no NULL.
+/// Tells whether it is a column of this name and type of a STRICT table, and takes no NULL.
 fn is_column(column: &Column, name: &str, kind: Kind) -> bool
     ensures { IsTrue result ↔ (column.now ≡ strict_column name.now kind) }
 {
@@ -64,7 +64,7 @@ fn is_column(column: &Column, name: &str, kind: Kind) -> bool
         && column.collation == Collation::Binary
 }
 
-/// Whether they are columns of these names and types.
+/// Tells whether they are columns of these names and types.
 fn are_columns(columns: &[Column], wanted: &[(&str, Kind)]) -> bool
     ensures { IsTrue result ↔ (columns.now ≡ map (λ w. strict_column w.0.now w.1) wanted.now) }
 {
@@ -80,7 +80,7 @@ fn are_columns(columns: &[Column], wanted: &[(&str, Kind)]) -> bool
     true
 }
 
-/// Whether nothing is said of the table but its name, columns and keys.
+/// Tells whether nothing is said of the table but its name, columns and keys.
 fn is_plain(table: &Table) -> bool
     ensures { IsTrue result ↔ (table.now ≡ record table.now { checks = []; references = []; computed = []; stamps = record { places = []; terms = []; formats = [] }; is_counted = false }) }
 {
@@ -93,7 +93,7 @@ fn is_plain(table: &Table) -> bool
         && !table.is_counted
 }
 
-/// Whether the primary key of the table is its first column, and it has no other key.
+/// Tells whether the primary key of the table is its first column, and it has no other key.
 fn is_keyed_by_first(table: &Table) -> bool
     ensures { IsTrue result ↔ (table.now ≡ record table.now { key = Some 0; primary = 0 ∷ []; uniques = []; orders = [] }) }
 {
@@ -103,7 +103,7 @@ fn is_keyed_by_first(table: &Table) -> bool
         && table.orders.is_empty()
 }
 
-/// Whether it is a plain table of this name and these columns.
+/// Tells whether it is a plain table of this name and these columns.
 fn is_table_by_id(table: &Table, name: &str, columns: &[(&str, Kind)]) -> bool
     ensures { IsTrue result ↔ (table.now ≡ plain_table name.now table.now.tree (map (λ w. strict_column w.0.now w.1) columns.now)) }
 {
@@ -113,28 +113,28 @@ fn is_table_by_id(table: &Table, name: &str, columns: &[(&str, Kind)]) -> bool
         && is_plain(table)
 }
 
-/// Whether it is the table of rules, in whatever tree.
+/// Tells whether it is the table of rules, in whatever tree.
 fn is_rule_table(table: &Table) -> bool
     ensures { IsTrue result ↔ (table.now ≡ record rule_table { tree = table.now.tree }) }
 {
     is_table_by_id(table, "rule", &RULE)
 }
 
-/// Whether it is the table `meta`, in whatever tree.
+/// Tells whether it is the table `meta`, in whatever tree.
 fn is_meta_table(table: &Table) -> bool
     ensures { IsTrue result ↔ (table.now ≡ record meta_table { tree = table.now.tree }) }
 {
     is_table_by_id(table, "meta", &META)
 }
 
-/// Whether the places are those of table, address, length and metric.
+/// Tells whether the places are those of table, address, length and metric.
 fn are_key_places(places: &[usize]) -> bool
     ensures { IsTrue result ↔ (places.now ≡ key_places) }
 {
     places == [1usize, 2, 3, 4].as_slice()
 }
 
-/// Whether the only UNIQUE of the table is the key of routes, in the default order.
+/// Tells whether the only UNIQUE of the table is the key of routes, in the default order.
 fn has_route_key(table: &Table) -> bool
     ensures { IsTrue result ↔ (table.now ≡ record table.now { uniques = key_places ∷ []; orders = (record { digits = 0 }) ∷ [] }) }
 {
@@ -144,7 +144,7 @@ fn has_route_key(table: &Table) -> bool
     }
 }
 
-/// Whether it is the table of routes, in whatever tree.
+/// Tells whether it is the table of routes, in whatever tree.
 fn is_route_table(table: &Table) -> bool
     ensures { IsTrue result ↔ (table.now ≡ record route_table { tree = table.now.tree }) }
 {
@@ -156,7 +156,7 @@ fn is_route_table(table: &Table) -> bool
         && is_plain(table)
 }
 
-/// Whether it is the index of the key of routes, in its place.
+/// Tells whether it is the index of the key of routes, in its place.
 fn is_route_index(index: &Index) -> bool
     ensures { IsTrue result ↔ (index.now ≡ route_key) }
 {
@@ -168,7 +168,7 @@ fn is_route_index(index: &Index) -> bool
         && index.is_unique
 }
 
-/// Whether the reference names none of the three tables.
+/// Tells whether the reference names none of the three tables.
 fn is_elsewhere(reference: &Reference) -> bool
     ensures { IsTrue result ↔ IsElsewhere reference.now }
 {
@@ -178,7 +178,7 @@ fn is_elsewhere(reference: &Reference) -> bool
         && !same_name(b"meta".as_slice(), parent)
 }
 
-/// Whether none of the references names one of the three tables.
+/// Tells whether none of the references names one of the three tables.
 fn are_elsewhere(references: &[Reference]) -> bool
     ensures { IsTrue result ↔ ((reference : Referring) → Has references.now reference → IsElsewhere reference) }
 {
@@ -190,7 +190,7 @@ fn are_elsewhere(references: &[Reference]) -> bool
     true
 }
 
-/// Whether the table is apart from the three tables, and refers to none of them.
+/// Tells whether the table is apart from the three tables, and refers to none of them.
 fn is_other(table: &Table) -> bool
     ensures { IsTrue result ↔ IsOther table.now }
 {
@@ -200,7 +200,7 @@ fn is_other(table: &Table) -> bool
         && are_elsewhere(table.references.as_slice())
 }
 
-/// Whether each of the tables is apart from the three tables, and refers to none of them.
+/// Tells whether each of the tables is apart from the three tables, and refers to none of them.
 fn are_others(tables: &[Table]) -> bool
     ensures { IsTrue result ↔ AreOthers tables.now }
 {
@@ -212,14 +212,14 @@ fn are_others(tables: &[Table]) -> bool
     true
 }
 
-/// Whether the index is no unique one of the table of routes.
+/// Tells whether the index is no unique one of the table of routes.
 fn is_not_of_routes(index: &Index) -> bool
     ensures { IsTrue result ↔ (guards index.now route_table ≡ false) }
 {
     !(index.is_unique && index.table == 1)
 }
 
-/// Whether none of the indexes is a unique one of the table of routes.
+/// Tells whether none of the indexes is a unique one of the table of routes.
 fn are_not_of_routes(indexes: &[Index]) -> bool
     ensures { IsTrue result ↔ AreNotOfRoutes indexes.now }
 {
@@ -231,21 +231,21 @@ fn are_not_of_routes(indexes: &[Index]) -> bool
     true
 }
 
-/// Whether it is the table of rules, in its place.
+/// Tells whether it is the table of rules, in its place.
 fn is_rule_in_place(table: &Table) -> bool
     ensures { IsTrue result ↔ (table.now ≡ rule_table) }
 {
     table.tree == 0 && is_rule_table(table)
 }
 
-/// Whether it is the table of routes, in its place.
+/// Tells whether it is the table of routes, in its place.
 fn is_route_in_place(table: &Table) -> bool
     ensures { IsTrue result ↔ (table.now ≡ route_table) }
 {
     table.tree == 1 && is_route_table(table)
 }
 
-/// Whether they are the three tables and the index of the key of routes, each in its place.
+/// Tells whether they are the three tables and the index of the key of routes, each in its place.
 fn are_ours(rule: &Table, route: &Table, meta: &Table, key: &Index) -> bool
     ensures { IsTrue result ↔ ((rule.now ≡ rule_table) × (route.now ≡ route_table) × (meta.now ≡ meta_table) × (key.now ≡ route_key)) }
 {
@@ -256,8 +256,8 @@ fn are_ours(rule: &Table, route: &Table, meta: &Table, key: &Index) -> bool
         && is_route_index(key)
 }
 
-/// Whether the first tables of the file are those of format 1, as the first opening makes them in an empty file, and no
-/// other table refers to them and no other unique index is on the table of routes.
+/// Tells whether the first tables of the file are those of format 1, as the first opening makes them in an empty file,
+/// and no other table refers to them and no other unique index is on the table of routes.
 pub fn is_format_1(schema: &Schema) -> bool
     ensures { IsTrue result ↔ IsFormat1 schema.now }
 {
@@ -275,14 +275,14 @@ pub fn is_format_1(schema: &Schema) -> bool
     are_not_of_routes(&indexes[1..])
 }
 
-/// Whether the file has no tables.
+/// Tells whether the file has no tables.
 fn has_no_tables(schema: &Schema) -> bool
     ensures { IsTrue result ↔ (schema.now ≡ no_tables) }
 {
     schema.tables.is_empty() && schema.indexes.is_empty() && schema.views.is_empty()
 }
 
-/// Whether the file has the table of rules alone.
+/// Tells whether the file has the table of rules alone.
 fn has_rule_alone(schema: &Schema) -> bool
     ensures { IsTrue result ↔ (schema.now ≡ rule_alone) }
 {
@@ -292,7 +292,7 @@ fn has_rule_alone(schema: &Schema) -> bool
     }
 }
 
-/// Whether the file has the tables of rules and of routes alone.
+/// Tells whether the file has the tables of rules and of routes alone.
 fn has_rule_and_route(schema: &Schema) -> bool
     ensures { IsTrue result ↔ (schema.now ≡ rule_and_route) }
 {
@@ -307,8 +307,8 @@ fn has_rule_and_route(schema: &Schema) -> bool
     }
 }
 
-/// Whether the file has no tables, those that an opening of an empty file had made when it was stopped, or those of format 1
-/// first.
+/// Tells whether the file has no tables, those that an opening of an empty file had made when it was stopped, or those
+/// of format 1 first.
 pub fn begins_format_1(schema: &Schema) -> bool
     ensures { IsTrue result ↔ BeginsFormat1 schema.now }
 {
@@ -318,7 +318,7 @@ pub fn begins_format_1(schema: &Schema) -> bool
         || is_format_1(schema)
 }
 
-/// Whether the file has a table of this name, in whatever case.
+/// Tells whether the file has a table of this name, in whatever case.
 pub fn has_table(schema: &Schema, name: &str) -> bool
     ensures { result ≡ has_table name.now schema.now }
 {
@@ -329,14 +329,14 @@ pub fn has_table(schema: &Schema, name: &str) -> bool
         .any(|table| same_name(table.name.as_slice(), name.as_bytes()))
 }
 
-/// Whether the table is ours, or has another name than this.
+/// Tells whether the table is ours, or has another name than this.
 fn suits(table: &Table, name: &str, is_ours: bool) -> bool
     ensures { IsTrue result ↔ (same_name name.now table.now.name ≡ true → IsTrue is_ours) }
 {
     is_ours || !same_name(name.as_bytes(), table.name.as_slice())
 }
 
-/// Whether a table that has the name of one of the three tables is that one, in whatever tree.
+/// Tells whether a table that has the name of one of the three tables is that one, in whatever tree.
 fn suits_name(table: &Table) -> bool
     ensures { IsTrue result ↔ SuitsName table.now }
 {
@@ -345,7 +345,7 @@ fn suits_name(table: &Table) -> bool
         && suits(table, "meta", is_meta_table(table))
 }
 
-/// Whether each of the tables that has the name of one of the three tables is that one.
+/// Tells whether each of the tables that has the name of one of the three tables is that one.
 fn suit_names(tables: &[Table]) -> bool
     ensures { IsTrue result ↔ ((table : Declared) → Has tables.now table → SuitsName table) }
 {
@@ -357,7 +357,7 @@ fn suit_names(tables: &[Table]) -> bool
     true
 }
 
-/// Whether the file has the three tables of format 1, column by column, in whatever trees and order.
+/// Tells whether the file has the three tables of format 1, column by column, in whatever trees and order.
 pub fn has_format_1(schema: &Schema) -> bool
     ensures { IsTrue result ↔ HasFormat1 schema.now }
 {

@@ -41,7 +41,7 @@ pub(crate) fn kind_code(kind: Kind) -> u32
     }
 }
 
-/// Whether a table may hold the route.
+/// Tells whether a table may hold the route.
 fn is_storable(route: &Route) -> bool
     ensures { IsTrue result ↔ IsStorableRoute route.now }
 {

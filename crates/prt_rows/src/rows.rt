@@ -15,7 +15,7 @@ use prt_rule::Rule;
 use sqlite::Row;
 use std::alloc::Global;
 
-/// Whether the number is greater than the last one, if there is one.
+/// Tells whether the number is greater than the last one, if there is one.
 fn is_above(last: Option<i64>, id: i64) -> bool
     ensures { result ≡ is_above last id }
 {
@@ -25,7 +25,7 @@ fn is_above(last: Option<i64>, id: i64) -> bool
     }
 }
 
-/// Whether each rowid is an integer greater than the one before it.
+/// Tells whether each rowid is an integer greater than the one before it.
 fn rowids_rise(rows: &[Row]) -> bool
     ensures { result ≡ rowids_rise rows.now }
 {

@@ -21,7 +21,7 @@ pub struct RuleChoice {
 }
 
 impl RuleChoice {
-    /// Whether the rule agrees with all that is given (`ip-rule(8)`, `delete`).
+    /// Tells whether the rule agrees with all that is given (`ip-rule(8)`, `delete`).
     ///
     /// A mark agrees where mark and mask are equal, and `from` 0.0.0.0/0 with a rule for all sources.
     pub fn agrees(&self, rule: &Rule) -> bool

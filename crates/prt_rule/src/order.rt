@@ -4,7 +4,7 @@ ghost use Rattle.prt_rule.specs.Sound.{IsInOrder};
 
 use crate::Rule;
 
-/// Whether the rule is asked before the other: by priority, and among equal priorities by id.
+/// Tells whether the rule is asked before the other: by priority, and among equal priorities by id.
 pub fn is_before(rule: &Rule, other: &Rule) -> bool
     ensures { result ≡ is_before rule.now other.now }
 {

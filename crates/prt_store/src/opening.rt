@@ -175,7 +175,7 @@ fn look_at(table: OurTable) -> &'static str
     }
 }
 
-/// Whether a table has no rows.
+/// Tells whether a table has no rows.
 fn is_empty<S: Alter>(conn: &mut Connection<S>, table: OurTable) -> Result<bool, Refusal>
     ensures reason { IfErr result (λ reason. reason ≡ OpenFailed) }
     ensures sees { Sees S.Store (IsEmpty table) conn.old conn.new result }
@@ -186,7 +186,8 @@ fn is_empty<S: Alter>(conn: &mut Connection<S>, table: OurTable) -> Result<bool,
     }
 }
 
-/// Whether the three tables have no rows. The table `meta` is asked first, since it has a row in every file but a new one.
+/// Tells whether the three tables have no rows. Asks the table `meta` first, since it has a row in every file but a new
+/// one.
 fn are_empty<S: Alter>(conn: &mut Connection<S>) -> Result<bool, Refusal>
     ensures reason { IfErr result (λ reason. reason ≡ OpenFailed) }
     ensures sees { Sees S.Store AreEmpty conn.old conn.new result }
@@ -200,7 +201,7 @@ fn are_empty<S: Alter>(conn: &mut Connection<S>) -> Result<bool, Refusal>
     is_empty(conn, OurTable::Route)
 }
 
-/// Whether the three tables have the columns of format 1, and nothing is pending.
+/// Tells whether the three tables have the columns of format 1, and nothing is pending.
 fn is_ready<S: Alter>(conn: &Connection<S>) -> bool
     ensures columns { IsTrue result → HasFormat1 (state S.Store conn.now).now.schema }
     ensures alone { IsTrue result → (state S.Store conn.now).in_transaction ≡ false }

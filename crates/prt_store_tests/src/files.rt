@@ -15,7 +15,7 @@ const FOLDER: &str = "prt_store_tests_files";
 /// The database that the test makes.
 const PATH: &str = "prt_store_tests_files/routes.db";
 
-/// Whether the store that was opened spells the opening state.
+/// Tells whether the store that was opened spells the opening state.
 fn is_new<S: Alter + Drop>(
     alloc: Global,
     opened: Result<Store<S>, Refusal>,

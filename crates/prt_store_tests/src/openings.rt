@@ -12,7 +12,7 @@ use std::test::Fail;
 const RULE_TABLE: &str =
     "CREATE TABLE rule (id INTEGER PRIMARY KEY NOT NULL, priority INTEGER NOT NULL, inverted INTEGER NOT NULL, src_net INTEGER NOT NULL, src_len INTEGER NOT NULL, dst_net INTEGER NOT NULL, dst_len INTEGER NOT NULL, iif TEXT NOT NULL, mark INTEGER NOT NULL, mask INTEGER NOT NULL, act INTEGER NOT NULL, tbl INTEGER NOT NULL) STRICT";
 
-/// Whether what these statements make spells the opening state once it is adopted.
+/// Tells whether what these statements make spells the opening state once it is adopted.
 fn is_new_after(alloc: Global, sql: &str) -> Result<bool, Fail> {
     let mut connection = Connection::open_in_memory(alloc)?;
     run(&mut connection, sql)?;

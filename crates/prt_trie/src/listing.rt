@@ -16,7 +16,7 @@ fn listing_key(route: &Route) -> (u32, u32, u8, u32)
     )
 }
 
-/// Whether the first route is listed before the other one.
+/// Tells whether the first route is listed before the other one.
 pub(crate) fn is_listed_before(route: &Route, other: &Route) -> bool
     ensures { result ≡ is_listed_before route.now other.now }
 {

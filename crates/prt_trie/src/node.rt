@@ -39,7 +39,7 @@ pub(crate) enum Cut {
 }
 
 impl Node {
-    /// Whether the address is one of the block.
+    /// Tells whether the address is one of the block.
     fn has(&self, addr: u32) -> bool
         ensures { result ≡ has self.now addr }
     {

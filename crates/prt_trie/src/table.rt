@@ -73,14 +73,14 @@ fn piece_with(alloc: Global, rows: Vec<Route>) -> Result<Arc<Tree>, Refusal>
     Ok(piece)
 }
 
-/// Whether the selector takes one of the rows.
+/// Tells whether the selector takes one of the rows.
 fn takes_any(selector: &Selector, rows: &[Route]) -> bool
     ensures { result ≡ list_any (is_selected selector.now) rows.now }
 {
     rows.iter().any(|row| selector.takes(row))
 }
 
-/// Whether the edit may change the piece of this number: where it doesn't, the piece has the same rows after it.
+/// Tells whether the edit may change the piece of this number: where it doesn't, the piece has the same rows after it.
 fn touches(edit: &RouteEdit, number: usize, piece: &Tree) -> bool
     ensures kept { OnFalse result (piece_after edit.now number piece.now ≡ piece.now) }
     ensures changed { OnTrue result (piece_after edit.now number piece.now ≡ after_edit edit.now piece.now) }
@@ -285,7 +285,7 @@ impl Table {
         self.len
     }
 
-    /// Whether one of the routes has the key.
+    /// Tells whether one of the routes has the key.
     pub fn holds(&self, key: &RouteKey) -> bool
         ensures { result ≡ has_key key.now self.now }
     {

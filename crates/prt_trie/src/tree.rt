@@ -152,7 +152,7 @@ impl Tree {
         self.rows.len()
     }
 
-    /// Whether one of the routes has the key.
+    /// Tells whether one of the routes has the key.
     pub fn holds(&self, key: &RouteKey) -> bool
         ensures { result ≡ has_key key.now self.now }
     {

@@ -6,7 +6,7 @@ use crate::{Change, Command, MOST_ROUTES, MOST_RULES, NewRule, Refusal, Route, R
 use prt_route::{RouteChoice, RouteEdit};
 use prt_rule::{RuleChoice, same};
 
-/// Whether one of the rules is equal to this one in all but the id.
+/// Tells whether one of the rules is equal to this one in all but the id.
 fn has_rule(rules: &[Rule], new: &Rule) -> bool
     ensures { result ≡ has_rule new.now rules.now }
 {

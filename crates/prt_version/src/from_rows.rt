@@ -16,7 +16,7 @@ use prt_route::{GLOBAL_SCOPE, Kind};
 use prt_rule::{Dev, Mark, Prefix};
 use std::cmp::Ordering;
 
-/// Whether the rule may be one of a database that accepted so many commands.
+/// Tells whether the rule may be one of a database that accepted so many commands.
 fn is_rule_of(number: u64, rule: &Rule) -> bool
     requires { number ≤ MOST_COMMANDS }
     ensures { result ≡ is_rule_of number rule.now }
@@ -28,7 +28,7 @@ fn is_rule_of(number: u64, rule: &Rule) -> bool
     rule.id > 0 && rule.id <= number + 3 && is_storable
 }
 
-/// Whether each of the rules may be one of such a database.
+/// Tells whether each of the rules may be one of such a database.
 fn are_rules_of(number: u64, rules: &[Rule]) -> bool
     requires { number ≤ MOST_COMMANDS }
     ensures { result ≡ list_all (is_rule_of number) rules.now }
@@ -36,8 +36,8 @@ fn are_rules_of(number: u64, rules: &[Rule]) -> bool
     rules.iter().all(|rule| is_rule_of(number, rule))
 }
 
-/// Whether a database may hold the route: a unicast one has a gateway or an interface, another one neither, no source
-/// and scope global.
+/// Tells whether a database may hold the route: a unicast one has a gateway or an interface, another one neither, no
+/// source and scope global.
 fn is_storable_route(route: &Route) -> bool
     ensures { result ≡ is_storable_route route.now }
 {
@@ -51,7 +51,7 @@ fn is_storable_route(route: &Route) -> bool
     route.table > 0 && suits
 }
 
-/// Whether a database may hold each of the routes.
+/// Tells whether a database may hold each of the routes.
 fn are_storable_routes(routes: &[Route]) -> bool
     ensures { result ≡ list_all is_storable_route routes.now }
 {
@@ -120,7 +120,7 @@ fn content_cmp(rule: &Rule, other: &Rule) -> Ordering
         .then(action_pair(&rule.action).cmp(&action_pair(&other.action)))
 }
 
-/// Whether no two of the rules are the same but for their ids. Sorts them by all but the id.
+/// Tells whether no two of the rules are the same but for their ids. Sorts them by all but the id.
 fn are_unlike(rules: &mut Vec<Rule>) -> bool
     ensures moved { IsPermutation rules.old.items rules.new.items }
     ensures value { IsTrue result ↔ IsDistinct is_same_rule rules.new.items }
@@ -129,7 +129,7 @@ fn are_unlike(rules: &mut Vec<Rule>) -> bool
     rules.is_sorted_by(|rule, next| content_cmp(rule, next).is_lt())
 }
 
-/// Whether no two of the rules have the same id. Sorts them by their ids.
+/// Tells whether no two of the rules have the same id. Sorts them by their ids.
 fn have_distinct_ids(rules: &mut Vec<Rule>) -> bool
     ensures moved { IsPermutation rules.old.items rules.new.items }
     ensures value { IsTrue result ↔ IsDistinct has_same_id rules.new.items }
@@ -176,7 +176,7 @@ fn listing_key(route: &Route) -> (u32, u32, u8, u32)
     (route.table, bits, len, route.metric)
 }
 
-/// Whether no two of the routes have the same key. Sorts them in the order of listings.
+/// Tells whether no two of the routes have the same key. Sorts them in the order of listings.
 fn have_distinct_keys(routes: &mut Vec<Route>) -> bool
     ensures moved { IsPermutation routes.old.items routes.new.items }
     ensures value { IsTrue result ↔ IsDistinct has_same_key routes.new.items }

@@ -58,7 +58,7 @@ impl Model for Tables {
     ghost invariant = { λ it. AreTables it.tables.items × (it.len ≡ length (all_rows it.tables.items)) };
 }
 
-/// Whether the edit may change a row of the table of this number.
+/// Tells whether the edit may change a row of the table of this number.
 fn names_table(edit: &RouteEdit, number: u32) -> bool
     ensures { result ≡ names_table edit.now number }
 {
@@ -104,7 +104,7 @@ impl SharedTable {
         SharedTable::with_rows(alloc, self.number, self.table.with_change(edit)?)
     }
 
-    /// Whether the table has routes.
+    /// Tells whether the table has routes.
     fn has_rows(&self) -> bool
         ensures { result ≡ has_rows self.now }
     {
@@ -140,7 +140,7 @@ fn find_table(tables: &[SharedTable], number: u32) -> Option<&SharedTable>
     }
 }
 
-/// Whether there is a table of this number.
+/// Tells whether there is a table of this number.
 fn has_table(tables: &[SharedTable], number: u32) -> bool
     ensures { result ≡ has_table number tables.now }
 {
@@ -344,7 +344,7 @@ impl Tables {
         self.len
     }
 
-    /// Whether one of the routes has the key.
+    /// Tells whether one of the routes has the key.
     pub(crate) fn holds(&self, key: &RouteKey) -> bool
         ensures { result ≡ has_key key.now self.now }
     {

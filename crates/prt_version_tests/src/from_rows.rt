@@ -84,7 +84,7 @@ fn route(table: u32, via: u32) -> Route {
     }
 }
 
-/// Whether the rows are refused as spelling no state.
+/// Tells whether the rows are refused as spelling no state.
 fn are_damaged(alloc: Global, number: u64, rules: &[Rule], routes: &[Route]) -> Result<bool, Fail> {
     let rules = Vec::from_slice(alloc, rules)?;
     let routes = Vec::from_slice(alloc, routes)?;

@@ -117,7 +117,7 @@ impl Lookers {
         self.registry.offline(&mut seat.place);
     }
 
-    /// Whether a looker is online.
+    /// Tells whether a looker is online.
     pub(crate) fn is_online(&self, looker: LookerNumber) -> bool
         ensures { result ≡ is_some (announced_at self.now looker) }
     {
@@ -151,7 +151,7 @@ impl Lookers {
         self.registry.noted()
     }
 
-    /// Whether one more version can be retired.
+    /// Tells whether one more version can be retired.
     pub(crate) fn has_room(&self) -> bool
         ensures { result ≡ nat_lt (length self.now.registry.retired) MOST_RETIRED }
     {

@@ -375,7 +375,7 @@ impl Machine {
         }
     }
 
-    /// Whether everything is stopped.
+    /// Tells whether everything is stopped.
     fn is_stopped(&self) -> bool
         ensures { result ≡ is_stopped self.now.phase }
     {
