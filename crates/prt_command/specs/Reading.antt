@@ -113,9 +113,13 @@ abbrev pub words_request : List Word → Result (Option Request) Refusal
 words_request [] = Ok None
 words_request (w ∷ ws) = object_request (skip_word (codes "-4") (skip_word (codes "ip") (w ∷ ws))) >>= λ request. Ok (Some request)
 
--- what a line asks for, or its first fault
-abbrev pub reading : List ℕ → Result (Option Request) Refusal
-reading line =
+-- the words of a line, which is not too long and has text alone before its comment
+abbrev pub line_words : List ℕ → Result (List Word) Refusal
+line_words line =
     refuse_if (nat_lt longest_line (length line)) LineTooLong >>= λ _.
     refuse_if (not (list_all is_text_byte (before_comment line))) NotAscii >>= λ _.
-    words_request (words (before_comment line))
+    Ok (words (before_comment line))
+
+-- what a line asks for, or its first fault
+abbrev pub reading : List ℕ → Result (Option Request) Refusal
+reading line = line_words line >>= words_request

@@ -16,10 +16,10 @@ mod words;
 pub use examples::{accepted_lines, accepted_routes, accepted_rules, refused_lines};
 pub use item::{Item, ItemWord, Items, PrefixWord, Slot, Target, WhichTables};
 pub use laws::{any_order, first_faults, readings};
-pub use line::{LONGEST_LINE, LONGEST_UNENDED, MOST_LINES, read_line, read_text};
+pub use line::{LONGEST_LINE, LONGEST_UNENDED, MOST_LINES, line_text, read_line, read_text};
 pub use prt_route::{
     Addr, Dev, Kind, Prefix, Range, Refusal, Route, RouteChoice, RouteKey, Selector,
 };
 pub use prt_rule::{Action, Mark, Packet, Rule, RuleChoice};
 pub use request::{Command, NewRule, Query, Request};
-pub use words::{is, next_word, text_of};
+pub use words::{is, next_word};

@@ -1,7 +1,6 @@
-ghost use Rattle.std.specs.Prelude.{◌≡◌, ◌≤◌, ◌∷◌, [], codes, length, nat_lt, IfErr, IfOk, MatchOption};
+ghost use Rattle.std.specs.Prelude.{◌≡◌, ◌≤◌, ◌∷◌, [], codes, Err, IfErr, IfOk, MatchOption, MatchResult, Ok};
 ghost use Rattle.prt_addr.specs.Refusal.{code_of};
-ghost use Rattle.prt_command.specs.Lines.{longest_line};
-ghost use Rattle.prt_command.specs.Reading.{skip_word, object_request, reading, verb_request, words, words_request, before_comment};
+ghost use Rattle.prt_command.specs.Reading.{line_words, object_request, reading, skip_word, verb_request, words, words_request};
 ghost use Rattle.prt_command.specs.Storable.{IsStorableLine};
 
 use crate::Request;
@@ -75,11 +74,21 @@ pub fn read_text(text: &[u8]) -> Result<Option<Request>, Refusal>
     }
 }
 
-/// Tells whether a line has more bytes than one may have.
-fn is_too_long(line: &[u8]) -> bool
-    ensures { result ≡ nat_lt longest_line (length line.now) }
+/// Takes the text of a line, which stands without its newline: all before the first `#`.
+///
+/// # Errors
+///
+/// `LineTooLong` where the line has more than [`LONGEST_LINE`] bytes, then `NotAscii` where a byte of its text is neither
+/// white space nor a printable ASCII character.
+pub fn line_text(line: &[u8]) -> Result<&[u8], Refusal>
+    ensures { MatchResult result
+        (λ text. line_words line.now ≡ Ok (words text.now))
+        (λ refusal. line_words line.now ≡ Err refusal) }
 {
-    line.len() > LONGEST_LINE
+    if line.len() > LONGEST_LINE {
+        return Err(Refusal::LineTooLong);
+    }
+    text_of(line).ok_or(Refusal::NotAscii)
 }
 
 /// Reads a line of the command language, which has the words of ip-route(8) and ip-rule(8): what it asks for, or None
@@ -97,9 +106,5 @@ pub fn read_line(line: &[u8]) -> Result<Option<Request>, Refusal>
     ensures storable { IfOk result IsStorableLine }
     ensures number { IfErr result (λ refusal. code_of refusal ≤ 17) }
 {
-    if is_too_long(line) {
-        return Err(Refusal::LineTooLong);
-    }
-    let text = text_of(line).ok_or(Refusal::NotAscii)?;
-    read_text(text)
+    read_text(line_text(line)?)
 }

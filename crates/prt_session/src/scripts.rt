@@ -12,6 +12,8 @@ pub fn scripts()
         ≡ codes "answer 0 none\n" }
     ensures delete_lowest_metric { replies_to GoOn (codes "route add 10/8 via 192.0.2.1 metric 50\nroute add 10/8 via 192.0.2.1 metric 100\nroute del 10/8\nroute show\nroute del 10/8\nroute del 10/8\n") end_of_input []
         ≡ codes "ok 1\nok 2\nok 3\n10.0.0.0/8 via 192.0.2.1 metric 100\nend 1\nok 4\nerror 22 NoSuch\n" }
+    ensures delete_metric_zero { replies_to Stop (codes "route add 10/8 via 192.0.2.1 metric 50\nroute add 10/8 via 192.0.2.1 metric 100\nroute del 10/8 metric 0\nroute show\n") end_of_input []
+        ≡ codes "ok 1\nok 2\nok 3\n10.0.0.0/8 via 192.0.2.1 metric 100\nend 1\n" }
     ensures failure_kinds { replies_to GoOn (codes "route add blackhole 10.0.0.0/8\nroute add prohibit 10.2.0.0/16\nrule add priority 10 from 192.0.2.0/24 blackhole\nrule add priority 11 iif eth1 unreachable\nroute get 10.3.0.1\nroute get 10.2.0.1\nroute get 10.2.0.1 from 192.0.2.9\nroute get 10.3.0.1 iif eth1\n") end_of_input []
         ≡ codes "ok 1\nok 2\nok 3\nok 4\nanswer 4 rule 32766 table main blackhole 10.0.0.0/8\nanswer 4 rule 32766 table main prohibit 10.2.0.0/16\nanswer 4 rule 10 blackhole\nanswer 4 rule 11 unreachable\n" }
     ensures first_run { replies_to Stop (codes "route add default via 192.0.2.1 dev eth0\nroute get 198.51.100.7\n") end_of_input []

@@ -1,14 +1,13 @@
 -- The events of a replay file, or the refusal of its first refused line.
-use Rattle.std.specs.Prelude.{ℕ, ◌-◌, ◌==◌, nat_lt, not, if◌then◌else◌, List, [], ◌∷◌, length, map, Option, Some, None, Result, Ok, Err, bytes_eq, codes}
-use Rattle.std.specs.List.{list_all}
+use Rattle.std.specs.Prelude.{ℕ, ◌-◌, ◌==◌, nat_lt, if◌then◌else◌, List, [], ◌∷◌, length, map, Option, Some, None, Result, Ok, Err, bytes_eq, codes}
 use Rattle.std.specs.Option.{ok_or}
 use Rattle.prt_addr.specs.Decimal.{at_most}
 use Rattle.prt_addr.specs.Number.{number}
 use Rattle.prt_addr.specs.Word.{Word}
 use Rattle.prt_addr.specs.declared.refusal.Refusal.{Refusal}
-use Rattle.prt_addr.specs.declared.refusal.Refusal.TheVariants.{BadNumber, LineTooLong, MissingDestination, MissingValue, NotAscii, TooManyLines, UnknownVerb, UnknownWord}
-use Rattle.prt_command.specs.Lines.{limits, lines_of, longest_line}
-use Rattle.prt_command.specs.Reading.{before_comment, is_text_byte, words, words_request}
+use Rattle.prt_addr.specs.declared.refusal.Refusal.TheVariants.{BadNumber, MissingDestination, MissingValue, TooManyLines, UnknownVerb, UnknownWord}
+use Rattle.prt_command.specs.Lines.{limits, lines_of}
+use Rattle.prt_command.specs.Reading.{line_words, words_request}
 use Rattle.prt_command.specs.Requests.{refuse_if}
 use Rattle.prt_command.specs.Then.{◌>>=◌, map_ok}
 use Rattle.prt_command.specs.declared.request.Command.{Command}
@@ -100,13 +99,6 @@ event_of Reopen ws = at_end events.Reopen ws
 abbrev pub words_event : List Word → Result (Option Event) Refusal
 words_event [] = Ok None
 words_event (w ∷ ws) = ok_or (event_word w) UnknownWord >>= λ first. map_ok Some (event_of first ws)
-
--- the words of a line
-abbrev pub line_words : List ℕ → Result (List Word) Refusal
-line_words line =
-    refuse_if (nat_lt longest_line (length line)) LineTooLong >>= λ _.
-    refuse_if (not (list_all is_text_byte (before_comment line))) NotAscii >>= λ _.
-    Ok (words (before_comment line))
 
 -- the event of a line
 unfoldable pub line_event : List ℕ → Result (Option Event) Refusal

@@ -1,13 +1,13 @@
 //! The event of a line.
 ghost use Rattle.std.specs.Prelude.{◌≡◌, Err, MatchResult, Ok};
 ghost use Rattle.prt_command.specs.Reading.{words};
-ghost use Rattle.prt_world.specs.ReadEvents.{at_end, command, event_of, fate, line_event, line_request, line_words, lone_fate, lone_looker, look, looker, packet, value_word};
+ghost use Rattle.prt_world.specs.ReadEvents.{at_end, command, event_of, fate, line_event, line_request, lone_fate, lone_looker, look, looker, packet, value_word};
 
 use crate::words::{EventWord, event_word};
 use crate::{Event, Fate, LookerNumber};
 use prt_addr::{Refusal, read_number};
 use prt_command::{
-    Command, LONGEST_LINE, Packet, Query, Request, is, next_word, read_text, text_of,
+    Command, Packet, Query, Request, is, line_text, next_word, read_text,
 };
 
 /// Takes a value, which has to be there: its word, and the text after it.
@@ -143,18 +143,6 @@ fn read_event(first: EventWord, text: &[u8]) -> Result<Event, Refusal>
         EventWord::Stop => read_lone_fate(text).map(Event::Stop),
         EventWord::Reopen => at_end(Event::Reopen, text),
     }
-}
-
-/// Takes the text of a line.
-fn line_text(line: &[u8]) -> Result<&[u8], Refusal>
-    ensures { MatchResult result
-        (λ text. line_words line.now ≡ Ok (words text.now))
-        (λ e. line_words line.now ≡ Err e) }
-{
-    if line.len() > LONGEST_LINE {
-        return Err(Refusal::LineTooLong);
-    }
-    text_of(line).ok_or(Refusal::NotAscii)
 }
 
 /// Reads the event of a line; None where the line is blank or a comment.

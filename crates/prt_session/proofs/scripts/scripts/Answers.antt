@@ -17,6 +17,10 @@ pub returns-clause-delete_lowest_metric : goal.returns-clause-delete_lowest_metr
 unfolding session session_lines lines_of line_turn stops_after replies_text digits
 returns-clause-delete_lowest_metric c = refl
 
+pub returns-clause-delete_metric_zero : goal.returns-clause-delete_metric_zero
+unfolding session session_lines lines_of line_turn stops_after replies_text digits
+returns-clause-delete_metric_zero c = refl
+
 pub returns-clause-failure_kinds : goal.returns-clause-failure_kinds
 unfolding session session_lines lines_of line_turn stops_after replies_text digits
 returns-clause-failure_kinds c = refl
