@@ -12,6 +12,9 @@ use std::marker::Model;
 use std::sync::Arc;
 
 /// The version noted last, the retired versions that lookers may still hold, and what the lookers have announced.
+///
+/// A looker announces the number of the version that it holds: its quiescent state, since it holds no earlier one then
+/// (Desnoyers et al. 2012).
 #[derive(Drop)]
 pub struct Registry {
     noted: Arc<Version>,
@@ -152,8 +155,8 @@ impl Registry {
         self.retired.push(before);
     }
 
-    /// Gives up each retired version that no looker can hold any more: no online one has announced its number or less.
-    /// How many went.
+    /// Gives up each retired version that no looker can hold any more: no online one has announced its number or less
+    /// (Desnoyers et al. 2012). How many went.
     pub fn reclaim(&mut self) -> usize
         ensures registry { self.new ≡ reclaimed self.old }
         ensures number { result + length self.new.retired ≡ length self.old.retired }

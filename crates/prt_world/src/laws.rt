@@ -7,9 +7,15 @@ ghost use Rattle.prt_world.specs.Durability.{IsAcknowledged, IsAnswered, IsDurab
 ghost use Rattle.prt_world.specs.World.{outcomes_from, published_version, reopened, run_from, start};
 ghost use Rattle.prt_world.specs.declared.event.Event.{Event};
 
-/// Whatever the events and their order: what is durable is a beginning of what was accepted that has every acknowledged
-/// command and every version that answered a lookup, and the versions that lookers hold are kept. Of the commands that
-/// were accepted since the database was opened last, each but the last one is acknowledged.
+/// Whatever the events and their order, after them:
+///
+/// * what is durable is a beginning of the accepted commands that lacks one at most, and the disk is the state after it;
+///   what is published is durable; of what is published all is noted, or all but the last (`durable`);
+/// * an opening gives the state after the accepted commands that are durable (`reopened`);
+/// * each acknowledged command is durable, under its number (`acknowledged`);
+/// * since the last opening each accepted command but the last is acknowledged (`all_but_last`);
+/// * each answer is that of the state of its number, which is durable (`answered`);
+/// * the version that a looker holds is kept, and the looker has announced that number or a lower one (`retained`).
 pub fn every_run()
     ensures durable { (events : List Event) → IsDurable (run_from start events) }
     ensures reopened { (events : List Event) → published_version (reopened (run_from start events)) ≡ fold opening_state (reopened (run_from start events)).accepted }

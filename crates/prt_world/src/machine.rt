@@ -24,10 +24,7 @@ fn next_owner(alloc: Global, version: &Version, change: &Change) -> Result<Arc<V
     ensures value { IfOk result (λ next. arc_value next ≡ put version.now change.now) }
     ensures reason { IfErr result (λ reason. reason ≡ NoMemory) }
 {
-    match version.next(change) {
-        Ok(next) => first_owner(alloc, next),
-        Err(reason) => Err(reason),
-    }
+    first_owner(alloc, version.next(change)?)
 }
 
 /// What the service, its disk and its lookers hold.
@@ -77,10 +74,8 @@ impl Machine {
         ensures value { IfOk result (λ machine. machine ≡ opened opening_state) }
         ensures reason { IfErr result (λ reason. reason ≡ NoMemory) }
     {
-        match Version::opening(alloc) {
-            Ok(version) => Machine::opened(alloc, first_owner(alloc, version)?),
-            Err(reason) => Err(reason),
-        }
+        let version = Version::opening(alloc)?;
+        Machine::opened(alloc, first_owner(alloc, version)?)
     }
 
     /// Checks a command where none is under way.
@@ -212,14 +207,8 @@ impl Machine {
         ensures value { IfOk result (λ outcome. record { machine = self.new; outcome = outcome } ≡ reopen_by self.old Stopped) }
         ensures reason { IfErr result (λ reason. reason ≡ NoMemory) }
     {
-        let disk = share(&self.disk)?;
-        match Machine::opened(alloc, disk) {
-            Ok(machine) => {
-                *self = machine;
-                Ok(Outcome::Reopened(self.disk.number()))
-            }
-            Err(reason) => Err(reason),
-        }
+        *self = Machine::opened(alloc, share(&self.disk)?)?;
+        Ok(Outcome::Reopened(self.disk.number()))
     }
 
     /// Publishes the version of the committed command.

@@ -113,10 +113,7 @@ fn read_look(text: &[u8]) -> Result<(LookerNumber, Packet), Refusal>
 fn read_submit(text: &[u8]) -> Result<Event, Refusal>
     ensures { result ≡ event_of EventWord.Submit (words text.now) }
 {
-    match read_command(text) {
-        Ok(command) => Ok(Event::Submit(command)),
-        Err(refusal) => Err(refusal),
-    }
+    read_command(text).map(Event::Submit)
 }
 
 /// Reads the event that this word begins.

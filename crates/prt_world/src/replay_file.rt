@@ -10,10 +10,10 @@ use prt_addr::Refusal;
 use prt_command::MOST_LINES;
 use std::alloc::Global;
 
-/// The most bytes of a replay file.
+/// The most bytes of a replay file; one byte more is `TooManyLines`.
 pub const LONGEST_REPLAY: usize = 104_857_600;
 
-/// The most events of a replay file.
+/// The most events of a replay file; one event more is `TooManyLines`.
 pub const MOST_EVENTS: usize = 100_000;
 
 /// Finds the first newline.
@@ -35,7 +35,7 @@ fn next_line(bytes: &[u8]) -> Option<(&[u8], &[u8])>
     }
 }
 
-/// Adds an event, if there is room for one more.
+/// Adds an event, if a file may have one more.
 fn add_event(events: &mut Vec<Event>, event: Event) -> Result<(), Refusal>
     ensures ok { OnOk result (events.new.items ≡ events.old.items ++ event ∷ []) }
     ensures room { OnOk result (length events.old.items < MOST_EVENTS) }
@@ -44,10 +44,8 @@ fn add_event(events: &mut Vec<Event>, event: Event) -> Result<(), Refusal>
     if events.len() >= MOST_EVENTS {
         return Err(Refusal::TooManyLines);
     }
-    match events.extend_from_slice(&[event]) {
-        Ok(()) => Ok(()),
-        Err(_) => Err(Refusal::NoMemory),
-    }
+    events.extend_from_slice(&[event])?;
+    Ok(())
 }
 
 /// Adds the event of a line, if it has one.

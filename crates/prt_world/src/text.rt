@@ -14,10 +14,8 @@ fn push_text(out: &mut Vec<u8>, text: &str) -> Result<(), Refusal>
     ensures ok { OnOk result (out.new.items ≡ out.old.items ++ text.now) }
     ensures reason { IfErr result (λ e. e ≡ NoMemory) }
 {
-    match out.extend_from_slice(text.as_bytes()) {
-        Ok(()) => Ok(()),
-        Err(_) => Err(Refusal::NoMemory),
-    }
+    out.extend_from_slice(text.as_bytes())?;
+    Ok(())
 }
 
 /// Appends a space and a number.
@@ -97,11 +95,11 @@ fn push_line(out: &mut Vec<u8>, outcome: &Outcome) -> Result<(), Refusal>
     push_text(out, "\n")
 }
 
-/// The text of a trace: a line for each outcome, with its newline.
+/// The text of a trace: a line for each outcome, with its newline, as `prt replay` prints it.
 ///
 /// # Errors
 ///
-/// `NoMemory`.
+/// `NoMemory` alone.
 pub fn trace_text(alloc: Global, trace: &Trace) -> Result<Vec<u8>, Refusal>
     ensures text { IfOk result (λ text. text.items ≡ trace_text trace.now) }
     ensures reason { IfErr result (λ e. e ≡ NoMemory) }

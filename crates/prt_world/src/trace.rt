@@ -41,10 +41,8 @@ impl Trace {
         ensures err { OnErr result (self.new ≡ self.old) }
         ensures reason { IsOkUnless result NoMemory }
     {
-        match self.outcomes.extend_from_slice(&[outcome]) {
-            Ok(()) => Ok(()),
-            Err(_) => Err(Refusal::NoMemory),
-        }
+        self.outcomes.extend_from_slice(&[outcome])?;
+        Ok(())
     }
 
     /// The outcomes, in order.
