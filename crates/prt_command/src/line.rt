@@ -106,5 +106,6 @@ pub fn read_line(line: &[u8]) -> Result<Option<Request>, Refusal>
     ensures storable { IfOk result IsStorableLine }
     ensures number { IfErr result (λ refusal. code_of refusal ≤ 17) }
 {
-    read_text(line_text(line)?)
+    let text = line_text(line)?;
+    read_text(text)
 }
