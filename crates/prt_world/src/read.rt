@@ -113,7 +113,10 @@ fn read_look(text: &[u8]) -> Result<(LookerNumber, Packet), Refusal>
 fn read_submit(text: &[u8]) -> Result<Event, Refusal>
     ensures { result ≡ event_of EventWord.Submit (words text.now) }
 {
-    read_command(text).map(Event::Submit)
+    match read_command(text) {
+        Ok(command) => Ok(Event::Submit(command)),
+        Err(refusal) => Err(refusal),
+    }
 }
 
 /// Reads the event that this word begins.
