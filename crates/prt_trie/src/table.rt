@@ -67,9 +67,7 @@ fn piece_with(alloc: Global, rows: Vec<Route>) -> Result<Arc<Tree>, Refusal>
     ensures value { IfOk result (λ piece. arc_value piece ≡ rows.items) }
     ensures reason { IfErr result (λ reason. reason ≡ NoMemory) }
 {
-    let Ok(piece) = Arc::new(alloc, Tree::from_sorted(alloc, rows)?) else {
-        return Err(Refusal::NoMemory);
-    };
+    let piece = Arc::new(alloc, Tree::from_sorted(alloc, rows)?)?;
     Ok(piece)
 }
 
@@ -104,11 +102,9 @@ fn piece_after(
     ensures reason { IfErr result (λ reason. reason ≡ NoMemory) }
 {
     if !touches(edit, number, piece) {
-        return Arc::try_clone(piece).map_err(|_| Refusal::NoMemory);
+        return Ok(Arc::try_clone(piece)?);
     }
-    let Ok(rows) = rows_after(alloc, piece.as_slice(), edit) else {
-        return Err(Refusal::NoMemory);
-    };
+    let rows = rows_after(alloc, piece.as_slice(), edit)?;
     piece_with(alloc, rows)
 }
 
@@ -144,14 +140,10 @@ fn pieces_after(
     ensures value { IfOk result (λ after. map arc_value after.items ≡ pieces_from 0 257 (after_edit edit.now (rows_of_pieces (map arc_value pieces.now)))) }
     ensures reason { IfErr result (λ reason. reason ≡ NoMemory) }
 {
-    let Ok(mut after) = Vec::with_capacity(alloc, PIECES) else {
-        return Err(Refusal::NoMemory);
-    };
+    let mut after = Vec::with_capacity(alloc, PIECES)?;
     for number in 0..PIECES {
         let piece = piece_after(alloc, edit, number, &pieces[number])?;
-        let Ok(()) = after.push(piece) else {
-            return Err(Refusal::NoMemory);
-        };
+        after.push(piece)?;
     }
     Ok(after)
 }
@@ -200,9 +192,7 @@ impl Table {
         ensures rising { IfOk result (λ table. IsRising table) }
         ensures reason { IfErr result (λ reason. reason ≡ NoMemory) }
     {
-        let Ok(rows) = sorted_rows(alloc, routes) else {
-            return Err(Refusal::NoMemory);
-        };
+        let rows = sorted_rows(alloc, routes)?;
         Table::from_sorted(alloc, rows.as_slice())
     }
 
@@ -214,13 +204,9 @@ impl Table {
     {
         let mut pieces = Vec::new(alloc);
         for number in 0..PIECES {
-            let Ok(part) = rows_of_piece(alloc, rows, number) else {
-                return Err(Refusal::NoMemory);
-            };
+            let part = rows_of_piece(alloc, rows, number)?;
             let piece = piece_with(alloc, part)?;
-            let Ok(()) = pieces.push(piece) else {
-                return Err(Refusal::NoMemory);
-            };
+            pieces.push(piece)?;
         }
         Table::from_pieces(pieces)
     }
@@ -270,10 +256,8 @@ impl Table {
         ensures table { IfOk result (λ rows. IsTable rows.items) }
         ensures reason { IfErr result (λ reason. reason ≡ NoMemory) }
     {
-        let Ok(rows) = joined_rows(*self.pieces.allocator(), self.pieces.as_slice(), self.len)
-        else {
-            return Err(Refusal::NoMemory);
-        };
+        let alloc = *self.pieces.allocator();
+        let rows = joined_rows(alloc, self.pieces.as_slice(), self.len)?;
         Ok(rows)
     }
 

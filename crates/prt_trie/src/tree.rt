@@ -82,9 +82,7 @@ impl Tree {
         ensures rising { IfOk result (λ tree. IsRising tree) }
         ensures reason { IfErr result (λ reason. reason ≡ NoMemory) }
     {
-        let Ok(rows) = sorted_rows(alloc, routes) else {
-            return Err(Refusal::NoMemory);
-        };
+        let rows = sorted_rows(alloc, routes)?;
         Tree::from_sorted(alloc, rows)
     }
 
@@ -98,18 +96,14 @@ impl Tree {
         let given = rows.as_slice();
         read_all(given);
         // There are no more halves than rows, so their vector is allocated once.
-        let Ok(mut halves) = Vec::with_capacity(alloc, given.len()) else {
-            return Err(Refusal::NoMemory);
-        };
+        let mut halves = Vec::with_capacity(alloc, given.len())?;
         let all = Part {
             start: 0,
             end: given.len(),
             first: 0,
             len: 0,
         };
-        let Ok(root) = node_of(&mut halves, given, all) else {
-            return Err(Refusal::NoMemory);
-        };
+        let root = node_of(&mut halves, given, all)?;
         Ok(Tree { rows, halves, root })
     }
 
@@ -138,9 +132,7 @@ impl Tree {
         ensures table { IfOk result (λ rows. IsTable rows.items) }
         ensures reason { IfErr result (λ reason. reason ≡ NoMemory) }
     {
-        let Ok(rows) = Vec::from_slice(*self.rows.allocator(), self.rows.as_slice()) else {
-            return Err(Refusal::NoMemory);
-        };
+        let rows = Vec::from_slice(*self.rows.allocator(), self.rows.as_slice())?;
         Ok(rows)
     }
 

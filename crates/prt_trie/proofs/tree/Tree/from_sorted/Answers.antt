@@ -20,5 +20,5 @@ node_of-requires-clause-part c = record {
 pub invariant_of-result : goal.invariant_of-result
 invariant_of-result c =
     let halves = c.node_of.new.halves.items in
-    subst (λ rows. IsIndex rows halves c.in-Ok-node_of.root) c.as_slice-given.ensures.value
-    (index_of c.as_slice-given.result.now halves c.in-Ok-node_of.root (omega arith) (table_from _ _ c.as_slice-given.ensures.value c.requires.one_table c.requires.rising c.read_all.ensures.prefixes c.read_all.ensures.metrics) c.in-Ok-node_of.ensures.halves c.in-Ok-node_of.ensures.node.below c.in-Ok-node_of.ensures.node.best)
+    subst (λ rows. IsIndex rows halves c.in_ok-root.root) c.as_slice-given.ensures.value
+    (index_of c.as_slice-given.result.now halves c.in_ok-root.root (omega arith) (table_from _ _ c.as_slice-given.ensures.value c.requires.one_table c.requires.rising c.read_all.ensures.prefixes c.read_all.ensures.metrics) c.in_ok-root.ensures.halves c.in_ok-root.ensures.node.below c.in_ok-root.ensures.node.best)
