@@ -225,7 +225,7 @@ edit_fits inside state made edit routes same sound checked is routes_are =
     let checked_inside : IsChecked inside (change.Route edit) = subst (IsChecked inside) is (subst (λ s. IsChecked s made) (sym same) checked) in
     subst (λ rs. length (after_edit edit rs) ≤ MOST_ROUTES) (sym routes_are) (put_sound inside (change.Route edit) sound checked_inside).routes_fit
 
--- what holds of a value that was made holds of the shared one
-pub of_shared : {X Y E F : Type 0} (P : X → Type 0) (value : Y → X) (made : Result X E) (shared : Result Y F) → IfOk made P → IfOk shared (λ owner. made ≡ Ok (value owner)) → IfOk shared (λ owner. P (value owner))
-of_shared {E = E} P value made (Ok owner) holds is = let held : IfOk {E = E} (Ok (value owner)) P = subst (λ r. IfOk r P) is holds in held
-of_shared P value made (Err reason) holds is = tt
+-- what holds of a value holds of the one that is owned
+pub of_owner : {X Y F : Type 0} (P : X → Type 0) (value : Y → X) (made : X) (owned : Result Y F) → P made → IfOk owned (λ owner. value owner ≡ made) → IfOk owned (λ owner. P (value owner))
+of_owner P value made (Ok owner) holds is = subst P (sym is) holds
+of_owner P value made (Err reason) holds is = tt

@@ -16,10 +16,8 @@ pub fn first_owner<T: Drop>(alloc: Global, value: T) -> Result<Arc<T>, Refusal>
     ensures value { IfOk result (λ owner. arc_value owner ≡ value) }
     ensures reason { IfErr result (λ reason. reason ≡ NoMemory) }
 {
-    match Arc::new(alloc, value) {
-        Ok(owner) => Ok(owner),
-        Err(_) => Err(Refusal::NoMemory),
-    }
+    let owner = Arc::new(alloc, value)?;
+    Ok(owner)
 }
 
 /// One more owner of the same value.
@@ -31,8 +29,6 @@ pub fn share<T: Drop>(owner: &Arc<T>) -> Result<Arc<T>, Refusal>
     ensures value { IfOk result (λ other. arc_value other ≡ arc_value owner.now) }
     ensures reason { IfErr result (λ reason. reason ≡ NoMemory) }
 {
-    match Arc::try_clone(owner) {
-        Ok(other) => Ok(other),
-        Err(_) => Err(Refusal::NoMemory),
-    }
+    let other = Arc::try_clone(owner)?;
+    Ok(other)
 }

@@ -122,9 +122,7 @@ impl SharedTable {
         }
         let mut part = self.table.rows()?;
         part.retain(|row| selector.takes(row));
-        let Ok(()) = rows.extend_from_slice(part.as_slice()) else {
-            return Err(Refusal::NoMemory);
-        };
+        rows.extend_from_slice(part.as_slice())?;
         Ok(())
     }
 }
@@ -173,9 +171,7 @@ fn tables_after(
     for table in tables {
         let table = table.after_edit(alloc, edit)?;
         if table.has_rows() {
-            let Ok(()) = after.push(table) else {
-                return Err(Refusal::NoMemory);
-            };
+            after.push(table)?;
         }
     }
     Ok(after)
@@ -218,9 +214,7 @@ fn with_table_of(
 {
     let table = table_of(alloc, route)?;
     let place = table_above(&tables, route.table).unwrap_or(tables.len());
-    let Ok(()) = tables.insert(place, table) else {
-        return Err(Refusal::NoMemory);
-    };
+    tables.insert(place, table)?;
     Ok(tables)
 }
 
@@ -268,9 +262,7 @@ fn tables_of_rows(alloc: Global, rows: &[Route]) -> Result<Vec<SharedTable>, Ref
     while let Some(first) = rest.first() {
         let (own, others) = split_table(rest, first.table);
         let table = table_of_rows(alloc, first.table, own)?;
-        let Ok(()) = tables.push(table) else {
-            return Err(Refusal::NoMemory);
-        };
+        tables.push(table)?;
         rest = others;
     }
     Ok(tables)

@@ -7,7 +7,7 @@ ghost use Rattle.prt_version.specs.Listing.{listing};
 ghost use Rattle.prt_version.specs.RowsSpell.{RowsSpell, RowsSpellNone};
 ghost use Rattle.prt_version.specs.Select.{select};
 ghost use Rattle.prt_version.specs.Sound.{IsSound};
-ghost use Rattle.prt_version.specs.State.{opening_state, table_rule};
+ghost use Rattle.prt_version.specs.State.{opening_rules, opening_state, table_rule};
 
 use crate::checks::change_of;
 use crate::from_rows::{ordered_routes, ordered_rules};
@@ -20,7 +20,7 @@ use crate::{
 };
 use prt_route::{DEFAULT_TABLE, LOCAL_TABLE, MAIN_TABLE, Prefix, Selector};
 use prt_rule::auto_priority;
-use std::alloc::{AllocError, Global};
+use std::alloc::Global;
 use std::marker::Model;
 use std::sync::Arc;
 
@@ -60,18 +60,15 @@ pub fn table_rule(id: u64, priority: u32, table: u32) -> Rule
     }
 }
 
-/// The first owner of the rules that were made, if there was memory for them.
-fn owner_of_rules(
-    alloc: Global,
-    made: Result<Vec<Rule>, AllocError>,
-) -> Result<Arc<Vec<Rule>>, Refusal>
-    ensures value { IfOk result (λ rules. made ≡ Ok (arc_value rules)) }
-    ensures reason { IfErr result (λ reason. reason ≡ NoMemory) }
+/// Gives the three rules of a new database: they look up local, then main, then default (`ip-rule(8)`).
+fn opening_rules() -> [Rule; 3]
+    ensures { result ≡ opening_rules }
 {
-    match made {
-        Ok(rules) => first_owner(alloc, rules),
-        Err(_) => Err(Refusal::NoMemory),
-    }
+    [
+        table_rule(1, 0, LOCAL_TABLE),
+        table_rule(2, 32766, MAIN_TABLE),
+        table_rule(3, 32767, DEFAULT_TABLE),
+    ]
 }
 
 impl Version {
@@ -84,14 +81,7 @@ impl Version {
         ensures value { IfOk result (λ version. version ≡ opening_state) }
         ensures reason { IfErr result (λ reason. reason ≡ NoMemory) }
     {
-        let rules = [
-            table_rule(1, 0, LOCAL_TABLE),
-            table_rule(2, 32766, MAIN_TABLE),
-            table_rule(3, 32767, DEFAULT_TABLE),
-        ];
-        let Ok(rules) = Vec::from_slice(alloc, &rules) else {
-            return Err(Refusal::NoMemory);
-        };
+        let rules = Vec::from_slice(alloc, &opening_rules())?;
         Ok(Version {
             count: 0,
             rules: first_owner(alloc, rules)?,
@@ -228,9 +218,9 @@ impl Version {
         let alloc = *self.rules.allocator();
         match change {
             Change::Route(_) => share(&self.rules),
-            Change::RulePut(rule) => owner_of_rules(alloc, with_rule(alloc, &self.rules, rule)),
-            Change::RuleDrop(id) => owner_of_rules(alloc, without_rule(alloc, &self.rules, *id)),
-            Change::RuleFlush => owner_of_rules(alloc, flushed_rules(alloc, &self.rules)),
+            Change::RulePut(rule) => first_owner(alloc, with_rule(alloc, &self.rules, rule)?),
+            Change::RuleDrop(id) => first_owner(alloc, without_rule(alloc, &self.rules, *id)?),
+            Change::RuleFlush => first_owner(alloc, flushed_rules(alloc, &self.rules)?),
         }
     }
 

@@ -13,6 +13,6 @@ returns-then-not-agrees-clause-value c =
 
 pub returns-clause-value : goal.returns-clause-value
 returns-clause-value c =
-    c.in-Ok.ensures.items ∙ ap (λ xs. c.args.rows.now.items ++ xs)
+    c.in_ok-extend_from_slice.ensures.items ∙ ap (λ xs. c.args.rows.now.items ++ xs)
     (c.as_slice.ensures.value ∙ filter_same _ _ _ (λ x b f' k. search rules) _ _ c.retain.ensures.filtered
     ∙ ap (filter (is_selected c.args.selector.now)) (c.in_ok-part.ensures.value ∙ c.deref.ensures ∙ ap (λ (table : TableRows). table.rows) c.self.view_is))
