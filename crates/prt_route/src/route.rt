@@ -47,6 +47,20 @@ impl Route {
         }
     }
 
+    /// Gives what listings compare: the table, the address and the length of the prefix, and the metric.
+    ///
+    /// The route with the lower one is listed first. Two routes have the same one exactly where they have the same key.
+    pub fn listing_key(&self) -> (u32, u32, u8, u32)
+        ensures { result ≡ (self.now.table, self.now.prefix.bits, self.now.prefix.len, self.now.metric) }
+    {
+        (
+            self.table,
+            self.prefix.bits(),
+            self.prefix.len(),
+            self.metric,
+        )
+    }
+
     /// Tells whether this route is better than the other one of its table for an address in both.
     ///
     /// The longer prefix is better, and of equal lengths the lower metric (RFC 1812, section 5.2.4.3).

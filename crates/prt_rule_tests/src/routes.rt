@@ -65,6 +65,7 @@ fn chooses_routes(rt: HostRuntime) {
     assert!(rt; far.better(&short) && near.better(&far));
     assert!(rt; !short.better(&far) && !far.better(&near) && !far.better(&far));
     assert!(rt; far.key().metric == 100 && far.key().prefix.len() == 16);
+    assert!(rt; far.listing_key() == (MAIN_TABLE, 0x0a01_0000, 16, 100));
     let all = Selector {
         table: None,
         range: Range::All,

@@ -168,22 +168,14 @@ pub(crate) fn ordered_rules(number: u64, mut rules: Vec<Rule>) -> Result<Vec<Rul
     Ok(rules)
 }
 
-/// What routes are sorted by: table, address, length and metric.
-fn listing_key(route: &Route) -> (u32, u32, u8, u32)
-    ensures { result ≡ (route.now.table, route.now.prefix.bits, route.now.prefix.len, route.now.metric) }
-{
-    let (bits, len) = prefix_pair(&route.prefix);
-    (route.table, bits, len, route.metric)
-}
-
 /// Tells whether no two of the routes have the same key. Sorts them in the order of listings.
 fn have_distinct_keys(routes: &mut Vec<Route>) -> bool
     ensures moved { IsPermutation routes.old.items routes.new.items }
     ensures value { IsTrue result ↔ IsDistinct has_same_key routes.new.items }
     ensures order { OnTrue result (IsRising is_listed_before routes.new.items) }
 {
-    routes.sort_unstable_by_key(listing_key);
-    routes.is_sorted_by(|route, next| listing_key(route) < listing_key(next))
+    routes.sort_unstable_by_key(Route::listing_key);
+    routes.is_sorted_by(|route, next| route.listing_key() < next.listing_key())
 }
 
 /// The routes in the order of listings, if a database may have them.
