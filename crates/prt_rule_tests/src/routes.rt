@@ -1,5 +1,5 @@
 use crate::values::{GATEWAY, route, ten_one};
-use prt_addr::{Addr, Refusal};
+use prt_addr::{Addr, Prefix, Refusal};
 use prt_route::{
     Dev, Kind, MAIN_TABLE, Range, RouteChoice, Selector, protocol_name, read_dev, read_protocol,
     read_scope, read_table, scope_name, table_name,
@@ -58,7 +58,7 @@ fn reads_names(rt: HostRuntime) {
 }
 
 #[test]
-fn chooses_routes(rt: HostRuntime) {
+fn compares_routes(rt: HostRuntime) {
     let far = route(ten_one(16), 100);
     let near = route(ten_one(16), 50);
     let short = route(ten_one(8), 1);
@@ -66,71 +66,68 @@ fn chooses_routes(rt: HostRuntime) {
     assert!(rt; !short.better(&far) && !far.better(&near) && !far.better(&far));
     assert!(rt; far.key().metric == 100 && far.key().prefix.len() == 16);
     assert!(rt; far.listing_key() == (MAIN_TABLE, 0x0a01_0000, 16, 100));
-    let all = Selector {
-        table: None,
-        range: Range::All,
-        kind: None,
-        proto: None,
-        scope: None,
-        dev: None,
-    };
-    for (selector, taken) in [
-        (all, true),
-        (
-            Selector {
-                table: Some(255),
-                ..all
-            },
-            false,
-        ),
-        (
-            Selector {
-                range: Range::Root(ten_one(8)),
-                ..all
-            },
-            true,
-        ),
-        (
-            Selector {
-                range: Range::Root(ten_one(24)),
-                ..all
-            },
-            false,
-        ),
-        (
-            Selector {
-                range: Range::Covering(ten_one(24)),
-                ..all
-            },
-            true,
-        ),
-        (
-            Selector {
-                range: Range::Exact(ten_one(8)),
-                ..all
-            },
-            false,
-        ),
-        (
-            Selector {
-                kind: Some(Kind::Throw),
-                ..all
-            },
-            false,
-        ),
-        (
-            Selector {
-                dev: Some(Dev::loopback()),
-                ..all
-            },
-            false,
-        ),
-    ] {
-        assert!(rt; selector.takes(&far) == taken);
+}
+
+/// Selects each route.
+const ALL: Selector = Selector {
+    table: None,
+    range: Range::All,
+    kind: None,
+    proto: None,
+    scope: None,
+    dev: None,
+};
+
+/// Selects the routes of one table.
+fn of_table(table: u32) -> Selector {
+    Selector {
+        table: Some(table),
+        ..ALL
     }
-    let any = RouteChoice {
+}
+
+/// Selects the routes of these prefixes.
+fn in_range(range: Range) -> Selector {
+    Selector { range, ..ALL }
+}
+
+/// Selects the routes of one kind.
+fn of_kind(kind: Kind) -> Selector {
+    Selector {
+        kind: Some(kind),
+        ..ALL
+    }
+}
+
+/// Selects the routes through one interface.
+fn through(dev: Dev) -> Selector {
+    Selector {
+        dev: Some(dev),
+        ..ALL
+    }
+}
+
+#[test]
+fn selects_routes(rt: HostRuntime) {
+    for (selector, taken) in [
+        (ALL, true),
+        (of_table(255), false),
+        (in_range(Range::Root(ten_one(8))), true),
+        (in_range(Range::Root(ten_one(24))), false),
+        (in_range(Range::Covering(ten_one(24))), true),
+        (in_range(Range::Exact(ten_one(8))), false),
+        (of_kind(Kind::Throw), false),
+        (through(Dev::loopback()), false),
+    ] {
+        assert!(rt; selector.takes(&route(ten_one(16), 100)) == taken);
+    }
+}
+
+/// Chooses a route of main by its prefix alone.
+fn any_of(prefix: Prefix) -> RouteChoice {
+    RouteChoice {
         table: MAIN_TABLE,
-        prefix: ten_one(16),
+        prefix,
         metric: None,
         kind: None,
         via: None,
@@ -138,46 +135,36 @@ fn chooses_routes(rt: HostRuntime) {
         src: None,
         proto: None,
         scope: None,
-    };
+    }
+}
+
+/// Chooses a route of 10.1.0.0/16 by its metric.
+fn of_metric(metric: u32) -> RouteChoice {
+    RouteChoice {
+        metric: Some(metric),
+        ..any_of(ten_one(16))
+    }
+}
+
+/// Chooses a route of 10.1.0.0/16 and metric 100 by its gateway and, where one is given, its source.
+fn via_from(via: Addr, src: Option<Addr>) -> RouteChoice {
+    RouteChoice {
+        via: Some(via),
+        src,
+        ..of_metric(100)
+    }
+}
+
+#[test]
+fn chooses_routes(rt: HostRuntime) {
     for (choice, taken) in [
-        (any, true),
-        (
-            RouteChoice {
-                metric: Some(100),
-                via: Some(GATEWAY),
-                ..any
-            },
-            true,
-        ),
-        (
-            RouteChoice {
-                metric: Some(0),
-                ..any
-            },
-            true,
-        ),
-        (
-            RouteChoice {
-                metric: Some(50),
-                ..any
-            },
-            false,
-        ),
-        (
-            RouteChoice {
-                prefix: ten_one(8),
-                ..any
-            },
-            false,
-        ),
-        (
-            RouteChoice {
-                src: Some(Addr(1)),
-                ..any
-            },
-            false,
-        ),
+        (any_of(ten_one(16)), true),
+        (any_of(ten_one(8)), false),
+        (of_metric(0), true),
+        (of_metric(50), false),
+        (via_from(GATEWAY, None), true),
+        (via_from(GATEWAY, Some(Addr(1))), false),
     ] {
-        assert!(rt; choice.takes(&far) == taken);
+        assert!(rt; choice.takes(&route(ten_one(16), 100)) == taken);
     }
 }

@@ -1,7 +1,7 @@
 use crate::values::{between, marked, packet, rule, ten_one};
 use prt_addr::Prefix;
 use prt_route::Dev;
-use prt_rule::{Action, Rule, RuleChoice, auto_priority, is_before, matches, same};
+use prt_rule::{Action, Mark, Rule, RuleChoice, auto_priority, is_before, matches, same};
 
 #[test]
 fn matches_packets(rt: HostRuntime) {
@@ -59,60 +59,65 @@ fn compares_rules(rt: HostRuntime) {
     ] {
         assert_eq!(rt; same(&one, &other), equal);
     }
+}
+
+#[test]
+fn orders_rules(rt: HostRuntime) {
     assert!(rt; is_before(&rule(9, 1), &rule(4, 2)) && is_before(&rule(4, 1), &rule(9, 1)));
     let opening = [rule(1, 0), rule(2, 32766), rule(3, 32767)];
     assert_eq!(rt;
         (auto_priority(&opening), auto_priority(&opening[..1])),
         (32765, 0)
     );
-    let any = RuleChoice {
-        priority: None,
-        inverted: false,
-        from: None,
-        to: None,
-        iif: None,
-        mark: None,
-        action: None,
+}
+
+/// Chooses each rule.
+const ANY: RuleChoice = RuleChoice {
+    priority: None,
+    inverted: false,
+    from: None,
+    to: None,
+    iif: None,
+    mark: None,
+    action: None,
+};
+
+/// Chooses a rule by its sources and its mark.
+fn from_marked(from: Prefix, mark: u32, mask: u32) -> RuleChoice {
+    RuleChoice {
+        from: Some(from),
+        mark: Some(Mark { mark, mask }),
+        ..ANY
+    }
+}
+
+/// Chooses a rule by its action.
+fn of_action(action: Action) -> RuleChoice {
+    RuleChoice {
+        action: Some(action),
+        ..ANY
+    }
+}
+
+#[test]
+fn chooses_rules(rt: HostRuntime) {
+    let any = Prefix::masked(0, 0);
+    let of_priority = RuleChoice {
+        priority: Some(11),
+        ..ANY
+    };
+    let inverted = RuleChoice {
+        inverted: true,
+        ..ANY
     };
     for (choice, agreed) in [
-        (any, true),
-        (
-            RuleChoice {
-                from: Some(Prefix::masked(0, 0)),
-                mark: one.mark,
-                ..any
-            },
-            true,
-        ),
-        (
-            RuleChoice {
-                priority: Some(11),
-                ..any
-            },
-            false,
-        ),
-        (
-            RuleChoice {
-                inverted: true,
-                ..any
-            },
-            false,
-        ),
-        (
-            RuleChoice {
-                mark: marked(0x10, 0xff).mark,
-                ..any
-            },
-            false,
-        ),
-        (
-            RuleChoice {
-                action: Some(Action::Lookup(255)),
-                ..any
-            },
-            false,
-        ),
+        (ANY, true),
+        (of_priority, false),
+        (inverted, false),
+        (from_marked(any, 0x10, 0xf0), true),
+        (from_marked(any, 0x10, 0xff), false),
+        (of_action(Action::Lookup(255)), false),
     ] {
-        assert_eq!(rt; choice.agrees(&one), agreed);
+        assert_eq!(rt; choice.agrees(&marked(0x10, 0xf0)), agreed);
     }
 }
