@@ -5,8 +5,8 @@ use Rattle.prt_listing.specs.Keeps.{Keeps}
 -- a text was pushed before the push that failed
 pub keeps_before : (old text middle new : List ℕ) → middle ≡ old ++ text → Keeps middle new → Keeps old new
 keeps_before old text middle new pushed kept = record {
-  behind = text ++ kept.behind;
-  whole = kept.whole ∙ ap (λ xs. xs ++ kept.behind) pushed ∙ append_assoc old text kept.behind;
+  added = text ++ kept.added;
+  whole = kept.whole ∙ ap (λ xs. xs ++ kept.added) pushed ∙ append_assoc old text kept.added;
 }
 
 -- what holds anyhow holds after a failure

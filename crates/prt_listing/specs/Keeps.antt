@@ -3,5 +3,5 @@ use Rattle.std.specs.Prelude.{◌≡◌, ℕ, List, ◌++◌}
 
 -- what was there is there, and something may stand after it
 pub record Keeps (old new : List ℕ) : Type 0 where
-  pub behind : List ℕ
-  pub whole : new ≡ old ++ behind
+  pub added : List ℕ
+  pub whole : new ≡ old ++ added
