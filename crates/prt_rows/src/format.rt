@@ -256,8 +256,8 @@ fn are_ours(rule: &Table, route: &Table, meta: &Table, key: &Index) -> bool
         && is_route_index(key)
 }
 
-/// Tells whether the first tables of the file are those of format 1, as the first opening makes them in an empty file,
-/// and no other table refers to them and no other unique index is on the table of routes.
+/// Tells whether the first tables of the file are those of format 1 (`docs/STORE.md`), as the first opening makes them
+/// in an empty file, and no other table refers to them and no other unique index is on the table of routes.
 pub fn is_format_1(schema: &Schema) -> bool
     ensures { IsTrue result ↔ IsFormat1 schema.now }
 {
@@ -318,7 +318,7 @@ pub fn begins_format_1(schema: &Schema) -> bool
         || is_format_1(schema)
 }
 
-/// Tells whether the file has a table of this name, in whatever case.
+/// Tells whether the file has a table of this name, in whatever case of ASCII letters, as SQLite compares names.
 pub fn has_table(schema: &Schema, name: &str) -> bool
     ensures { result ≡ has_table name.now schema.now }
 {
@@ -357,7 +357,8 @@ fn suit_names(tables: &[Table]) -> bool
     true
 }
 
-/// Tells whether the file has the three tables of format 1, column by column, in whatever trees and order.
+/// Tells whether the file has the three tables of format 1 (`docs/STORE.md`), column by column, in whatever trees and
+/// order.
 pub fn has_format_1(schema: &Schema) -> bool
     ensures { IsTrue result ↔ HasFormat1 schema.now }
 {

@@ -1,7 +1,9 @@
-//! The rows of the database file, format 1: what stands in the tables `rule`, `route` and `meta`, written and read back.
+//! The rows of the database file, format 1: what stands in the tables `rule`, `route` and `meta`, written and read
+//! back.
 #![tactic(auto)]
 
 mod cell;
+mod code;
 mod column;
 mod format;
 mod laws;

@@ -38,7 +38,7 @@ fn count_of_row(row: &Row) -> Option<u64>
 
 /// The count of accepted commands, 0 to 10^15, that the rows of the table `meta` spell, if they spell one.
 ///
-/// There is one row, with id 1 and format 1.
+/// There is one row, with id 1 and format 1 (`docs/STORE.md`).
 pub fn count_of_rows(rows: &[Row]) -> Option<u64>
     ensures { Decodes meta_rows IsCount rows.now result }
 {
@@ -48,7 +48,8 @@ pub fn count_of_rows(rows: &[Row]) -> Option<u64>
     }
 }
 
-/// The values of the row of `meta` for a count of at most 10^15, in the order of the columns, to be bound to a statement.
+/// The values of the row of `meta` for a count of at most 10^15, in the order of the columns, to be bound to a
+/// statement.
 pub fn meta_values(count: u64) -> [ValueRef<'static>; META_COLUMNS]
     requires { IsCount count }
     ensures { bound result ≡ meta_row count }

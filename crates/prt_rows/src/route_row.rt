@@ -8,9 +8,10 @@ ghost use Rattle.prt_rows.specs.Decodes.{Decodes};
 ghost use Rattle.prt_rows.specs.Cell.{number};
 ghost use Rattle.prt_rows.specs.RouteRow.{IsInRange, IsRoute, kind_code, route_row};
 
+use crate::code::{kind_code, kind_of_code};
 use crate::column::{ROUTE_COLUMNS, RouteColumn as At};
 use crate::{cell, value};
-use prt_route::{Kind, Route};
+use prt_route::{GLOBAL_SCOPE, Kind, Route};
 use sqlite::Row;
 use sqlite::types::ValueRef;
 
@@ -18,27 +19,7 @@ use sqlite::types::ValueRef;
 fn kind(row: &Row, at: usize) -> Option<Kind>
     ensures { Decodes (λ kind. number (kind_code kind)) (λ _. ⊤) (column row.now at) result }
 {
-    match cell::integer(row, at)? {
-        1 => Some(Kind::Unicast),
-        6 => Some(Kind::Blackhole),
-        7 => Some(Kind::Unreachable),
-        8 => Some(Kind::Prohibit),
-        9 => Some(Kind::Throw),
-        _ => None,
-    }
-}
-
-/// The number that stands for a kind.
-pub(crate) fn kind_code(kind: Kind) -> u32
-    ensures { result ≡ kind_code kind }
-{
-    match kind {
-        Kind::Unicast => 1,
-        Kind::Blackhole => 6,
-        Kind::Unreachable => 7,
-        Kind::Prohibit => 8,
-        Kind::Throw => 9,
-    }
+    kind_of_code(cell::number(row, at)?)
 }
 
 /// Tells whether a table may hold the route.
@@ -47,7 +28,10 @@ fn is_storable(route: &Route) -> bool
 {
     let suits = match route.kind {
         Kind::Unicast => route.via.is_some() || route.dev.is_some(),
-        _ => route.via.is_none() && route.dev.is_none() && route.src.is_none() && route.scope == 0,
+        Kind::Blackhole | Kind::Unreachable | Kind::Prohibit | Kind::Throw => {
+            let is_bare = route.via.is_none() && route.dev.is_none() && route.src.is_none();
+            is_bare && route.scope == GLOBAL_SCOPE
+        }
     };
     route.table > 0 && suits
 }
@@ -74,8 +58,9 @@ fn route_of_cells(row: &Row) -> Option<Route>
 
 /// The route that a row of the table `route`, its rowid first, spells, if it spells one.
 ///
-/// The ten cells after the rowid stand in the order of the columns, each in its range, and the route has what its kind asks for
-/// (`ip-route(8)`): a unicast route a gateway or an interface, a route of another kind neither, no source and scope 0.
+/// The ten cells after the rowid stand in the order of the columns, each in its range (`docs/STORE.md`), and the route
+/// has what its kind asks for (`ip-route(8)`): a unicast route a gateway or an interface, a route of another kind
+/// neither, no source and scope global.
 #[tactic(auto, using(crate::proofs::RouteRows::same_route))]
 pub fn route_of_row(row: &Row) -> Option<Route>
     ensures { Decodes route_row IsRoute (drop 1 row.now) result }
@@ -88,7 +73,8 @@ pub fn route_of_row(row: &Row) -> Option<Route>
     }
 }
 
-/// The values of the row of a route, in the order of the columns, to be bound to a statement.
+/// The values of the row of a route, in the order of the columns (`docs/STORE.md`), to be bound to a statement. The
+/// rowid is not among them.
 pub fn route_values(route: &Route) -> [ValueRef<'_>; ROUTE_COLUMNS]
     ensures { bound result ≡ route_row route.now }
 {

@@ -114,9 +114,7 @@ fn values_of_rows<R: RowReader>(
         let Some(value) = reader.value_of_row(row) else {
             return Err(Refusal::Damaged);
         };
-        let Ok(()) = values.push(value) else {
-            return Err(Refusal::NoMemory);
-        };
+        values.push(value)?;
     }
     Ok(values)
 }
@@ -125,8 +123,8 @@ fn values_of_rows<R: RowReader>(
 ///
 /// # Errors
 ///
-/// `Damaged` only where the rowids aren't integers that rise, or one of the rows spells no route. `NoMemory` where memory is
-/// refused.
+/// `Damaged` only where the rowids aren't integers that rise, or one of the rows spells no route. `NoMemory` where
+/// memory is refused.
 pub fn routes_of_rows(alloc: Global, rows: &[Row]) -> Result<Vec<Route>, Refusal>
     ensures rise { IfOk result (λ _. IsTrue (rowids_rise rows.now)) }
     ensures ok { IfOk result (λ routes. Decodes (map route_row) (All IsRoute) (map (drop 1) rows.now) (Some routes.items)) }

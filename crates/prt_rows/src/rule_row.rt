@@ -5,8 +5,9 @@ ghost use Rattle.sqlite.specs.Values.{bound};
 ghost use Rattle.sqlite_value.specs.Order.{column};
 ghost use Rattle.prt_rows.specs.Decodes.{Decodes};
 ghost use Rattle.prt_rows.specs.Cell.{IsWithin, flag, number, optional_number};
-ghost use Rattle.prt_rows.specs.RuleRow.{IsAction, IsOptionalMark, IsRule, action_cells, action_code, action_table, mark_cells, rule_row};
+ghost use Rattle.prt_rows.specs.RuleRow.{IsAction, IsOptionalMark, IsRule, action_cells, mark_cells, rule_row};
 
+use crate::code::{action_codes, action_of_codes};
 use crate::column::{RULE_COLUMNS, RuleColumn as At};
 use crate::{cell, value};
 use prt_rule::{Action, Mark, Rule};
@@ -38,20 +39,13 @@ fn mark(row: &Row, mark_at: usize, mask_at: usize) -> Option<Option<Mark>>
 fn action(row: &Row, act_at: usize, table_at: usize) -> Option<Action>
     ensures { Decodes action_cells IsAction (column row.now act_at ∷ column row.now table_at ∷ []) result }
 {
-    match (cell::number(row, act_at)?, cell::number(row, table_at)?) {
-        (1, 0) => None,
-        (1, table) => Some(Action::Lookup(table)),
-        (6, 0) => Some(Action::Blackhole),
-        (7, 0) => Some(Action::Unreachable),
-        (8, 0) => Some(Action::Prohibit),
-        _ => None,
-    }
+    action_of_codes(cell::number(row, act_at)?, cell::number(row, table_at)?)
 }
 
 /// The rule that a row of the table `rule` spells, if it spells one with an id of 1 to `last`.
 ///
-/// Its twelve cells stand in the order of the columns, each in its range; mark and mask are there together or not at all,
-/// and there is a table to look up exactly where the action is to look one up (`ip-rule(8)`).
+/// Its twelve cells stand in the order of the columns, each in its range (`docs/STORE.md`); mark and mask are there
+/// together or not at all, and there is a table to look up exactly where the action is to look one up (`ip-rule(8)`).
 pub fn rule_of_row(row: &Row, last: u64) -> Option<Rule>
     ensures { Decodes rule_row (IsRule last) row.now result }
 {
@@ -70,20 +64,8 @@ pub fn rule_of_row(row: &Row, last: u64) -> Option<Rule>
     })
 }
 
-/// The numbers that stand for an action: its code, and the table to look up or 0.
-fn action_codes(action: Action) -> (u32, u32)
-    ensures code { result.0 ≡ action_code action }
-    ensures table { result.1 ≡ action_table action }
-{
-    match action {
-        Action::Lookup(table) => (1, table),
-        Action::Blackhole => (6, 0),
-        Action::Unreachable => (7, 0),
-        Action::Prohibit => (8, 0),
-    }
-}
-
-/// The values of the row of a rule, whose id is below 2^63, in the order of the columns, to be bound to a statement.
+/// The values of the row of a rule, whose id is below 2^63, in the order of the columns (`docs/STORE.md`), to be bound
+/// to a statement.
 pub fn rule_values(rule: &Rule) -> [ValueRef<'_>; RULE_COLUMNS]
     requires { rule.now.id < 2 ^ 63 }
     ensures { bound result ≡ rule_row rule.now }

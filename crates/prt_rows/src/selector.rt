@@ -1,17 +1,16 @@
 //! What the statement that deletes routes by a selector is told of the selector.
 
-ghost use Rattle.std.specs.Prelude.{◌≡◌, ◌<◌, ◌+◌, ◌-◌, ◌^◌, option_map, true};
+ghost use Rattle.std.specs.Prelude.{◌≡◌, ◌<◌, ◌+◌, ◌-◌, ◌^◌, option_map};
 ghost use Rattle.sqlite.specs.Values.{bound, bound_value};
 ghost use Rattle.sqlite_value.specs.Value.{owned};
-ghost use Rattle.prt_route.specs.Name.{is_name};
-ghost use Rattle.prt_rows.specs.Cell.{IsOptionalName, optional_name, optional_number};
+ghost use Rattle.prt_rows.specs.Cell.{optional_number};
 ghost use Rattle.prt_rows.specs.RouteRow.{kind_code};
 ghost use Rattle.prt_rows.specs.Selecting.{HasPrefix, IsSelector, bounds_of, selector_row};
 
-use crate::route_row::kind_code;
+use crate::code::kind_code;
 use crate::value;
 use prt_addr::Prefix;
-use prt_route::{Dev, Kind, Range, Selector};
+use prt_route::{Kind, Range, Selector};
 use sqlite::types::ValueRef;
 
 /// The addresses and lengths of the prefixes of a range.
@@ -95,28 +94,12 @@ fn optional_byte(n: Option<u8>) -> ValueRef<'static>
     }
 }
 
-/// Says that the bytes of a `Dev` are a name, which its type keeps.
-fn has_name(dev: Dev)
-    ensures { is_name dev ≡ true }
-{
-    let _dev = dev;
-}
-
-/// The cell of a name that may be left out: the empty text where it is, which is no name.
-fn optional_name(dev: &Option<Dev>) -> ValueRef<'_>
-    ensures value { bound_value (owned result) ≡ optional_name dev.now }
-    ensures name { IsOptionalName dev.now }
-{
-    match dev {
-        Some(name) => {
-            has_name(*name);
-            ValueRef::Text(name.as_bytes())
-        }
-        None => ValueRef::Text(&[]),
-    }
-}
-
-/// The values that tell the statement that deletes routes by a selector which ones to delete, in the order of its parameters.
+/// The values that tell the statement that deletes routes by a selector which ones to delete, in the order of its
+/// parameters.
+///
+/// These are the table, the least and the greatest address, the shortest and the longest length in bits, an address
+/// that stands before the end of each prefix, kind, protocol, scope and interface. What the selector leaves open is -1,
+/// or the empty text for the interface.
 pub fn selector_values(selector: &Selector) -> [ValueRef<'_>; 10]
     ensures value { bound result ≡ selector_row selector.now }
     ensures selector { IsSelector selector.now }
@@ -132,6 +115,6 @@ pub fn selector_values(selector: &Selector) -> [ValueRef<'_>; 10]
         optional_kind(selector.kind),
         optional_byte(selector.proto),
         optional_byte(selector.scope),
-        optional_name(&selector.dev),
+        value::optional_name(&selector.dev),
     ]
 }

@@ -1,9 +1,10 @@
 //! What stands in one cell, written.
 
-ghost use Rattle.std.specs.Prelude.{◌≡◌, ◌<◌, ◌^◌};
+ghost use Rattle.std.specs.Prelude.{◌≡◌, ◌<◌, ◌^◌, true};
 ghost use Rattle.sqlite.specs.Values.{bound_value};
 ghost use Rattle.sqlite_value.specs.Value.{owned};
-ghost use Rattle.prt_rows.specs.Cell.{flag, number, optional_addr, optional_name, optional_number};
+ghost use Rattle.prt_route.specs.Name.{is_name};
+ghost use Rattle.prt_rows.specs.Cell.{IsOptionalName, flag, number, optional_addr, optional_name, optional_number};
 
 use prt_addr::Addr;
 use prt_route::Dev;
@@ -41,12 +42,23 @@ pub(crate) fn optional_addr(addr: Option<Addr>) -> ValueRef<'static>
     optional_number(addr.map(|addr| addr.0))
 }
 
-/// The cell of a name that may be absent: the empty text where it is.
-pub(crate) fn optional_name(name: &Option<Dev>) -> ValueRef<'_>
-    ensures { bound_value (owned result) ≡ optional_name name.now }
+/// Says that the bytes of a `Dev` are a name, which its type keeps.
+fn has_name(dev: Dev)
+    ensures { is_name dev ≡ true }
 {
-    match name {
-        Some(name) => ValueRef::Text(name.as_bytes()),
+    let _dev = dev;
+}
+
+/// The cell of a name that may be absent: the empty text where it is, which is no name.
+pub(crate) fn optional_name(dev: &Option<Dev>) -> ValueRef<'_>
+    ensures value { bound_value (owned result) ≡ optional_name dev.now }
+    ensures name { IsOptionalName dev.now }
+{
+    match dev {
+        Some(name) => {
+            has_name(*name);
+            ValueRef::Text(name.as_bytes())
+        }
         None => ValueRef::Text(&[]),
     }
 }
