@@ -20,7 +20,6 @@ ghost use Rattle.prt_store.specs.Written.{CommitsNothing};
 use crate::commit::run;
 use crate::load::load;
 use prt_addr::Refusal;
-use prt_rows::is_format_1;
 use prt_version::{Change, Version};
 use sqlite::{Alter, Connection};
 use std::alloc::Global;
@@ -32,7 +31,7 @@ pub struct Stamp {
 }
 
 impl Stamp {
-    /// The number of commands that had been accepted with this one.
+    /// The number of commands that had been accepted with this one, from 1 to 10^15.
     pub fn number(&self) -> u64
         ensures { result ≡ self.now.number }
     {
@@ -47,13 +46,6 @@ pub struct Store<S: Alter + Drop> {
 }
 
 impl<S: Alter + Drop> Store<S> {
-    /// Tells whether our tables are the first of the file: what is said of a store rests on that.
-    pub fn is_format_1(&self) -> bool
-        ensures { IsTrue result ↔ IsFormat1 (state S.Store self.now.conn).now.schema }
-    {
-        is_format_1(self.conn.schema())
-    }
-
     /// The connection, with its tables as they are.
     pub fn release(self) -> Connection<S>
         ensures { result ≡ self.conn }
@@ -61,12 +53,13 @@ impl<S: Alter + Drop> Store<S> {
         self.conn
     }
 
-    /// The version that the tables spell. After `Ok` nothing is changed; a crash leaves in any case what it could leave before.
+    /// The version that the tables spell. After `Ok` nothing is changed; a crash leaves in any case what it could leave
+    /// before.
     ///
     /// # Errors
     ///
-    /// `Damaged` only where the tables spell no state; `OpenFailed` where a store call fails; `NoMemory`. The tables are as
-    /// they were, if the connection is still open and nothing was pending on it.
+    /// `Damaged` only where the tables spell no state; `OpenFailed` where a store call fails; `NoMemory`. The tables
+    /// are as they were, if the connection is still open and nothing was pending on it.
     pub fn load(&mut self, alloc: Global) -> Result<Version, Refusal>
         ensures ok { HasCleanDisk (state S.Store self.new.conn) → IsFormat1 (state S.Store self.old.conn).now.schema →
             IfOk result (Stores (state S.Store self.old.conn).now) }
@@ -81,20 +74,21 @@ impl<S: Alter + Drop> Store<S> {
             IsSettled S.Store self.old.conn → OnErr result (StaysSettled S.Store self.old.conn self.new.conn) }
         ensures quiet { (HasCleanDisk (state S.Store self.old.conn) → IsFormat1 (state S.Store self.old.conn).now.schema) → CommitsNothing S.Store self.old.conn self.new.conn }
     {
+        // Says that the rows are as the schema has them.
         let _live = self.conn.schema();
         load(alloc, &mut self.conn)
     }
 
     /// Makes the change that a command makes of the stored state, whose next number this is, in one transaction.
     ///
-    /// After `Ok` the tables spell the state after the change, all other tables are as they were, and a crash leaves exactly
-    /// that.
+    /// After `Ok` the tables spell the state after the change, all other tables are as they were, and a crash leaves
+    /// exactly that.
     ///
     /// # Errors
     ///
-    /// `StoreFailed` names the call that failed: `Begin` where the connection is in a transaction, and nowhere else. The
-    /// tables are as they were, if the connection is still open; a crash leaves what it could leave before or, only where the
-    /// commit failed, possibly what it leaves after `Ok`.
+    /// `StoreFailed` names the call that failed: `Begin` where the connection is in a transaction, and nowhere else.
+    /// The tables are as they were, if the connection is still open; a crash leaves what it could leave before or, only
+    /// where the commit failed, possibly what it leaves after `Ok`.
     pub fn commit(&mut self, change: &Change, number: u64) -> Result<Stamp, Refusal>
         requires { (before : State) × IsNext before change.now number }
         ensures stamp { IfOk result (λ stamp. stamp.number ≡ number) }
