@@ -65,17 +65,8 @@ fn read_routes<S: Alter>(alloc: Global, conn: &mut Connection<S>) -> Result<Vec<
 pub(crate) fn load<S: Alter>(alloc: Global, conn: &mut Connection<S>) -> Result<Version, Refusal>
     ensures { Reads S.Store (λ version. version) Stores conn.old conn.new result }
 {
-    let count = match read_count(conn) {
-        Ok(count) => count,
-        Err(reason) => return Err(reason),
-    };
-    let rules = match read_rules(alloc, conn, count + 3) {
-        Ok(rules) => rules,
-        Err(reason) => return Err(reason),
-    };
-    let routes = match read_routes(alloc, conn) {
-        Ok(routes) => routes,
-        Err(reason) => return Err(reason),
-    };
+    let count = read_count(conn)?;
+    let rules = read_rules(alloc, conn, count + 3)?;
+    let routes = read_routes(alloc, conn)?;
     Version::from_rows(alloc, count, rules, routes)
 }
