@@ -18,19 +18,19 @@ use prt_addr::Refusal;
 use sqlite::{Alter, Connection, Error, File, FileStore};
 
 impl<S: Alter + Drop> Store<S> {
-    /// The store over a connection on which nothing is pending. The tables `rule`, `route` and `meta` are made where they
-    /// are missing, each by itself; where the three have no rows they are filled with the opening state, in one
+    /// The store over a connection on which nothing is pending. The tables `rule`, `route` and `meta` are made where
+    /// they are missing, each by itself; where the three have no rows they are filled with the opening state, in one
     /// transaction, with the row of `meta` last. All other rows stay as they are, whether they spell a state or not.
     ///
-    /// After `Ok` the three tables have the columns of format 1, nothing is pending, and a crash leaves what the tables show,
-    /// whatever the file. The other clauses speak of a file without tables, of one that an earlier opening was stopped in, and
-    /// of one whose first tables are the three. Other files are served all the same.
+    /// After `Ok` the three tables have the columns of format 1, nothing is pending, and a crash leaves what the tables
+    /// show, whatever the file. The other clauses speak of a file without tables, of one that an earlier opening was
+    /// stopped in, and of one whose first tables are the three. Other files are served all the same.
     ///
     /// # Errors
     ///
-    /// `OpenFailed`, with the connection, where one of the three tables has other columns than those of format 1, or a store
-    /// call fails. No row is changed then, but that three empty tables may have been filled. The connection is to be closed
-    /// and opened again before it is used.
+    /// `OpenFailed`, with the connection, where one of the three tables has other columns than those of format 1, or a
+    /// store call fails. No row is changed then, but that three empty tables may have been filled. The connection is to
+    /// be closed and opened again before it is used.
     pub fn adopt(mut conn: Connection<S>) -> Result<Store<S>, (Refusal, Connection<S>)>
         ensures ok { IfOk result (λ store. HasCleanDisk (state S.Store store.conn) → BeginsFormat1 (state S.Store conn).now.schema →
             Adopts (state S.Store conn).now (state S.Store store.conn).now) }
@@ -74,12 +74,13 @@ fn adopt_opened<S: Alter + Drop>(opened: Result<Connection<S>, Error>) -> Result
 }
 
 impl Store<FileStore<File>> {
-    /// The store of the database file at this path, which is made where there is none. Beside it stands its write-ahead log;
-    /// each commit is forced to the disk (`synchronous` is FULL).
+    /// The store of the database file at this path, which is made where there is none. Beside it stands its write-ahead
+    /// log; each commit is forced to the disk (SQLite's `synchronous` is FULL).
     ///
     /// # Errors
     ///
-    /// `OpenFailed` where the path can't be opened, the file is no database, or it can't be adopted.
+    /// `OpenFailed` where the path can't be opened, the file is no database, or it can't be adopted: its rows are then
+    /// as `adopt` leaves them.
     pub fn open(rt: &HostRuntime, path: &str) -> Result<Store<FileStore<File>>, Refusal>
         ensures reason { IfErr result (λ reason. reason ≡ OpenFailed) }
         ensures ok { IfOk result (λ store. AdoptsOne over_files (λ was. HasCleanDisk (file_state was) → IsOpened was) store.conn) }

@@ -41,7 +41,7 @@ fn name_range(name: Dev)
     let _ = name;
 }
 
-/// So is one that may be absent.
+/// The name of an interface is a name where it is there.
 fn optional_name_range(name: &Option<Dev>)
     ensures { IsOptionalName name.now }
 {
