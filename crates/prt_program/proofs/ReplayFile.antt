@@ -10,16 +10,16 @@ use Rattle.prt_command.specs.Lines.{limits}
 use Rattle.prt_command.specs.Requests.{refuse_if}
 use Rattle.prt_command.specs.Then.{◌>>=◌}
 use Rattle.prt_program.specs.Replay.{Finds, IsAllOf, input_events}
-use Rattle.prt_session.proofs.Known.{Gives, consumes_more, consumes_nothing, gives_all, gives_behind, gives_had, gives_rest, left_of}
+use Rattle.prt_session.proofs.Known.{Gives, consumes_more, consumes_nothing, gives_all, gives_beyond, gives_had, gives_rest, left_of}
 use Rattle.prt_session.specs.Session.{Input, end_of_input, is_fault, read_fault}
 use Rattle.prt_world.specs.ReadEvents.{contents, events_of, events_of_lines, longest_replay, most_events}
 use Rattle.prt_world.specs.declared.event.Event.{Event}
 
 -- what a reader gave is all that it had
-all_of : (a b : Option (List ℕ)) (input : Input) (unread behind : List ℕ) → (input.ending ≡ end_of_input → behind ≡ []) → Gives a b input.bytes unread behind → IsAllOf a input
-all_of a b input unread behind whole gives = record {
-  behind = behind;
-  bytes_before = gives_had a a b [] input.bytes unread behind (consumes_nothing a) gives;
+all_of : (a b : Option (List ℕ)) (input : Input) (unread beyond : List ℕ) → (input.ending ≡ end_of_input → beyond ≡ []) → Gives a b input.bytes unread beyond → IsAllOf a input
+all_of a b input unread beyond whole gives = record {
+  beyond = beyond;
+  bytes_before = gives_had a a b [] input.bytes unread beyond (consumes_nothing a) gives;
   whole = whole;
 }
 
@@ -74,7 +74,7 @@ read_to_fault a b bytes read short =
     let input : Input = record { bytes = bytes; ending = read_fault } in
     record {
       input = input;
-      is_all = all_of a b input [] (left_of b) (λ e. absurd (true≢false (ap is_fault e))) (gives_behind a b bytes read);
+      is_all = all_of a b input [] (left_of b) (λ e. absurd (true≢false (ap is_fault e))) (gives_beyond a b bytes read);
       found_is = inl (sym (faulty bytes short));
     }
 

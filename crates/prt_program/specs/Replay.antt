@@ -21,9 +21,9 @@ input_events input =
 -- The input is all that the reader had, up to its fault if one came.
 pub record IsAllOf (reader0 : Option (List ℕ)) (input : Input) : Type 0 where
   -- what is still there after a fault
-  pub behind : List ℕ
-  pub bytes_before : IfSome reader0 (λ bytes. bytes ≡ input.bytes ++ behind)
-  pub whole : input.ending ≡ end_of_input → behind ≡ []
+  pub beyond : List ℕ
+  pub bytes_before : IfSome reader0 (λ bytes. bytes ≡ input.bytes ++ beyond)
+  pub whole : input.ending ≡ end_of_input → beyond ≡ []
 
 -- The file that the reader had has these events, or none for this reason; where memory is refused, none for that.
 pub record Finds (reader0 : Option (List ℕ)) (found : Result (List Event) Refusal) : Type 0 where

@@ -6,7 +6,7 @@ use Rattle.std.specs.Io.KnownBytes.{Consumes, Appends, IsAtEnd}
 use Rattle.std.specs.Prelude.{if◌then◌else◌}
 use Rattle.prt_addr.specs.declared.refusal.Refusal.TheVariants.{LineTooLong, ReadFault, TooManyLines, WriteFault}
 use Rattle.prt_command.specs.Lines.{limits, lines_of}
-use Rattle.prt_session.proofs.Known.{append_none, left_of, consumes_more, appends_more, gives_rest, gives_behind, gives_all}
+use Rattle.prt_session.proofs.Known.{append_none, left_of, consumes_more, appends_more, gives_rest, gives_beyond, gives_all}
 use Rattle.prt_session.proofs.Paths.{mishaps_of, path_append}
 use Rattle.prt_session.proofs.Replies.{after_exchanges, text_append, refused_append, fault_append, one_text, one_refused, one_fault}
 use Rattle.prt_session.proofs.Served.{Moment, moment, GoesOn, Served, Closes, ClosesAlone, cut_from, ran_from, ran_to_end}
@@ -53,8 +53,8 @@ nothing_read_by reader0 reader content stops.End count read counted stopped e =
 pub nothing_read : (reader0 reader : Option (List ℕ)) (kept : List ℕ) (line : LineRead) → LineIs reader0 reader kept line → is_nothing line ≡ true → Consumes reader0 reader [] × IsAtEnd reader
 nothing_read reader0 reader kept line is e = nothing_read_by reader0 reader is.content line.stop line.length is.read is.count is.stopped e
 
-fault_is_no_end : (behind : List ℕ) → read_fault ≡ end_of_input → behind ≡ []
-fault_is_no_end behind e = absurd (cc)
+fault_is_no_end : (beyond : List ℕ) → read_fault ≡ end_of_input → beyond ≡ []
+fault_is_no_end beyond e = absurd (cc)
 
 module _ {D M : Type 0} (turn : TurnsOf D M) (may : Mishaps D M) (mode : OnRefusal) (left : ℕ) (some_left : 0 < left) (now later : Moment D) (reply : Reply) where
   -- one line, whether the session goes on after it or not
@@ -135,7 +135,7 @@ module _ {D M : Type 0} (turn : TurnsOf D M) (may : Mishaps D M) (mode : OnRefus
     exchanges = exchange_of turn now.desk content line.answer.0 ∷ [];
     last = [];
     unread = left_of later.reader;
-    behind = [];
+    beyond = [];
     law = rw (append_assoc content (10 ∷ []) (left_of later.reader), line.answer.3) (stops_there turn limits mode end_of_input left now.desk some_left content (left_of later.reader) line.answer.0 [] line.bare line.stopped (ap (stops_after mode) (sym line.answer.2) ∙ over));
     are = ap (λ r. r ∷ []) (sym line.answer.2);
     path = (line.answer.1, refl, line.answer.3);
@@ -149,25 +149,25 @@ module _ {D M : Type 0} (turn : TurnsOf D M) (may : Mishaps D M) (mode : OnRefus
     exchanges = exchange_of turn now.desk (b ∷ bs) line.answer.0 ∷ [];
     last = [];
     unread = [];
-    behind = [];
+    beyond = [];
     law = rw (append_none bs, line.answer.3) (ends_unended turn limits mode end_of_input left now.desk some_left b bs line.answer.0 [] line.bare line.stopped.0);
     are = ap (λ r. r ∷ []) (sym line.answer.2);
     path = (line.answer.1, refl, line.answer.3);
     gives = gives_all now.reader later.reader ((b ∷ bs) ++ []) line.read line.stopped.1;
     whole = λ _. refl;
   }
-  closes stops.Fault [] line over = record { more = []; ending = read_fault; exchanges = []; last = Refused ReadFault ∷ []; unread = []; behind = left_of later.reader; law = rw line.answer.1; are = ap (λ r. r ∷ []) (sym line.answer.0); path = line.answer.1; gives = gives_behind now.reader later.reader [] line.read; whole = fault_is_no_end (left_of later.reader) }
+  closes stops.Fault [] line over = record { more = []; ending = read_fault; exchanges = []; last = Refused ReadFault ∷ []; unread = []; beyond = left_of later.reader; law = rw line.answer.1; are = ap (λ r. r ∷ []) (sym line.answer.0); path = line.answer.1; gives = gives_beyond now.reader later.reader [] line.read; whole = fault_is_no_end (left_of later.reader) }
   closes stops.Fault (b ∷ bs) line over = record {
     more = (b ∷ bs) ++ [];
     ending = read_fault;
     exchanges = [];
     last = Refused ReadFault ∷ [];
     unread = [];
-    behind = left_of later.reader;
+    beyond = left_of later.reader;
     law = rw (append_none bs, line.answer.1) (ends_in_fault turn limits mode read_fault left now.desk some_left b bs [] line.bare line.stopped);
     are = ap (λ r. r ∷ []) (sym line.answer.0);
     path = line.answer.1;
-    gives = gives_behind now.reader later.reader ((b ∷ bs) ++ []) line.read;
+    gives = gives_beyond now.reader later.reader ((b ∷ bs) ++ []) line.read;
     whole = fault_is_no_end (left_of later.reader);
   }
   closes stops.Endless [] line over = let h = line.stopped in absurd (omega arith)
@@ -177,7 +177,7 @@ module _ {D M : Type 0} (turn : TurnsOf D M) (may : Mishaps D M) (mode : OnRefus
     exchanges = [];
     last = Refused LineTooLong ∷ [];
     unread = left_of later.reader;
-    behind = [];
+    beyond = [];
     law = rw (append_none bs, line.answer.1) (ends_endless turn limits mode end_of_input left now.desk some_left b bs (left_of later.reader) [] line.bare line.stopped);
     are = ap (λ r. r ∷ []) (sym line.answer.0);
     path = line.answer.1;
@@ -193,7 +193,7 @@ module _ {D M : Type 0} (turn : TurnsOf D M) (may : Mishaps D M) (mode : OnRefus
   too_many_alone b read = record { more = b ∷ []; ending = end_of_input; exchanges = []; last = Refused TooManyLines ∷ []; law = rw same (too_many turn limits mode end_of_input now.desk [] b [] (lines_of (b ∷ [])) refl); are = refl; path = same; is_due = inr ([], ap (λ (s : Session D M). replies s) (too_many turn limits mode read_fault now.desk [] b [] (lines_of (b ∷ [])) refl)); read = read }
 
   pub too_many_closes : (b : ℕ) → Consumes now.reader later.reader (b ∷ []) → Closes turn may mode 0 now later (Refused TooManyLines ∷ [])
-  too_many_closes b read = record { more = (b ∷ []) ++ left_of later.reader; ending = end_of_input; exchanges = []; last = Refused TooManyLines ∷ []; unread = left_of later.reader; behind = []; law = rw same (too_many turn limits mode end_of_input now.desk [] b (left_of later.reader) (lines_of (b ∷ left_of later.reader)) refl); are = refl; path = same; gives = gives_rest now.reader later.reader (b ∷ []) read; whole = λ _. refl }
+  too_many_closes b read = record { more = (b ∷ []) ++ left_of later.reader; ending = end_of_input; exchanges = []; last = Refused TooManyLines ∷ []; unread = left_of later.reader; beyond = []; law = rw same (too_many turn limits mode end_of_input now.desk [] b (left_of later.reader) (lines_of (b ∷ left_of later.reader)) refl); are = refl; path = same; gives = gives_rest now.reader later.reader (b ∷ []) read; whole = λ _. refl }
 
   -- the reader fails where a line would begin
   pub fault_alone : (left : ℕ) → Consumes now.reader later.reader [] → ClosesAlone turn may mode left now later (Refused ReadFault)
@@ -202,7 +202,7 @@ module _ {D M : Type 0} (turn : TurnsOf D M) (may : Mishaps D M) (mode : OnRefus
 
   pub fault_closes : (left : ℕ) → Consumes now.reader later.reader [] → Closes turn may mode left now later (Refused ReadFault ∷ [])
   unfolding session_lines lines_of
-  fault_closes left read = record { more = []; ending = read_fault; exchanges = []; last = Refused ReadFault ∷ []; unread = []; behind = left_of later.reader; law = rw same; are = refl; path = same; gives = gives_behind now.reader later.reader [] read; whole = fault_is_no_end (left_of later.reader) }
+  fault_closes left read = record { more = []; ending = read_fault; exchanges = []; last = Refused ReadFault ∷ []; unread = []; beyond = left_of later.reader; law = rw same; are = refl; path = same; gives = gives_beyond now.reader later.reader [] read; whole = fault_is_no_end (left_of later.reader) }
 
 module _ {D M : Type 0} (turn : TurnsOf D M) (may : Mishaps D M) (mode : OnRefusal) (start now : Moment D) (end : ScriptEnd) (served : Served turn may mode start now 0 end) (reader writer : Option (List ℕ)) (end' : ScriptEnd) where
   abbrev later : Moment D

@@ -1,4 +1,4 @@
--- The refusals that no run over lists replies.
+-- The refusals that no run over the plain desk replies.
 use Rattle.std.proofs.Common.{◌≡◌, ◌≤◌, ℕ, Bool, true, false, List, length, Option, Some, None, IfErr, Result, Ok, Err, refl, subst, arith}
 use Rattle.std.proofs.lemmas.List.Elements.{All-weaker}
 use Rattle.std.specs.List.{All, list_all}

@@ -1,4 +1,4 @@
--- The replies of a run over lists.
+-- The replies of a run over the plain desk.
 use Rattle.std.proofs.Common.{◌≡◌, ℕ, ◌-◌, ◌==◌, ◌&&◌, nat_lt, false, not, List, [], ◌∷◌, drop, length, Option, Some, None, Result, Ok, Err, inl, inr, refl, subst}
 use Rattle.std.proofs.lemmas.List.Elements.{All-append, All-cons, All-nil}
 use Rattle.std.specs.List.{All}
@@ -18,7 +18,7 @@ use Rattle.prt_session.specs.declared.script.OnRefusal.{OnRefusal}
 use Rattle.prt_version.specs.Change.{refusal}
 use Rattle.prt_version.specs.State.{State}
 
--- A turn that stays at a desk over lists.
+-- A turn that stays at a plain desk.
 pub record IsListTurn (turn : Turn DeskState) : Type 0 where
   pub fine : IsListReply turn.reply
   pub next : State

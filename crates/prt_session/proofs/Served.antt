@@ -48,12 +48,12 @@ pub record Closes {D M : Type 0} (turn : TurnsOf D M) (may : Mishaps D M) (mode 
   pub exchanges : List (Exchange M)
   pub last : List Reply
   pub unread : List ℕ
-  pub behind : List ℕ
+  pub beyond : List ℕ
   pub law : session_lines turn limits mode ending left (lines_of more) (mishaps_of exchanges) now.desk ≡ record { exchanges = exchanges; last = last; desk = later.desk; unread = unread }
   pub are : replies_of exchanges ++ last ≡ told
   pub path : Path turn may now.desk exchanges later.desk
-  pub gives : Gives now.reader later.reader more unread behind
-  pub whole : ending ≡ end_of_input → behind ≡ []
+  pub gives : Gives now.reader later.reader more unread beyond
+  pub whole : ending ≡ end_of_input → beyond ≡ []
 
 -- The reader is at its end, or had it failed there the reply would be the same.
 abbrev pub IsDue : {D M : Type 0} → TurnsOf D M → OnRefusal → ℕ → Moment D → Moment D → List ℕ → List (Exchange M) → Reply → Type 0
@@ -114,10 +114,10 @@ module _ {D M : Type 0} (turn : TurnsOf D M) (may : Mishaps D M) (mode : OnRefus
         path = rw e (path_append turn may start.desk now.desk later.desk served.exchanges closes.exchanges served.path closes.path);
         refused_is = rw all (refused_by end'.refused told refused_is);
         ended = inl (record {
-          behind = closes.behind;
-          bytes_before = gives_had start.reader now.reader later.reader served.bytes closes.more closes.unread closes.behind served.read closes.gives;
+          beyond = closes.beyond;
+          bytes_before = gives_had start.reader now.reader later.reader served.bytes closes.more closes.unread closes.beyond served.read closes.gives;
           whole = closes.whole;
-          bytes_left = rw e (gives_has start.reader now.reader later.reader served.bytes closes.more closes.unread closes.behind served.read closes.gives);
+          bytes_left = rw e (gives_has start.reader now.reader later.reader served.bytes closes.more closes.unread closes.beyond served.read closes.gives);
           wrote = rw all (rw (text_append (replies_of served.exchanges) told) (appends_more start.writer now.writer later.writer (replies_text (replies_of served.exchanges)) (replies_text told) served.wrote wrote));
           fault_is = rw all (fault_by end'.fault told fault_is);
         });
@@ -166,7 +166,7 @@ module _ {D M : Type 0} (turn : TurnsOf D M) (may : Mishaps D M) (mode : OnRefus
 
 closes_empty : {D M : Type 0} (turn : TurnsOf D M) (may : Mishaps D M) (mode : OnRefusal) (left : ℕ) (now : Moment D) (reader : Option (List ℕ)) → Consumes now.reader reader [] → IsAtEnd reader → Closes turn may mode left now (moment now.desk reader now.writer) []
 unfolding session_lines lines_of
-closes_empty {D} {M} turn may mode left now reader read at_end = record { more = []; ending = end_of_input; exchanges = []; last = []; unread = []; behind = []; law = refl; are = refl; path = refl; gives = gives_all now.reader reader [] read at_end; whole = λ _. refl }
+closes_empty {D} {M} turn may mode left now reader read at_end = record { more = []; ending = end_of_input; exchanges = []; last = []; unread = []; beyond = []; law = refl; are = refl; path = refl; gives = gives_all now.reader reader [] read at_end; whole = λ _. refl }
 
 -- the input ends where a line would begin
 pub ran_to_end : {D M : Type 0} (turn : TurnsOf D M) (may : Mishaps D M) (mode : OnRefusal) (start now : Moment D) (left : ℕ) (end : ScriptEnd) (reader : Option (List ℕ)) → Served turn may mode start now left end → Consumes now.reader reader [] → IsAtEnd reader →

@@ -1,4 +1,4 @@
--- What a run over lists, and one over a closed desk, refuses for.
+-- What a run over the plain desk, and one over a closed desk, refuses for.
 use Rattle.std.specs.Prelude.{◌≡◌, Bool, true, false, List, ℕ, Some, Ok, Err, ⊤}
 use Rattle.prt_addr.specs.declared.refusal.Refusal.{Refusal}
 use Rattle.prt_addr.specs.declared.refusal.Refusal.TheVariants.{LineTooLong, Closed, Busy, NoMemory, StoreFailed, NotPublished, NotFetched, Damaged, OpenFailed, ReadFault, WriteFault, TooManyLines}
@@ -11,7 +11,7 @@ use Rattle.prt_session.specs.declared.reply.Reply.TheVariants.{Refused}
 use Rattle.prt_version.specs.Change.{refusal}
 use Rattle.prt_version.specs.State.{State}
 
--- Why nothing but what a line says, memory and the input can be refused over lists.
+-- What a run over the plain desk refuses for: what a line or its command says, want of memory and the input, no more.
 pub data IsListRefusal (reason : Refusal) : Type 0 where
   -- the line asks for nothing that there is
   of_line : (line : List ℕ) → reading line ≡ Err reason → IsListRefusal reason

@@ -36,10 +36,10 @@ fault_in last replies = fold fault_after last replies
 
 -- The writer got all replies of the session on all that the reader had, up to its fault if one came; what the session leaves unread is still to be read.
 pub record Ran {D M : Type 0} (input : Input) (session : Session D M) (reader0 reader writer0 writer : Option (List ℕ)) (fault : Option Refusal) : Type 0 where
-  pub behind : List ℕ
-  pub bytes_before : IfSome reader0 (λ bytes. bytes ≡ input.bytes ++ behind)
-  pub whole : input.ending ≡ end_of_input → behind ≡ []
-  pub bytes_left : IfSome reader0 (λ _. reader ≡ Some (session.unread ++ behind))
+  pub beyond : List ℕ
+  pub bytes_before : IfSome reader0 (λ bytes. bytes ≡ input.bytes ++ beyond)
+  pub whole : input.ending ≡ end_of_input → beyond ≡ []
+  pub bytes_left : IfSome reader0 (λ _. reader ≡ Some (session.unread ++ beyond))
   pub wrote : Appends writer0 writer (replies_text (replies session))
   pub fault_is : fault ≡ fault_in None (replies session)
 

@@ -13,8 +13,8 @@ pub fn session_ends()
         length input.bytes ≤ length (session request_turn desk input mode mishaps).unread + (1000000 * 65537 + 1) }
 {}
 
-/// A run over lists refuses for what a line or its command says, for want of memory, and for the input: never as a
-/// publisher, a store or a writer would, so never with `Busy`, `StoreFailed` or `NotPublished`.
+/// A run over the plain desk refuses for what a line or its command says, for want of memory, and for the input: never
+/// as a publisher, a store or a writer would, so never with `Busy`, `StoreFailed` or `NotPublished`.
 pub fn list_replies()
     ensures cause { (state : State) (desk : DeskState) (input : Input) (mode : OnRefusal) (mishaps : List (Option Mishap)) →
         Path request_turn (Befalls IsNoMemory) (settled state) (session request_turn (settled state) input mode mishaps).exchanges desk →
