@@ -8,7 +8,5 @@ mod replay;
 
 pub use databases::Databases;
 pub use prt::{Fault, program, report, words_fault};
-pub use prt_session::{
-    Desk, LONGEST_UNENDED, ListDesk, MOST_LINES, OnRefusal, Refusal, ScriptEnd, run_script,
-};
+pub use prt_session::{Desk, Refusal, ScriptEnd};
 pub use replay::run_replay;

@@ -89,8 +89,5 @@ pub fn run_replay<R: Read, W: Write>(alloc: Global, reader: &mut R, writer: &mut
     if write_reply(writer, &reply) {
         return end;
     }
-    ScriptEnd {
-        refused: end.refused,
-        fault: Some(Refusal::WriteFault),
-    }
+    end.with_write_fault()
 }

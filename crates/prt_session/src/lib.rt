@@ -18,7 +18,7 @@ pub use executor::Executor;
 pub use laws::{closed_replies, list_replies, session_ends};
 pub use list_desk::ListDesk;
 pub use observer::{Observer, Unobserved};
-pub use prt_command::{Command, LONGEST_LINE, LONGEST_UNENDED, MOST_LINES, Query, Refusal};
+pub use prt_command::{Command, Query, Refusal};
 pub use reply::{Reply, Text, write_reply};
 pub use script::{OnRefusal, ScriptEnd, run_script};
 pub use session::run_session;

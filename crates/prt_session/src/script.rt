@@ -60,8 +60,8 @@ impl ScriptEnd {
         }
     }
 
-    /// Takes in a fault of the writer.
-    pub(crate) fn with_write_fault(self) -> ScriptEnd
+    /// Takes in a fault of the writer, in the place of any fault before it.
+    pub fn with_write_fault(self) -> ScriptEnd
         ensures refused { result.refused ≡ self.refused }
         ensures fault { result.fault ≡ Some Refusal.WriteFault }
     {
