@@ -5,7 +5,7 @@ ghost use Rattle.prt_program.specs.Messages.{complaint, lines_text, place, progr
 use prt_session::{Observer, Refusal, Reply};
 use std::alloc::{AllocError, Global};
 use std::fmt::Display;
-use std::io::Write;
+use std::io::{IsTerminal, Write};
 use std::rt::Clock;
 use std::time::Instant;
 
@@ -97,7 +97,18 @@ fn cause_message<D: Display>(alloc: Global, path: &str, reason: &D) -> Result<St
     format!(in alloc; "prt: {path}: {reason}\n")
 }
 
-/// Looks on at a run, and tells of it on standard error, where that is a terminal or is asked for.
+/// What is told of a run.
+#[derive(Clone, Copy)]
+enum Telling {
+    /// Nothing.
+    Off,
+    /// Messages.
+    On,
+    /// Messages, and the line of progress stands after them.
+    ShowingProgress,
+}
+
+/// Looks on at a run, and tells of it on standard error once it is turned on.
 ///
 /// A fault of the clock, of memory or of writing loses a message and changes nothing else.
 #[derive(Drop)]
@@ -105,8 +116,7 @@ pub(crate) struct Messages<'a, E: Write + Drop, K: Clock + Drop> {
     alloc: Global,
     pub(crate) errors: E,
     clock: K,
-    /// Whether anything is told.
-    is_on: bool,
+    telling: Telling,
     /// The message of why a file could not be opened.
     cause: Option<String>,
     /// The name of the script.
@@ -115,44 +125,52 @@ pub(crate) struct Messages<'a, E: Write + Drop, K: Clock + Drop> {
     begun: Option<Instant>,
     /// How many whole seconds had passed when progress was told last.
     seconds: u64,
-    /// Whether the line of progress stands.
-    is_shown: bool,
     lines: u64,
     refused: u64,
 }
 
 impl<'a, E: Write + Drop, K: Clock + Drop> Messages<'a, E, K> {
-    /// Tells of nothing yet; whether anything is told is known here, unless it is asked for later.
-    pub(crate) fn new(alloc: Global, errors: E, clock: K, is_terminal: bool) -> Messages<'a, E, K> {
+    /// Makes messages to `errors`, which tell of nothing until they are turned on.
+    pub(crate) fn new(alloc: Global, errors: E, clock: K) -> Messages<'a, E, K> {
         Messages {
             alloc,
             errors,
             clock,
-            is_on: is_terminal,
+            telling: Telling::Off,
             cause: None,
             file: "",
             begun: None,
             seconds: 0,
-            is_shown: false,
             lines: 0,
             refused: 0,
         }
     }
 
-    /// Begins to look on at a run of the script of this name.
+    /// Tells of what follows.
+    pub(crate) fn turn_on(&mut self) {
+        if !self.is_on() {
+            self.telling = Telling::On;
+        }
+    }
+
+    /// Tells whether it is turned on.
+    fn is_on(&self) -> bool {
+        !matches!(self.telling, Telling::Off)
+    }
+
+    /// Begins to look on at a run of the script of this name, whose replies go to `output`.
     ///
-    /// Where its replies go to a terminal, they show the progress themselves.
-    pub(crate) fn begin(&mut self, file: &'a str, is_asked_for: bool, output_is_terminal: bool) {
+    /// Where that is a terminal, the replies show the progress themselves.
+    pub(crate) fn begin<W: IsTerminal>(&mut self, file: &'a str, output: &W) {
         self.file = file;
-        self.is_on = self.is_on || is_asked_for;
-        if self.is_on && !output_is_terminal {
+        if self.is_on() && !output.is_terminal() {
             self.begun = Instant::now(&self.clock).ok();
         }
     }
 
     /// Keeps why a file could not be opened.
     pub(crate) fn keep_cause<D: Display>(&mut self, path: &str, reason: &D) {
-        if self.is_on {
+        if self.is_on() {
             self.cause = cause_message(self.alloc, path, reason).ok();
         }
     }
@@ -173,9 +191,9 @@ impl<'a, E: Write + Drop, K: Clock + Drop> Messages<'a, E, K> {
 
     /// Takes the line of progress away.
     fn wipe(&mut self) {
-        if self.is_shown {
+        if let Telling::ShowingProgress = self.telling {
             let _ = self.errors.write_all(BLANK.as_bytes());
-            self.is_shown = false;
+            self.telling = Telling::On;
         }
     }
 
@@ -207,12 +225,12 @@ impl<'a, E: Write + Drop, K: Clock + Drop> Messages<'a, E, K> {
         self.wipe();
         let rate = self.lines / seconds;
         self.write(progress_message(self.alloc, self.lines, rate));
-        self.is_shown = true;
+        self.telling = Telling::ShowingProgress;
     }
 
     /// Tells at the end of a run how many lines there were.
     pub(crate) fn finish(&mut self) {
-        if self.is_on {
+        if self.is_on() {
             self.wipe();
             self.write(total_message(self.alloc, self.lines, self.refused));
         }
@@ -223,7 +241,7 @@ impl<'a, E: Write + Drop, K: Clock + Drop> Observer for Messages<'a, E, K> {
     fn before(&mut self, _line: u64) {}
 
     fn after(&mut self, line: u64, text: &[u8], reply: &Reply) {
-        if !self.is_on {
+        if !self.is_on() {
             return;
         }
         self.lines = line;

@@ -407,8 +407,10 @@ fn run_script_of<
     ensures unwritten { OnErr result (W.contents output.new ≡ W.contents output.old) }
 {
     let (database, mode) = (batch.database, batch.mode);
-    let name = batch.file.unwrap_or(STANDARD_INPUT);
-    messages.begin(name, batch.is_verbose, output.is_terminal());
+    if batch.is_verbose {
+        messages.turn_on();
+    }
+    messages.begin(batch.file.unwrap_or(STANDARD_INPUT), output);
     let status = match batch.file {
         Some(path) => {
             let file = open_file(files, path, messages)?;
@@ -528,7 +530,10 @@ pub fn program<
     ensures unopened { LeavesDatabases (invocation (arguments words.now)) databases.old databases.new }
 {
     let is_terminal = errors.is_terminal();
-    let mut messages = Messages::new(alloc, &mut *errors, files, is_terminal);
+    let mut messages = Messages::new(alloc, &mut *errors, files);
+    if is_terminal {
+        messages.turn_on();
+    }
     match run(files, databases, alloc, words, input, output, &mut messages) {
         Ok(status) => status,
         Err(fault) => {
