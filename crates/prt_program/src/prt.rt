@@ -3,7 +3,7 @@ ghost use Rattle.std.specs.Prelude.{◌≡◌, ◌≢◌, ◌⊎◌, IfErr, IfOk
 ghost use Rattle.clap.specs.Words.{app_of, first_of, found_of, kind_of, one_of, rows_of, rule_of, subcommand_rows_of};
 ghost use Rattle.prt_addr.specs.declared.refusal.Refusal.TheVariants.{NoMemory, ReadFault};
 ghost use Rattle.prt_program.specs.CommandLine.{IsTaskOf, batch_line, command_line, database_rule, file_rule, flag_rule, has_globals, invocation_of, replay_line};
-ghost use Rattle.prt_program.specs.Databases.{IsOpenOn};
+ghost use Rattle.prt_program.specs.Databases.{IsOpenOn, IsOpenRefusal};
 ghost use Rattle.prt_program.specs.Faults.{IsDatabaseFault, IsFault, IsOpening, IsScriptFault, FaultOf, IsWordsFault, fault_status};
 ghost use Rattle.prt_program.specs.declared.prt.Fault.TheVariants.{Opening};
 ghost use Rattle.prt_program.specs.Invocation.{arguments, file_of, invocation, usage_error};
@@ -313,6 +313,27 @@ fn run_over<D: Desk, R: Read, W: Write, O: Observer>(
     exit_status(end)
 }
 
+/// Opens the database at a path.
+fn open_database<D: Databases, E: Write + Drop, K: Clock + Drop>(
+    alloc: Global,
+    databases: &mut D,
+    path: &str,
+    messages: &mut Messages<'_, E, K>,
+) -> Result<D::Opened, Fault>
+    ensures opened { IfOk result (λ desk. (opened : State) × D.holds databases.old path.now opened × IsOpenOn D.Opened.stands desk opened) }
+    ensures fault { IfErr result (IsOpening IsOpenRefusal) }
+{
+    match databases.open(alloc, path) {
+        Ok(desk) => Ok(desk),
+        Err((refusal, error)) => {
+            if let Some(error) = error {
+                messages.keep_cause(path, &error);
+            }
+            Err(Fault::Opening(refusal))
+        }
+    }
+}
+
 /// Runs a script over the database that is asked for, and gives the exit status of the session.
 fn run_batch<D: Databases, R: Read + Drop, W: Write, E: Write + Drop, K: Clock + Drop>(
     alloc: Global,
@@ -336,15 +357,7 @@ fn run_batch<D: Databases, R: Read + Drop, W: Write, E: Write + Drop, K: Clock +
     };
     match database {
         Some(path) => {
-            let mut desk = match databases.open(alloc, path) {
-                Ok(desk) => desk,
-                Err((refusal, error)) => {
-                    if let Some(error) = error {
-                        messages.keep_cause(path, &error);
-                    }
-                    return Err(Fault::Opening(refusal));
-                }
-            };
+            let mut desk = open_database(alloc, databases, path, messages)?;
             let status = run_over(alloc, &mut desk, &mut reader, output, mode, messages);
             databases.close(desk);
             Ok(status)
