@@ -29,9 +29,7 @@ fn read_file<R: Read>(alloc: Global, reader: &mut R) -> Result<Vec<u8>, Refusal>
             Ok(count) => count,
             Err(_) => return Err(Refusal::ReadFault),
         };
-        if bytes.extend_from_slice(&block[..count]).is_err() {
-            return Err(Refusal::NoMemory);
-        }
+        bytes.extend_from_slice(&block[..count])?;
     }
     Ok(bytes)
 }
@@ -48,14 +46,9 @@ fn trace_of<R: Read>(alloc: Global, reader: &mut R) -> Result<Vec<u8>, Refusal>
         (λ reason. Finds (R.remaining reader.old) (Err reason)) }
 {
     let bytes = read_file(alloc, reader)?;
-    let events = match read_events(alloc, bytes.as_slice()) {
-        Ok(events) => events,
-        Err(refusal) => return Err(refusal),
-    };
-    match run(alloc, events.as_slice()) {
-        Ok(trace) => trace_text(alloc, &trace),
-        Err(refusal) => Err(refusal),
-    }
+    let events = read_events(alloc, bytes.as_slice())?;
+    let trace = run(alloc, events.as_slice())?;
+    trace_text(alloc, &trace)
 }
 
 /// How a replay ends whose answer is written.

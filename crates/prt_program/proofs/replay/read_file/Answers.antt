@@ -1,5 +1,6 @@
 use Rattle.std.proofs.Common.{◌<◌, arith, length}
 use Rattle.std.proofs.lemmas.Grind.{common_steps}
+use Rattle.std.proofs.lemmas.Result.{err_from_is_err_and}
 use Rattle.prt_program.proofs.ReplayFile.{no_memory, read_to_fault, read_too_many, read_whole}
 use Rattle.prt_program.proofs.replay.read_file.Goals as goal
 
@@ -15,8 +16,10 @@ returns-in-Err g c =
     let remaining = g.R.Read.remaining in
     read_to_fault (remaining c.args.reader.now) (remaining c.loop-block.reader) c.loop-block.bytes.items c.loop-block.invariant.read (omega (arith, c.loop-block-test.true, c.len.ensures))
 
-pub returns-then-is_err : goal.returns-then-is_err
-returns-then-is_err g c = no_memory (g.R.Read.remaining c.args.reader.now)
+pub returns-in_err-extend_from_slice : goal.returns-in_err-extend_from_slice
+returns-in_err-extend_from_slice g c =
+    let refused = err_from_is_err_and c.from_residual.result c.from_residual.ensures.1 in
+    rw (refused.1, refused.2) (no_memory (g.R.Read.remaining c.args.reader.now))
 
 pub returns : goal.returns
 returns g c =
