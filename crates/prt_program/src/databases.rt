@@ -21,12 +21,12 @@ pub trait Databases {
     /// The states that the database at a path may hold.
     ghost holds: { Self → List ℕ → State → Type 0 };
 
-    /// Opens the database at a path, and makes it where there is none. With a refusal comes the error of the file, if that
-    /// could not be opened.
+    /// Opens the database at a path, and makes it where there is none. With a refusal comes the error of the file, if
+    /// that could not be opened.
     ///
     /// # Errors
     ///
-    /// `OpenFailed`, `Damaged` where it holds no state, or `NoMemory`.
+    /// `OpenFailed`, `Damaged` where it holds no state, or `NoMemory`; then no database is open.
     fn open(
         &mut self,
         alloc: Global,

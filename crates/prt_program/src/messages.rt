@@ -204,7 +204,7 @@ impl<'a, E: Write + Drop, K: Clock + Drop> Messages<'a, E, K> {
         self.write(refused_message(self.alloc, self.file, line, refusal, text));
     }
 
-    /// The whole seconds since the run began; 0 where no progress is told.
+    /// Gives the whole seconds since the run began; 0 where no progress is told.
     fn seconds_passed(&self) -> u64 {
         match self.begun {
             Some(begun) => match begun.elapsed(&self.clock) {

@@ -102,7 +102,7 @@ enum Task<'a> {
     Replay(Option<&'a str>),
 }
 
-/// The operand that names a file.
+/// Makes the operand that names a file.
 fn file_operand<'a>(alloc: Global, help: &'a str) -> Arg<'a>
     ensures rule { rule_of result ≡ file_rule }
     ensures own { result.global ≡ false }
@@ -110,7 +110,7 @@ fn file_operand<'a>(alloc: Global, help: &'a str) -> Arg<'a>
     Arg::new(alloc, "file").value_name("FILE").help(help)
 }
 
-/// A flag of this name.
+/// Makes a flag of this name.
 fn flag<'a>(alloc: Global, name: &'a str, help: &'a str) -> Arg<'a>
     ensures rule { rule_of result ≡ flag_rule name.entry.now }
     ensures own { result.global ≡ false }
@@ -121,7 +121,7 @@ fn flag<'a>(alloc: Global, name: &'a str, help: &'a str) -> Arg<'a>
         .help(help)
 }
 
-/// The option that names a database.
+/// Makes the option that names a database.
 fn database_option<'a>(alloc: Global) -> Arg<'a>
     ensures rule { rule_of result ≡ database_rule }
     ensures own { result.global ≡ false }
@@ -131,7 +131,7 @@ fn database_option<'a>(alloc: Global) -> Arg<'a>
     )
 }
 
-/// The words after `batch`.
+/// Says which words may follow `batch`.
 fn batch_line<'a>(alloc: Global) -> Result<Command<'a>, AllocError>
     ensures line { IfOk result (λ command. app_of command ≡ batch_line) }
     ensures own { IfOk result (λ command. has_globals command ≡ false) }
@@ -159,7 +159,7 @@ fn batch_line<'a>(alloc: Global) -> Result<Command<'a>, AllocError>
         .arg(file)
 }
 
-/// The words after `replay`.
+/// Says which words may follow `replay`.
 fn replay_line<'a>(alloc: Global) -> Result<Command<'a>, AllocError>
     ensures line { IfOk result (λ command. app_of command ≡ replay_line) }
     ensures own { IfOk result (λ command. has_globals command ≡ false) }
@@ -173,7 +173,7 @@ fn replay_line<'a>(alloc: Global) -> Result<Command<'a>, AllocError>
         .arg(file)
 }
 
-/// The words that the program knows.
+/// Says which words the program knows.
 fn command_line<'a>(alloc: Global) -> Result<Command<'a>, AllocError>
     ensures { IfOk result (λ command. app_of command ≡ command_line) }
 {
@@ -188,14 +188,14 @@ fn command_line<'a>(alloc: Global) -> Result<Command<'a>, AllocError>
         .subcommand(replay)
 }
 
-/// The error of a word that is no text, in the form of those of a parse.
+/// Makes the error of a word that is no text, in the form of those of a parse.
 fn not_text(alloc: Global) -> Result<clap::Error, AllocError>
     ensures { IfOk result (λ error. kind_of error ≡ ErrorKind.InvalidValue) }
 {
     command_line(alloc)?.error(ErrorKind::InvalidValue, NOT_TEXT)
 }
 
-/// Why there are no words to read: `error` came in place of them, since one is no text or memory was refused.
+/// Tells why there are no words to read: `error` came in place of them, since one is no text or memory was refused.
 pub fn words_fault(alloc: Global, error: &io::Error) -> Fault
     ensures { IsWordsFault usage_error result }
 {
@@ -208,7 +208,7 @@ pub fn words_fault(alloc: Global, error: &io::Error) -> Fault
     }
 }
 
-/// The path of an operand; none for `-`, which is standard input.
+/// Gives the path of an operand; none for `-`, which is standard input.
 fn file_of(operand: &str) -> Option<&str>
     ensures { option_map (λ path. path.now) result ≡ file_of operand.entry.now }
 {
@@ -219,14 +219,14 @@ fn file_of(operand: &str) -> Option<&str>
     }
 }
 
-/// The path of the file that the matches of a subcommand name.
+/// Gives the path of the file that the matches of a subcommand name.
 fn file_in<'a>(matches: &ArgMatches<'a>) -> Option<&'a str>
     ensures { option_map (λ path. path.now) result ≡ option_and_then file_of (first_of (codes "file") (rows_of (found_of matches.now))) }
 {
     matches.get_str("file").and_then(file_of)
 }
 
-/// The path that the matches of `batch` have for `--db`.
+/// Gives the path that the matches of `batch` have for `--db`.
 fn database_in<'a>(matches: &ArgMatches<'a>) -> Option<&'a str>
     ensures { option_map (λ path. path.now) result ≡ first_of (codes "db") (rows_of (found_of matches.now)) }
 {
@@ -241,7 +241,7 @@ fn has_flag(matches: &ArgMatches<'_>, name: &str) -> bool
     matches.get_flag(name)
 }
 
-/// What a script goes on after, by the matches of `batch`.
+/// Tells what a script does after a refused line, by the matches of `batch`.
 fn mode_in(matches: &ArgMatches<'_>) -> OnRefusal
     ensures goes_on { one_of (codes "force") (rows_of (found_of matches.now)) ≡ Some (codes "true") → result ≡ OnRefusal.GoOn }
     ensures stops { one_of (codes "force") (rows_of (found_of matches.now)) ≡ Some (codes "false") → result ≡ OnRefusal.Stop }
@@ -253,7 +253,7 @@ fn mode_in(matches: &ArgMatches<'_>) -> OnRefusal
     }
 }
 
-/// What the matches of all words ask for.
+/// Tells what the matches of all words ask for.
 fn task_of<'a>(matches: &ArgMatches<'a>) -> Task<'a>
     ensures { IsTaskOf (subcommand_rows_of matches.now) result }
 {
@@ -286,7 +286,7 @@ fn read_words<'a>(alloc: Global, words: &'a [String]) -> Result<Task<'a>, Fault>
     Ok(task_of(&matches))
 }
 
-/// The exit status of a run.
+/// Gives the exit status of a run.
 fn exit_status(end: ScriptEnd) -> u8
     ensures { result ≡ exit_status end }
 {
@@ -493,7 +493,8 @@ fn run<
     }
 }
 
-/// Writes why the program runs nothing, and gives the exit status for it.
+/// Writes why the program runs nothing, and gives the exit status for it: 0 for help, 2 for bad words, 3 for a fault of
+/// opening.
 ///
 /// Help goes to `output`, all else to `errors`. A fault of writing there changes nothing.
 pub fn report<W: Write, E: Write>(fault: &Fault, output: &mut W, errors: &mut E) -> u8
@@ -519,8 +520,9 @@ pub fn report<W: Write, E: Write>(fault: &Fault, output: &mut W, errors: &mut E)
 /// Runs the program with these words, the first of which is its own name, and gives its exit status.
 ///
 /// `batch [--force] [--db PATH] [--verbose] [FILE]` runs a script over the database at PATH or a new one in memory, and
-/// `replay [FILE]` replays a list of events. The status is 0 where nothing was refused and after help, 1 where a line was
-/// refused, 2 for bad words, and 3 for a fault of opening, of the store, of the reader or of the writer.
+/// `replay [FILE]` replays a list of events. Where a FILE is named, `input` is not read; without `--db` no database is
+/// opened. The status is 0 where nothing was refused and after help, 1 where a line was refused, 2 for bad words, and 3
+/// for a fault of opening, of the store, of the reader or of the writer.
 pub fn program<
     F: Files + Clock,
     D: Databases,

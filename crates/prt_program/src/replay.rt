@@ -34,7 +34,7 @@ fn read_file<R: Read>(alloc: Global, reader: &mut R) -> Result<Vec<u8>, Refusal>
     Ok(bytes)
 }
 
-/// The text of the trace of a replay file.
+/// Makes the text of the trace of a replay file.
 ///
 /// # Errors
 ///
@@ -51,7 +51,7 @@ fn trace_of<R: Read>(alloc: Global, reader: &mut R) -> Result<Vec<u8>, Refusal>
     trace_text(alloc, &trace)
 }
 
-/// How a replay ends whose answer is written.
+/// Tells how a replay ends whose answer is written.
 fn end_with(answer: &Result<Vec<u8>, Refusal>) -> ScriptEnd
     ensures refused { result.refused ≡ is_refusal answer.now }
     ensures fault { result.fault ≡ fault_by true answer.now }

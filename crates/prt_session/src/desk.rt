@@ -33,7 +33,7 @@ pub trait Desk {
         ensures left { Stands stands self.old → Stands stands self.new }
         ensures keeps { keeps self.old self.new };
 
-    /// Appends the lines of the answer to `out`.
+    /// Appends the lines of the answer to `out`, and leaves the desk as it was. A closed desk answers too.
     ///
     /// # Errors
     ///

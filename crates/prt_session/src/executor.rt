@@ -35,7 +35,7 @@ pub trait Executor<C> {
     /// Whether it belongs to the context.
     ghost fits: { Self → Type 0 };
 
-    /// Executes a request, whose routes and rules may be stored.
+    /// Executes a request, whose routes and rules may be stored, and gives the reply to it.
     fn execute(&mut self, context: &C, request: &Request) -> Reply
         requires fits { fits self.old }
         requires storable { IsStorableRequest request.now }

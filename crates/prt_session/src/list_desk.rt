@@ -44,7 +44,7 @@ impl ListDesk {
         Ok(ListDesk { version })
     }
 
-    /// Runs a script over this desk, as `run_script` does: nothing but memory can fail it.
+    /// Runs a script over this desk, as `run_script` does: nothing but want of memory can befall its requests.
     pub fn run_script<R: Read, W: Write, O: Observer>(
         &mut self,
         alloc: Global,
@@ -72,7 +72,8 @@ impl Desk for ListDesk {
 
     ghost keeps_over_all = { record { reflexive = λ _. tt; transitive = λ _ _ _ _ _. tt } };
 
-    /// An `Err` is what the command is refused for or, where it is refused for nothing, want of memory.
+    /// An `Err` is what the command is refused for or, where it is refused for nothing, want of memory. It leaves the
+    /// desk as it was.
     fn command(&mut self, command: &Command) -> Result<u64, Refusal>
         ensures turn { CommandGives IsNoMemory (settled self.old) command.now result (settled self.new) }
         ensures reason { IfErr result (λ e. (refusal self.old command.now ≡ Some e) ⊎ ((refusal self.old command.now ≡ None) × (e ≡ NoMemory))) }

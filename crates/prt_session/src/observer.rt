@@ -1,11 +1,14 @@
 use crate::reply::Reply;
 
 /// Is told of each line of a session, and changes nothing of it.
+///
+/// The refusal of what follows the last line that a session may have is a reply to no line, and is not told.
 pub trait Observer {
     /// Comes before a line is executed. Lines are numbered from 1.
     fn before(&mut self, line: u64);
 
-    /// Comes once the line was replied to, or once that failed. `text` is the line, or the first 1,024 bytes of a longer one.
+    /// Comes once the line was replied to, or once that failed. `text` is what was read of the line, without its
+    /// newline, or the first 1,024 bytes of that.
     fn after(&mut self, line: u64, text: &[u8], reply: &Reply);
 }
 

@@ -45,7 +45,7 @@ impl Text {
 pub enum Reply {
     /// Nothing, to a line that asks for nothing.
     Silent,
-    /// The number of an accepted command.
+    /// How many commands were ever accepted, with this one.
     Accepted(u64),
     /// The lines of an answer.
     Answered(Text),
@@ -106,7 +106,10 @@ fn write_bytes<W: Write>(writer: &mut W, bytes: &[u8]) -> bool
     writer.flush().is_ok()
 }
 
-/// Writes a reply and flushes; tells whether all of it went well. Where it did not, a part of the reply was written.
+/// Writes a reply and flushes; tells whether all of it went well.
+///
+/// Where it did not, a part of the reply was written, perhaps none or all of it. `Silent` writes nothing, and always
+/// goes well.
 pub fn write_reply<W: Write>(writer: &mut W, reply: &Reply) -> bool
     ensures written { Written result (W.contents writer.old) (W.contents writer.new) (reply_text reply.now) }
     ensures told { result ≡ false → reply.now ≢ Reply.Silent }

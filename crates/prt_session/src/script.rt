@@ -110,11 +110,9 @@ impl<D: Desk> Executor<Global> for D {
     }
 }
 
-/// Runs a script: does what each line asks for, and replies to it before the next is read.
+/// Runs a script over a desk, as `run_session` does with any executor.
 ///
-/// The session ends with the input, after a refused line under `OnRefusal::Stop`, at a fault of the reader or the
-/// writer, of any kind, and after the first line or byte too many. Only an answer takes memory; where there is none,
-/// its query alone is refused. The observer is called before and after each line.
+/// Only an answer takes memory of `alloc`; where there is none, its query alone is refused.
 pub fn run_script<D: Desk, R: Read, W: Write, O: Observer>(
     alloc: Global,
     desk: &mut D,

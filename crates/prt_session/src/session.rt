@@ -125,7 +125,8 @@ fn end_after_last<R: Read, W: Write>(reader: &mut R, writer: &mut W, end: Script
 /// Runs a session: does what each line asks for, and replies to it before the next is read.
 ///
 /// The session ends with the input, after a refused line under `OnRefusal::Stop`, at a fault of the reader or the
-/// writer, of any kind, and after the first line or byte too many. The observer is called before and after each line.
+/// writer, of any kind, and at the first byte after `MOST_LINES` lines or after `LONGEST_UNENDED` bytes of a line. A
+/// line of more than `LONGEST_LINE` bytes is refused. The observer is called before and after each line.
 pub fn run_session<C, E: Executor<C>, R: Read, W: Write, O: Observer>(
     context: &C,
     executor: &mut E,
