@@ -14,7 +14,7 @@ use Rattle.prt_route.specs.RouteChoice.{chosen_route}
 use Rattle.prt_command.proofs.Faults.{Fine, fine_err, fine_ok, then_fine}
 use Rattle.prt_command.proofs.Stored.{text_is}
 use Rattle.prt_command.specs.Lines.{longest_line}
-use Rattle.prt_command.specs.Reading.{before_comment, is_text_byte, reading, words, words_request}
+use Rattle.prt_command.specs.Reading.{before_comment, is_text_byte, line_words, reading, words, words_request}
 use Rattle.prt_command.specs.Requests.{refuse_if}
 use Rattle.prt_command.specs.declared.request.Command.{Command}
 use Rattle.prt_command.specs.declared.request.Command.TheVariants.{RouteAdd, RouteChange, RouteReplace, RouteDel, RouteFlush, RuleAdd, RuleDel, RuleFlush}
@@ -41,12 +41,14 @@ fine_by : (r : Result (Option Request) Refusal) → IfErr r (λ e. code_of e ≤
 fine_by (Ok request) low = fine_ok request
 fine_by (Err e) low = fine_err e low
 
-reading_fine : (line : List ℕ) → Fine (reading line)
-reading_fine line =
-    let ws = words (before_comment line) in
+words_fine : (line : List ℕ) → Fine (line_words line)
+words_fine line =
     then_fine _ _ (refuse_fine (nat_lt longest_line (length line)) LineTooLong (omega arith)) (λ _.
     then_fine _ _ (refuse_fine (not (list_all is_text_byte (before_comment line))) NotAscii (omega arith)) (λ _.
-    fine_by (words_request ws) (text_is ws (words_request ws) refl).1))
+    fine_ok (words (before_comment line))))
+
+reading_fine : (line : List ℕ) → Fine (reading line)
+reading_fine line = then_fine _ _ (words_fine line) (λ ws. fine_by (words_request ws) (text_is ws (words_request ws) refl).1)
 
 -- the first seventeen refusals are of lines
 line_within : (reason : Refusal) → code_of reason ≤ 17 → is_beyond_lists reason ≡ false
