@@ -27,3 +27,34 @@ fn gives_up_what_nobody_holds(rt: HostRuntime) -> Result<(), Fail> {
     registry.part(place);
     Ok(())
 }
+
+#[test]
+fn gives_64_places(rt: HostRuntime) -> Result<(), Fail> {
+    let alloc = rt.alloc();
+    let mut registry = Registry::new(Arc::new(alloc, Version::opening(alloc)?)?);
+    for _ in 0..63 {
+        assert!(rt; registry.join().is_some());
+    }
+    let last = registry.join().expect(&rt, "the 64th place is free");
+    assert!(rt; registry.join().is_none());
+    registry.part(last);
+    assert!(rt; registry.join().is_some());
+    Ok(())
+}
+
+#[test]
+fn keeps_64_retired_versions(rt: HostRuntime) -> Result<(), Fail> {
+    let alloc = rt.alloc();
+    let mut version = Arc::new(alloc, Version::opening(alloc)?)?;
+    let mut registry = Registry::new(Arc::try_clone(&version)?);
+    for _ in 0..64 {
+        let next = Arc::new(alloc, next_version(&version, "rule flush")?)?;
+        assert!(rt; registry.has_room() && registry.noted() < next.number());
+        registry.note(Arc::try_clone(&next)?);
+        version = next;
+    }
+    assert!(rt; !registry.has_room());
+    assert_eq!(rt; registry.reclaim(), 64);
+    assert!(rt; registry.has_room());
+    Ok(())
+}
