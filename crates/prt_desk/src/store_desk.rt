@@ -22,9 +22,9 @@ use std::marker::Model;
 
 /// A desk over a store, and the version after its last commit.
 ///
-/// A command is checked, the version after it is made, the change is committed, and only then the desk goes over to that
-/// version and acknowledges the command. After a failed commit the desk is closed: it refuses each command, and goes on
-/// answering queries from the last version that it went over to.
+/// A command is checked, the version after it is made, the change is committed, and only then the desk goes over to
+/// that version and acknowledges the command. After a failed commit the desk is closed: it refuses each command, and
+/// goes on answering queries from the last version that it went over to.
 #[derive(Drop)]
 pub struct StoreDesk<S: Alter + Drop> {
     store: Store<S>,
@@ -42,9 +42,9 @@ impl<S: Alter + Drop> Model for StoreDesk<S> {
 
     ghost coded = { desk_code (held_code S.code) };
 
-    ghost view = { λ d. record { published = d.version; closed = d.is_closed; format_1 = d.is_format_1; tables = d.store.conn } };
+    ghost view = { λ desk. record { published = desk.version; closed = desk.is_closed; format_1 = desk.is_format_1; tables = desk.store.conn } };
 
-    ghost invariant = { λ d. IsKept S.Store (record { published = d.version; closed = d.is_closed; format_1 = d.is_format_1; tables = d.store.conn }) };
+    ghost invariant = { λ desk. IsKept S.Store (record { published = desk.version; closed = desk.is_closed; format_1 = desk.is_format_1; tables = desk.store.conn }) };
 }
 
 impl<S: Alter + Drop> StoreDesk<S> {
@@ -61,13 +61,14 @@ impl<S: Alter + Drop> StoreDesk<S> {
         }
     }
 
-    /// Makes an open desk over the database of a connection on which nothing is pending. Its tables are made where they are
-    /// missing; three empty tables become those of a new database.
+    /// Makes an open desk over the database of a connection on which nothing is pending. Its tables are made where they
+    /// are missing; three empty tables become those of a new database.
     ///
     /// # Errors
     ///
-    /// With the connection: `OpenFailed` where one of the tables has other columns, or a store call fails; `Damaged` only
-    /// where the tables spell no state; `NoMemory`. The connection is to be closed and opened again before it is used.
+    /// With the connection: `OpenFailed` where one of the tables has other columns, or a store call fails; `Damaged`
+    /// only where the tables spell no state; `NoMemory`. The rows are then as `Store::adopt` leaves them. The
+    /// connection is to be closed and opened again before it is used.
     pub fn open(
         alloc: Global,
         conn: Connection<S>,
@@ -83,14 +84,12 @@ impl<S: Alter + Drop> StoreDesk<S> {
             Spells (state S.Store conn).now.trees stored → (desk.format_1 ≡ true) × (desk.published ≡ stored)) }
     {
         let is_format_1 = begins_format_1(conn.schema());
-        let mut store = match Store::adopt(conn) {
-            Ok(store) => store,
-            Err(refused) => return Err(refused),
-        };
+        let mut store = Store::adopt(conn)?;
         let version = match store.load(alloc) {
             Ok(version) => version,
             Err(reason) => return Err((reason, store.release())),
         };
+        // Says that the version is sound.
         let _number = version.number();
         if is_format_1 {
             return Ok(StoreDesk::new(store, version));
@@ -121,9 +120,9 @@ impl<S: Alter + Drop> StoreDesk<S> {
 
     /// Runs a script over this desk, as `run_script` does: nothing but memory and the store can fail it.
     ///
-    /// Whatever may be stored at its end is what the session leaves, begun on what may have been stored before. A crash,
-    /// or the end of the program, leaves a file that spells such a state, and an opening of it gives that state. A desk that
-    /// is closed stays exactly as it is, and so do the other tables of the file.
+    /// Whatever may be stored at its end is what the session leaves, begun on what may have been stored before. A
+    /// crash, or the end of the program, leaves a file that spells such a state, and an opening of it gives that state.
+    /// A desk that is closed stays exactly as it is, and so do the other tables of the file.
     pub fn run_script<R: Read, W: Write, O: Observer>(
         &mut self,
         alloc: Global,
@@ -141,6 +140,7 @@ impl<S: Alter + Drop> StoreDesk<S> {
             (SessionLeaves S.Store mode self.old self.new (R.remaining reader.old) (R.remaining reader.new) (W.contents writer.old) (W.contents writer.new) result) }
     {
         let end = run_script(alloc, self, reader, writer, mode, observer);
+        // Says what the desk keeps.
         let _is_closed = self.is_closed();
         end
     }
@@ -171,15 +171,9 @@ impl<S: Alter + Drop> Desk for StoreDesk<S> {
         if self.is_closed {
             return Err(Refusal::Closed);
         }
-        let change = match self.version.check(command) {
-            Ok(change) => change,
-            Err(reason) => return Err(reason),
-        };
+        let change = self.version.check(command)?;
         // The version is made first: after the commit nothing may be refused memory.
-        let next = match self.version.next(&change) {
-            Ok(next) => next,
-            Err(reason) => return Err(reason),
-        };
+        let next = self.version.next(&change)?;
         let number = self.version.number() + 1;
         match self.store.commit(&change, number) {
             Ok(_stamp) => {

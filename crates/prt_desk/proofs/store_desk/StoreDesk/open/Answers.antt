@@ -1,4 +1,5 @@
 use Rattle.std.proofs.Common.{◌≡◌, true, false, inr, ap, arith, refl, subst, sym, ◌∙◌}
+use Rattle.std.proofs.lemmas.Result.{err_from_is_err_and}
 use Rattle.sqlite.specs.Held.{Held, state}
 use Rattle.sqlite.specs.State.{HasCleanDisk}
 use Rattle.std.specs.Prelude.{IsTrue}
@@ -12,8 +13,8 @@ use Rattle.prt_desk.proofs.store_desk.StoreDesk.open.Goals as goal
 pub new-requires : goal.new-requires
 new-requires g c = λ clean.
     let begins = subst BeginsFormat1 c.schema.ensures.value (c.begins_format_1-is_format_1.ensures.0 c.if-is_format_1.true) in
-    is_stored g.S.Store true c.args.conn c.in-Ok.store.conn c.load.new.self.conn c.in-Ok-load.version (λ _. begins) c.in-Ok.ensures.ok c.in-Ok-load.ensures.ok c.in-Ok-load.ensures.quiet
-    c.in-Ok-load.ensures.same c.in-Ok.ensures.crash_ok c.in-Ok-load.ensures.sound (refl, clean)
+    is_stored g.S.Store true c.args.conn c.in_ok-store.store.conn c.load.new.self.conn c.in-Ok.version (λ _. begins) c.in_ok-store.ensures.ok c.in-Ok.ensures.ok c.in-Ok.ensures.quiet
+    c.in-Ok.ensures.same c.in_ok-store.ensures.crash_ok c.in-Ok.ensures.sound (refl, clean)
 
 pub returns-then-is_format_1-clause-format : goal.returns-then-is_format_1-clause-format
 returns-then-is_format_1-clause-format g c = (
@@ -25,7 +26,7 @@ pub returns-then-is_format_1-clause-adopts : goal.returns-then-is_format_1-claus
 returns-then-is_format_1-clause-adopts g c =
     let begins = subst BeginsFormat1 c.schema.ensures.value (c.begins_format_1-is_format_1.ensures.0 c.if-is_format_1.true) in
     subst (λ (desk : DeskOver (Held _)). IsKnown g.S.Store desk.format_1 desk.tables → Opens (state g.S.Store c.args.conn).now desk.published) (sym c.new.ensures)
-    (opens g.S.Store true c.args.conn c.in-Ok.store.conn c.load.new.self.conn c.in-Ok-load.version (λ _. begins) c.in-Ok.ensures.ok c.in-Ok-load.ensures.ok c.in-Ok-load.ensures.quiet)
+    (opens g.S.Store true c.args.conn c.in_ok-store.store.conn c.load.new.self.conn c.in-Ok.version (λ _. begins) c.in_ok-store.ensures.ok c.in-Ok.ensures.ok c.in-Ok.ensures.quiet)
 
 pub returns-then-is_format_1-clause-found : goal.returns-then-is_format_1-clause-found
 returns-then-is_format_1-clause-found g c =
@@ -34,8 +35,8 @@ returns-then-is_format_1-clause-found g c =
     subst (λ (desk : DeskOver (Held _)). HasCleanDisk (state g.S.Store desk.tables) → IsTrue (state g.S.Store c.args.conn).is_open → (stored : State) → Spells found.trees stored → (desk.format_1 ≡ true) × (desk.published ≡ stored))
     (sym c.new.ensures) (λ clean is_open stored spells. (
       refl,
-      found_is found c.in-Ok-load.version stored
-          (opens g.S.Store true c.args.conn c.in-Ok.store.conn c.load.new.self.conn c.in-Ok-load.version (λ _. begins) c.in-Ok.ensures.ok c.in-Ok-load.ensures.ok c.in-Ok-load.ensures.quiet (refl, clean))
+      found_is found c.in-Ok.version stored
+          (opens g.S.Store true c.args.conn c.in_ok-store.store.conn c.load.new.self.conn c.in-Ok.version (λ _. begins) c.in_ok-store.ensures.ok c.in-Ok.ensures.ok c.in-Ok.ensures.quiet (refl, clean))
           (c.schema.ensures.live is_open).0 spells,
     ))
 
@@ -47,18 +48,20 @@ returns-clause-found g c = λ clean is_open stored spells.
     absurd (let both : false ≡ true = sym c.if-is_format_1.false ∙ known in cc)
 
 -- tables that spell a state spell it once they are adopted, so their load finds no damage
-pub returns-in-Err-load-clause-damaged : goal.returns-in-Err-load-clause-damaged
-returns-in-Err-load-clause-damaged g c = λ is released is_open stored spells.
+pub returns-in-Err-clause-damaged : goal.returns-in-Err-clause-damaged
+returns-in-Err-clause-damaged g c = λ is released is_open stored spells.
     let held = stored_there (state g.S.Store c.args.conn).now stored (c.schema.ensures.live is_open).0 spells in
-    let adopts = λ (clean : HasCleanDisk (state g.S.Store c.in-Ok.store.conn)). c.in-Ok.ensures.ok clean (inr (inr (inr held.tables))) in
+    let adopts = λ (clean : HasCleanDisk (state g.S.Store c.in_ok-store.store.conn)). c.in_ok-store.ensures.ok clean (inr (inr (inr held.tables))) in
     let loaded : HasCleanDisk (state g.S.Store c.load.new.self.conn) = subst (λ (conn : Held _). HasCleanDisk (state g.S.Store conn)) c.release.ensures released in
-    let survives = c.in-Err-load.ensures.quiet (λ clean. (adopts clean).tables) in
-    let adopted : HasCleanDisk (state g.S.Store c.in-Ok.store.conn) = omega (arith, survives.clean, loaded) in
-    c.in-Err-load.ensures.damaged loaded (adopts adopted).tables is stored (c.in-Ok.ensures.stored adopted stored held)
+    let survives = c.in-Err.ensures.quiet (λ clean. (adopts clean).tables) in
+    let adopted : HasCleanDisk (state g.S.Store c.in_ok-store.store.conn) = omega (arith, survives.clean, loaded) in
+    c.in-Err.ensures.damaged loaded (adopts adopted).tables is stored (c.in_ok-store.ensures.stored adopted stored held)
 
 -- a store that can't be adopted is not called damaged
-pub returns-in-Err-clause-damaged : goal.returns-in-Err-clause-damaged
-returns-in-Err-clause-damaged g c = λ is clean is_open stored spells. absurd (let other = c.in-Err.ensures.reason in cc)
+pub returns-in_err-store-clause-damaged : goal.returns-in_err-store-clause-damaged
+returns-in_err-store-clause-damaged g c =
+    let given = err_from_is_err_and c.from_residual.result c.from_residual.ensures.1 in
+    rw (given.1, given.2) (λ is clean is_open stored spells. absurd (let other = c.in_err-store.ensures.reason in cc))
 
 -- of a file whose first tables are others nothing is known
 pub invariant_of-result : goal.invariant_of-result
