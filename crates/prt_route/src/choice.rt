@@ -32,12 +32,16 @@ impl Range {
     }
 }
 
-/// The routes that `show` and `flush` are about: all that agree with what is given.
+/// The routes that `show` and `flush` are about: all that agree with what is given (`ip-route(8)`).
+///
+/// With None a part is not given.
 #[derive(Clone, Copy, Debug, PartialEq, Eq)]
 pub struct Selector {
-    /// The number of the table; None for all tables.
+    /// The number of the table, from 1 on; None for all tables.
     pub table: Option<u32>,
+    /// Which prefixes.
     pub range: Range,
+    /// What becomes of the packets.
     pub kind: Option<Kind>,
     /// The number of the protocol.
     pub proto: Option<u8>,
@@ -47,14 +51,18 @@ pub struct Selector {
     pub dev: Option<Dev>,
 }
 
-/// What `del` says of the route that it removes: its table and prefix, and what else is given.
+/// What `del` says of the route that it removes: its table and prefix, and what else is given (`ip-route(8)`).
+///
+/// With None a part is not given.
 #[derive(Clone, Copy, Debug, PartialEq, Eq)]
 pub struct RouteChoice {
     /// The number of the table, from 1 on.
     pub table: u32,
+    /// The destinations.
     pub prefix: Prefix,
     /// The metric; 0 counts as not given.
     pub metric: Option<u32>,
+    /// What becomes of the packets.
     pub kind: Option<Kind>,
     /// The gateway.
     pub via: Option<Addr>,

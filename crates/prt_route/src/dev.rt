@@ -61,7 +61,7 @@ impl Dev {
         Dev { bytes, len: 2 }
     }
 
-    /// The bytes of the name.
+    /// Gives the bytes of the name, 1 to 15.
     pub fn as_bytes(&self) -> &[u8]
         ensures { result.now ≡ self.now }
     {

@@ -1,7 +1,7 @@
 ghost use Rattle.std.specs.Prelude.{◌≡◌};
 ghost use Rattle.prt_route.specs.Kind.{kind_name};
 
-/// What a route does with a packet that it matches.
+/// What a route does with a packet that it matches (`ip-route(8)`).
 #[derive(Clone, Copy, Debug, PartialEq, Eq)]
 pub enum Kind {
     /// Send it on, through a gateway or an interface.
@@ -17,7 +17,7 @@ pub enum Kind {
 }
 
 impl Kind {
-    /// The word for the kind.
+    /// Gives the word for the kind (`ip-route(8)`).
     pub fn name(self) -> &'static str
         ensures { result.now ≡ kind_name self }
     {

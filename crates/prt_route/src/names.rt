@@ -80,21 +80,21 @@ fn number_in(names: &[Named], word: &[u8]) -> Option<u32>
     None
 }
 
-/// The name of a routing protocol's number, where it has one.
+/// Gives the name of a routing protocol's number, where it has one (`ip-route(8)`).
 pub fn protocol_name(number: u8) -> Option<&'static str>
     ensures { option_map (λ s. s.now) result ≡ name_in protocols number }
 {
     name_in(&PROTOCOLS, u32::from(number))
 }
 
-/// The name of a scope's number, where it has one.
+/// Gives the name of a scope's number, where it has one (`ip-route(8)`).
 pub fn scope_name(number: u8) -> Option<&'static str>
     ensures { option_map (λ s. s.now) result ≡ name_in scopes number }
 {
     name_in(&SCOPES, u32::from(number))
 }
 
-/// The name of a table's number, where it has one.
+/// Gives the name of a table's number, where it has one (`ip-route(8)`).
 pub fn table_name(number: u32) -> Option<&'static str>
     ensures { option_map (λ s. s.now) result ≡ name_in tables number }
 {
@@ -118,7 +118,7 @@ fn spelled_byte(names: &[Named], word: &[u8]) -> Option<u8>
     u8::try_from(spelled_number(names, word)?).ok()
 }
 
-/// Reads a table: `local`, `main` or `default`, or a number from 1 on.
+/// Reads a table: `local`, `main` or `default`, or a number of 1 to 2^32 - 1 (`ip-route(8)`).
 ///
 /// # Errors
 ///
@@ -132,7 +132,8 @@ pub fn read_table(word: &[u8]) -> Result<u32, Refusal>
     }
 }
 
-/// Reads a protocol: one of the listed names, or a number up to 255.
+/// Reads a protocol: `kernel`, `boot`, `static`, `ra`, `zebra`, `bird`, `dhcp`, `bgp`, `isis`, `ospf` or `rip`, or a
+/// number of 0 to 255 (`ip-route(8)`).
 ///
 /// # Errors
 ///
@@ -143,7 +144,7 @@ pub fn read_protocol(word: &[u8]) -> Result<u8, Refusal>
     spelled_byte(&PROTOCOLS, word).ok_or(Refusal::BadNumber)
 }
 
-/// Reads a scope: one of the listed names, or a number up to 255.
+/// Reads a scope: `global`, `site`, `link`, `host` or `nowhere`, or a number of 0 to 255 (`ip-route(8)`).
 ///
 /// # Errors
 ///

@@ -8,12 +8,13 @@ use crate::{Addr, Dev, Kind, Prefix};
 pub struct RouteKey {
     /// The number of the table, from 1 on.
     pub table: u32,
+    /// The destinations.
     pub prefix: Prefix,
     /// The lower, the better.
     pub metric: u32,
 }
 
-/// A route of one table.
+/// A route of one table (`ip-route(8)`).
 #[derive(Clone, Copy, Debug, PartialEq, Eq)]
 pub struct Route {
     /// The number of the table, from 1 on.
@@ -22,6 +23,7 @@ pub struct Route {
     pub prefix: Prefix,
     /// The lower, the better.
     pub metric: u32,
+    /// What becomes of the packets.
     pub kind: Kind,
     /// The gateway.
     pub via: Option<Addr>,

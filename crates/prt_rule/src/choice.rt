@@ -4,9 +4,12 @@ ghost use Rattle.prt_rule.specs.RuleChoice.{is_named};
 use crate::{Action, Dev, Mark, Prefix, Rule};
 use prt_addr::{agrees, agrees_there};
 
-/// What `del` says of the rule that it removes: all that is given.
+/// What `del` says of the rule that it removes: all that is given (`ip-rule(8)`).
+///
+/// With None a part is not given.
 #[derive(Clone, Copy, Debug, PartialEq, Eq)]
 pub struct RuleChoice {
+    /// The priority.
     pub priority: Option<u32>,
     /// Whether `not` is given; without it a rule agrees whether it is inverted or not.
     pub inverted: bool,
@@ -16,7 +19,9 @@ pub struct RuleChoice {
     pub to: Option<Prefix>,
     /// The incoming interface.
     pub iif: Option<Dev>,
+    /// The mark and its mask.
     pub mark: Option<Mark>,
+    /// What becomes of the packets.
     pub action: Option<Action>,
 }
 

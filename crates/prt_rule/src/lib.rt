@@ -1,4 +1,5 @@
-//! Rules of the routing policy database: which packets a rule matches, which rules are the same, and which ones a command names.
+//! Rules of the routing policy database: which packets a rule matches, which rules are the same, and which ones a
+//! command names.
 #![tactic(auto)]
 
 mod choice;

@@ -1,13 +1,15 @@
 use crate::{Dev, Prefix};
 
-/// A firewall mark and the bits of it that count.
+/// A firewall mark and the bits of it that count (`ip-rule(8)`, `fwmark`).
 #[derive(Clone, Copy, Debug, PartialEq, Eq)]
 pub struct Mark {
+    /// What a packet's mark is compared with.
     pub mark: u32,
+    /// The bits that are compared.
     pub mask: u32,
 }
 
-/// What a rule does with the packets that it matches.
+/// What a rule does with the packets that it matches (`ip-rule(8)`).
 #[derive(Clone, Copy, Debug, PartialEq, Eq)]
 pub enum Action {
     /// Look up this table, whose number is from 1 on.
@@ -20,7 +22,7 @@ pub enum Action {
     Prohibit,
 }
 
-/// A rule of the policy database.
+/// A rule of the policy database (`ip-rule(8)`).
 #[derive(Clone, Copy, Debug, PartialEq, Eq)]
 pub struct Rule {
     /// Tells the rule from the others: 1 to 3 for the opening rules, then 3 more than the number of its command.
@@ -37,5 +39,6 @@ pub struct Rule {
     pub iif: Option<Dev>,
     /// The mark, where it matters.
     pub mark: Option<Mark>,
+    /// What becomes of the packets that it matches.
     pub action: Action,
 }

@@ -67,7 +67,8 @@ fn row_or(row: usize, before: usize) -> usize
     if row == NOWHERE { before } else { row }
 }
 
-/// The place of the last row on the way down to the address, which is the best for it: `NOWHERE` where none contains it.
+/// Gives the place of the last row on the way down to the address, which is the best for it, or `NOWHERE` where none
+/// contains it.
 pub(crate) fn last_row(halves: &[Halves], root: &Node, addr: u32) -> usize
     requires halves { AreBelow halves.now }
     requires root { IsWithin (length halves.now) root.now }

@@ -151,7 +151,8 @@ impl Tree {
         has_key(self.as_slice(), key)
     }
 
-    /// The key of the route of lowest metric among those that the choice takes (`ip-route(8)`, `delete`).
+    /// Gives the key of the route of lowest metric among those that the choice takes, if it takes one (`ip-route(8)`,
+    /// `delete`).
     pub fn choose(&self, choice: &RouteChoice) -> Option<RouteKey>
         ensures { result ≡ option_map key_of (chosen_route choice.now self.now) }
     {

@@ -1,7 +1,7 @@
 use prt_route::Route;
 use prt_rule::Action;
 
-/// What becomes of a packet.
+/// What becomes of a packet (`ip-rule(8)`).
 #[derive(Clone, Copy, Debug, PartialEq, Eq)]
 pub enum Verdict {
     /// The rule of this priority found this route for it.
@@ -15,6 +15,8 @@ pub enum Verdict {
 /// A verdict, and the number of commands that had been accepted when it was given.
 #[derive(Clone, Copy, Debug, PartialEq, Eq)]
 pub struct Answer {
+    /// The number of commands that had been accepted.
     pub number: u64,
+    /// What becomes of the packet.
     pub verdict: Verdict,
 }

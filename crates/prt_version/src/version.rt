@@ -192,10 +192,10 @@ impl Version {
     ///
     /// # Errors
     ///
-    /// `Exists` where the key of a route to add, or a rule equal in all but the id to the one to add, is there; `NoSuch`
-    /// where what is to be changed or removed is not (`ip-route(8)`, `ip-rule(8)`); otherwise `Full` where a rule would
-    /// be one more than [`MOST_RULES`], or a route one more than [`MOST_ROUTES`]; otherwise `CountFull` after
-    /// [`MOST_COMMANDS`] commands.
+    /// `Exists` where the key of a route to add, or a rule equal in all but the id to the one to add, is there;
+    /// `NoSuch` where what is to be changed or removed is not (`ip-route(8)`, `ip-rule(8)`); otherwise `Full` where a
+    /// rule would be one more than [`MOST_RULES`], or a route one more than [`MOST_ROUTES`]; otherwise `CountFull`
+    /// after [`MOST_COMMANDS`] commands.
     ///
     /// [`MOST_ROUTES`]: crate::MOST_ROUTES
     /// [`MOST_RULES`]: crate::MOST_RULES
