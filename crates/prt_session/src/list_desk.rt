@@ -82,10 +82,7 @@ impl Desk for ListDesk {
             Ok(change) => change,
             Err(reason) => return Err(reason),
         };
-        match self.version.next(&change) {
-            Ok(next) => self.version = next,
-            Err(reason) => return Err(reason),
-        }
+        self.version = self.version.next(&change)?;
         Ok(self.version.number())
     }
 
