@@ -6,9 +6,7 @@ ghost use Rattle.prt_world.specs.ReadEvents.{at_end, command, event_of, fate, li
 use crate::words::{EventWord, event_word};
 use crate::{Event, Fate, LookerNumber};
 use prt_addr::{Refusal, read_number};
-use prt_command::{
-    Command, Packet, Query, Request, is, line_text, next_word, read_text,
-};
+use prt_command::{Command, Packet, Query, Request, is, line_text, next_word, read_text};
 
 /// Takes a value, which has to be there: its word, and the text after it.
 fn value_word(text: &[u8]) -> Result<(&[u8], &[u8]), Refusal>
