@@ -25,16 +25,8 @@ pub fn submit<S: Alter + Drop>(
         IfOk result (Stores (state S.Store store.new.conn).now) }
 {
     let number = version.number() + 1;
-    let change = match version.check(command) {
-        Ok(change) => change,
-        Err(reason) => return Err(reason),
-    };
-    let next = match version.next(&change) {
-        Ok(next) => next,
-        Err(reason) => return Err(reason),
-    };
-    match store.commit(&change, number) {
-        Ok(_stamp) => Ok(next),
-        Err(reason) => Err(reason),
-    }
+    let change = version.check(command)?;
+    let next = version.next(&change)?;
+    let _stamp = store.commit(&change, number)?;
+    Ok(next)
 }

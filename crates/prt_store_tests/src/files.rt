@@ -1,4 +1,5 @@
-//! A store over a file. What has the type of a file stands in the test alone, since each such function is dear to prove.
+//! A store over a file. What has the type of a file stands in the test alone, since each such function is dear to
+//! prove.
 
 use crate::database::spells;
 use crate::steps::OPENING;
@@ -20,10 +21,8 @@ fn is_new<S: Alter + Drop>(
     alloc: Global,
     opened: Result<Store<S>, Refusal>,
 ) -> Result<bool, Refusal> {
-    match opened {
-        Ok(store) => Ok(spells(alloc, store.release(), &OPENING)?.0),
-        Err(reason) => Err(reason),
-    }
+    let store = opened?;
+    Ok(spells(alloc, store.release(), &OPENING)?.0)
 }
 
 #[test]
