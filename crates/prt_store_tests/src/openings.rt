@@ -71,7 +71,7 @@ const OTHER_TABLES: &str =
     "CREATE TABLE route (tbl INTEGER NOT NULL, net INTEGER NOT NULL, len INTEGER NOT NULL, metric INTEGER NOT NULL, kind INTEGER NOT NULL, via INTEGER NOT NULL, dev TEXT NOT NULL, src INTEGER NOT NULL, proto INTEGER NOT NULL, scope INTEGER NOT NULL, PRIMARY KEY (tbl, net, len, metric)) STRICT; CREATE TABLE meta (id INTEGER PRIMARY KEY NOT NULL, format INTEGER NOT NULL, count INTEGER NOT NULL) STRICT";
 
 #[test]
-fn knows_format_1(rt: HostRuntime) -> Result<(), Fail> {
+fn tells_format_1_from_other_schemas(rt: HostRuntime) -> Result<(), Fail> {
     let mut connection = Connection::open_in_memory(rt.alloc())?;
     assert!(rt; !is_format_1(connection.schema()));
     run(&mut connection, RULE_TABLE)?;

@@ -169,7 +169,7 @@ fn reads_whole_tables(rt: HostRuntime) -> Result<(), Fail> {
 }
 
 #[test]
-fn tells_selectors(rt: HostRuntime) -> Result<(), Fail> {
+fn writes_selectors_as_parameters(rt: HostRuntime) -> Result<(), Fail> {
     let selector = Selector {
         table: None,
         range: Range::Root(Prefix::masked(0x0a01_0000, 16)),

@@ -119,7 +119,7 @@ fn misstored_line<S: Alter + Drop>(
 }
 
 #[test]
-fn commits_in_memory(rt: HostRuntime) -> Result<(), Fail> {
+fn stores_what_each_command_leaves(rt: HostRuntime) -> Result<(), Fail> {
     let connection = Connection::open_in_memory(rt.alloc())?;
     assert_eq!(rt; misstored_line(rt.alloc(), connection)?, None);
     Ok(())
