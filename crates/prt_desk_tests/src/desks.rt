@@ -114,14 +114,20 @@ fn replies_are_those_of_lists(rt: HostRuntime) -> Result<(), Fail> {
 fn a_second_run_goes_on(rt: HostRuntime) -> Result<(), Fail> {
     let alloc = rt.alloc();
     let connection = Connection::open_in_memory(alloc)?;
-    let (_first, mut connection) = run_over(alloc, connection, "route add 10/8 via 192.0.2.1\n")?;
-    let (second, same) = run_over(alloc, connection, "route show\nroute del 10/8\n")?;
+    let (_first, connection) = run_over(alloc, connection, "route add 10/8 via 192.0.2.1\n")?;
+    let (second, _same) = run_over(alloc, connection, "route show\nroute del 10/8\n")?;
     assert!(rt; second.as_slice() == b"10.0.0.0/8 via 192.0.2.1\nend 1\nok 2\n".as_slice());
+    Ok(())
+}
 
-    connection = same;
+#[test]
+fn a_full_count_refuses_a_command(rt: HostRuntime) -> Result<(), Fail> {
+    let alloc = rt.alloc();
+    let connection = Connection::open_in_memory(alloc)?;
+    let (_none, mut connection) = run_over(alloc, connection, "")?;
     fill_count(&mut connection)?;
-    let (third, _same) = run_over(alloc, connection, "rule flush\n")?;
-    assert!(rt; third.as_slice() == b"error 24 CountFull\n".as_slice());
+    let (replies, _same) = run_over(alloc, connection, "rule flush\n")?;
+    assert!(rt; replies.as_slice() == b"error 24 CountFull\n".as_slice());
     Ok(())
 }
 

@@ -1,6 +1,9 @@
 //! Faults of the streams: each of these readers and writers fails once and would then go on.
 
-use prt_session::{ListDesk, Observer, OnRefusal, Refusal, Reply, Unobserved, run_session};
+use prt_session::{
+    ListDesk, Observer, OnRefusal, Refusal, Reply, ScriptEnd, Unobserved, run_session,
+};
+use std::alloc::Global;
 use std::io;
 use std::io::{Read, Write};
 use std::test::Fail;
@@ -61,9 +64,49 @@ impl Observer for LastLines {
     }
 }
 
+/// What a session left whose reader was interrupted.
+#[derive(Drop)]
+struct Left {
+    replies: Vec<u8>,
+    end: ScriptEnd,
+    unread: usize,
+    told: LastLines,
+}
+
+/// Runs a session whose reader is interrupted after these bytes.
+fn run_interrupted(alloc: Global, before: &'static [u8]) -> Result<Left, Refusal> {
+    let mut desk = ListDesk::opening(alloc)?;
+    let mut reader = Interrupted {
+        before,
+        after: b"te get 1\n",
+        is_due: true,
+    };
+    let mut replies = Vec::new(alloc);
+    let mut told = LastLines {
+        begun: 0,
+        ended: 0,
+        refused: 0,
+        text_len: 9,
+    };
+    let end = run_session(
+        &alloc,
+        &mut desk,
+        &mut reader,
+        &mut replies,
+        OnRefusal::GoOn,
+        &mut told,
+    );
+    let unread = reader.after.len();
+    Ok(Left {
+        replies,
+        end,
+        unread,
+        told,
+    })
+}
+
 #[test]
-fn read_faults(rt: HostRuntime) -> Result<(), Fail> {
-    let alloc = rt.alloc();
+fn a_read_fault_ends_the_session_at_its_line(rt: HostRuntime) -> Result<(), Fail> {
     for (before, line, text_len, want) in [
         (
             b"\n\n\n".as_slice(),
@@ -78,32 +121,13 @@ fn read_faults(rt: HostRuntime) -> Result<(), Fail> {
             b"answer 0 none\nerror 32 ReadFault\n".as_slice(),
         ),
     ] {
-        let mut desk = ListDesk::opening(alloc)?;
-        let mut reader = Interrupted {
-            before,
-            after: b"te get 1\n",
-            is_due: true,
-        };
-        let mut out = Vec::new(alloc);
-        let mut lines = LastLines {
-            begun: 0,
-            ended: 0,
-            refused: 0,
-            text_len: 9,
-        };
-        let end = run_session(
-            &alloc,
-            &mut desk,
-            &mut reader,
-            &mut out,
-            OnRefusal::GoOn,
-            &mut lines,
-        );
-        assert!(rt; out.as_slice() == want);
-        assert!(rt; end.fault == Some(Refusal::ReadFault) && !end.refused);
-        assert!(rt; reader.after.len() == 9);
-        assert!(rt; lines.begun == line && lines.ended == line && lines.refused == line);
-        assert!(rt; lines.text_len == text_len);
+        let left = run_interrupted(rt.alloc(), before)?;
+        assert!(rt; left.replies.as_slice() == want);
+        assert!(rt; left.end.fault == Some(Refusal::ReadFault) && !left.end.refused);
+        assert!(rt; left.unread == 9);
+        let told = &left.told;
+        assert!(rt; told.begun == line && told.ended == line && told.refused == line);
+        assert!(rt; told.text_len == text_len);
     }
     Ok(())
 }
@@ -162,7 +186,7 @@ impl Write for Slow {
 }
 
 #[test]
-fn write_faults(rt: HostRuntime) -> Result<(), Fail> {
+fn replies_end_at_a_write_fault(rt: HostRuntime) -> Result<(), Fail> {
     let alloc = rt.alloc();
     for (trouble, fault, want) in [
         (
