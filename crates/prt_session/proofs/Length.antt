@@ -14,9 +14,9 @@ AreWhole [] = ⊤
 AreWhole (line ∷ []) = ⊤
 AreWhole (line ∷ next ∷ lines) = (line.ended ≡ true) × AreWhole (next ∷ lines)
 
-beyond_whole : (line : Line) (lines : List Line) → line.ended ≡ true → AreWhole lines → AreWhole (line ∷ lines)
-beyond_whole line [] ended whole = tt
-beyond_whole line (next ∷ lines) ended whole = (ended, whole)
+ended_before_whole : (line : Line) (lines : List Line) → line.ended ≡ true → AreWhole lines → AreWhole (line ∷ lines)
+ended_before_whole line [] ended whole = tt
+ended_before_whole line (next ∷ lines) ended whole = (ended, whole)
 
 onto_whole : (b : ℕ) (lines : List Line) → AreWhole lines → AreWhole (onto_line b lines)
 onto_whole b [] whole = tt
@@ -32,7 +32,7 @@ pub lines_whole : (bytes : List ℕ) → AreWhole (lines_of bytes)
 unfolding lines_of
 lines_whole [] = tt
 lines_whole (b ∷ bs) = elim (sides (b == 10)) [
-  | inl h ↦ rw h (beyond_whole (record { content = []; ended = true }) (lines_of bs) refl (lines_whole bs))
+  | inl h ↦ rw h (ended_before_whole (record { content = []; ended = true }) (lines_of bs) refl (lines_whole bs))
   | inr h ↦ rw h (onto_whole b (lines_of bs) (lines_whole bs))
 ]
 
