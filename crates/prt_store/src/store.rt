@@ -13,7 +13,9 @@ ghost use Rattle.prt_version.specs.State.{State};
 ghost use Rattle.prt_rows.specs.Format.{IsFormat1};
 ghost use Rattle.prt_store.specs.Adopted.{IsSettled};
 ghost use Rattle.prt_store.specs.Loaded.{IsLoadRefusal, StaysSettled};
+ghost use Rattle.prt_store.specs.Made.{MakesChange};
 ghost use Rattle.prt_store.specs.Next.{IsNext, MakesNext};
+ghost use Rattle.prt_store.specs.Openings.{HasDone};
 ghost use Rattle.prt_store.specs.Stored.{Stores};
 ghost use Rattle.prt_store.specs.Written.{CommitsNothing};
 
@@ -81,8 +83,9 @@ impl<S: Alter + Drop> Store<S> {
 
     /// Makes the change that a command makes of the stored state, whose next number this is, in one transaction.
     ///
-    /// After `Ok` the tables spell the state after the change, all other tables are as they were, and a crash leaves
-    /// exactly that.
+    /// After `Ok` the statement of the change ran on the tables as they were, then the one that sets the count, and what
+    /// they left is committed, whatever the file; nothing is pending. Where the tables spelled the state, they spell the
+    /// state after the change, all other tables are as they were, and a crash leaves exactly that.
     ///
     /// # Errors
     ///
@@ -98,6 +101,7 @@ impl<S: Alter + Drop> Store<S> {
         ensures not_begun { result ≡ Err (StoreFailed Begin) → self.new.conn ≡ self.old.conn }
         ensures ok { HasCleanDisk (state S.Store self.new.conn) → OnOk result ((before : State) → IsNext before change.now number →
             Stores (state S.Store self.old.conn).now before → MakesNext (state S.Store self.old.conn).now (put before change.now) (state S.Store self.new.conn).now) }
+        ensures ran { HasCleanDisk (state S.Store self.new.conn) → OnOk result (HasDone S.Store (MakesChange S.Store change.now number) self.old.conn (state S.Store self.new.conn).committed) }
         ensures settled { HasCleanDisk (state S.Store self.new.conn) → OnOk result (IsSettled S.Store self.new.conn) }
         ensures crash_ok { HasCleanDisk (state S.Store self.new.conn) → OnOk result ((trees : Trees) →
             (state S.Store self.new.conn).may_leave trees → trees ≡ (state S.Store self.new.conn).now.trees) }

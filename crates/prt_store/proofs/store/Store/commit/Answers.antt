@@ -18,6 +18,9 @@ returns-in-Ok-clause-ok g c clean before next held =
     let done = c.in-Ok.ensures.ok clean in
     subst (MakesNext (state g.S.Store c.args.self.now.conn).now (put before c.args.change.now)) (sym done.2.committed) (makes_next g.S.Store c.args.change.now c.args.number c.args.self.now.conn _ before next done.0 held done.1)
 
+pub returns-in-Ok-clause-ran : goal.returns-in-Ok-clause-ran
+returns-in-Ok-clause-ran g c clean = (c.in-Ok.ensures.ok clean).1
+
 pub returns-in-Ok-clause-settled : goal.returns-in-Ok-clause-settled
 returns-in-Ok-clause-settled g c clean = (c.in-Ok.ensures.ok clean).2
 
