@@ -3,7 +3,6 @@ use Rattle.std.proofs.Common.{◌≡◌, ◌⊎◌, inl, inr, ℕ, Bool, true, f
 use Rattle.std.specs.Prelude.{IsTrue}
 use Rattle.sqlite.specs.Effect.{Database}
 use Rattle.sqlite.specs.Held.{Held, state}
-use Rattle.sqlite.specs.Schema.{Schema}
 use Rattle.sqlite.specs.State.{HasCleanDisk}
 use Rattle.sqlite.specs.Store.{Ghosts}
 use Rattle.sqlite.specs.Tree.{Trees}
@@ -16,14 +15,12 @@ use Rattle.prt_session.proofs.Turns.{accepted_turn, memory_refused, refused_turn
 use Rattle.prt_session.specs.Desk.{DeskState, IsNoMemory, Mishap, store_fails, commit_kept, command_or_refusal, settled, shut}
 use Rattle.prt_session.specs.Stands.{Explained}
 use Rattle.prt_session.specs.Steps.{CommandGives}
-use Rattle.prt_store.specs.Next.{IsNext, MakesNext}
-use Rattle.prt_store.specs.Stored.{Stores}
 use Rattle.prt_version.specs.Change.{apply, put, refusal}
 use Rattle.prt_version.specs.State.{State}
 use Rattle.prt_version.specs.declared.change.Change.{Change}
-use Rattle.prt_desk.specs.StoreDesk.{DeskOver, IsKept, IsKnown, IsPerhapsStored, IsStored, IsStoreMishap, Keeps, MayBeStored, Spells, StandsBy, StandsFor, desk_with}
-use Rattle.prt_desk.proofs.Spelled.{database, spelled_once}
-use Rattle.prt_desk.specs.Remains.{IsSeen, Remains, SparesOthers}
+use Rattle.prt_store.specs.Exits.{IsKnown, MayLeave, SparesOthers, Spells}
+use Rattle.prt_desk.specs.StoreDesk.{DeskOver, IsKept, IsPerhapsStored, IsStoreMishap, Keeps, MayBeStored, StandsBy, StandsFor, desk_with}
+use Rattle.prt_desk.specs.Remains.{IsSeen, Remains}
 
 -- what may befall a desk over lists may befall this one
 more_may : (mishap : Option Mishap) → IfSome mishap IsNoMemory → IfSome mishap IsStoreMishap
@@ -167,48 +164,15 @@ pub spares_unwritten : {S : Type 0} (g : Ghosts S) (old : Database) (new : DeskO
 spares_unwritten g old new closed same (inl is_open) = absurd (let both : true ≡ false = sym closed ∙ is_open in cc)
 spares_unwritten g old new closed same (inr is_open) = subst (SparesOthers old) (sym (same is_open)) (record { schema = refl; rows = λ _ _ _. refl })
 
-next_spelled : (old : Database) (next : State) (schema : Schema) (trees : Trees) → MakesNext old next (database schema trees) → Spells trees next
-next_spelled old next schema trees makes = record { schema = schema; sound = makes.sound; stores = makes.stores }
+module _ {S : Type 0} (g : Ghosts S) (format_1 : Bool) (new : Held S) (published : State) (made : Change) (call : StoreCall) (reason : Refusal) (is : reason ≡ StoreFailed call)
+    (left : IsKnown g format_1 new → (left : State) → MayLeave g new left → (left ≡ published) ⊎ ((reason ≡ StoreFailed Commit) × (left ≡ put published made))) where
+  named : reason ≡ StoreFailed Commit → call ≡ Commit
+  named made = let both : StoreFailed call ≡ StoreFailed Commit = sym is ∙ made in cc
 
-module _ {S : Type 0} (g : Ghosts S) (format_1 : Bool) (old new : Held S) (published : State) (made : Change) (number : ℕ) (next : IsNext published made number)
-    (clean : HasCleanDisk (state g new) → HasCleanDisk (state g old)) (kept : IsKnown g format_1 old → IsStored g old published) where
-  held : IsKnown g format_1 new → IsStored g old published
-  held known = kept (known.0, clean known.1)
-
-  -- the desk goes over to the next version
-  pub stored_after : (HasCleanDisk (state g new) → (before : State) → IsNext before made number → Stores (state g old).now before → MakesNext (state g old).now (put before made) (state g new).now)
-      → (HasCleanDisk (state g new) → (trees : Trees) → (state g new).may_leave trees → trees ≡ (state g new).now.trees)
-      → IsKnown g format_1 new → IsStored g new (put published made)
-  stored_after makes leaves known =
-      let after = makes known.1 published next (held known).now in
-      record {
-        now = after.stores;
-        durable = λ trees left. subst (λ (t : Trees). Spells t (put published made)) (sym (leaves known.1 trees left)) (next_spelled (state g old).now (put published made) (state g new).now.schema (state g new).now.trees after);
-      }
-
-  -- and the other tables stay
-  pub spares_after : (HasCleanDisk (state g new) → (before : State) → IsNext before made number → Stores (state g old).now before → MakesNext (state g old).now (put before made) (state g new).now)
-      → IsKnown g format_1 new → SparesOthers (state g old).now (state g new).now
-  spares_after makes known = let after = makes known.1 published next (held known).now in record { schema = after.schema; rows = after.others }
-
-  module _ (call : StoreCall) (reason : Refusal) (is : reason ≡ StoreFailed call)
-      (leaves : HasCleanDisk (state g new) → (before : State) → IsNext before made number → Stores (state g old).now before → (trees : Trees) → (state g new).may_leave trees
-      → (state g old).may_leave trees ⊎ ((reason ≡ StoreFailed Commit) × MakesNext (state g old).now (put before made) (database (state g old).now.schema trees))) where
-    -- whatever a crash leaves spells the state before or after
-    pub keeps_after : IsKnown g format_1 new → Keeps g new published true
-    keeps_after known trees may = elim (leaves known.1 published next (held known).now trees may) [
-      | inl was ↦ (published, (held known).durable trees was)
-      | inr more ↦ (put published made, next_spelled (state g old).now (put published made) (state g old).now.schema trees more.1)
-    ]
-
-    named : reason ≡ StoreFailed Commit → call ≡ Commit
-    named made = let both : StoreFailed call ≡ StoreFailed Commit = sym is ∙ made in cc
-
-    pub either_stored : (stored : State) → IsPerhapsStored g format_1 new published stored → (stored ≡ published) ⊎ ((call ≡ Commit) × (stored ≡ put published made))
-    either_stored stored (inl same) = inl same
-    either_stored stored (inr left) =
-        let trees = left.1.0 in
-        elim (leaves left.0.1 published next (held left.0).now trees left.1.1) [
-          | inl was ↦ inl (spelled_once trees stored published left.1.2 ((held left.0).durable trees was))
-          | inr more ↦ inr (named more.0, spelled_once trees stored (put published made) left.1.2 (next_spelled (state g old).now (put published made) (state g old).now.schema trees more.1))
-        ]
+  -- what may be stored after a failed commit
+  pub either_stored : (stored : State) → IsPerhapsStored g format_1 new published stored → (stored ≡ published) ⊎ ((call ≡ Commit) × (stored ≡ put published made))
+  either_stored stored (inl same) = inl same
+  either_stored stored (inr may) = elim (left may.0 stored may.1) [
+    | inl is ↦ inl is
+    | inr more ↦ inr (named more.0, more.1)
+  ]

@@ -6,16 +6,10 @@ use Rattle.sqlite.specs.Held.{Held, state}
 use Rattle.sqlite.specs.Schema.{Schema}
 use Rattle.sqlite.specs.State.{HasCleanDisk}
 use Rattle.sqlite.specs.Store.{Ghosts}
-use Rattle.sqlite.specs.Table.{Table}
 use Rattle.sqlite_rules.specs.Lists.{Has}
-use Rattle.prt_rows.specs.Tables.{our_tables}
 use Rattle.prt_session.specs.Preorder.{IsPreorder}
-use Rattle.prt_desk.specs.StoreDesk.{DeskOver, IsKnown}
-
--- the schema stays, and so do the rows of each table that is not ours
-pub record SparesOthers (old new : Database) : Type 0 where
-  pub schema : new.schema ≡ old.schema
-  pub rows : (table : Table) → Has old.schema.tables table → (Has our_tables table → ⊥) → new.trees table.tree ≡ old.trees table.tree
+use Rattle.prt_store.specs.Exits.{IsKnown, SparesOthers}
+use Rattle.prt_desk.specs.StoreDesk.{DeskOver}
 
 -- what the tables hold can be seen: the desk is open, or at least its connection
 abbrev pub IsSeen : {S : Type 0} → Ghosts S → DeskOver (Held S) → Type 0

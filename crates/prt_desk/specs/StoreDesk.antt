@@ -3,8 +3,6 @@ use Rattle.std.specs.Prelude.{◌≡◌, ◌⊎◌, ℕ, Bool, true, false, List
 use Rattle.std.specs.Coded.{Coded, code_by, coded×, coded_bool}
 use Rattle.sqlite.specs.Effect.{Database, IsDatabase}
 use Rattle.sqlite.specs.Held.{Held, state}
-use Rattle.sqlite.specs.Schema.{Schema}
-use Rattle.sqlite.specs.State.{HasCleanDisk}
 use Rattle.sqlite.specs.Store.{Ghosts}
 use Rattle.sqlite.specs.Tree.{Trees}
 use Rattle.prt_session.specs.Desk.{Befalls, DeskState, Mishap, no_room, no_memory, store_fails, commit_kept, publication_fails, request_turn, settled}
@@ -12,8 +10,7 @@ use Rattle.prt_session.specs.Run.{RunIs}
 use Rattle.prt_session.specs.declared.script.OnRefusal.{OnRefusal}
 use Rattle.prt_session.specs.declared.script.ScriptEnd.{ScriptEnd}
 use Rattle.prt_rows.specs.Format.{IsFormat1}
-use Rattle.prt_store.specs.Adopted.{Adopts}
-use Rattle.prt_store.specs.Stored.{Stores}
+use Rattle.prt_store.specs.Exits.{IsKnown, IsStored, MayLeave, Opens, Spells}
 use Rattle.prt_version.specs.State.{State}
 use Rattle.prt_version.specs.contracts.version.Version as version
 
@@ -30,29 +27,6 @@ desk_code {T} tables =
     (λ d. (d.published, (d.closed, (d.format_1, d.tables))))
     (λ p. record { published = p.0; closed = p.1.0; format_1 = p.1.1.0; tables = p.1.1.1 })
     (λ _. refl)
-
--- These trees are those of a database whose tables spell the state.
-pub record Spells (trees : Trees) (stored : State) : Type 0 where
-  pub schema : Schema
-  pub sound : IsDatabase (record { schema = schema; trees = trees })
-  pub stores : Stores (record { schema = schema; trees = trees }) stored
-
--- a crash may leave a file that spells the state
-abbrev pub MayLeave : {S : Type 0} → Ghosts S → Held S → State → Type 0
-MayLeave g tables left = (trees : Trees) × (state g tables).may_leave trees × Spells trees left
-
--- what an opening makes of the file spells the state
-abbrev pub Opens : Database → State → Type 0
-Opens found opened = (db : Database) × Adopts found db × Stores db opened
-
--- The tables spell the state, and so does whatever a crash leaves.
-pub record IsStored {S : Type 0} (g : Ghosts S) (tables : Held S) (stored : State) : Type 0 where
-  pub now : Stores (state g tables).now stored
-  pub durable : (trees : Trees) → (state g tables).may_leave trees → Spells trees stored
-
--- what is known of a file rests on this: its first tables are ours, and the disk has returned what was written
-abbrev pub IsKnown : {S : Type 0} → Ghosts S → Bool → Held S → Type 0
-IsKnown g format_1 tables = (format_1 ≡ true) × HasCleanDisk (state g tables)
 
 -- while a desk is open, its state is stored; once it is closed, whatever a crash leaves spells some state
 abbrev pub Keeps : {S : Type 0} → Ghosts S → Held S → State → Bool → Type 0

@@ -11,3 +11,5 @@ pub mod Looks
 pub mod Filling
 pub mod Openings
 pub mod Adoptions
+pub mod Spelled
+pub mod Exits

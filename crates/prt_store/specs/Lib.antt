@@ -5,3 +5,4 @@ pub mod Made
 pub mod Loaded
 pub mod Adopted
 pub mod Openings
+pub mod Exits

@@ -5,9 +5,10 @@ use Rattle.sqlite.specs.State.{HasCleanDisk}
 use Rattle.std.specs.Prelude.{IsTrue}
 use Rattle.prt_rows.specs.Format.{BeginsFormat1}
 use Rattle.prt_version.specs.State.{State}
-use Rattle.prt_desk.specs.StoreDesk.{DeskOver, IsKnown, Opens, Spells}
-use Rattle.prt_desk.proofs.Openings.{found_is, is_stored, opens}
-use Rattle.prt_desk.proofs.Spelled.{stored_there}
+use Rattle.prt_store.proofs.Exits.{found_is, is_stored, opens}
+use Rattle.prt_store.proofs.Spelled.{stored_there}
+use Rattle.prt_store.specs.Exits.{IsKnown, Opens, Spells}
+use Rattle.prt_desk.specs.StoreDesk.{DeskOver}
 use Rattle.prt_desk.proofs.store_desk.StoreDesk.open.Goals as goal
 
 pub new-requires : goal.new-requires

@@ -10,8 +10,10 @@ use Rattle.prt_store.proofs.Nexts.{next_of, number_is}
 use Rattle.prt_version.specs.Change.{check, put_if}
 use Rattle.prt_version.specs.State.{State}
 use Rattle.prt_desk.specs.Remains.{Remains}
-use Rattle.prt_desk.specs.StoreDesk.{DeskOver, IsKnown, IsStored, IsStoreMishap, Keeps, StandsFor}
-use Rattle.prt_desk.proofs.StoreTurns.{accepted_explained, either_stored, failed_explained, keeps_after, memory_explained, remains_of_open, something, spares_after, spares_unwritten, stored_after}
+use Rattle.prt_store.proofs.Exits.{either_left, keeps_after, spares_after, stored_after}
+use Rattle.prt_store.specs.Exits.{IsKnown, IsStored}
+use Rattle.prt_desk.specs.StoreDesk.{DeskOver, IsStoreMishap, Keeps, StandsFor}
+use Rattle.prt_desk.proofs.StoreTurns.{accepted_explained, either_stored, failed_explained, memory_explained, remains_of_open, something, spares_unwritten}
 use Rattle.prt_desk.proofs.store_desk.StoreDeskDesk.command.Goals as goal
 
 pub returns-in_err-next-clause-turn : goal.returns-in_err-next-clause-turn
@@ -42,8 +44,7 @@ invariant_of-self-in-Err-1 g c =
     let old = c.self.inside.store.conn in
     let next = next_of version c.args.command.now c.in_ok-change.change c.number-number.result c.number-number.ensures.value c.number-number.ensures.sound c.requires c.in_ok-change.ensures.value in
     let kept = λ (was : IsKnown g.S.Store c.self.inside.is_format_1 old). subst (λ closed. Keeps g.S.Store old version closed) c.if-self.false (c.self.invariant was) in
-    let failed = c.in-Err.ensures.reason in
-    keeps_after g.S.Store c.self.inside.is_format_1 old c.commit.new.self.conn version c.in_ok-change.change (c.number-number.result + 1) next c.commit.ensures.clean kept failed.0 c.in-Err.reason failed.1 c.in-Err.ensures.crash_err
+    keeps_after g.S.Store c.self.inside.is_format_1 old c.commit.new.self.conn version c.in_ok-change.change (c.number-number.result + 1) next c.commit.ensures.clean kept c.in-Err.reason c.in-Err.ensures.crash_err
 
 pub returns-in-Ok-clause-turn : goal.returns-in-Ok-clause-turn
 returns-in-Ok-clause-turn g c =
@@ -74,7 +75,8 @@ returns-in-Err-clause-turn g c =
     let Turns = λ (d : DeskOver (Held _)) (reason : Refusal). Explained (StandsFor g.S.Store) d new (λ before after. CommandGives IsStoreMishap before c.args.command.now (Err reason) after) in
     subst (λ d. Turns d c.in-Err.reason) c.self.view_is (subst (Turns old) (sym failed.1)
     (failed_explained g.S.Store old c.args.command.now c.if-self.false (ap result_err made) after failed.0 (λ stored perhaps.
-    elim (either_stored g.S.Store c.self.inside.is_format_1 before after version c.in_ok-change.change (c.number-number.result + 1) next c.commit.ensures.clean kept failed.0 c.in-Err.reason failed.1 c.in-Err.ensures.crash_err stored perhaps) [
+    elim (either_stored g.S.Store c.self.inside.is_format_1 after version c.in_ok-change.change failed.0 c.in-Err.reason failed.1
+    (either_left g.S.Store c.self.inside.is_format_1 before after version c.in_ok-change.change (c.number-number.result + 1) next c.commit.ensures.clean kept c.in-Err.reason c.in-Err.ensures.crash_err) stored perhaps) [
       | inl is ↦ inl is
       | inr more ↦ inr (more.0, more.1 ∙ sym (ap (put_if version) made))
     ])))

@@ -10,7 +10,7 @@ use Rattle.prt_store.proofs.Loads.{count_spelled, routes_spelled, rows_spell, ru
 use Rattle.prt_store.specs.Stored.{Stores}
 use Rattle.prt_version.proofs.OneForm.{same_state}
 use Rattle.prt_version.specs.State.{State}
-use Rattle.prt_desk.specs.StoreDesk.{Spells}
+use Rattle.prt_store.specs.Exits.{Spells}
 
 abbrev pub database : Schema → Trees → Database
 database schema trees = record { schema = schema; trees = trees }

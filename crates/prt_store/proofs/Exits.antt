@@ -1,0 +1,149 @@
+-- What the exits of an opening, a load and a commit say together.
+use Rattle.std.proofs.Common.{◌≡◌, ◌⊎◌, inl, inr, ℕ, Bool, true, [], ◌∷◌, drop, map, IsPermutation, refl, sym, subst, ◌∙◌, arith}
+use Rattle.sqlite.specs.Effect.{Database, IsDatabase}
+use Rattle.sqlite.specs.Held.{Held, state}
+use Rattle.sqlite.specs.State.{HasCleanDisk, IsUnchanged, Survives}
+use Rattle.sqlite.specs.Store.{Ghosts}
+use Rattle.sqlite.specs.Schema.{Schema}
+use Rattle.sqlite.specs.Tree.{Trees}
+use Rattle.sqlite_rules.specs.Lists.{Has}
+use Rattle.prt_addr.specs.declared.refusal.Refusal.{Refusal}
+use Rattle.prt_addr.specs.declared.refusal.Refusal.TheVariants.{StoreFailed}
+use Rattle.prt_addr.specs.declared.refusal.StoreCall.TheVariants.{Commit}
+use Rattle.prt_rows.specs.Effects.{IsKeyed, KeepsTables}
+use Rattle.prt_rows.specs.Format.{BeginsFormat1, IsFormat1}
+use Rattle.prt_rows.specs.Kept.{kept_count, kept_rule}
+use Rattle.prt_rows.specs.RouteRow.{route_row}
+use Rattle.prt_rows.specs.Tables.{meta_table, route_table, rule_table}
+use Rattle.prt_version.specs.Change.{put}
+use Rattle.prt_version.specs.State.{State}
+use Rattle.prt_version.specs.declared.change.Change.{Change}
+use Rattle.prt_store.proofs.Spelled.{database, spelled_once, stored_once, stored_there}
+use Rattle.prt_store.specs.Adopted.{Adopts}
+use Rattle.prt_store.specs.Exits.{IsKnown, IsStored, MayLeave, Opens, SparesOthers, Spells}
+use Rattle.prt_store.specs.Next.{IsNext, MakesNext}
+use Rattle.prt_store.specs.Stored.{Stores}
+
+-- ---- adopted, and then loaded
+
+module _ {S : Type 0} (g : Ghosts S) (begins : Bool) (found adopted loaded : Held S) (version : State) (is : begins ≡ true → BeginsFormat1 (state g found).now.schema)
+    (adopts : HasCleanDisk (state g adopted) → BeginsFormat1 (state g found).now.schema → Adopts (state g found).now (state g adopted).now)
+    (spells : HasCleanDisk (state g loaded) → IsFormat1 (state g adopted).now.schema → Stores (state g adopted).now version)
+    (quiet : (HasCleanDisk (state g adopted) → IsFormat1 (state g adopted).now.schema) → Survives (state g adopted) (state g loaded) (λ _. ⊥)) where
+  survives : begins ≡ true → Survives (state g adopted) (state g loaded) (λ _. ⊥)
+  survives ours = quiet (λ clean. (adopts clean (is ours)).tables)
+
+  clean_then : IsKnown g begins loaded → HasCleanDisk (state g adopted)
+  clean_then known = omega (arith, (survives known.0).clean, known.1)
+
+  tables : IsKnown g begins loaded → IsFormat1 (state g adopted).now.schema
+  tables known = (adopts (clean_then known) (is known.0)).tables
+
+  -- the version is that of what the opening made of the file
+  pub opens : IsKnown g begins loaded → Opens (state g found).now version
+  opens known = ((state g adopted).now, adopts (clean_then known) (is known.0), spells known.1 (tables known))
+
+  -- and it is stored
+  pub is_stored : (HasCleanDisk (state g loaded) → IsFormat1 (state g adopted).now.schema → IsUnchanged (state g adopted) (state g loaded))
+      → (HasCleanDisk (state g adopted) → BeginsFormat1 (state g found).now.schema → (trees : Trees) → (state g adopted).may_leave trees → trees ≡ (state g adopted).now.trees)
+      → (HasCleanDisk (state g loaded) → IsFormat1 (state g adopted).now.schema → IsDatabase (state g loaded).now)
+      → IsKnown g begins loaded → IsStored g loaded version
+  is_stored same leaves sound known =
+      let held = spells known.1 (tables known) in
+      let unchanged : (state g loaded).now ≡ (state g adopted).now = (same known.1 (tables known)).0.now_is in
+      record {
+        now = subst (λ (db : Database). Stores db version) (sym unchanged) held;
+        durable = λ trees may. elim ((survives known.0).crash known.1 trees may) [
+          | inl was ↦ subst (λ (t : Trees). Spells t version) (sym (leaves (clean_then known) (is known.0) trees was)) (record {
+            schema = (state g adopted).now.schema;
+            sound = subst IsDatabase unchanged (sound known.1 (tables known));
+            stores = held;
+          })
+          | inr none ↦ absurd none
+        ];
+      }
+
+-- ---- tables that spell a state already
+
+module _ (found db : Database) (stored : State) (tables : IsFormat1 found.schema) where
+  has_rules : Has found.schema.tables rule_table
+  has_rules = subst (λ (s : Schema). Has s.tables rule_table) (sym tables.is) (inl refl)
+
+  has_routes : Has found.schema.tables route_table
+  has_routes = subst (λ (s : Schema). Has s.tables route_table) (sym tables.is) (inr (inl refl))
+
+  has_meta : Has found.schema.tables meta_table
+  has_meta = subst (λ (s : Schema). Has s.tables meta_table) (sym tables.is) (inr (inr (inl refl)))
+
+  -- tables that are kept spell what they spelt
+  still_stored : KeepsTables found db → IsFormat1 db.schema → Stores found stored → Stores db stored
+  still_stored keeps now held =
+      let rules = (keeps.kept rule_table has_rules).1 in
+      let routes = (keeps.kept route_table has_routes).1 in
+      record {
+        tables = now;
+        rules = subst (λ (rows : _). IsPermutation rows (map kept_rule stored.rules)) (sym rules) held.rules;
+        routes = subst (λ (rows : _). IsPermutation (map (drop 1) rows) (map route_row stored.routes)) (sym routes) held.routes;
+        keyed = subst IsKeyed (sym routes) held.keyed;
+        count = (keeps.kept meta_table has_meta).1 ∙ held.count;
+        fits = held.fits;
+      }
+
+-- an opening changes no tables that spell a state
+pub found_is : (found : Database) (version stored : State) → Opens found version → IsDatabase found → Spells found.trees stored → version ≡ stored
+found_is found version stored opens sound spells =
+    let db = opens.0 in
+    let adopted = opens.1 in
+    let held = stored_there found stored sound spells in
+    elim adopted.rows [
+      | inl kept ↦ stored_once db.schema db.schema db.trees version stored opens.2 (still_stored found db stored held.tables kept.1 adopted.tables held)
+      | inr filled ↦
+          let none = filled.empty meta_table (inr (inr (inl refl))) (has_meta found db stored held.tables) in
+          let row : kept_count stored.count ∷ [] ≡ [] = sym held.count ∙ none in
+          absurd (let e = row in cc)
+    ]
+
+-- ---- a commit
+
+next_spelled : (old : Database) (next : State) (schema : Schema) (trees : Trees) → MakesNext old next (database schema trees) → Spells trees next
+next_spelled old next schema trees makes = record { schema = schema; sound = makes.sound; stores = makes.stores }
+
+module _ {S : Type 0} (g : Ghosts S) (format_1 : Bool) (old new : Held S) (published : State) (made : Change) (number : ℕ) (next : IsNext published made number)
+    (clean : HasCleanDisk (state g new) → HasCleanDisk (state g old)) (kept : IsKnown g format_1 old → IsStored g old published) where
+  held : IsKnown g format_1 new → IsStored g old published
+  held known = kept (known.0, clean known.1)
+
+  -- the next state is stored
+  pub stored_after : (HasCleanDisk (state g new) → (before : State) → IsNext before made number → Stores (state g old).now before → MakesNext (state g old).now (put before made) (state g new).now)
+      → (HasCleanDisk (state g new) → (trees : Trees) → (state g new).may_leave trees → trees ≡ (state g new).now.trees)
+      → IsKnown g format_1 new → IsStored g new (put published made)
+  stored_after makes leaves known =
+      let after = makes known.1 published next (held known).now in
+      record {
+        now = after.stores;
+        durable = λ trees left. subst (λ (t : Trees). Spells t (put published made)) (sym (leaves known.1 trees left)) (next_spelled (state g old).now (put published made) (state g new).now.schema (state g new).now.trees after);
+      }
+
+  -- and the other tables stay
+  pub spares_after : (HasCleanDisk (state g new) → (before : State) → IsNext before made number → Stores (state g old).now before → MakesNext (state g old).now (put before made) (state g new).now)
+      → IsKnown g format_1 new → SparesOthers (state g old).now (state g new).now
+  spares_after makes known = let after = makes known.1 published next (held known).now in record { schema = after.schema; rows = after.others }
+
+  module _ (reason : Refusal)
+      (leaves : HasCleanDisk (state g new) → (before : State) → IsNext before made number → Stores (state g old).now before → (trees : Trees) → (state g new).may_leave trees
+      → (state g old).may_leave trees ⊎ ((reason ≡ StoreFailed Commit) × MakesNext (state g old).now (put before made) (database (state g old).now.schema trees))) where
+    -- whatever a crash leaves spells the state before or after
+    pub keeps_after : IsKnown g format_1 new → (trees : Trees) → (state g new).may_leave trees → (left : State) × Spells trees left
+    keeps_after known trees may = elim (leaves known.1 published next (held known).now trees may) [
+      | inl was ↦ (published, (held known).durable trees was)
+      | inr more ↦ (put published made, next_spelled (state g old).now (put published made) (state g old).now.schema trees more.1)
+    ]
+
+    -- the state after only where the commit call failed
+    pub either_left : IsKnown g format_1 new → (left : State) → MayLeave g new left → (left ≡ published) ⊎ ((reason ≡ StoreFailed Commit) × (left ≡ put published made))
+    either_left known left may =
+        let trees = may.0 in
+        elim (leaves known.1 published next (held known).now trees may.1) [
+          | inl was ↦ inl (spelled_once trees left published may.2 ((held known).durable trees was))
+          | inr more ↦ inr (more.0, spelled_once trees left (put published made) may.2 (next_spelled (state g old).now (put published made) (state g old).now.schema trees more.1))
+        ]

@@ -1,0 +1,42 @@
+-- What the exits of a store's calls say of its file: what its tables spell, and what a crash may leave.
+use Rattle.std.specs.Prelude.{◌≡◌, Bool, true}
+use Rattle.sqlite.specs.Effect.{Database, IsDatabase}
+use Rattle.sqlite.specs.Held.{Held, state}
+use Rattle.sqlite.specs.Schema.{Schema}
+use Rattle.sqlite.specs.State.{HasCleanDisk}
+use Rattle.sqlite.specs.Store.{Ghosts}
+use Rattle.sqlite.specs.Table.{Table}
+use Rattle.sqlite.specs.Tree.{Trees}
+use Rattle.sqlite_rules.specs.Lists.{Has}
+use Rattle.prt_rows.specs.Tables.{our_tables}
+use Rattle.prt_store.specs.Adopted.{Adopts}
+use Rattle.prt_store.specs.Stored.{Stores}
+use Rattle.prt_version.specs.State.{State}
+
+-- These trees are those of a database whose tables spell the state.
+pub record Spells (trees : Trees) (stored : State) : Type 0 where
+  pub schema : Schema
+  pub sound : IsDatabase (record { schema = schema; trees = trees })
+  pub stores : Stores (record { schema = schema; trees = trees }) stored
+
+-- a crash may leave a file that spells the state
+abbrev pub MayLeave : {S : Type 0} → Ghosts S → Held S → State → Type 0
+MayLeave g tables left = (trees : Trees) × (state g tables).may_leave trees × Spells trees left
+
+-- what an opening makes of the file spells the state
+abbrev pub Opens : Database → State → Type 0
+Opens found opened = (db : Database) × Adopts found db × Stores db opened
+
+-- The tables spell the state, and so does whatever a crash leaves.
+pub record IsStored {S : Type 0} (g : Ghosts S) (tables : Held S) (stored : State) : Type 0 where
+  pub now : Stores (state g tables).now stored
+  pub durable : (trees : Trees) → (state g tables).may_leave trees → Spells trees stored
+
+-- what is known of a file rests on this: its first tables are ours, and the disk has returned what was written
+abbrev pub IsKnown : {S : Type 0} → Ghosts S → Bool → Held S → Type 0
+IsKnown g format_1 tables = (format_1 ≡ true) × HasCleanDisk (state g tables)
+
+-- the schema stays, and so do the rows of each table that is not ours
+pub record SparesOthers (old new : Database) : Type 0 where
+  pub schema : new.schema ≡ old.schema
+  pub rows : (table : Table) → Has old.schema.tables table → (Has our_tables table → ⊥) → new.trees table.tree ≡ old.trees table.tree
