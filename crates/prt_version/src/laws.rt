@@ -11,6 +11,7 @@ ghost use Rattle.prt_version.specs.Change.{refusal};
 ghost use Rattle.prt_version.specs.RowsSpell.{RowsSpell};
 ghost use Rattle.prt_version.specs.Sound.{IsSound};
 ghost use Rattle.prt_version.specs.State.{State};
+ghost use Rattle.prt_version.specs.declared.limits.TheConstants.{MOST_COMMANDS, MOST_ROUTES, MOST_RULES};
 
 /// A state has one form: two of the same count that have the same rules and the same routes are equal.
 pub fn one_form()
@@ -32,4 +33,11 @@ pub fn route_limit()
         refusal state (RouteAdd route) ≡ Some Full }
     ensures last { (state : State) (route : Route) → has_key (key_of route) state.routes ≡ false → length state.routes ≡ 99999 →
         state.count ≡ 99999 → refusal state (RouteAdd route) ≡ None }
+{}
+
+/// A database holds 1,000 rules and 100,000 routes at most, and accepts 1,000,000,000,000,000 commands.
+pub fn limits()
+    ensures rules { MOST_RULES ≡ 1000 }
+    ensures routes { MOST_ROUTES ≡ 100000 }
+    ensures commands { MOST_COMMANDS ≡ 1000000000000000 }
 {}
