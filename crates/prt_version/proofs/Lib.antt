@@ -1,5 +1,6 @@
 pub mod ByTable
 pub mod Contents
+pub mod Folds
 pub mod FromRows
 pub mod OneForm
 pub mod Places

@@ -1,6 +1,7 @@
 pub mod State
 pub mod Tables
 pub mod Change
+pub mod Accepted
 pub mod Listing
 pub mod Sound
 pub mod RowsSpell
