@@ -13,3 +13,4 @@ pub mod Openings
 pub mod Adoptions
 pub mod Spelled
 pub mod Exits
+pub mod Stops

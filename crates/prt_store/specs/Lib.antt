@@ -6,3 +6,4 @@ pub mod Loaded
 pub mod Adopted
 pub mod Openings
 pub mod Exits
+pub mod Stops

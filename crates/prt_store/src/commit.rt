@@ -6,6 +6,7 @@ ghost use Rattle.sqlite.specs.State.{HasCleanDisk, Survives};
 ghost use Rattle.prt_store.specs.Adopted.{IsSettled};
 ghost use Rattle.prt_store.specs.Made.{MakesChange};
 ghost use Rattle.prt_store.specs.Openings.{HasDone, HasLeft};
+ghost use Rattle.prt_store.specs.Stops.{MakesCalls, StoppedIn};
 ghost use Rattle.prt_store.specs.Written.{CommitsNothing, HasStorableIds, IsTyped, RunsInside, text_of, values_of};
 
 use crate::statements::{
@@ -55,6 +56,8 @@ pub(crate) fn run<S: Alter>(
         OnErr result (((state S.Store conn.new).now ≡ (state S.Store conn.old).now) × ((state S.Store conn.new).committed ≡ (state S.Store conn.old).committed)) }
     ensures crash_err { IfErr result (λ call. Survives (state S.Store conn.old) (state S.Store conn.new)
         (λ trees. (call ≡ StoreCall.Commit) × IsTyped change.now × HasLeft S.Store (MakesChange S.Store change.now number) conn.old trees)) }
+    ensures calls { HasCleanDisk (state S.Store conn.new) → OnOk result (MakesCalls S.Store change.now number conn.old conn.new) }
+    ensures stopped { HasCleanDisk (state S.Store conn.new) → IfErr result (λ call. StoppedIn S.Store change.now number conn.old call conn.new) }
 {
     if !conn.is_autocommit() {
         return Err(StoreCall::Begin);

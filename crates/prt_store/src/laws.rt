@@ -2,8 +2,17 @@
 
 ghost use Rattle.sqlite.specs.Effect.{Database};
 ghost use Rattle.prt_store.specs.Adopted.{Adopts, AdoptsPart};
+ghost use Rattle.prt_store.specs.Stops.{LeavesAState};
+
+use sqlite::Alter;
 
 /// An opening that was stopped is gone on with: the next one leaves what it would have left.
 pub fn openings_go_on()
     ensures { (before between after : Database) → AdoptsPart before between → Adopts between after → Adopts before after }
+{}
+
+/// Whichever of its calls a commit is stopped in, a crash finds the rows as they were or, only where it was stopped in
+/// the call that commits, those of the next state.
+pub fn stops_leave_a_state<S: Alter>()
+    ensures { LeavesAState S.Store }
 {}

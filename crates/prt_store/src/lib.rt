@@ -10,5 +10,5 @@ mod ranges;
 mod statements;
 mod store;
 
-pub use laws::openings_go_on;
+pub use laws::{openings_go_on, stops_leave_a_state};
 pub use store::{Stamp, Store};

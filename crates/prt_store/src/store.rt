@@ -16,6 +16,7 @@ ghost use Rattle.prt_store.specs.Loaded.{IsLoadRefusal, StaysSettled};
 ghost use Rattle.prt_store.specs.Made.{MakesChange};
 ghost use Rattle.prt_store.specs.Next.{IsNext, MakesNext};
 ghost use Rattle.prt_store.specs.Openings.{HasDone};
+ghost use Rattle.prt_store.specs.Stops.{MakesCalls, StoppedIn};
 ghost use Rattle.prt_store.specs.Stored.{Stores};
 ghost use Rattle.prt_store.specs.Written.{CommitsNothing};
 
@@ -89,9 +90,10 @@ impl<S: Alter + Drop> Store<S> {
     ///
     /// # Errors
     ///
-    /// `StoreFailed` names the call that failed: `Begin` where the connection is in a transaction, and nowhere else.
-    /// The tables are as they were, if the connection is still open; a crash leaves what it could leave before or, only
-    /// where the commit failed, possibly what it leaves after `Ok`.
+    /// `StoreFailed` names the call that failed: `Begin` where the connection is in a transaction, and nowhere else;
+    /// `Count` only after the change was written, `Commit` only after the count was set too. The tables are as they
+    /// were, if the connection is still open; a crash leaves what it could leave before or, only where the commit
+    /// failed, possibly what it leaves after `Ok`.
     pub fn commit(&mut self, change: &Change, number: u64) -> Result<Stamp, Refusal>
         requires { (before : State) × IsNext before change.now number }
         ensures stamp { IfOk result (λ stamp. stamp.number ≡ number) }
@@ -102,6 +104,8 @@ impl<S: Alter + Drop> Store<S> {
         ensures ok { HasCleanDisk (state S.Store self.new.conn) → OnOk result ((before : State) → IsNext before change.now number →
             Stores (state S.Store self.old.conn).now before → MakesNext (state S.Store self.old.conn).now (put before change.now) (state S.Store self.new.conn).now) }
         ensures ran { HasCleanDisk (state S.Store self.new.conn) → OnOk result (HasDone S.Store (MakesChange S.Store change.now number) self.old.conn (state S.Store self.new.conn).committed) }
+        ensures calls { HasCleanDisk (state S.Store self.new.conn) → OnOk result (MakesCalls S.Store change.now number self.old.conn self.new.conn) }
+        ensures stopped { HasCleanDisk (state S.Store self.new.conn) → (call : FailedCall) → result ≡ Err (StoreFailed call) → StoppedIn S.Store change.now number self.old.conn call self.new.conn }
         ensures settled { HasCleanDisk (state S.Store self.new.conn) → OnOk result (IsSettled S.Store self.new.conn) }
         ensures crash_ok { HasCleanDisk (state S.Store self.new.conn) → OnOk result ((trees : Trees) →
             (state S.Store self.new.conn).may_leave trees → trees ≡ (state S.Store self.new.conn).now.trees) }

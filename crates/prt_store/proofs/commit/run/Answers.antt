@@ -6,10 +6,12 @@ use Rattle.sqlite.specs.Tree.{Trees}
 use Rattle.prt_addr.specs.declared.refusal.StoreCall.TheVariants.{Commit, Count, Write}
 use Rattle.prt_store.specs.Adopted.{IsSettled}
 use Rattle.prt_store.specs.Made.{MakesChange}
-use Rattle.prt_store.specs.Openings.{HasDone, HasLeft, Ran}
-use Rattle.prt_store.specs.Written.{IsTyped, text_of, values_of}
+use Rattle.prt_store.specs.Openings.{HasDone, HasLeft, Ran, begun_from}
+use Rattle.prt_store.specs.Stops.{MakesCalls, StoppedIn}
+use Rattle.prt_store.specs.Written.{CommitsNothing, IsTyped, text_of, values_of}
 use Rattle.prt_store.proofs.Calls.{makes_change}
-use Rattle.prt_store.proofs.Transactions.{IsLeftAlone, committed, crash_after, left_alone, not_made, statement_works, stopped}
+use Rattle.prt_store.proofs.Stops.{calls_made, stopped_in_commit, stopped_in_count, stopped_in_write}
+use Rattle.prt_store.proofs.Transactions.{IsLeftAlone, committed, crash_after, left_alone, not_made, of_ok, statement_works, stopped}
 use Rattle.prt_store.proofs.commit.run.Goals as goal
 
 pub returns-clause-ok : goal.returns-clause-ok
@@ -121,3 +123,46 @@ returns-then-is_err-3-clause-err g c clean still_open =
     let left = not_made g.S.Store made old begun last c.set_count.result c.transaction-tx.ensures.begun works (sym c.is_err-2.ensures.value ∙ c.if-is_err-2.false) end c.commit.result
     (sym c.is_err-3.ensures.value ∙ c.if-is_err-3.true) c.commit.ensures.survives.clean c.commit.ensures.err (c.is_autocommit.ensures.settled c.if-not-is_autocommit.false) in
     subst (IsLeftAlone g.S.Store old) same left clean still_open
+
+pub returns-clause-calls : goal.returns-clause-calls
+returns-clause-calls g c clean =
+    let made = c.args.change.now in
+    let old = c.args.conn.now in
+    let end = c.commit.new.self.0 in
+    let same : end ≡ c.conn-2-1.given.0 = search rules in
+    let late : HasCleanDisk (state g.S.Store end) = subst (λ h. HasCleanDisk (state g.S.Store h)) (sym same) clean in
+    let fine = sym c.is_err-3.ensures.value ∙ c.if-is_err-3.false in
+    let shows = of_ok c.commit.result fine (c.commit.ensures.ok late) in
+    subst (MakesCalls g.S.Store made c.args.number old) same
+    (calls_made g.S.Store made c.args.number old c.transaction-tx.result.conn.now c.write.new.tx.conn.now c.write.result c.transaction-tx.ensures.begun c.write.ensures.typed (sym c.is_err.ensures.value ∙ c.if-is_err.false) c.write.ensures.runs
+    c.write.ensures.survives c.set_count.new.tx.conn.now end c.set_count.result (sym c.is_err-2.ensures.value ∙ c.if-is_err-2.false) c.set_count.ensures.runs c.set_count.ensures.survives c.commit.ensures.survives late shows.1.committed_is)
+
+pub returns-then-is_err-clause-stopped : goal.returns-then-is_err-clause-stopped
+returns-then-is_err-clause-stopped g c clean =
+    let old = c.args.conn.now in
+    let end = c.drop-tx.new.self.0 in
+    let same : end ≡ c.conn-1.given.0 = search rules in
+    subst (CommitsNothing g.S.Store (begun_from old)) same
+    (stopped_in_write g.S.Store old c.transaction-tx.result.conn.now c.write.new.tx.conn.now end c.transaction-tx.ensures.begun c.write.ensures.survives c.drop-tx.ensures.survives)
+
+pub returns-then-is_err-2-clause-stopped : goal.returns-then-is_err-2-clause-stopped
+returns-then-is_err-2-clause-stopped g c clean =
+    let made = c.args.change.now in
+    let old = c.args.conn.now in
+    let end = c.drop-tx-then-is_err-2.new.self.0 in
+    let same : end ≡ c.conn-then-is_err-2-1.given.0 = search rules in
+    let late : HasCleanDisk (state g.S.Store end) = subst (λ h. HasCleanDisk (state g.S.Store h)) (sym same) clean in
+    subst (StoppedIn g.S.Store made c.args.number old Count) same
+    (stopped_in_count g.S.Store made c.args.number old c.transaction-tx.result.conn.now c.write.new.tx.conn.now c.write.result c.transaction-tx.ensures.begun c.write.ensures.typed (sym c.is_err.ensures.value ∙ c.if-is_err.false) c.write.ensures.runs
+    c.write.ensures.survives c.set_count.new.tx.conn.now end c.set_count.ensures.survives c.drop-tx-then-is_err-2.ensures.survives late)
+
+pub returns-then-is_err-3-clause-stopped : goal.returns-then-is_err-3-clause-stopped
+returns-then-is_err-3-clause-stopped g c clean =
+    let made = c.args.change.now in
+    let old = c.args.conn.now in
+    let end = c.commit.new.self.0 in
+    let same : end ≡ c.conn-2-1.given.0 = search rules in
+    let late : HasCleanDisk (state g.S.Store end) = subst (λ h. HasCleanDisk (state g.S.Store h)) (sym same) clean in
+    subst (StoppedIn g.S.Store made c.args.number old Commit) same
+    (stopped_in_commit g.S.Store made c.args.number old c.transaction-tx.result.conn.now c.write.new.tx.conn.now c.write.result c.transaction-tx.ensures.begun c.write.ensures.typed (sym c.is_err.ensures.value ∙ c.if-is_err.false) c.write.ensures.runs
+    c.write.ensures.survives c.set_count.new.tx.conn.now end c.set_count.result (sym c.is_err-2.ensures.value ∙ c.if-is_err-2.false) c.set_count.ensures.runs c.set_count.ensures.survives c.commit.ensures.survives late)

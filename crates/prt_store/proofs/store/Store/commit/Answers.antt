@@ -1,10 +1,12 @@
-use Rattle.std.proofs.Common.{inl, inr, sym, ap, subst, ◌∙◌, arith}
+use Rattle.std.proofs.Common.{◌≡◌, inl, inr, sym, ap, subst, ◌∙◌, arith}
 use Rattle.sqlite.specs.Held.{state}
 use Rattle.prt_addr.specs.declared.refusal.Refusal.TheVariants.{StoreFailed}
+use Rattle.prt_addr.specs.declared.refusal.StoreCall.{StoreCall}
 use Rattle.prt_version.specs.Change.{put}
 use Rattle.prt_store.proofs.Calls.{makes_next}
 use Rattle.prt_store.proofs.Nexts.{small_ids, small_number}
 use Rattle.prt_store.specs.Next.{MakesNext}
+use Rattle.prt_store.specs.Stops.{StoppedIn}
 use Rattle.prt_store.proofs.store.Store.commit.Goals as goal
 
 pub run-requires-clause-ids : goal.run-requires-clause-ids
@@ -20,6 +22,14 @@ returns-in-Ok-clause-ok g c clean before next held =
 
 pub returns-in-Ok-clause-ran : goal.returns-in-Ok-clause-ran
 returns-in-Ok-clause-ran g c clean = (c.in-Ok.ensures.ok clean).1
+
+pub returns-in-Ok-clause-calls : goal.returns-in-Ok-clause-calls
+returns-in-Ok-clause-calls g c clean = c.in-Ok.ensures.calls clean
+
+pub returns-in-Err-clause-stopped : goal.returns-in-Err-clause-stopped
+returns-in-Err-clause-stopped g c clean call is =
+    let same : c.in-Err.call ≡ call = cc in
+    subst (λ (failed : StoreCall). StoppedIn g.S.Store c.args.change.now c.args.number c.args.self.now.conn failed c.run.new.conn) same (c.in-Err.ensures.stopped clean)
 
 pub returns-in-Ok-clause-settled : goal.returns-in-Ok-clause-settled
 returns-in-Ok-clause-settled g c clean = (c.in-Ok.ensures.ok clean).2

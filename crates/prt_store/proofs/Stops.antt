@@ -1,0 +1,101 @@
+-- The calls of a commit, and what is left where it is stopped in one of them.
+use Rattle.std.proofs.Common.{◌≡◌, inl, inr, ℕ, false, IsTrue, Result, refl, sym, subst, arith}
+use Rattle.std.specs.Result.{is_err}
+use Rattle.sqlite.proofs.Callers.{survives_begin}
+use Rattle.sqlite.proofs.StateLemmas.{survives_then, survives_weaker}
+use Rattle.sqlite.specs.Held.{Held, state}
+use Rattle.sqlite.specs.State.{HasCleanDisk, Survives}
+use Rattle.sqlite.specs.Store.{Ghosts}
+use Rattle.sqlite.specs.Tree.{Trees}
+use Rattle.sqlite.specs.declared.error.Error.{Error}
+use Rattle.sqlite_value.specs.Order.{Row}
+use Rattle.prt_addr.specs.Word.{Word}
+use Rattle.prt_addr.specs.declared.refusal.StoreCall.{StoreCall}
+use Rattle.prt_addr.specs.declared.refusal.StoreCall.TheVariants.{Begin, Write, Count, Commit}
+use Rattle.prt_rows.specs.Kept.{count_values}
+use Rattle.prt_rows.specs.Statements.{set_count}
+use Rattle.prt_version.specs.Change.{put}
+use Rattle.prt_version.specs.declared.change.Change.{Change}
+use Rattle.prt_store.proofs.Calls.{makes_next}
+use Rattle.prt_store.proofs.Transactions.{of_ok, statement_works, survives_itself}
+use Rattle.prt_store.specs.Made.{MakesChange}
+use Rattle.prt_store.specs.Next.{MakesNext}
+use Rattle.prt_store.specs.Openings.{HasLeft, begun_from}
+use Rattle.prt_store.specs.Stops.{Counts, LeavesAState, MakesCalls, MayCommit, RanInside, StoppedIn, Writes}
+use Rattle.prt_store.specs.Written.{CommitsNothing, IsTyped, RunsInside, text_of, values_of}
+
+-- one call after another, of which none commits
+pub quiet_then : {S : Type 0} (g : Ghosts S) (a b c : Held S) → CommitsNothing g a b → CommitsNothing g b c → CommitsNothing g a c
+quiet_then g a b c one two = survives_then (state g a) (state g b) (state g c) _ _ (λ _. ⊥) (λ _ db none. none) (λ _ db none. none) one two
+
+ran_inside : {S : Type 0} (g : Ghosts S) (sql : Word) (params : Row) (a b : Held S) (result : Result ℕ Error) → is_err result ≡ false → RunsInside g sql params a b result → CommitsNothing g a b → HasCleanDisk (state g b) → IsTrue (state g a).in_transaction
+    → RanInside g sql params a b × IsTrue (state g b).in_transaction
+ran_inside g sql params a b result fine runs quiet clean inside = let did = of_ok result fine ((statement_works g sql params a b result runs quiet).done clean inside) in ((did.0, quiet), did.1)
+
+-- the call that writes was refused, and the transaction undone
+pub stopped_in_write : {S : Type 0} (g : Ghosts S) (old begun failed end : Held S) → begun ≡ begun_from old → CommitsNothing g begun failed → CommitsNothing g failed end → CommitsNothing g (begun_from old) end
+stopped_in_write g old begun failed end was one two = subst (λ h. CommitsNothing g h end) was (quiet_then g begun failed end one two)
+
+module _ {S : Type 0} (g : Ghosts S) (made : Change) (number : ℕ) (old begun written : Held S) (first : Result ℕ Error) (was : begun ≡ begun_from old) (typed : IsTyped made) (fine : is_err first ≡ false)
+    (writes : RunsInside g (text_of made) (values_of made) begun written first) (quiet : CommitsNothing g begun written) where
+  wrote : HasCleanDisk (state g written) → Writes g made old written × IsTrue (state g written).in_transaction
+  wrote clean =
+      let ran = ran_inside g (text_of made) (values_of made) begun written first fine writes quiet clean (rw was) in
+      ((typed, subst (λ h. RanInside g (text_of made) (values_of made) h written) was ran.0), ran.1)
+
+  pub stopped_in_count : (failed end : Held S) → CommitsNothing g written failed → CommitsNothing g failed end → HasCleanDisk (state g end) → StoppedIn g made number old Count end
+  stopped_in_count failed end one two clean =
+      let rest = quiet_then g written failed end one two in
+      (written, (wrote (omega (arith, rest.clean, clean))).0, rest)
+
+  module _ (counted end : Held S) (second : Result ℕ Error) (fine_too : is_err second ≡ false) (counts : RunsInside g set_count (count_values number) written counted second) (quiet_too : CommitsNothing g written counted) (commits : MayCommit g counted end)
+      (clean : HasCleanDisk (state g end)) where
+    clean_counted : HasCleanDisk (state g counted)
+    clean_counted = omega (arith, commits.clean, clean)
+
+    clean_written : HasCleanDisk (state g written)
+    clean_written = omega (arith, quiet_too.clean, clean_counted)
+
+    counted_too : Counts g number written counted
+    counted_too = (ran_inside g set_count (count_values number) written counted second fine_too counts quiet_too clean_counted (wrote clean_written).1).0
+
+    pub stopped_in_commit : StoppedIn g made number old Commit end
+    stopped_in_commit = (written, (wrote clean_written).0, counted, counted_too, commits)
+
+    pub calls_made : (state g end).committed ≡ (state g counted).now → MakesCalls g made number old end
+    calls_made is = record { written = written; counted = counted; write = (wrote clean_written).0; count = counted_too; commit = (commits, is) }
+
+-- ---- what is left
+
+-- the two statements left these trees
+abbrev pub HasLeftNext : {S : Type 0} → Ghosts S → Change → ℕ → Held S → StoreCall → Trees → Type 0
+HasLeftNext g made number old call trees = (call ≡ Commit) × IsTyped made × HasLeft g (MakesChange g made number) old trees
+
+module _ {S : Type 0} (g : Ghosts S) (made : Change) (number : ℕ) (old left : Held S) where
+  quiet_from : (call : StoreCall) (last : Held S) → CommitsNothing g (begun_from old) last → CommitsNothing g last left → Survives (state g old) (state g left) (HasLeftNext g made number old call)
+  quiet_from call last one two =
+      survives_begin g old (state g left) _ (survives_then (state g (begun_from old)) (state g last) (state g left) _ _ (HasLeftNext g made number old call) (λ _ db none. absurd none) (λ _ db none. absurd none) one two)
+
+  -- a crash finds what it could find before, or what the two statements left
+  left_by : (call : StoreCall) → StoppedIn g made number old call left → Survives (state g old) (state g left) (HasLeftNext g made number old call)
+  left_by Begin is = subst (λ h. Survives (state g old) (state g h) (HasLeftNext g made number old Begin)) (sym is) (survives_itself (state g old) _)
+  left_by Write quiet = survives_begin g old (state g left) _ (survives_weaker (state g (begun_from old)) (state g left) _ (HasLeftNext g made number old Write) (λ _ db none. absurd none) quiet)
+  left_by Count stopped = quiet_from Count stopped.0 stopped.1.1.1 stopped.2
+  left_by Commit stopped =
+      let write = stopped.1 in
+      let count = stopped.3 in
+      let last = stopped.2 in
+      let quiet = quiet_then g (begun_from old) stopped.0 last write.1.1 count.1 in
+      survives_begin g old (state g left) _
+      (survives_then (state g (begun_from old)) (state g last) (state g left) _ _ (HasLeftNext g made number old Commit) (λ _ db none. absurd none)
+      (λ _ trees is. (refl, write.0, ((state g last).now, (last, (stopped.0, write.1.0, count.0), refl), is))) quiet stopped.4)
+
+-- whichever call a commit is stopped in, a crash finds the rows as they were or those of the next state
+pub leaves_a_state : {S : Type 0} (g : Ghosts S) → LeavesAState g
+leaves_a_state g before made number old left call next held rest stopped clean trees leaves = elim ((left_by g made number old left call stopped).crash clean trees leaves) [
+  | inl was ↦ inl (rest.crash trees was)
+  | inr it ↦
+      let done = it.2 in
+      let all = makes_next g made number old done.0 before next it.1 held done.1 in
+      inr (it.0, subst (MakesNext (state g old).now (put before made)) (λ i. record { schema = all.schema i; trees = sym done.2 i }) all)
+]

@@ -1,0 +1,57 @@
+-- The calls that a commit makes in turn, and what is left where it is stopped in one of them.
+use Rattle.std.specs.Prelude.{◌≡◌, ◌⊎◌, ℕ}
+use Rattle.sqlite.specs.Held.{Held, state}
+use Rattle.sqlite.specs.State.{HasCleanDisk, Survives}
+use Rattle.sqlite.specs.Store.{Ghosts}
+use Rattle.sqlite.specs.Tree.{Trees}
+use Rattle.sqlite_value.specs.Order.{Row}
+use Rattle.prt_addr.specs.Word.{Word}
+use Rattle.prt_addr.specs.declared.refusal.StoreCall.{StoreCall}
+use Rattle.prt_addr.specs.declared.refusal.StoreCall.TheVariants.{Begin, Write, Count, Commit}
+use Rattle.prt_rows.specs.Kept.{count_values}
+use Rattle.prt_rows.specs.Statements.{set_count}
+use Rattle.prt_version.specs.Change.{put}
+use Rattle.prt_version.specs.State.{State}
+use Rattle.prt_version.specs.declared.change.Change.{Change}
+use Rattle.prt_store.specs.Adopted.{IsAtRest}
+use Rattle.prt_store.specs.Next.{IsNext, MakesNext}
+use Rattle.prt_store.specs.Openings.{Ran, begun_from}
+use Rattle.prt_store.specs.Stored.{Stores}
+use Rattle.prt_store.specs.Written.{CommitsNothing, IsTyped, text_of, values_of}
+
+-- the statement ran, and nothing was committed
+abbrev pub RanInside : {S : Type 0} → Ghosts S → Word → Row → Held S → Held S → Type 0
+RanInside g sql params old new = Ran g sql params old new × CommitsNothing g old new
+
+-- in a transaction that had just begun the statement of the change ran, with values in the ranges of their columns
+abbrev pub Writes : {S : Type 0} → Ghosts S → Change → Held S → Held S → Type 0
+Writes g made old written = IsTyped made × RanInside g (text_of made) (values_of made) (begun_from old) written
+
+-- the statement that sets the count ran
+abbrev pub Counts : {S : Type 0} → Ghosts S → ℕ → Held S → Held S → Type 0
+Counts g number = RanInside g set_count (count_values number)
+
+-- a crash finds what it could find before, or what the transaction showed
+abbrev pub MayCommit : {S : Type 0} → Ghosts S → Held S → Held S → Type 0
+MayCommit g counted left = Survives (state g counted) (state g left) (λ trees. trees ≡ (state g counted).now.trees)
+
+-- the calls of a commit, each on the connection that the one before it left
+pub record MakesCalls {S : Type 0} (g : Ghosts S) (made : Change) (number : ℕ) (old new : Held S) : Type 0 where
+  pub written : Held S
+  pub counted : Held S
+  pub write : Writes g made old written
+  pub count : Counts g number written counted
+  pub commit : MayCommit g counted new × ((state g new).committed ≡ (state g counted).now)
+
+-- A commit was stopped in this call, or this call failed, and that left this connection. The calls before it were made; of the call itself nothing is said but what it may have committed.
+abbrev pub StoppedIn : {S : Type 0} → Ghosts S → Change → ℕ → Held S → StoreCall → Held S → Type 0
+StoppedIn g made number old Begin left = left ≡ old
+StoppedIn g made number old Write left = CommitsNothing g (begun_from old) left
+StoppedIn {S = S} g made number old Count left = (written : Held S) × Writes g made old written × CommitsNothing g written left
+StoppedIn {S = S} g made number old Commit left = (written : Held S) × Writes g made old written × (counted : Held S) × Counts g number written counted × MayCommit g counted left
+
+-- Whichever call a commit is stopped in, a crash finds the rows as they were before it or, only where it was stopped in the call that commits, those of the next state.
+abbrev pub LeavesAState : {S : Type 0} → Ghosts S → Type 0
+LeavesAState {S = S} g = (before : State) (made : Change) (number : ℕ) (old left : Held S) (call : StoreCall) → IsNext before made number → Stores (state g old).now before → IsAtRest g old
+    → StoppedIn g made number old call left → HasCleanDisk (state g left) → (trees : Trees) → (state g left).may_leave trees
+    → (trees ≡ (state g old).now.trees) ⊎ ((call ≡ Commit) × MakesNext (state g old).now (put before made) (record { schema = (state g old).now.schema; trees = trees }))
