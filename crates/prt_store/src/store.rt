@@ -12,6 +12,7 @@ ghost use Rattle.prt_version.specs.Change.{put};
 ghost use Rattle.prt_version.specs.State.{State};
 ghost use Rattle.prt_rows.specs.Format.{IsFormat1};
 ghost use Rattle.prt_store.specs.Adopted.{IsSettled};
+ghost use Rattle.prt_store.specs.Exits.{IsStored, MayLeave};
 ghost use Rattle.prt_store.specs.Loaded.{IsLoadRefusal, StaysSettled};
 ghost use Rattle.prt_store.specs.Made.{MakesChange};
 ghost use Rattle.prt_store.specs.Next.{IsNext, MakesNext};
@@ -109,6 +110,8 @@ impl<S: Alter + Drop> Store<S> {
         ensures settled { HasCleanDisk (state S.Store self.new.conn) → OnOk result (IsSettled S.Store self.new.conn) }
         ensures crash_ok { HasCleanDisk (state S.Store self.new.conn) → OnOk result ((trees : Trees) →
             (state S.Store self.new.conn).may_leave trees → trees ≡ (state S.Store self.new.conn).now.trees) }
+        ensures stored { HasCleanDisk (state S.Store self.new.conn) → OnOk result ((before : State) → IsNext before change.now number →
+            IsStored S.Store self.old.conn before → IsStored S.Store self.new.conn (put before change.now)) }
         ensures err { HasCleanDisk (state S.Store self.new.conn) → IsTrue (state S.Store self.new.conn).is_open →
             OnErr result ((state S.Store self.new.conn).now ≡ (state S.Store self.old.conn).now) }
         ensures still_settled { HasCleanDisk (state S.Store self.new.conn) → IsTrue (state S.Store self.new.conn).is_open → IsSettled S.Store self.old.conn →
@@ -117,6 +120,9 @@ impl<S: Alter + Drop> Store<S> {
             Stores (state S.Store self.old.conn).now before → (trees : Trees) → (state S.Store self.new.conn).may_leave trees →
             (state S.Store self.old.conn).may_leave trees
             ⊎ ((reason ≡ StoreFailed Commit) × MakesNext (state S.Store self.old.conn).now (put before change.now) (record { schema = (state S.Store self.old.conn).now.schema; trees = trees }))) }
+        ensures left { HasCleanDisk (state S.Store self.new.conn) → IfErr result (λ reason. (before : State) → IsNext before change.now number →
+            IsStored S.Store self.old.conn before → (left : State) → MayLeave S.Store self.new.conn left →
+            (left ≡ before) ⊎ ((reason ≡ StoreFailed Commit) × (left ≡ put before change.now))) }
     {
         match run(&mut self.conn, change, number) {
             Ok(()) => Ok(Stamp { number }),

@@ -1,9 +1,11 @@
-use Rattle.std.proofs.Common.{◌≡◌, inl, inr, sym, ap, subst, ◌∙◌, arith}
+use Rattle.std.proofs.Common.{◌≡◌, inl, inr, refl, true, sym, ap, subst, ◌∙◌, arith}
+use Rattle.sqlite.specs.Effect.{Database}
 use Rattle.sqlite.specs.Held.{state}
 use Rattle.prt_addr.specs.declared.refusal.Refusal.TheVariants.{StoreFailed}
 use Rattle.prt_addr.specs.declared.refusal.StoreCall.{StoreCall}
 use Rattle.prt_version.specs.Change.{put}
 use Rattle.prt_store.proofs.Calls.{makes_next}
+use Rattle.prt_store.proofs.Exits.{either_left, stored_after}
 use Rattle.prt_store.proofs.Nexts.{small_ids, small_number}
 use Rattle.prt_store.specs.Next.{MakesNext}
 use Rattle.prt_store.specs.Stops.{StoppedIn}
@@ -57,3 +59,13 @@ returns-in-Err-clause-clean g c clean = omega (arith, c.in-Err.ensures.crash_err
 
 pub returns-in-Err-clause-err : goal.returns-in-Err-clause-err
 returns-in-Err-clause-err g c clean still_open = (c.in-Err.ensures.err clean still_open).0
+
+pub returns-in-Ok-clause-stored : goal.returns-in-Ok-clause-stored
+returns-in-Ok-clause-stored g c clean before next stored =
+    let settled = (c.in-Ok.ensures.ok clean).2 in
+    stored_after g.S.Store true c.args.self.now.conn c.run.new.conn before c.args.change.now c.args.number next c.in-Ok.ensures.clean (λ _. stored) (returns-in-Ok-clause-ok g c)
+    (λ _ trees may. g.met.S.Store.settled c.run.new.conn.store trees settled.is_open may ∙ ap (λ (db : Database). db.trees) (sym settled.committed)) (refl, clean)
+
+pub returns-in-Err-clause-left : goal.returns-in-Err-clause-left
+returns-in-Err-clause-left g c clean before next stored left may =
+    either_left g.S.Store true c.args.self.now.conn c.run.new.conn before c.args.change.now c.args.number next (returns-in-Err-clause-clean g c) (λ _. stored) _ (returns-in-Err-clause-crash_err g c) (refl, clean) left may
