@@ -2,16 +2,20 @@
 //!
 //! The quiescent-state form of user-level RCU (Desnoyers et al. 2012): a looker announces the number of the version that
 //! it fetched, and so says that it holds no earlier one. The registry keeps what was announced, and gives up a retired
-//! version once each online looker has announced a later number.
+//! version once each online looker has announced a later number. A domain is a registry that threads share, under a lock.
 #![tactic(auto)]
 
+mod domain;
 pub mod examples;
+mod keeper;
 pub mod laws;
 mod limits;
 mod place;
 mod registry;
 mod retired;
 
+pub use domain::Domain;
+pub use keeper::Keeper;
 pub use limits::{MOST_RETIRED, PLACES};
 pub use place::{Place, PlaceState};
 pub use prt_version::Version;

@@ -3,7 +3,7 @@ ghost use Rattle.std.specs.Prelude.{◌≡◌, ◌+◌, ◌<◌, ◌≤◌, ◌�
 ghost use Rattle.std.specs.Arc.{arc_value};
 ghost use Rattle.std.specs.List.{list_any};
 ghost use Rattle.prt_grace.specs.GracePeriod.{may_hold};
-ghost use Rattle.prt_grace.specs.Registry.{HasPlace, announced, announcing, is_free, new_registry, reclaimed, with_noted, with_place};
+ghost use Rattle.prt_grace.specs.Registry.{HasPlace, announced, announcing, is_free, new_registry, noted_by, reclaimed, with_noted, with_place};
 ghost use Rattle.prt_grace.specs.declared.place.PlaceState.TheVariants.{Free, Offline, Online};
 
 use crate::retired::RetiredVersions;
@@ -137,6 +137,14 @@ impl Registry {
         self.set_announced(place, None);
     }
 
+    /// Tells whether the place is one of this registry's, with what its looker has announced. A place of another registry
+    /// passes where this one has the same entry.
+    pub fn has(&self, place: &Place) -> bool
+        ensures { IsTrue result ↔ HasPlace self.now place.now }
+    {
+        place.index < PLACES && is_announcing(&self.places[place.index], place.announced)
+    }
+
     /// Tells whether one more version can be retired: false exactly where [`MOST_RETIRED`] are.
     pub fn has_room(&self) -> bool
         ensures { IsTrue result ↔ (length self.now.retired < MOST_RETIRED) }
@@ -155,6 +163,15 @@ impl Registry {
         self.retired.push(before);
     }
 
+    /// Notes a version where there is room and it is later than the noted one. Otherwise nothing changes.
+    pub fn note_later(&mut self, version: Arc<Version>)
+        ensures { self.new ≡ noted_by self.old (arc_value version) }
+    {
+        if self.has_room() && self.noted() < version.number() {
+            self.note(version);
+        }
+    }
+
     /// Gives up each retired version that no looker can hold any more: no online one has announced its number or less
     /// (Desnoyers et al. 2012). How many went.
     pub fn reclaim(&mut self) -> usize
@@ -164,6 +181,26 @@ impl Registry {
         let before = self.retired.len();
         self.retired.keep_from(lowest_announced(&self.places));
         before - self.retired.len()
+    }
+
+    /// Reclaims, and tells whether one more version can be retired then.
+    pub fn make_room(&mut self) -> bool
+        ensures registry { self.new ≡ reclaimed self.old }
+        ensures room { IsTrue result ↔ (length self.new.retired < MOST_RETIRED) }
+    {
+        self.reclaim();
+        self.has_room()
+    }
+}
+
+/// Tells whether a registry's entry says that the looker there has announced this.
+fn is_announcing(state: &PlaceState, announced: Option<u64>) -> bool
+    ensures { IsTrue result ↔ (state.now ≡ announcing announced) }
+{
+    match (state, announced) {
+        (PlaceState::Offline, None) => true,
+        (PlaceState::Online(number), Some(other)) => *number == other,
+        _ => false,
     }
 }
 
