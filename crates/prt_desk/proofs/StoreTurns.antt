@@ -18,8 +18,9 @@ use Rattle.prt_session.specs.Steps.{CommandGives}
 use Rattle.prt_version.specs.Change.{apply, put, refusal}
 use Rattle.prt_version.specs.State.{State}
 use Rattle.prt_version.specs.declared.change.Change.{Change}
-use Rattle.prt_store.specs.Exits.{IsKnown, MayLeave, SparesOthers, Spells}
-use Rattle.prt_desk.specs.StoreDesk.{DeskOver, IsKept, IsPerhapsStored, IsStoreMishap, Keeps, MayBeStored, StandsBy, StandsFor, desk_with}
+use Rattle.prt_store.proofs.Spelled.{spelled_once}
+use Rattle.prt_store.specs.Exits.{IsKnown, IsStored, MayLeave, SparesOthers, Spells}
+use Rattle.prt_desk.specs.StoreDesk.{DeskOver, IsKept, IsPerhapsStored, IsStoreMishap, Keeps, LeavesEither, MayBeStored, StandsBy, StandsFor, desk_with}
 use Rattle.prt_desk.specs.Remains.{IsSeen, Remains}
 
 -- what may befall a desk over lists may befall this one
@@ -176,3 +177,22 @@ module _ {S : Type 0} (g : Ghosts S) (format_1 : Bool) (new : Held S) (published
     | inl is ↦ inl is
     | inr more ↦ inr (named more.0, more.1)
   ]
+
+-- ---- what a crash leaves
+
+-- while a desk is open, its state alone
+pub left_open : {S : Type 0} (g : Ghosts S) (desk : DeskOver (Held S)) → IsKept g desk → desk.closed ≡ false → IsKnown g desk.format_1 desk.tables → (left : State) → MayLeave g desk.tables left → left ≡ desk.published
+left_open g desk kept is known left may =
+    let stored : IsStored g desk.tables desk.published = subst (Keeps g desk.tables desk.published) is (kept known) in
+    spelled_once may.0 left desk.published may.2 (stored.durable may.0 may.1)
+
+-- so nothing is left of a command that was refused before its commit
+pub left_refused : {S : Type 0} (g : Ghosts S) (desk : DeskOver (Held S)) (command : Command) (result : Result ℕ Refusal) (reason : Refusal) → result ≡ Err reason → IsKept g desk
+    → desk.closed ≡ false → IsKnown g desk.format_1 desk.tables → (left : State) → MayLeave g desk.tables left → LeavesEither result desk.published (apply desk.published command) left
+left_refused g desk command result reason is kept open_is known left may =
+    subst (λ (r : Result ℕ Refusal). LeavesEither r desk.published (apply desk.published command) left) (sym is) (inl (left_open g desk kept open_is known left may))
+
+-- of one that was acknowledged, the state after it
+pub left_stored : {S : Type 0} (g : Ghosts S) (format_1 : Bool) (tables : Held S) (stored after : State) → (IsKnown g format_1 tables → IsStored g tables stored) → stored ≡ after
+    → IsKnown g format_1 tables → (left : State) → MayLeave g tables left → left ≡ after
+left_stored g format_1 tables stored after holds is known left may = spelled_once may.0 left stored may.2 ((holds known).durable may.0 may.1) ∙ is

@@ -1,17 +1,25 @@
 -- What a desk over a store stands for.
-use Rattle.std.specs.Prelude.{◌≡◌, ◌⊎◌, ℕ, Bool, true, false, List, Option, refl, ⊤}
+use Rattle.std.specs.Prelude.{◌≡◌, ◌⊎◌, ℕ, ◌+◌, Bool, true, false, List, Option, Result, Ok, Err, refl, ⊤}
 use Rattle.std.specs.Coded.{Coded, code_by, coded×, coded_bool}
 use Rattle.sqlite.specs.Effect.{Database, IsDatabase}
 use Rattle.sqlite.specs.Held.{Held, state}
 use Rattle.sqlite.specs.Store.{Ghosts}
 use Rattle.sqlite.specs.Tree.{Trees}
+use Rattle.prt_addr.specs.declared.refusal.Refusal.{Refusal}
+use Rattle.prt_addr.specs.declared.refusal.Refusal.TheVariants.{StoreFailed}
+use Rattle.prt_addr.specs.declared.refusal.StoreCall.TheVariants.{Commit}
+use Rattle.prt_command.specs.declared.request.Command.{Command}
 use Rattle.prt_session.specs.Desk.{Befalls, DeskState, Mishap, no_room, no_memory, store_fails, commit_kept, publication_fails, request_turn, settled}
 use Rattle.prt_session.specs.Run.{RunIs}
 use Rattle.prt_session.specs.declared.script.OnRefusal.{OnRefusal}
 use Rattle.prt_session.specs.declared.script.ScriptEnd.{ScriptEnd}
 use Rattle.prt_rows.specs.Format.{IsFormat1}
 use Rattle.prt_store.specs.Exits.{IsKnown, IsStored, MayLeave, Opens, Spells}
+use Rattle.prt_store.specs.Made.{MakesChange}
+use Rattle.prt_store.specs.Openings.{HasDone}
+use Rattle.prt_version.specs.Change.{check}
 use Rattle.prt_version.specs.State.{State}
+use Rattle.prt_version.specs.declared.change.Change.{Change}
 use Rattle.prt_version.specs.contracts.version.Version as version
 
 -- What is seen of a desk over a store: the state that its queries are answered from, whether it is closed, whether its tables were found to be the first of their file, in format 1, and the connection to them.
@@ -66,6 +74,15 @@ IsStoreMishap no_memory = ⊤
 IsStoreMishap (store_fails call) = ⊤
 IsStoreMishap commit_kept = ⊤
 IsStoreMishap publication_fails = ⊥
+
+-- the change that the command makes of the published state ran in one transaction on the tables as they were, and what that left is committed, whatever the file
+abbrev pub HasCommitted : {S : Type 0} → Ghosts S → DeskOver (Held S) → Command → Held S → Type 0
+HasCommitted g old command new = (made : Change) × (check old.published command ≡ Ok made) × HasDone g (MakesChange g made (old.published.count + 1)) old.tables (state g new).committed
+
+-- what a crash leaves once a command has this result: the state after it where it was acknowledged; else the state before it or, only where the call that commits failed, the state after it
+abbrev pub LeavesEither : Result ℕ Refusal → State → State → State → Type 0
+LeavesEither (Ok number) before after left = left ≡ after
+LeavesEither (Err reason) before after left = (left ≡ before) ⊎ ((reason ≡ StoreFailed Commit) × (left ≡ after))
 
 -- the run of a session, begun on a state that may have been stored before, left this one
 abbrev pub SessionLeaves : {S : Type 0} → Ghosts S → OnRefusal → DeskOver (Held S) → DeskOver (Held S) → (reader0 reader writer0 writer : Option (List ℕ)) → ScriptEnd → State → Type 0

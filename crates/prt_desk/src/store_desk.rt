@@ -1,11 +1,12 @@
 ghost use Rattle.std.specs.Prelude.{◌≡◌, ◌++◌, ◌↔◌, IfErr, IfOk, IsTrue, OnErr, OnOk, false, true};
 ghost use Rattle.sqlite.specs.Held.{state};
-ghost use Rattle.sqlite.specs.State.{HasCleanDisk};
+ghost use Rattle.sqlite.specs.State.{HasCleanDisk, Survives};
 ghost use Rattle.sqlite.specs.Tree.{Trees};
 ghost use Rattle.prt_addr.specs.declared.refusal.Refusal.TheVariants.{Damaged};
 ghost use Rattle.prt_desk.specs.Remains.{Remains};
 ghost use Rattle.prt_desk.specs.StoreDesk.{IsKept, MayBeStored, Reopens, SessionLeaves};
 ghost use Rattle.prt_rows.specs.Format.{BeginsFormat1, IsFormat1};
+ghost use Rattle.prt_store.specs.Adopted.{Adopts, AdoptsPart, LeavesPart};
 ghost use Rattle.prt_store.specs.Exits.{IsKnown, IsStored, Opens, Spells};
 ghost use Rattle.prt_store.specs.Loaded.{IsLoadRefusal};
 ghost use Rattle.prt_version.specs.Sound.{IsSound};
@@ -68,8 +69,11 @@ impl<S: Alter + Drop> StoreDesk<S> {
     /// # Errors
     ///
     /// With the connection: `OpenFailed` where one of the tables has other columns, or a store call fails; `Damaged`
-    /// only where the tables spell no state; `NoMemory`. The rows are then as `Store::adopt` leaves them. The
-    /// connection is to be closed and opened again before it is used.
+    /// only where the tables spell no state; `NoMemory`. Some or all of the missing tables were then made, and three
+    /// empty ones perhaps filled; each other row is as it was, and a crash leaves no more than that. The connection is
+    /// to be closed and opened again before it is used.
+    ///
+    /// Of a file whose first tables are others the clauses on tables and crashes say nothing.
     pub fn open(
         alloc: Global,
         conn: Connection<S>,
@@ -83,6 +87,14 @@ impl<S: Alter + Drop> StoreDesk<S> {
         ensures adopts { IfOk result (λ desk. IsKnown S.Store desk.format_1 desk.tables → Opens (state S.Store conn).now desk.published) }
         ensures found { IfOk result (λ desk. HasCleanDisk (state S.Store desk.tables) → IsTrue (state S.Store conn).is_open → (stored : State) →
             Spells (state S.Store conn).now.trees stored → (desk.format_1 ≡ true) × (desk.published ≡ stored)) }
+        ensures own { IfOk result (λ desk. IsKnown S.Store desk.format_1 desk.tables →
+            Adopts (state S.Store conn).now (state S.Store desk.tables).now × IsStored S.Store desk.tables desk.published) }
+        ensures survives_ok { IfOk result (λ desk. (HasCleanDisk (state S.Store conn) → BeginsFormat1 (state S.Store conn).now.schema) →
+            Survives (state S.Store conn) (state S.Store desk.tables) (LeavesPart (state S.Store conn).now)) }
+        ensures err { IfErr result (λ refused. HasCleanDisk (state S.Store refused.1) → IsTrue (state S.Store refused.1).is_open →
+            BeginsFormat1 (state S.Store conn).now.schema → AdoptsPart (state S.Store conn).now (state S.Store refused.1).now) }
+        ensures crash_err { IfErr result (λ refused. (HasCleanDisk (state S.Store conn) → BeginsFormat1 (state S.Store conn).now.schema) →
+            Survives (state S.Store conn) (state S.Store refused.1) (LeavesPart (state S.Store conn).now)) }
     {
         let is_format_1 = begins_format_1(conn.schema());
         let mut store = Store::adopt(conn)?;
@@ -150,10 +162,12 @@ impl<S: Alter + Drop> StoreDesk<S> {
 impl<S: Alter + Drop> Desk for StoreDesk<S> {
     ghost use Rattle.prt_command.specs.Storable.{IsStorable};
     ghost use Rattle.prt_desk.specs.Remains.{Remains, remains_over_all};
-    ghost use Rattle.prt_desk.specs.StoreDesk.{IsStoreMishap, StandsFor};
+    ghost use Rattle.prt_desk.specs.StoreDesk.{HasCommitted, IsStoreMishap, LeavesEither, StandsFor};
     ghost use Rattle.prt_listing.specs.QueryText.{query_text};
     ghost use Rattle.prt_session.specs.Stands.{Explained, Stands};
     ghost use Rattle.prt_session.specs.Steps.{CommandGives};
+    ghost use Rattle.prt_store.specs.Exits.{IsKnown, MayLeave};
+    ghost use Rattle.prt_version.specs.Change.{apply};
 
     ghost stands = { StandsFor S.Store };
 
@@ -168,6 +182,9 @@ impl<S: Alter + Drop> Desk for StoreDesk<S> {
         ensures turn { Explained (StandsFor S.Store) self.old self.new (λ before after. CommandGives IsStoreMishap before command.now result after) }
         ensures left { Stands (StandsFor S.Store) self.old → Stands (StandsFor S.Store) self.new }
         ensures keeps { Remains S.Store self.old self.new }
+        ensures ran { HasCleanDisk (state S.Store self.new.tables) → OnOk result (HasCommitted S.Store self.old command.now self.new.tables) }
+        ensures leaves { self.old.closed ≡ false → IsKnown S.Store self.new.format_1 self.new.tables → (left : State) → MayLeave S.Store self.new.tables left →
+            LeavesEither result self.old.published (apply self.old.published command.now) left }
     {
         if self.is_closed {
             return Err(Refusal::Closed);

@@ -1,5 +1,7 @@
 -- What the exits of an opening, a load and a commit say together.
 use Rattle.std.proofs.Common.{◌≡◌, ◌⊎◌, inl, inr, ℕ, Bool, true, [], ◌∷◌, drop, map, IsPermutation, refl, sym, subst, ◌∙◌, arith}
+use Rattle.std.specs.Prelude.{IsTrue}
+use Rattle.sqlite.proofs.StateLemmas.{survives_then}
 use Rattle.sqlite.specs.Effect.{Database, IsDatabase}
 use Rattle.sqlite.specs.Held.{Held, state}
 use Rattle.sqlite.specs.State.{HasCleanDisk, IsUnchanged, Survives}
@@ -19,8 +21,9 @@ use Rattle.prt_version.specs.Change.{put}
 use Rattle.prt_version.specs.State.{State}
 use Rattle.prt_version.specs.declared.change.Change.{Change}
 use Rattle.prt_store.proofs.Spelled.{database, spelled_once, stored_once, stored_there}
-use Rattle.prt_store.specs.Adopted.{Adopts}
+use Rattle.prt_store.specs.Adopted.{Adopts, AdoptsPart, IsSettled, LeavesPart}
 use Rattle.prt_store.specs.Exits.{IsKnown, IsStored, MayLeave, Opens, SparesOthers, Spells}
+use Rattle.prt_store.specs.Loaded.{StaysSettled}
 use Rattle.prt_store.specs.Next.{IsNext, MakesNext}
 use Rattle.prt_store.specs.Stored.{Stores}
 
@@ -62,6 +65,47 @@ module _ {S : Type 0} (g : Ghosts S) (begins : Bool) (found adopted loaded : Hel
           | inr none ↦ absurd none
         ];
       }
+
+  -- in tables that the opening adopted
+  pub is_opened : (HasCleanDisk (state g loaded) → IsFormat1 (state g adopted).now.schema → IsUnchanged (state g adopted) (state g loaded))
+      → (HasCleanDisk (state g adopted) → BeginsFormat1 (state g found).now.schema → (trees : Trees) → (state g adopted).may_leave trees → trees ≡ (state g adopted).now.trees)
+      → (HasCleanDisk (state g loaded) → IsFormat1 (state g adopted).now.schema → IsDatabase (state g loaded).now)
+      → IsKnown g begins loaded → Adopts (state g found).now (state g loaded).now × IsStored g loaded version
+  is_opened same leaves sound known =
+      let unchanged : (state g loaded).now ≡ (state g adopted).now = (same known.1 (tables known)).0.now_is in
+      (subst (λ (db : Database). Adopts (state g found).now db) (sym unchanged) (adopts (clean_then known) (is known.0)), is_stored same leaves sound known)
+
+part_of : (old new : Database) → Adopts old new → AdoptsPart old new
+part_of old new adopts = record {
+  tables = inr (inr (inr adopts.tables));
+  rows = elim adopts.rows [ inl kept ↦ inl kept.1 | inr filled ↦ inr filled ];
+}
+
+-- a crash leaves what it could leave before, or what an opening leaves that is stopped
+abbrev Lasts : {S : Type 0} → Ghosts S → Held S → Held S → Type 0
+Lasts g was left = (HasCleanDisk (state g was) → BeginsFormat1 (state g was).now.schema) → Survives (state g was) (state g left) (LeavesPart (state g was).now)
+
+module _ {S : Type 0} (g : Ghosts S) (found adopted loaded : Held S)
+    (adopts : HasCleanDisk (state g adopted) → BeginsFormat1 (state g found).now.schema → Adopts (state g found).now (state g adopted).now) (crash : Lasts g found adopted)
+    (quiet : (HasCleanDisk (state g adopted) → IsFormat1 (state g adopted).now.schema) → Survives (state g adopted) (state g loaded) (λ _. ⊥)) where
+  tables_there : (HasCleanDisk (state g found) → BeginsFormat1 (state g found).now.schema) → HasCleanDisk (state g adopted) → IsFormat1 (state g adopted).now.schema
+  tables_there begins clean = (adopts clean (begins (omega (arith, (crash begins).clean, clean)))).tables
+
+  -- a load adds nothing to what a crash may leave
+  pub lasts : Lasts g found loaded
+  lasts begins =
+      survives_then (state g found) (state g adopted) (state g loaded) (LeavesPart (state g found).now) (λ _. ⊥) (LeavesPart (state g found).now) (λ clean trees left. left) (λ clean trees none. absurd none)
+      (crash begins) (quiet (tables_there begins))
+
+  -- a load that is refused changes no rows
+  pub left_in_part : (HasCleanDisk (state g adopted) → BeginsFormat1 (state g found).now.schema → IsSettled g adopted)
+      → (HasCleanDisk (state g loaded) → IsFormat1 (state g adopted).now.schema → IsTrue (state g loaded).is_open → IsSettled g adopted → StaysSettled g adopted loaded)
+      → HasCleanDisk (state g loaded) → IsTrue (state g loaded).is_open → BeginsFormat1 (state g found).now.schema → AdoptsPart (state g found).now (state g loaded).now
+  left_in_part settled stays clean is_open begins =
+      let before : HasCleanDisk (state g adopted) = omega (arith, (quiet (tables_there (λ _. begins))).clean, clean) in
+      let made = adopts before begins in
+      let unchanged : (state g loaded).now ≡ (state g adopted).now = (stays clean made.tables is_open (settled before begins)).1 in
+      subst (λ (db : Database). AdoptsPart (state g found).now db) (sym unchanged) (part_of (state g found).now (state g adopted).now made)
 
 -- ---- tables that spell a state already
 

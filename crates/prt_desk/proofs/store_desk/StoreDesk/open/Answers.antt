@@ -1,13 +1,14 @@
 use Rattle.std.proofs.Common.{◌≡◌, true, false, inr, ap, arith, refl, subst, sym, ◌∙◌}
 use Rattle.std.proofs.lemmas.Result.{err_from_is_err_and}
 use Rattle.sqlite.specs.Held.{Held, state}
-use Rattle.sqlite.specs.State.{HasCleanDisk}
+use Rattle.sqlite.specs.State.{HasCleanDisk, Survives}
 use Rattle.std.specs.Prelude.{IsTrue}
 use Rattle.prt_rows.specs.Format.{BeginsFormat1}
 use Rattle.prt_version.specs.State.{State}
-use Rattle.prt_store.proofs.Exits.{found_is, is_stored, opens}
+use Rattle.prt_store.proofs.Exits.{found_is, is_opened, is_stored, lasts, left_in_part, opens}
 use Rattle.prt_store.proofs.Spelled.{stored_there}
-use Rattle.prt_store.specs.Exits.{IsKnown, Opens, Spells}
+use Rattle.prt_store.specs.Adopted.{Adopts, AdoptsPart, LeavesPart}
+use Rattle.prt_store.specs.Exits.{IsKnown, IsStored, Opens, Spells}
 use Rattle.prt_desk.specs.StoreDesk.{DeskOver}
 use Rattle.prt_desk.proofs.store_desk.StoreDesk.open.Goals as goal
 
@@ -76,3 +77,46 @@ returns-clause-format g c = (
   λ is. subst BeginsFormat1 c.schema.ensures.value (c.begins_format_1-is_format_1.ensures.0 is),
   λ begins. c.begins_format_1-is_format_1.ensures.1 (subst BeginsFormat1 (sym c.schema.ensures.value) begins),
 )
+
+pub returns-then-is_format_1-clause-own : goal.returns-then-is_format_1-clause-own
+returns-then-is_format_1-clause-own g c =
+    let begins = subst BeginsFormat1 c.schema.ensures.value (c.begins_format_1-is_format_1.ensures.0 c.if-is_format_1.true) in
+    subst (λ (desk : DeskOver (Held _)). IsKnown g.S.Store desk.format_1 desk.tables → Adopts (state g.S.Store c.args.conn).now (state g.S.Store desk.tables).now × IsStored g.S.Store desk.tables desk.published) (sym c.new.ensures)
+    (is_opened g.S.Store true c.args.conn c.in_ok-store.store.conn c.load.new.self.conn c.in-Ok.version (λ _. begins) c.in_ok-store.ensures.ok c.in-Ok.ensures.ok c.in-Ok.ensures.quiet
+    c.in-Ok.ensures.same c.in_ok-store.ensures.crash_ok c.in-Ok.ensures.sound)
+
+pub returns-then-is_format_1-clause-survives_ok : goal.returns-then-is_format_1-clause-survives_ok
+returns-then-is_format_1-clause-survives_ok g c =
+    let found = state g.S.Store c.args.conn in
+    subst (λ (desk : DeskOver (Held _)). (HasCleanDisk found → BeginsFormat1 found.now.schema) → Survives found (state g.S.Store desk.tables) (LeavesPart found.now)) (sym c.new.ensures)
+    (lasts g.S.Store c.args.conn c.in_ok-store.store.conn c.load.new.self.conn c.in_ok-store.ensures.ok c.in_ok-store.ensures.survives_ok c.in-Ok.ensures.quiet)
+
+pub returns-clause-own : goal.returns-clause-own
+returns-clause-own g c = λ known. absurd (let other : false ≡ true = sym c.if-is_format_1.false ∙ known.0 in cc)
+
+pub returns-clause-survives_ok : goal.returns-clause-survives_ok
+returns-clause-survives_ok g c = lasts g.S.Store c.args.conn c.in_ok-store.store.conn c.load.new.self.conn c.in_ok-store.ensures.ok c.in_ok-store.ensures.survives_ok c.in-Ok.ensures.quiet
+
+-- a load that is refused leaves what the opening made
+pub returns-in-Err-clause-err : goal.returns-in-Err-clause-err
+returns-in-Err-clause-err g c =
+    let found = (state g.S.Store c.args.conn).now in
+    subst (λ (conn : Held _). HasCleanDisk (state g.S.Store conn) → IsTrue (state g.S.Store conn).is_open → BeginsFormat1 found.schema → AdoptsPart found (state g.S.Store conn).now) (sym c.release.ensures)
+    (left_in_part g.S.Store c.args.conn c.in_ok-store.store.conn c.load.new.self.conn c.in_ok-store.ensures.ok c.in_ok-store.ensures.survives_ok c.in-Err.ensures.quiet c.in_ok-store.ensures.settled c.in-Err.ensures.err)
+
+pub returns-in-Err-clause-crash_err : goal.returns-in-Err-clause-crash_err
+returns-in-Err-clause-crash_err g c =
+    let found = state g.S.Store c.args.conn in
+    subst (λ (conn : Held _). (HasCleanDisk found → BeginsFormat1 found.now.schema) → Survives found (state g.S.Store conn) (LeavesPart found.now)) (sym c.release.ensures)
+    (lasts g.S.Store c.args.conn c.in_ok-store.store.conn c.load.new.self.conn c.in_ok-store.ensures.ok c.in_ok-store.ensures.survives_ok c.in-Err.ensures.quiet)
+
+-- and so does one that can't be adopted
+pub returns-in_err-store-clause-err : goal.returns-in_err-store-clause-err
+returns-in_err-store-clause-err g c =
+    let given = err_from_is_err_and c.from_residual.result c.from_residual.ensures.1 in
+    rw (given.1, given.2) c.in_err-store.ensures.err
+
+pub returns-in_err-store-clause-crash_err : goal.returns-in_err-store-clause-crash_err
+returns-in_err-store-clause-crash_err g c =
+    let given = err_from_is_err_and c.from_residual.result c.from_residual.ensures.1 in
+    rw (given.1, given.2) c.in_err-store.ensures.crash_err
