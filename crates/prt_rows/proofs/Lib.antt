@@ -27,3 +27,5 @@ pub mod Keeping
 pub mod Looking
 pub mod Formats
 pub mod Opening
+pub mod Quiet
+mod Changing

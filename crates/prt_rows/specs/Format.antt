@@ -42,6 +42,10 @@ pub record SuitsName (table : Table) : Type 0 where
   pub route : same_name (codes "route") table.name ≡ true → table ≡ record route_table { tree = table.tree }
   pub meta : same_name (codes "meta") table.name ≡ true → table ≡ record meta_table { tree = table.tree }
 
+-- each table that has the name of one of ours is that one
+abbrev pub SuitsFormat1 : Schema → Type 0
+SuitsFormat1 schema = (table : Table) → Has schema.tables table → SuitsName table
+
 -- the three tables are there, in whatever trees and order
 pub record HasFormat1 (schema : Schema) : Type 0 where
   pub rule : has_table (codes "rule") schema ≡ true

@@ -13,3 +13,4 @@ pub mod Kept
 pub mod Rowids
 pub mod Selecting
 pub mod Format
+pub mod Changing

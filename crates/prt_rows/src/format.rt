@@ -6,7 +6,7 @@ ghost use Rattle.sqlite_rules.specs.Lists.{Has};
 ghost use Rattle.sqlite_schema.specs.Rules.{guards};
 ghost use Rattle.sqlite_schema.specs.declared.schema.Reference.{Reference as Referring};
 ghost use Rattle.sqlite.specs.Table.{Table as Declared};
-ghost use Rattle.prt_rows.specs.Format.{BeginsFormat1, HasFormat1, IsFormat1, SuitsName, has_table};
+ghost use Rattle.prt_rows.specs.Format.{BeginsFormat1, HasFormat1, IsFormat1, SuitsFormat1, SuitsName, has_table};
 ghost use Rattle.prt_rows.specs.Others.{AreNotOfRoutes, AreOthers, IsElsewhere, IsOther};
 ghost use Rattle.prt_rows.specs.Tables.{key_places, meta_table, no_tables, plain_table, route_key, route_table, rule_alone, rule_and_route, rule_table, strict_column};
 
@@ -357,6 +357,14 @@ fn suit_names(tables: &[Table]) -> bool
     true
 }
 
+/// Tells whether each table of the file that has the name of one of the three tables has its columns too, in whatever
+/// tree. A file without tables has no other columns.
+pub fn suits_format_1(schema: &Schema) -> bool
+    ensures { IsTrue result ↔ SuitsFormat1 schema.now }
+{
+    suit_names(schema.tables.as_slice())
+}
+
 /// Tells whether the file has the three tables of format 1 (`docs/STORE.md`), column by column, in whatever trees and
 /// order.
 pub fn has_format_1(schema: &Schema) -> bool
@@ -365,5 +373,5 @@ pub fn has_format_1(schema: &Schema) -> bool
     has_table(schema, "rule")
         && has_table(schema, "route")
         && has_table(schema, "meta")
-        && suit_names(schema.tables.as_slice())
+        && suits_format_1(schema)
 }
