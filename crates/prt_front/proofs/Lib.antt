@@ -1,0 +1,5 @@
+pub mod Adding
+pub mod Histories
+pub mod Numbers
+pub mod Prefixes
+pub mod Rules

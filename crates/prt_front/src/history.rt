@@ -1,0 +1,74 @@
+//! The history of a front, in a logbook: what its tokens say, and the step that adds a command.
+
+use logbook::{Gain, Opening, Plain, Play, Rule, Word};
+use prt_version::{Command, Version};
+use std::snapshot::Snapshot;
+
+/// An entry of the history. No value of it is made.
+pub enum Entry {
+    /// The state that the front began with.
+    Loaded(Version),
+    /// A command that was accepted.
+    Accepted(Command),
+}
+
+/// What holds of every history: it is a loaded state and commands that were accepted one after the other.
+pub struct HistoryRule;
+
+impl Rule<Entry, u64> for HistoryRule {
+    ghost use Rattle.std.specs.Prelude.{[]};
+    ghost use base.Fml.{ftrue};
+    ghost use Rattle.prt_front.specs.History.{IsKept};
+
+    ghost holds = { λ cells log. IsKept cells log };
+
+    ghost first = { [] };
+
+    ghost hinted = { λ n log. Unit {0} };
+
+    ghost shows = { λ log. [] };
+
+    ghost keeps = { λ names log. ftrue };
+
+    ghost moves = { λ ask before after answer. Unit {0} };
+}
+
+/// A step hands nothing over.
+pub struct NoGain;
+
+impl Gain<Entry, u64> for NoGain {
+    ghost use base.Fml.{ftrue};
+
+    ghost after = { λ names about answer. ftrue };
+}
+
+/// A history begins with the loaded state.
+pub struct Load;
+
+impl Opening<Version, Entry> for Load {
+    ghost use Rattle.std.specs.Prelude.{[], ◌∷◌};
+    ghost use Rattle.prt_front.specs.declared.history.Entry.TheVariants.{Loaded};
+
+    ghost log = { λ count version. Loaded version ∷ [] };
+}
+
+/// The step that adds an accepted command.
+pub struct Add;
+
+impl Play<Entry, u64> for Add {
+    ghost use Rattle.prt_front.specs.History.{Adds};
+
+    ghost then = { Adds };
+}
+
+impl Plain<Snapshot<Command>, Entry, u64> for Add {
+    ghost use Rattle.std.specs.Prelude.{None};
+    ghost use Rattle.prt_front.specs.declared.history.Entry.TheVariants.{Accepted};
+
+    ghost ask = { λ command. Accepted command.value };
+
+    ghost state = { λ command. None };
+}
+
+/// The length of a history, which its writer has.
+pub type Length = Word<Entry, u64, HistoryRule>;
