@@ -1,0 +1,20 @@
+use Rattle.std.proofs.Common.{subst, sym}
+use Rattle.prt_rows.specs.Format.{BeginsFormat1}
+use Rattle.prt_publisher.proofs.Openings.{has_opened, load_refused}
+use Rattle.prt_publisher.proofs.opening.adopt_and_load.Goals as goal
+
+pub returns-in-Ok-load-clause-format : goal.returns-in-Ok-load-clause-format
+returns-in-Ok-load-clause-format g c = (
+  λ is. subst BeginsFormat1 c.schema.ensures.value (c.begins_format_1-is_format_1.ensures.0 is),
+  λ begins. c.begins_format_1-is_format_1.ensures.1 (subst BeginsFormat1 (sym c.schema.ensures.value) begins),
+)
+
+pub returns-in-Ok-load-clause-opened : goal.returns-in-Ok-load-clause-opened
+returns-in-Ok-load-clause-opened g c =
+    has_opened g.S.Store c.args.conn c.in-Ok.store.conn c.load.new.self.conn (λ is_open. (c.schema.ensures.live is_open).0) c.in-Ok.ensures.ok c.in-Ok.ensures.survives_ok c.in-Ok-load.ensures.quiet
+    c.in-Ok-load.version c.number-number.ensures.sound c.in-Ok-load.ensures.ok c.in-Ok-load.ensures.same c.in-Ok.ensures.crash_ok c.in-Ok-load.ensures.sound
+
+pub returns-in-Err-load-clause-refused : goal.returns-in-Err-load-clause-refused
+returns-in-Err-load-clause-refused g c =
+    load_refused g.S.Store c.args.conn c.in-Ok.store.conn c.load.new.self.conn (λ is_open. (c.schema.ensures.live is_open).0) c.in-Ok.ensures.ok c.in-Ok.ensures.survives_ok c.in-Err-load.ensures.quiet
+    c.in-Err-load.reason c.release.result c.release.ensures c.in-Err-load.ensures.reason c.in-Ok.ensures.stored c.in-Ok.ensures.settled c.in-Err-load.ensures.damaged c.in-Err-load.ensures.err

@@ -1,0 +1,26 @@
+use Rattle.std.proofs.Common.{ap, arith}
+use Rattle.prt_front.specs.Line.{Line}
+use Rattle.prt_publisher.proofs.publisher.Publisher.adopt.Goals as goal
+
+pub invariant_of-result : goal.invariant_of-result
+invariant_of-result g c =
+    let begun = c.in-Ok.ensures.begun in
+    (begun.2, omega (arith, begun.3), begun.1, tt, λ known. (c.in-Ok.ensures.opened.adopts known.1 (c.in-Ok.ensures.format.0 known.0)).1, ap (λ (l : Line). l.book) c.in-Ok.ensures.seats, ap (λ (l : Line). l.base) c.in-Ok.ensures.seats)
+
+pub returns-clause-adopts : goal.returns-clause-adopts
+returns-clause-adopts g c = λ known.
+    let stored = c.in-Ok.ensures.opened.adopts known.1 (c.in-Ok.ensures.format.0 known.0) in
+    (_, stored.0, stored.1.now)
+
+pub returns-clause-own : goal.returns-clause-own
+returns-clause-own g c = λ known.
+    let stored = c.in-Ok.ensures.opened.adopts known.1 (c.in-Ok.ensures.format.0 known.0) in
+    (stored.0, stored.1.now)
+
+pub returns-clause-found : goal.returns-clause-found
+returns-clause-found g c = λ clean is_open stored spells.
+    let found = c.in-Ok.ensures.opened.found clean is_open stored spells in
+    (c.in-Ok.ensures.format.1 found.0, found.1)
+
+pub returns-clause-stands : goal.returns-clause-stands
+returns-clause-stands g c = λ known. (c.in-Ok.ensures.opened.adopts known.1 (c.in-Ok.ensures.format.0 known.0)).1

@@ -1,0 +1,4 @@
+pub mod Standing
+pub mod Exits
+pub mod Step
+pub mod Openings

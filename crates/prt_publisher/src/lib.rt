@@ -1,0 +1,14 @@
+//! The publisher: a command is checked, committed, published and noted, and only then acknowledged.
+#![tactic(auto)]
+
+mod opening;
+mod phase;
+mod plan;
+mod publisher;
+mod receipt;
+mod seats;
+
+pub use phase::Phase;
+pub use publisher::Publisher;
+pub use receipt::Receipt;
+pub use seats::Seats;

@@ -1,0 +1,423 @@
+//! The publisher of one database.
+ghost use Rattle.std.specs.Prelude.{◌≡◌, ◌⊎◌, ◌+◌, ◌<◌, ◌↔◌, [], length, None, Some, IfErr, IfOk, IsTrue, OnErr, OnOk, true};
+ghost use Rattle.sqlite.specs.Held.{state};
+ghost use Rattle.sqlite.specs.State.{HasCleanDisk, Survives};
+ghost use Rattle.prt_addr.specs.declared.refusal.Refusal.TheVariants.{Damaged, NoMemory, NotPublished, StoreFailed};
+ghost use Rattle.prt_addr.specs.declared.refusal.StoreCall.{StoreCall};
+ghost use Rattle.prt_addr.specs.declared.refusal.StoreCall.TheVariants.{Commit};
+ghost use Rattle.prt_command.specs.Storable.{IsStorable};
+ghost use Rattle.prt_front.specs.Line.{grown, line_state};
+ghost use Rattle.prt_grace.specs.Registry.{noted_by, reclaimed};
+ghost use Rattle.prt_grace.specs.declared.limits.TheConstants.{MOST_RETIRED};
+ghost use Rattle.prt_publisher.specs.Exits.{IsAllowed, IsNotAcknowledged, IsNotAdmitted, IsNotPrepared, Spares, Takes, line_after, state_after};
+ghost use Rattle.prt_publisher.specs.Standing.{IsQuiet, Stands, unnoted};
+ghost use Rattle.prt_rows.specs.Format.{BeginsFormat1};
+ghost use Rattle.prt_store.specs.Adopted.{Adopts, AdoptsPart, LeavesPart};
+ghost use Rattle.prt_store.specs.Exits.{IsKnown, IsStored, MayLeave, Opens, Spells};
+ghost use Rattle.prt_store.specs.Loaded.{IsLoadRefusal};
+ghost use Rattle.prt_store.specs.Stored.{Stores};
+ghost use Rattle.prt_version.specs.Sound.{IsSound};
+ghost use Rattle.prt_version.specs.State.{State};
+
+use crate::opening::open;
+use crate::plan::{Plan, make_plan};
+use crate::{Phase, Receipt, Seats};
+use prt_command::{Command, Refusal};
+use prt_front::Front;
+use prt_grace::{Domain, Keeper, Registry};
+use prt_store::{Stamp, Store};
+use prt_version::{Change, Version};
+use sqlite::{Alter, Connection};
+use std::alloc::Global;
+use std::marker::Model;
+use std::mem;
+use std::snapshot::Snapshot;
+use std::sync::{Arc, Wait};
+
+/// What is kept of a command under way.
+#[derive(Drop)]
+enum Step {
+    Ready,
+    /// With the change that the command makes.
+    Admitted(Command, Change),
+    Prepared(Plan),
+    Committed(Plan, Stamp),
+    /// With the version to be noted.
+    Published(Command, Arc<Version>),
+    /// With the command that is stored and not published, if there is one.
+    Closed(Option<Command>),
+}
+
+/// Takes commands for one database, and publishes the version after each.
+///
+/// A command is prepared, committed and published; `submit` does the three. The steps `admit` and `note` take the
+/// registry of the domain, which the caller has locked; `prepare` and `publish` lock it for that one step each. No lock
+/// is held while a version is made, across a store call, or while readers are waited for.
+#[derive(Drop)]
+pub struct Publisher<S: Alter + Drop, R: Wait + Drop> {
+    store: Store<S>,
+    /// Whether our tables are the first of their file: of other files nothing is known.
+    is_format_1: bool,
+    version: Arc<Version>,
+    front: Front<R>,
+    /// Readers of the front, until a service takes them.
+    seats: Seats,
+    keeper: Keeper,
+    step: Step,
+}
+
+impl<S: Alter + Drop, R: Wait + Drop> Model for Publisher<S, R> {
+    ghost use Rattle.std.specs.Prelude.{◌≡◌, ◌+◌};
+    ghost use Rattle.std.specs.Arc.{arc_value};
+    ghost use Rattle.sqlite.specs.Held.{Held, held_code};
+    ghost use Rattle.prt_front.specs.Line.{line_state};
+    ghost use Rattle.prt_publisher.specs.Standing.{Agrees, Standing, standing_code, unnoted};
+    ghost use Rattle.prt_publisher.specs.Step.{IsStep, command_of, phase_of};
+    ghost use Rattle.prt_store.specs.Exits.{IsKnown};
+    ghost use Rattle.prt_version.specs.Accepted.{IsAccepted};
+
+    ghost Value = { Standing (Held S) };
+
+    ghost coded = { standing_code (held_code S.code) };
+
+    ghost view = { λ p. record { phase = phase_of p.step; line = p.front; command = command_of p.step; format_1 = p.is_format_1; tables = p.store.conn } };
+
+    ghost invariant = { λ p. (arc_value p.version ≡ line_state p.front) × (p.keeper.noted + unnoted (phase_of p.step) ≡ (arc_value p.version).count) × IsAccepted p.front.base p.front.list
+        × IsStep (line_state p.front) p.step
+        × (IsKnown S.Store p.is_format_1 p.store.conn → Agrees S.Store (phase_of p.step) (command_of p.step) (line_state p.front) p.store.conn)
+        × (p.seats.book ≡ p.front.book) × (p.seats.base ≡ p.front.base) };
+}
+
+impl<S: Alter + Drop, R: Wait + Drop> Publisher<S, R> {
+    /// Opens the database of a connection on which nothing is pending, and publishes the state that is stored there. Its
+    /// tables are made where they are missing; three empty tables become those of a new database.
+    ///
+    /// Gives the domain too, in which that state is noted. The front takes the handle, and nobody is waited for.
+    ///
+    /// # Errors
+    ///
+    /// With the connection: `OpenFailed` where one of the tables has other columns, or a store call fails; `Damaged`
+    /// only where the tables spell no state; `NoMemory`. The rows are then as `Store::adopt` leaves them. The
+    /// connection is to be closed and opened again before it is used.
+    pub fn adopt(
+        rt: R,
+        alloc: Global,
+        conn: Connection<S>,
+    ) -> Result<(Publisher<S, R>, Domain), (Refusal, Connection<S>)>
+        ensures ready { IfOk result (λ made. (made.0.phase ≡ Phase.Ready) × (made.0.command ≡ None) × (made.0.line.list ≡ [])) }
+        ensures sound { IfOk result (λ made. IsSound (line_state made.0.line)) }
+        ensures reason { IfErr result (λ refused. IsLoadRefusal refused.0) }
+        ensures damaged { IfErr result (λ refused. refused.0 ≡ Damaged → HasCleanDisk (state S.Store refused.1) → IsTrue (state S.Store conn).is_open → (stored : State) →
+            Spells (state S.Store conn).now.trees stored → ⊥) }
+        ensures stands { IfOk result (λ made. Stands S.Store made.0) }
+        ensures format { IfOk result (λ made. (made.0.format_1 ≡ true) ↔ BeginsFormat1 (state S.Store conn).now.schema) }
+        ensures adopts { IfOk result (λ made. IsKnown S.Store made.0.format_1 made.0.tables → Opens (state S.Store conn).now (line_state made.0.line)) }
+        ensures own { IfOk result (λ made. IsKnown S.Store made.0.format_1 made.0.tables →
+            Adopts (state S.Store conn).now (state S.Store made.0.tables).now × Stores (state S.Store made.0.tables).now (line_state made.0.line)) }
+        ensures found { IfOk result (λ made. HasCleanDisk (state S.Store made.0.tables) → IsTrue (state S.Store conn).is_open → (stored : State) →
+            Spells (state S.Store conn).now.trees stored → (made.0.format_1 ≡ true) × (line_state made.0.line ≡ stored)) }
+        ensures err { IfErr result (λ refused. HasCleanDisk (state S.Store refused.1) → IsTrue (state S.Store refused.1).is_open →
+            BeginsFormat1 (state S.Store conn).now.schema → AdoptsPart (state S.Store conn).now (state S.Store refused.1).now) }
+        ensures survives_ok { IfOk result (λ made. (HasCleanDisk (state S.Store conn) → BeginsFormat1 (state S.Store conn).now.schema) →
+            Survives (state S.Store conn) (state S.Store made.0.tables) (LeavesPart (state S.Store conn).now)) }
+        ensures crash_err { IfErr result (λ refused. (HasCleanDisk (state S.Store conn) → BeginsFormat1 (state S.Store conn).now.schema) →
+            Survives (state S.Store conn) (state S.Store refused.1) (LeavesPart (state S.Store conn).now)) }
+    {
+        let opened = match open(rt, alloc, conn) {
+            Ok(opened) => opened,
+            Err(refused) => return Err(refused),
+        };
+        Ok((
+            Publisher {
+                store: opened.store,
+                is_format_1: opened.is_format_1,
+                version: opened.begun.version,
+                front: opened.begun.front,
+                seats: opened.begun.seats,
+                keeper: opened.begun.keeper,
+                step: Step::Ready,
+            },
+            opened.begun.domain,
+        ))
+    }
+
+    /// How far it is with a command.
+    pub fn phase(&self) -> Phase
+        ensures value { result ≡ self.now.phase }
+        ensures stands { Stands S.Store self.now }
+    {
+        match self.step {
+            Step::Ready => Phase::Ready,
+            Step::Admitted(_, _) => Phase::Admitted,
+            Step::Prepared(_) => Phase::Prepared,
+            Step::Committed(_, _) => Phase::Committed,
+            Step::Published(_, _) => Phase::Published,
+            Step::Closed(_) => Phase::Closed,
+        }
+    }
+
+    /// The version that was published last; at first the one that was stored.
+    pub fn published(&self) -> &Version
+        ensures { result.now ≡ line_state self.now.line }
+    {
+        &self.version
+    }
+
+    /// The number of the version that was noted last: the published one but for the moment before it is noted.
+    pub fn noted(&self) -> u64
+        ensures { result + unnoted self.now.phase ≡ (line_state self.now.line).count }
+    {
+        self.keeper.noted()
+    }
+
+    /// Hands over the readers of its front that no service has taken.
+    pub fn seats(&mut self, alloc: Global) -> Seats
+        ensures seats { (result.book ≡ self.old.line.book) × (result.base ≡ self.old.line.base) }
+        ensures same { self.new ≡ self.old }
+    {
+        self.seats.all(alloc)
+    }
+
+    /// Gives the connection back, with its tables as they are.
+    pub fn release(self) -> Connection<S>
+        ensures tables { result ≡ self.tables }
+        ensures stands { Stands S.Store self }
+    {
+        self.store.release()
+    }
+
+    /// Checks a command, has the registry give up the versions that nobody can hold, and sees that it has room for one
+    /// more.
+    ///
+    /// # Errors
+    ///
+    /// `Closed` exactly where it is closed; otherwise what the command is refused for; where that is nothing, `Busy`
+    /// exactly where the registry has no room. The publisher is then as it was, and the registry too but for what it gave
+    /// up before `Busy`.
+    pub fn admit(&mut self, registry: &mut Registry, command: &Command) -> Result<(), Refusal>
+        requires quiet { IsQuiet self.old.phase }
+        requires storable { IsStorable command.now }
+        ensures ok { OnOk result ((self.new ≡ record self.old { phase = Phase.Admitted; command = Some command.now }) × Takes self.old command.now) }
+        ensures idle { OnOk result (self.old.command ≡ None) }
+        ensures room { OnOk result ((registry.new ≡ reclaimed registry.old) × (length registry.new.retired < MOST_RETIRED)) }
+        ensures err { IfErr result (λ reason. (self.new ≡ self.old) × IsNotAdmitted self.old.phase (line_state self.old.line) command.now registry.old registry.new reason) }
+        ensures stands { Stands S.Store self.new }
+    {
+        match self.step {
+            Step::Ready => {}
+            Step::Closed(_) => return Err(Refusal::Closed),
+            Step::Admitted(_, _)
+            | Step::Prepared(_)
+            | Step::Committed(_, _)
+            | Step::Published(_, _) => unreachable!(),
+        }
+        let change = match self.version.check(command) {
+            Ok(change) => change,
+            Err(reason) => return Err(reason),
+        };
+        if !registry.make_room() {
+            return Err(Refusal::Busy);
+        }
+        self.step = Step::Admitted(*command, change);
+        Ok(())
+    }
+
+    /// Takes the memory of the version after the admitted command, and of its three owners. Needs no lock.
+    ///
+    /// # Errors
+    ///
+    /// `NoMemory`: it is ready again, as it was before the command.
+    pub fn plan(&mut self) -> Result<(), Refusal>
+        requires { self.old.phase ≡ Phase.Admitted }
+        ensures ok { OnOk result (self.new ≡ record self.old { phase = Phase.Prepared }) }
+        ensures allowed { IsAllowed (line_state self.old.line) self.old.command }
+        ensures err { OnErr result (self.new ≡ record self.old { phase = Phase.Ready; command = None }) }
+        ensures reason { IfErr result (λ reason. reason ≡ NoMemory) }
+        ensures stands { Stands S.Store self.new }
+    {
+        match mem::replace(&mut self.step, Step::Ready) {
+            Step::Admitted(command, change) => {
+                let alloc = *self.version.shared_rules().allocator();
+                match make_plan(alloc, &self.version, &command, change) {
+                    Ok(plan) => {
+                        self.step = Step::Prepared(plan);
+                        Ok(())
+                    }
+                    Err(reason) => Err(reason),
+                }
+            }
+            _ => unreachable!(),
+        }
+    }
+
+    /// Commits the prepared command in one transaction. The state before it is still published.
+    ///
+    /// # Errors
+    ///
+    /// `StoreFailed`, with the store call: it is closed. The tables spell the state before, while their connection is
+    /// open; a crash leaves that state or, only where the call was the commit, possibly the one after the command.
+    pub fn commit(&mut self) -> Result<(), Refusal>
+        requires { self.old.phase ≡ Phase.Prepared }
+        ensures ok { OnOk result (self.new ≡ record self.old { phase = Phase.Committed; tables = self.new.tables }) }
+        ensures err { OnErr result (self.new ≡ record self.old { phase = Phase.Closed; command = None; tables = self.new.tables }) }
+        ensures reason { IfErr result (λ reason. (call : StoreCall) × (reason ≡ StoreFailed call)) }
+        ensures clean { HasCleanDisk (state S.Store self.new.tables) → HasCleanDisk (state S.Store self.old.tables) }
+        ensures stands { Stands S.Store self.new }
+        ensures others { Spares S.Store self.old self.new }
+        ensures left { IsKnown S.Store self.new.format_1 self.new.tables → IfErr result (λ reason. (left : State) → MayLeave S.Store self.new.tables left →
+            (left ≡ line_state self.old.line) ⊎ ((reason ≡ StoreFailed Commit) × (Some left ≡ state_after (line_state self.old.line) self.old.command))) }
+        ensures now { IsKnown S.Store self.new.format_1 self.new.tables → IsTrue (state S.Store self.new.tables).is_open →
+            OnErr result (Stores (state S.Store self.new.tables).now (line_state self.old.line)) }
+    {
+        let number = self.version.number() + 1;
+        match mem::replace(&mut self.step, Step::Closed(None)) {
+            Step::Prepared(plan) => match self.store.commit(&plan.change, number) {
+                Ok(stamp) => {
+                    self.step = Step::Committed(plan, stamp);
+                    Ok(())
+                }
+                Err(reason) => Err(reason),
+            },
+            _ => unreachable!(),
+        }
+    }
+
+    /// Shows readers the version after the committed command, in one swap.
+    ///
+    /// # Errors
+    ///
+    /// `NotPublished`, where the front refuses it: it is closed, with the old version published and the command stored.
+    pub fn show(&mut self) -> Result<(), Refusal>
+        requires { self.old.phase ≡ Phase.Committed }
+        ensures ok { OnOk result ((self.new ≡ record self.old { phase = Phase.Published; line = self.new.line }) × (Some self.new.line ≡ line_after self.old.line self.old.command)) }
+        ensures err { OnErr result (self.new ≡ record self.old { phase = Phase.Closed }) }
+        ensures reason { IfErr result (λ reason. reason ≡ NotPublished) }
+        ensures stands { Stands S.Store self.new }
+    {
+        // Says how many commands there can be.
+        let _most = self.version.number();
+        match mem::replace(&mut self.step, Step::Closed(None)) {
+            Step::Committed(plan, stamp) => {
+                let command = plan.command;
+                match self
+                    .front
+                    .publish(stamp, Snapshot::of(&command), plan.shown)
+                {
+                    Ok(_told) => {
+                        self.version = plan.next;
+                        self.step = Step::Published(command, plan.noted);
+                        Ok(())
+                    }
+                    Err(reason) => {
+                        self.step = Step::Closed(Some(command));
+                        Err(reason)
+                    }
+                }
+            }
+            _ => unreachable!(),
+        }
+    }
+
+    /// Notes the published version in the registry, and acknowledges the command.
+    pub fn note(&mut self, registry: &mut Registry) -> Receipt
+        requires { self.old.phase ≡ Phase.Published }
+        ensures same { self.new ≡ record self.old { phase = Phase.Ready; command = None } }
+        ensures receipt { result ≡ self.old.line }
+        ensures registry { registry.new ≡ noted_by registry.old (line_state self.old.line) }
+        ensures stands { Stands S.Store self.new }
+    {
+        match mem::replace(&mut self.step, Step::Ready) {
+            Step::Published(_, noted) => {
+                self.keeper.note(registry, noted);
+                let number = self.version.number();
+                Receipt::new(number, self.front.known())
+            }
+            _ => unreachable!(),
+        }
+    }
+
+    /// Checks a command, sees that the domain has room for one more version, and takes the memory of the version after
+    /// the command. The domain's lock is held for the check and the room alone.
+    ///
+    /// # Errors
+    ///
+    /// `Closed` exactly where it is closed; otherwise what the command is refused for; where that is nothing, `Busy`
+    /// (64 versions that readers may hold) or `NoMemory`. It is then as it was, and the call may be made again.
+    pub fn prepare<W: Wait>(
+        &mut self,
+        rt: &W,
+        domain: &Domain,
+        command: &Command,
+    ) -> Result<(), Refusal>
+        requires quiet { IsQuiet self.old.phase }
+        requires storable { IsStorable command.now }
+        ensures ok { OnOk result ((self.new ≡ record self.old { phase = Phase.Prepared; command = Some command.now }) × Takes self.old command.now) }
+        ensures err { IfErr result (λ reason. (self.new ≡ self.old) × IsNotPrepared self.old.phase (line_state self.old.line) command.now reason) }
+        ensures stands { Stands S.Store self.new }
+    {
+        let admitted = self.admit(&mut domain.lock(rt), command);
+        if let Err(reason) = admitted {
+            return Err(reason);
+        }
+        if let Err(reason) = self.plan() {
+            return Err(reason);
+        }
+        Ok(())
+    }
+
+    /// Publishes the version after the committed command in one swap, notes it, and acknowledges the command. The
+    /// domain's lock is held for the note alone.
+    ///
+    /// # Errors
+    ///
+    /// `NotPublished`, where the front refuses it: it is closed, with the old version published and the command stored.
+    pub fn publish<W: Wait>(&mut self, rt: &W, domain: &Domain) -> Result<Receipt, Refusal>
+        requires { self.old.phase ≡ Phase.Committed }
+        ensures ok { OnOk result ((self.new ≡ record self.old { phase = Phase.Ready; line = self.new.line; command = None }) × (Some self.new.line ≡ line_after self.old.line self.old.command)) }
+        ensures receipt { IfOk result (λ receipt. receipt ≡ self.new.line) }
+        ensures err { OnErr result (self.new ≡ record self.old { phase = Phase.Closed }) }
+        ensures reason { IfErr result (λ reason. reason ≡ NotPublished) }
+        ensures stands { Stands S.Store self.new }
+    {
+        if let Err(reason) = self.show() {
+            return Err(reason);
+        }
+        let receipt = self.note(&mut domain.lock(rt));
+        Ok(receipt)
+    }
+
+    /// Prepares, commits and publishes a command. After it the publisher is ready or closed.
+    ///
+    /// # Errors
+    ///
+    /// Those of `prepare`, `commit` and `publish`, with what each leaves.
+    pub fn submit<W: Wait>(
+        &mut self,
+        rt: &W,
+        domain: &Domain,
+        command: &Command,
+    ) -> Result<Receipt, Refusal>
+        requires quiet { IsQuiet self.old.phase }
+        requires storable { IsStorable command.now }
+        ensures quiet { IsQuiet self.new.phase }
+        ensures ok { IfOk result (λ receipt. (receipt ≡ grown self.old.line command.now) × (self.new ≡ record self.old { phase = Phase.Ready; line = grown self.old.line command.now; command = None; tables = self.new.tables })) }
+        ensures took { OnOk result (Takes self.old command.now) }
+        ensures err { IfErr result (λ reason. IsNotAcknowledged S.Store self.old command.now reason self.new) }
+        ensures clean { HasCleanDisk (state S.Store self.new.tables) → HasCleanDisk (state S.Store self.old.tables) }
+        ensures others { Spares S.Store self.old self.new }
+        ensures stands { Stands S.Store self.new }
+    {
+        // Says what is stored.
+        let _phase = self.phase();
+        if let Err(reason) = self.prepare(rt, domain, command) {
+            return Err(reason);
+        }
+        if let Err(reason) = self.commit() {
+            return Err(reason);
+        }
+        match self.publish(rt, domain) {
+            Ok(receipt) => Ok(receipt),
+            Err(reason) => Err(reason),
+        }
+    }
+}
