@@ -1,5 +1,5 @@
 -- What the tables of a file that was adopted spell.
-use Rattle.std.proofs.Common.{◌≡◌, inl, inr, [], ◌∷◌, Ok, Result, IfOk, drop, map, IsPermutation, refl, sym, subst, ◌∙◌}
+use Rattle.std.proofs.Common.{◌≡◌, inl, inr, [], ◌∷◌, Ok, Result, IfOk, IfSome, None, Option, Some, drop, map, IsPermutation, refl, sym, subst, ◌∙◌}
 use Rattle.sqlite.specs.Effect.{Database}
 use Rattle.sqlite.specs.Held.{Held}
 use Rattle.sqlite.specs.Store.{Ghosts}
@@ -12,7 +12,7 @@ use Rattle.prt_rows.specs.Tables.{meta_table, route_table, rule_table}
 use Rattle.prt_version.specs.State.{State, opening_state}
 use Rattle.prt_store.proofs.Looks.{no_meta_rows, our_table}
 use Rattle.prt_store.proofs.Openings.{filled_later}
-use Rattle.prt_store.specs.Adopted.{Adopts, AdoptsOne, AdoptsPart, IsFilled}
+use Rattle.prt_store.specs.Adopted.{Adopts, AdoptsOne, AdoptsPart, IsFilled, RefusesOne}
 use Rattle.prt_store.specs.Stored.{Stores}
 
 -- tables that spell a state have a row
@@ -73,3 +73,9 @@ goes_on old mid new part adopts = record {
 -- what an open says of the connection that it gave holds of the one that was adopted
 pub adopts_found : {S : Type 0} (g : Ghosts S) (IsFound : Held S → Type 0) (opened : Result (Held S) Error) → IfOk opened IsFound → (now : Held S) → AdoptsOne g (λ was. opened ≡ Ok was) now → AdoptsOne g IsFound now
 adopts_found {S = S} g IsFound opened found now one = record { was = one.was; found = subst (λ (r : Result (Held S) Error). IfOk r IsFound) one.found found; adopted = one.adopted; columns = one.columns; rest = one.rest; survives = one.survives }
+
+-- and so of one that was refused
+pub refuses_found : {S : Type 0} (g : Ghosts S) (IsFound : Held S → Type 0) (opened : Result (Held S) Error) → IfOk opened IsFound → (left : Option (Held S)) → IfSome left (RefusesOne g (λ was. opened ≡ Ok was)) → IfSome left (RefusesOne g IsFound)
+refuses_found g IsFound opened found None one = tt
+refuses_found {S = S} g IsFound opened found (Some left) one =
+    record { was = one.was; found = subst (λ (r : Result (Held S) Error). IfOk r IsFound) one.found found; part = one.part; other_columns = one.other_columns; survives = one.survives }

@@ -14,3 +14,4 @@ pub mod Adoptions
 pub mod Spelled
 pub mod Exits
 pub mod Stops
+pub mod Anywhere

@@ -30,7 +30,7 @@ still_there : (old new : Conn) → IsUnchanged old new ⊎ IsRolledBack old new 
 still_there old new (inl same) still_open settled = same.0.now_is
 still_there old new (inr undone) still_open settled = (undone.undone still_open).0 ∙ sym (settled (undone.was_open still_open))
 
-no_length : (rows : List Row) → length rows ≡ 0 → rows ≡ []
+pub no_length : (rows : List Row) → length rows ≡ 0 → rows ≡ []
 no_length [] none = refl
 no_length (row ∷ rows) none = absurd (omega (arith, none))
 

@@ -28,7 +28,7 @@ use Rattle.prt_store.specs.declared.opening.OurTable.{OurTable}
 use Rattle.prt_store.specs.declared.opening.OurTable.TheVariants as ours
 use Rattle.prt_store.specs.declared.opening.Step.TheVariants as step
 
-on_any : {T E P : Type 0} (r : Result T E) → P → OnOk r P
+pub on_any : {T E P : Type 0} (r : Result T E) → P → OnOk r P
 on_any (Ok x) it = it
 on_any (Err e) it = tt
 
@@ -92,6 +92,14 @@ part_later old mid new keeps part = record {
 
 leaves_later : (old mid : Database) (trees : Trees) → KeepsTables old mid → LeavesPart mid trees → LeavesPart old trees
 leaves_later old mid trees keeps left = record { db = left.db; is = left.is; sound = left.sound; part = part_later old mid left.db keeps left.part }
+
+-- an opening that does nothing is refused
+pub opens_nothing : {S : Type 0} (g : Ghosts S) (conn : Held S) (reason : Refusal) → OpensTables g conn conn (Err reason)
+opens_nothing g conn reason = record {
+  ok = λ clean tables. tt;
+  err = λ clean still_open tables. nothing_done (state g conn).now tables;
+  crash = λ tables. survives_itself (state g conn) (LeavesPart (state g conn).now);
+}
 
 -- ---- a table that is made where it is missing
 

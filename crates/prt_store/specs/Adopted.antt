@@ -8,7 +8,7 @@ use Rattle.sqlite.specs.Table.{Table}
 use Rattle.sqlite.specs.Tree.{Trees}
 use Rattle.sqlite_rules.specs.Lists.{Has}
 use Rattle.prt_rows.specs.Effects.{AreEmpty, KeepsTables}
-use Rattle.prt_rows.specs.Format.{BeginsFormat1, HasFormat1, IsFormat1}
+use Rattle.prt_rows.specs.Format.{BeginsFormat1, HasFormat1, IsFormat1, SuitsFormat1}
 use Rattle.prt_rows.specs.Tables.{our_tables}
 use Rattle.prt_store.specs.Stored.{Stores}
 use Rattle.prt_version.specs.State.{opening_state}
@@ -56,3 +56,11 @@ pub record AdoptsOne {S : Type 0} (g : Ghosts S) (IsFound : Held S → Type 0) (
   pub columns : HasFormat1 (state g now).now.schema
   pub rest : IsTrue (state g now).is_open → IsAtRest g now
   pub survives : (HasCleanDisk (state g was) → BeginsFormat1 (state g was).now.schema) → Survives (state g was) (state g now) (LeavesPart (state g was).now)
+
+-- a connection that was found so was not adopted, and was left as this one
+pub record RefusesOne {S : Type 0} (g : Ghosts S) (IsFound : Held S → Type 0) (left : Held S) : Type 0 where
+  pub was : Held S
+  pub found : IsFound was
+  pub part : HasCleanDisk (state g left) → IsTrue (state g left).is_open → BeginsFormat1 (state g was).now.schema → AdoptsPart (state g was).now (state g left).now
+  pub other_columns : (SuitsFormat1 (state g was).now.schema → ⊥) → left ≡ was
+  pub survives : (HasCleanDisk (state g was) → BeginsFormat1 (state g was).now.schema) → Survives (state g was) (state g left) (LeavesPart (state g was).now)

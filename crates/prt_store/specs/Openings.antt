@@ -1,9 +1,9 @@
 -- What the steps of an opening do.
-use Rattle.std.specs.Prelude.{◌≡◌, ℕ, Bool, true, false, [], Result, Ok, IfOk, IsTrue, MatchBool, OnErr, OnOk}
+use Rattle.std.specs.Prelude.{◌≡◌, ◌⊎◌, ℕ, Bool, true, false, [], Result, Ok, IfOk, IsTrue, MatchBool, OnErr, OnOk}
 use Rattle.sqlite.specs.Effect.{Database}
 use Rattle.sqlite.specs.Held.{Held, state}
 use Rattle.sqlite.specs.Schema.{Schema}
-use Rattle.sqlite.specs.State.{Executes, HasCleanDisk, IsUnchanged, KeepsCommit, Survives}
+use Rattle.sqlite.specs.State.{Executes, HasCleanDisk, IsUnchanged, KeepsCommit, Shown, Survives}
 use Rattle.sqlite.specs.Store.{Ghosts}
 use Rattle.sqlite.specs.Table.{Table}
 use Rattle.sqlite.specs.Tree.{Trees}
@@ -124,3 +124,37 @@ pub record OpensTables {S : Type 0} (g : Ghosts S) (old new : Held S) (result : 
   pub ok : HasCleanDisk (state g new) → BeginsFormat1 (state g old).now.schema → OnOk result (Adopts (state g old).now (state g new).now × IsSettled g new)
   pub err : HasCleanDisk (state g new) → IsTrue (state g new).is_open → BeginsFormat1 (state g old).now.schema → OnErr result (AdoptsPart (state g old).now (state g new).now)
   pub crash : (HasCleanDisk (state g old) → BeginsFormat1 (state g old).now.schema) → Survives (state g old) (state g new) (LeavesPart (state g old).now)
+
+-- ---- of whatever file
+
+-- the table was there and nothing was done, or it was made in a transaction of its own
+pub record MakesTable {S : Type 0} (g : Ghosts S) (table : OurTable) (old new : Held S) : Type 0 where
+  pub there : has_table (table_of table).name (state g old).now.schema ≡ true → new ≡ old
+  pub missing : has_table (table_of table).name (state g old).now.schema ≡ false → HasDone g (Takes g (step.Make table)) old (state g new).committed × IsSettled g new
+
+abbrev pub MakesTables : {S : Type 0} → Ghosts S → Held S → Held S → Type 0
+MakesTables g = InTurn (MakesTable g ours.Rule) (InTurn (MakesTable g ours.Route) (MakesTable g ours.Meta))
+
+-- of the database as it is, the statement that looks at the table showed no row
+abbrev pub ShowsNoRow : {S : Type 0} → Ghosts S → Held S → OurTable → Type 0
+ShowsNoRow {S = S} g conn table = (before after : Held S) × ((state g before).now ≡ (state g conn).now) × Shown (look_at table) [] (state g before) (state g after) []
+
+-- nothing was changed, and it was found so only if this holds
+pub record Finds {S : Type 0} (g : Ghosts S) (P : Type 0) (old new : Held S) (result : Result Bool Refusal) : Type 0 where
+  pub ok : HasCleanDisk (state g new) → IfOk result (λ found. IsUnchanged (state g old) (state g new) × (found ≡ true → P))
+  pub quiet : CommitsNothing g old new
+
+-- each statement that looks showed no row, and the opening state was put into the tables, in one transaction
+pub record FillsEmpty {S : Type 0} (g : Ghosts S) (old new : Held S) : Type 0 where
+  pub empty : (table : OurTable) → ShowsNoRow g old table
+  pub seen : Held S
+  pub same : IsUnchanged (state g old) (state g seen)
+  pub filled : HasDone g (Fills g) seen (state g new).now
+
+-- nothing was changed, or the tables were empty and were filled
+abbrev pub KeepsOrFills : {S : Type 0} → Ghosts S → Held S → Held S → Type 0
+KeepsOrFills g old new = IsUnchanged (state g old) (state g new) ⊎ FillsEmpty g old new
+
+-- the missing tables were made, and then nothing was changed or the tables were filled
+abbrev pub MakesAndFills : {S : Type 0} → Ghosts S → Held S → Held S → Type 0
+MakesAndFills g = InTurn (MakesTables g) (KeepsOrFills g)

@@ -1,14 +1,15 @@
 //! Stores over files as they are found.
 
-ghost use Rattle.std.specs.Prelude.{◌≡◌, IfErr, IfOk, IsTrue, Ok};
+ghost use Rattle.std.specs.Prelude.{◌≡◌, IfErr, IfOk, IfSome, IsErrAnd, IsTrue, Ok};
 ghost use Rattle.sqlite.specs.Files.{IsOpened, file_state, over_files};
 ghost use Rattle.sqlite.specs.Held.{state};
 ghost use Rattle.sqlite.specs.State.{HasCleanDisk, Survives};
 ghost use Rattle.sqlite.specs.Tree.{Trees};
 ghost use Rattle.prt_addr.specs.declared.refusal.Refusal.TheVariants.{OpenFailed};
 ghost use Rattle.prt_rows.specs.Effects.{AreEmpty};
-ghost use Rattle.prt_rows.specs.Format.{BeginsFormat1, HasFormat1};
-ghost use Rattle.prt_store.specs.Adopted.{Adopts, AdoptsOne, AdoptsPart, IsAtRest, IsSettled, LeavesPart};
+ghost use Rattle.prt_rows.specs.Format.{BeginsFormat1, HasFormat1, SuitsFormat1};
+ghost use Rattle.prt_store.specs.Adopted.{Adopts, AdoptsOne, AdoptsPart, IsAtRest, IsSettled, LeavesPart, RefusesOne};
+ghost use Rattle.prt_store.specs.Openings.{KeepsOrFills, MakesAndFills};
 ghost use Rattle.prt_store.specs.Stored.{Stores};
 ghost use Rattle.prt_version.specs.State.{State, opening_state};
 
@@ -22,15 +23,16 @@ impl<S: Alter + Drop> Store<S> {
     /// they are missing, each by itself; where the three have no rows they are filled with the opening state, in one
     /// transaction, with the row of `meta` last. All other rows stay as they are, whether they spell a state or not.
     ///
-    /// After `Ok` the three tables have the columns of format 1, nothing is pending, and a crash leaves what the tables
-    /// show, whatever the file. The other clauses speak of a file without tables, of one that an earlier opening was
-    /// stopped in, and of one whose first tables are the three. Other files are served all the same.
+    /// After `Ok`, whatever the file, the three tables have the columns of format 1, nothing is pending, and a crash
+    /// leaves what the tables show. Each missing table was made by its statement, and then nothing was changed, or the
+    /// statements that look at the three tables showed no rows and those that fill them ran. The other clauses speak of
+    /// a file without tables, of one that an earlier opening was stopped in, and of one whose first tables are the three.
     ///
     /// # Errors
     ///
-    /// `OpenFailed`, with the connection, where one of the three tables has other columns than those of format 1, or a
-    /// store call fails. No row is changed then, but that three empty tables may have been filled. The connection is to
-    /// be closed and opened again before it is used.
+    /// `OpenFailed`, with the connection. Where one of the three tables has other columns than those of format 1, the
+    /// connection is as it was, whatever the file. Where a store call fails, no row is changed, but that three empty
+    /// tables may have been filled; the connection is to be closed and opened again before it is used.
     pub fn adopt(mut conn: Connection<S>) -> Result<Store<S>, (Refusal, Connection<S>)>
         ensures ok { IfOk result (λ store. HasCleanDisk (state S.Store store.conn) → BeginsFormat1 (state S.Store conn).now.schema →
             Adopts (state S.Store conn).now (state S.Store store.conn).now) }
@@ -46,7 +48,11 @@ impl<S: Alter + Drop> Store<S> {
         ensures at_rest { IfOk result (λ store. IsTrue (state S.Store store.conn).is_open → IsAtRest S.Store store.conn) }
         ensures survives_ok { IfOk result (λ store. (HasCleanDisk (state S.Store conn) → BeginsFormat1 (state S.Store conn).now.schema) →
             Survives (state S.Store conn) (state S.Store store.conn) (LeavesPart (state S.Store conn).now)) }
+        ensures does { IfOk result (λ store. HasCleanDisk (state S.Store store.conn) → MakesAndFills S.Store conn store.conn) }
+        ensures same { IfOk result (λ store. HasCleanDisk (state S.Store store.conn) → HasFormat1 (state S.Store conn).now.schema →
+            KeepsOrFills S.Store conn store.conn) }
         ensures reason { IfErr result (λ refused. refused.0 ≡ OpenFailed) }
+        ensures other_columns { (SuitsFormat1 (state S.Store conn).now.schema → ⊥) → IsErrAnd result (λ refused. refused.1 ≡ conn) }
         ensures err { IfErr result (λ refused. HasCleanDisk (state S.Store refused.1) → IsTrue (state S.Store refused.1).is_open →
             BeginsFormat1 (state S.Store conn).now.schema → AdoptsPart (state S.Store conn).now (state S.Store refused.1).now) }
         ensures crash_err { IfErr result (λ refused. (HasCleanDisk (state S.Store conn) → BeginsFormat1 (state S.Store conn).now.schema) →
@@ -60,16 +66,19 @@ impl<S: Alter + Drop> Store<S> {
 }
 
 /// The store over the connection that an open gave.
-fn adopt_opened<S: Alter + Drop>(opened: Result<Connection<S>, Error>) -> Result<Store<S>, Refusal>
-    ensures reason { IfErr result (λ reason. reason ≡ OpenFailed) }
+fn adopt_opened<S: Alter + Drop>(
+    opened: Result<Connection<S>, Error>,
+) -> Result<Store<S>, (Refusal, Option<Connection<S>>)>
+    ensures reason { IfErr result (λ refused. refused.0 ≡ OpenFailed) }
     ensures ok { IfOk result (λ store. AdoptsOne S.Store (λ was. opened ≡ Ok was) store.conn) }
+    ensures err { IfErr result (λ refused. IfSome refused.1 (RefusesOne S.Store (λ was. opened ≡ Ok was))) }
 {
     match opened {
         Ok(conn) => match Store::adopt(conn) {
             Ok(store) => Ok(store),
-            Err((reason, _)) => Err(reason),
+            Err((reason, conn)) => Err((reason, Some(conn))),
         },
-        Err(_) => Err(Refusal::OpenFailed),
+        Err(_) => Err((Refusal::OpenFailed, None)),
     }
 }
 
@@ -79,11 +88,15 @@ impl Store<FileStore<File>> {
     ///
     /// # Errors
     ///
-    /// `OpenFailed` where the path can't be opened, the file is no database, or it can't be adopted: its rows are then
-    /// as `adopt` leaves them.
-    pub fn open(rt: &HostRuntime, path: &str) -> Result<Store<FileStore<File>>, Refusal>
-        ensures reason { IfErr result (λ reason. reason ≡ OpenFailed) }
+    /// `OpenFailed` where the path can't be opened or the file is no database; and, with the connection, where the
+    /// database can't be adopted: it is then as `adopt` leaves it.
+    pub fn open(
+        rt: &HostRuntime,
+        path: &str,
+    ) -> Result<Store<FileStore<File>>, (Refusal, Option<Connection<FileStore<File>>>)>
+        ensures reason { IfErr result (λ refused. refused.0 ≡ OpenFailed) }
         ensures ok { IfOk result (λ store. AdoptsOne over_files (λ was. HasCleanDisk (file_state was) → IsOpened was) store.conn) }
+        ensures err { IfErr result (λ refused. IfSome refused.1 (RefusesOne over_files (λ was. HasCleanDisk (file_state was) → IsOpened was))) }
     {
         adopt_opened(Connection::open(rt, path))
     }

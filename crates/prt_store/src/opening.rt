@@ -1,20 +1,22 @@
 //! The opening of a file: the three tables are made where they are missing, and filled where they have no rows.
 
-ghost use Rattle.std.specs.Prelude.{◌≡◌, ◌<◌, ◌^◌, [], false, IfErr, IsTrue, OnOk};
+ghost use Rattle.std.specs.Prelude.{◌≡◌, ◌<◌, ◌^◌, [], false, Err, IfErr, IsTrue, OnOk};
 ghost use Rattle.sqlite.specs.Held.{state};
+ghost use Rattle.sqlite.specs.State.{HasCleanDisk};
 ghost use Rattle.prt_addr.specs.declared.refusal.Refusal.TheVariants.{OpenFailed};
 ghost use Rattle.prt_rows.specs.Effects.{AreEmpty};
-ghost use Rattle.prt_rows.specs.Format.{BeginsFormat1, HasFormat1, IsFormat1};
+ghost use Rattle.prt_rows.specs.Format.{BeginsFormat1, HasFormat1, IsFormat1, SuitsFormat1};
 ghost use Rattle.prt_rows.specs.MetaRow.{meta_row};
 ghost use Rattle.prt_rows.specs.Statements.{insert_meta};
 ghost use Rattle.prt_store.specs.Adopted.{IsSettled};
-ghost use Rattle.prt_store.specs.Openings.{Advances, Commits, Fills, InsertsRule, InsertsRules, IsEmpty, MakesMissing, OpensTables, Ran, Sees, Takes, Works, create, look_at, table_of};
+ghost use Rattle.prt_store.specs.Openings.{Advances, Commits, Fills, Finds, InsertsRule, InsertsRules, IsEmpty, MakesAndFills, MakesMissing, MakesTables, OpensTables, Ran, Sees, ShowsNoRow, Takes, Works, create, look_at, table_of};
+ghost use Rattle.prt_store.specs.declared.opening.OurTable.{OurTable as OneTable};
 ghost use Rattle.prt_version.specs.State.{table_rule};
 
 use crate::statements::insert_rule;
 use prt_addr::Refusal;
 use prt_route::{DEFAULT_TABLE, LOCAL_TABLE, MAIN_TABLE};
-use prt_rows::{has_format_1, has_table, meta_values};
+use prt_rows::{has_format_1, has_table, meta_values, suits_format_1};
 use prt_rule::Rule;
 use prt_version::table_rule;
 use sqlite::{Alter, Connection, Error, Transaction};
@@ -158,6 +160,7 @@ fn make_missing<S: Alter>(conn: &mut Connection<S>, table: OurTable) -> Result<(
 fn make_tables<S: Alter>(conn: &mut Connection<S>) -> Result<(), Refusal>
     ensures reason { IfErr result (λ reason. reason ≡ OpenFailed) }
     ensures advances { Advances S.Store BeginsFormat1 IsFormat1 conn.old conn.new result }
+    ensures makes { HasCleanDisk (state S.Store conn.new) → OnOk result (MakesTables S.Store conn.old conn.new) }
 {
     make_missing(conn, OurTable::Rule)?;
     make_missing(conn, OurTable::Route)?;
@@ -179,6 +182,7 @@ fn look_at(table: OurTable) -> &'static str
 fn is_empty<S: Alter>(conn: &mut Connection<S>, table: OurTable) -> Result<bool, Refusal>
     ensures reason { IfErr result (λ reason. reason ≡ OpenFailed) }
     ensures sees { Sees S.Store (IsEmpty table) conn.old conn.new result }
+    ensures finds { Finds S.Store (ShowsNoRow S.Store conn.old table) conn.old conn.new result }
 {
     match conn.query_all(look_at(table), &[]) {
         Ok(rows) => Ok(rows.is_empty()),
@@ -191,6 +195,7 @@ fn is_empty<S: Alter>(conn: &mut Connection<S>, table: OurTable) -> Result<bool,
 fn are_empty<S: Alter>(conn: &mut Connection<S>) -> Result<bool, Refusal>
     ensures reason { IfErr result (λ reason. reason ≡ OpenFailed) }
     ensures sees { Sees S.Store AreEmpty conn.old conn.new result }
+    ensures finds { Finds S.Store ((table : OneTable) → ShowsNoRow S.Store conn.old table) conn.old conn.new result }
 {
     if !is_empty(conn, OurTable::Meta)? {
         return Ok(false);
@@ -214,6 +219,7 @@ fn is_ready<S: Alter>(conn: &Connection<S>) -> bool
 fn make_and_fill<S: Alter>(conn: &mut Connection<S>) -> Result<(), Refusal>
     ensures reason { IfErr result (λ reason. reason ≡ OpenFailed) }
     ensures opens { OpensTables S.Store conn.old conn.new result }
+    ensures does { HasCleanDisk (state S.Store conn.new) → OnOk result (MakesAndFills S.Store conn.old conn.new) }
 {
     make_tables(conn)?;
     if !is_ready(conn) {
@@ -229,13 +235,19 @@ fn make_and_fill<S: Alter>(conn: &mut Connection<S>) -> Result<(), Refusal>
 ///
 /// # Errors
 ///
-/// `OpenFailed` where one of the tables has other columns than those of format 1, or a store call fails.
+/// `OpenFailed` where one of the tables has other columns than those of format 1, which is asked before anything is
+/// made, or a store call fails.
 pub(crate) fn open_tables<S: Alter>(conn: &mut Connection<S>) -> Result<(), Refusal>
     ensures reason { IfErr result (λ reason. reason ≡ OpenFailed) }
     ensures columns { OnOk result (HasFormat1 (state S.Store conn.new).now.schema) }
     ensures settled { OnOk result (IsTrue (state S.Store conn.new).is_open → IsSettled S.Store conn.new) }
     ensures opens { OpensTables S.Store conn.old conn.new result }
+    ensures other_columns { (SuitsFormat1 (state S.Store conn.old).now.schema → ⊥) → (result ≡ Err OpenFailed) × (conn.new ≡ conn.old) }
+    ensures does { HasCleanDisk (state S.Store conn.new) → OnOk result (MakesAndFills S.Store conn.old conn.new) }
 {
+    if !suits_format_1(conn.schema()) {
+        return Err(Refusal::OpenFailed);
+    }
     make_and_fill(conn)?;
     // Asks again: what the statements leave alone is known only of files whose first tables are ours.
     if is_ready(conn) {

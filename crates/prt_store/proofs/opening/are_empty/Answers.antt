@@ -1,7 +1,9 @@
 use Rattle.std.proofs.Common.{Err, Ok, false, subst}
 use Rattle.prt_rows.specs.Effects.{AreEmpty}
+use Rattle.prt_store.proofs.Anywhere.{asked_all, finds_as, finds_fails, finds_not, finds_three, finds_two}
 use Rattle.prt_store.proofs.Looks.{all_empty, no_meta_rows, no_route_rows, no_rule_rows, sees_both, sees_fails, sees_not, sees_same}
-use Rattle.prt_store.specs.Openings.{IsEmpty, Sees}
+use Rattle.prt_store.specs.Openings.{Finds, IsEmpty, Sees, ShowsNoRow}
+use Rattle.prt_store.specs.declared.opening.OurTable.{OurTable}
 use Rattle.prt_store.specs.declared.opening.OurTable.TheVariants.{Meta, Route, Rule}
 use Rattle.prt_store.proofs.opening.are_empty.Goals as goal
 
@@ -42,3 +44,48 @@ returns-clause-sees g c =
     let all = sees_both g.S.Store (IsEmpty Meta) (λ db. IsEmpty Rule db × IsEmpty Route db) start first third one c.is_empty-3.result rest in
     sees_same g.S.Store (λ db. IsEmpty Meta db × (IsEmpty Rule db × IsEmpty Route db)) AreEmpty start third c.is_empty-3.result (λ db t none. all_empty db none)
     (λ db t empty. (no_meta_rows db t empty, (no_rule_rows db t empty, no_route_rows db t empty))) all
+
+pub returns-in_err-is_empty-clause-finds : goal.returns-in_err-is_empty-clause-finds
+returns-in_err-is_empty-clause-finds g c =
+    let start = c.args.conn.now in
+    finds_fails g.S.Store (ShowsNoRow g.S.Store start Meta) ((table : OurTable) → ShowsNoRow g.S.Store start table) start c.is_empty.new.conn c.in_err-is_empty.field-0.0 c.from_residual.result c.from_residual.ensures.0 c.in_err-is_empty.ensures.finds
+
+pub returns-then-not-branch-clause-finds : goal.returns-then-not-branch-clause-finds
+returns-then-not-branch-clause-finds g c =
+    let start = c.args.conn.now in
+    let first = c.is_empty.new.conn in
+    let none = ShowsNoRow g.S.Store start Meta in
+    finds_not g.S.Store none ((table : OurTable) → ShowsNoRow g.S.Store start table) start first (subst (λ b. Finds g.S.Store none start first (Ok b)) c.if-not-branch.true c.in_ok-is_empty.ensures.finds)
+
+pub returns-in_err-is_empty-2-clause-finds : goal.returns-in_err-is_empty-2-clause-finds
+returns-in_err-is_empty-2-clause-finds g c =
+    let start = c.args.conn.now in
+    let first = c.is_empty.new.conn in
+    let second = c.is_empty-2.new.conn in
+    let none = ShowsNoRow g.S.Store start in
+    let one = subst (λ b. Finds g.S.Store (none Meta) start first (Ok b)) c.if-not-branch.false c.in_ok-is_empty.ensures.finds in
+    let reason = c.in_err-is_empty-2.field-0.0 in
+    finds_fails g.S.Store (none Meta × none Rule) ((table : OurTable) → none table) start second reason c.from_residual-in_err-is_empty-2.result c.from_residual-in_err-is_empty-2.ensures.0
+    (finds_two g.S.Store Meta Rule start first second (Err reason) one c.in_err-is_empty-2.ensures.finds)
+
+pub returns-then-not-branch-2-clause-finds : goal.returns-then-not-branch-2-clause-finds
+returns-then-not-branch-2-clause-finds g c =
+    let start = c.args.conn.now in
+    let first = c.is_empty.new.conn in
+    let second = c.is_empty-2.new.conn in
+    let none = ShowsNoRow g.S.Store start in
+    let one = subst (λ b. Finds g.S.Store (none Meta) start first (Ok b)) c.if-not-branch.false c.in_ok-is_empty.ensures.finds in
+    let two = subst (λ b. Finds g.S.Store (ShowsNoRow g.S.Store first Rule) first second (Ok b)) c.if-not-branch-2.true c.in_ok-is_empty-2.ensures.finds in
+    finds_not g.S.Store (none Meta × none Rule) ((table : OurTable) → none table) start second (finds_two g.S.Store Meta Rule start first second (Ok false) one two)
+
+pub returns-clause-finds : goal.returns-clause-finds
+returns-clause-finds g c =
+    let start = c.args.conn.now in
+    let first = c.is_empty.new.conn in
+    let second = c.is_empty-2.new.conn in
+    let third = c.is_empty-3.new.conn in
+    let none = ShowsNoRow g.S.Store start in
+    let one = subst (λ b. Finds g.S.Store (none Meta) start first (Ok b)) c.if-not-branch.false c.in_ok-is_empty.ensures.finds in
+    let two = subst (λ b. Finds g.S.Store (ShowsNoRow g.S.Store first Rule) first second (Ok b)) c.if-not-branch-2.false c.in_ok-is_empty-2.ensures.finds in
+    finds_as g.S.Store (none Meta × (none Rule × none Route)) ((table : OurTable) → none table) start third c.is_empty-3.result (asked_all g.S.Store start)
+    (finds_three g.S.Store Meta Rule start first second Route third c.is_empty-3.result one two c.is_empty-3.ensures.finds)

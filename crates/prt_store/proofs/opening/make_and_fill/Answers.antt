@@ -1,8 +1,10 @@
 use Rattle.std.proofs.Common.{Ok, ap, not, refl, subst}
 use Rattle.sqlite.specs.Held.{state}
 use Rattle.prt_rows.specs.Effects.{AreEmpty}
+use Rattle.prt_store.proofs.Anywhere.{does_fill, does_keep, on_none}
 use Rattle.prt_store.proofs.Openings.{has_rows, look_failed, opens_filled, opens_refused}
-use Rattle.prt_store.specs.Openings.{Sees}
+use Rattle.prt_store.specs.Openings.{Finds, Sees, ShowsNoRow}
+use Rattle.prt_store.specs.declared.opening.OurTable.{OurTable}
 use Rattle.prt_store.proofs.opening.make_and_fill.Goals as goal
 
 pub returns-then-not-is_ready-clause-opens : goal.returns-then-not-is_ready-clause-opens
@@ -26,3 +28,22 @@ returns-clause-opens g c =
     let seen = c.are_empty.new.conn in
     opens_filled g.S.Store c.args.conn.now made c.in_ok-make_tables.ensures.advances seen c.take.new.conn c.take.result (subst (λ b. Sees g.S.Store AreEmpty made seen (Ok b)) c.if-not-branch.false c.in_ok-are_empty.ensures.sees)
     c.take.ensures.commits
+
+pub returns-in_err-make_tables-clause-does : goal.returns-in_err-make_tables-clause-does
+returns-in_err-make_tables-clause-does g c clean = on_none _ c.from_residual.result c.from_residual.ensures.0
+
+pub returns-in_err-are_empty-clause-does : goal.returns-in_err-are_empty-clause-does
+returns-in_err-are_empty-clause-does g c clean = on_none _ c.from_residual-in_err-are_empty.result c.from_residual-in_err-are_empty.ensures.0
+
+pub returns-then-not-branch-clause-does : goal.returns-then-not-branch-clause-does
+returns-then-not-branch-clause-does g c clean =
+    let made = c.make_tables.new.conn in
+    let seen = c.are_empty.new.conn in
+    does_keep g.S.Store c.args.conn.now made seen c.in_ok-make_tables.ensures.makes (subst (λ b. Finds g.S.Store ((table : OurTable) → ShowsNoRow g.S.Store made table) made seen (Ok b)) c.if-not-branch.true c.in_ok-are_empty.ensures.finds) clean
+
+pub returns-clause-does : goal.returns-clause-does
+returns-clause-does g c clean =
+    let made = c.make_tables.new.conn in
+    let seen = c.are_empty.new.conn in
+    does_fill g.S.Store c.args.conn.now made seen c.in_ok-make_tables.ensures.makes c.take.new.conn c.take.result (subst (λ b. Finds g.S.Store ((table : OurTable) → ShowsNoRow g.S.Store made table) made seen (Ok b)) c.if-not-branch.false c.in_ok-are_empty.ensures.finds)
+    c.take.ensures.commits clean

@@ -1,5 +1,6 @@
 use Rattle.std.proofs.Common.{Err, Ok}
 use Rattle.prt_rows.specs.Format.{BeginsFormat1, BeginsWithRoutes, BeginsWithRules, IsFormat1}
+use Rattle.prt_store.proofs.Anywhere.{on_none, tables_made}
 use Rattle.prt_store.proofs.Openings.{advances_not, advances_then, meta_made, routes_made, rules_made}
 use Rattle.prt_store.proofs.opening.make_tables.Goals as goal
 
@@ -27,3 +28,13 @@ returns-clause-advances g c =
     (advances_then g.S.Store BeginsFormat1 BeginsWithRules BeginsWithRoutes start first second (Ok tt) (rules_made g.S.Store start first (Ok tt) c.in_ok-make_missing.ensures.makes)
     (routes_made g.S.Store first second (Ok tt) c.in_ok-make_missing-2.ensures.makes))
     (meta_made g.S.Store second third c.make_missing-3.result c.make_missing-3.ensures.makes)
+
+pub returns-in_err-make_missing-clause-makes : goal.returns-in_err-make_missing-clause-makes
+returns-in_err-make_missing-clause-makes g c clean = on_none _ c.from_residual.result c.from_residual.ensures.0
+
+pub returns-in_err-make_missing-2-clause-makes : goal.returns-in_err-make_missing-2-clause-makes
+returns-in_err-make_missing-2-clause-makes g c clean = on_none _ c.from_residual-in_err-make_missing-2.result c.from_residual-in_err-make_missing-2.ensures.0
+
+pub returns-clause-makes : goal.returns-clause-makes
+returns-clause-makes g c clean =
+    tables_made g.S.Store c.args.conn.now c.make_missing.new.conn c.make_missing-2.new.conn c.make_missing-3.new.conn c.make_missing-3.result c.in_ok-make_missing.ensures.makes c.in_ok-make_missing-2.ensures.makes c.make_missing-3.ensures.makes clean

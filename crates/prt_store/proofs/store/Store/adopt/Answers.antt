@@ -1,6 +1,7 @@
 use Rattle.std.proofs.Common.{inr, sym, ap, ◌∙◌}
 use Rattle.sqlite.specs.Effect.{Database}
 use Rattle.sqlite.specs.Held.{state}
+use Rattle.prt_store.proofs.Anywhere.{keeps_or_fills}
 use Rattle.prt_store.proofs.Adoptions.{opening_stored, stored_still}
 use Rattle.prt_store.proofs.store.Store.adopt.Goals as goal
 
@@ -21,3 +22,18 @@ returns-in-Ok-clause-at_rest g c is_open =
 
 pub returns-in-Ok-clause-crash_ok : goal.returns-in-Ok-clause-crash_ok
 returns-in-Ok-clause-crash_ok g c clean tables = (returns-in-Ok-clause-at_rest g c (c.in-Ok.ensures.opens.ok clean tables).1.is_open).crash
+
+pub returns-in-Ok-clause-does : goal.returns-in-Ok-clause-does
+returns-in-Ok-clause-does g c clean = c.in-Ok.ensures.does clean
+
+pub returns-in-Ok-clause-same : goal.returns-in-Ok-clause-same
+returns-in-Ok-clause-same g c clean tables = keeps_or_fills g.S.Store c.args.conn c.open_tables.new.conn tables (c.in-Ok.ensures.does clean)
+
+pub returns-in-Ok-clause-other_columns : goal.returns-in-Ok-clause-other_columns
+returns-in-Ok-clause-other_columns g c others = absurd (let no = (c.in-Ok.ensures.other_columns others).0 in cc)
+
+pub returns-in-Err-clause-other_columns : goal.returns-in-Err-clause-other_columns
+returns-in-Err-clause-other_columns g c others = (c.in-Err.ensures.other_columns others).1
+
+pub returns-in-Ok-clause-settled : goal.returns-in-Ok-clause-settled
+returns-in-Ok-clause-settled g c clean tables = (c.in-Ok.ensures.opens.ok clean tables).1
