@@ -1,2 +1,3 @@
 pub mod StoreTurns
 pub mod Openings
+pub mod Stops

@@ -149,7 +149,7 @@ found_is found version stored opens sound spells =
 
 -- ---- a commit
 
-next_spelled : (old : Database) (next : State) (schema : Schema) (trees : Trees) → MakesNext old next (database schema trees) → Spells trees next
+pub next_spelled : (old : Database) (next : State) (schema : Schema) (trees : Trees) → MakesNext old next (database schema trees) → Spells trees next
 next_spelled old next schema trees makes = record { schema = schema; sound = makes.sound; stores = makes.stores }
 
 module _ {S : Type 0} (g : Ghosts S) (format_1 : Bool) (old new : Held S) (published : State) (made : Change) (number : ℕ) (next : IsNext published made number)
