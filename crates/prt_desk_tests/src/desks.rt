@@ -1,10 +1,9 @@
 //! Scripts over desks, whose databases are opened again.
 
 use prt_desk::StoreDesk;
-use prt_session::{Desk, ListDesk, OnRefusal, Refusal, ScriptEnd, Unobserved, run_script};
+use prt_session::{Desk, ListDesk, OnRefusal, Refusal, Unobserved, run_script};
 use sqlite::{Alter, Connection, Error};
 use std::alloc::Global;
-use std::io::{self, Write};
 use std::test::Fail;
 
 /// Scripts with each command and each query.
@@ -14,7 +13,7 @@ const SCRIPTS: [&str; 2] = [
 ];
 
 /// The replies of a desk to a script.
-fn replies<D: Desk>(alloc: Global, desk: &mut D, script: &str) -> Vec<u8> {
+pub fn replies<D: Desk>(alloc: Global, desk: &mut D, script: &str) -> Vec<u8> {
     let mut text = Vec::new(alloc);
     let mut lines = script.as_bytes();
     let _end = run_script(
@@ -29,7 +28,7 @@ fn replies<D: Desk>(alloc: Global, desk: &mut D, script: &str) -> Vec<u8> {
 }
 
 /// A desk over the database of a connection.
-fn opened<S: Alter + Drop>(
+pub fn opened<S: Alter + Drop>(
     alloc: Global,
     connection: Connection<S>,
 ) -> Result<StoreDesk<S>, Refusal> {
@@ -67,38 +66,6 @@ fn fill_count<S: Alter>(connection: &mut Connection<S>) -> Result<usize, Error> 
     connection.execute("UPDATE meta SET count = 1000000000000000", &[])
 }
 
-/// A writer that fails.
-#[derive(Clone, Copy)]
-struct Shut;
-
-impl Write for Shut {
-    fn write(&mut self, _bytes: &[u8]) -> io::Result<usize> {
-        Err(io::Error::from(io::ErrorKind::Interrupted))
-    }
-
-    fn flush(&mut self) -> io::Result<()> {
-        Ok(())
-    }
-}
-
-/// Runs a script whose replies cannot be written.
-fn run_unheard<S: Alter + Drop>(
-    alloc: Global,
-    connection: Connection<S>,
-    script: &str,
-) -> Result<(ScriptEnd, Connection<S>), Refusal> {
-    let mut desk = opened(alloc, connection)?;
-    let mut lines = script.as_bytes();
-    let end = desk.run_script(
-        alloc,
-        &mut lines,
-        &mut Shut,
-        OnRefusal::GoOn,
-        &mut Unobserved,
-    );
-    Ok((end, desk.release()))
-}
-
 #[test]
 fn replies_are_those_of_lists(rt: HostRuntime) -> Result<(), Fail> {
     let alloc = rt.alloc();
@@ -128,16 +95,5 @@ fn a_full_count_refuses_a_command(rt: HostRuntime) -> Result<(), Fail> {
     fill_count(&mut connection)?;
     let (replies, _same) = run_over(alloc, connection, "rule flush\n")?;
     assert!(rt; replies.as_slice() == b"error 24 CountFull\n".as_slice());
-    Ok(())
-}
-
-#[test]
-fn an_unheard_command_is_kept(rt: HostRuntime) -> Result<(), Fail> {
-    let alloc = rt.alloc();
-    let connection = Connection::open_in_memory(alloc)?;
-    let (end, connection) = run_unheard(alloc, connection, "rule flush\n")?;
-    assert!(rt; end.fault == Some(Refusal::WriteFault));
-    let (after, _same) = run_over(alloc, connection, "route get 10.1.2.3\n")?;
-    assert!(rt; after.as_slice() == b"answer 1 none\n".as_slice());
     Ok(())
 }

@@ -4,4 +4,6 @@
 #[cfg(test)]
 mod desks;
 #[cfg(test)]
+mod reopened;
+#[cfg(test)]
 mod streams;

@@ -1,0 +1,126 @@
+//! Desks whose database is closed and opened again, also after its disk has failed.
+
+ghost use Rattle.std.specs.Prelude.{IsTrue};
+
+use crate::desks::{opened, replies};
+use prt_desk::StoreDesk;
+use prt_session::{OnRefusal, Refusal, Unobserved};
+use sqlite::{Connection, FileStore, Files, Options};
+use sqlite_disk::{Disk, Fuse, Memory};
+use std::alloc::Global;
+use std::io::{self, Write};
+use std::test::Fail;
+
+/// Each page is read from the log anew, so that each statement calls it.
+const OPTIONS: Options = Options {
+    cache_pages: 1,
+    spill_pages: 1,
+    checkpoint_frames: 1000,
+    seed: 9,
+};
+
+/// A writer that fails.
+#[derive(Clone, Copy)]
+struct Shut;
+
+impl Write for Shut {
+    fn write(&mut self, _bytes: &[u8]) -> io::Result<usize> {
+        Err(io::Error::from(io::ErrorKind::Interrupted))
+    }
+
+    fn flush(&mut self) -> io::Result<()> {
+        Ok(())
+    }
+}
+
+/// A desk over the database of these files. For files of whatever kind, so that the proof knows nothing of them.
+fn desk_in<D: Disk + Drop>(
+    alloc: Global,
+    files: Files<D>,
+) -> Result<StoreDesk<FileStore<D>>, Refusal> {
+    if !files.may_be_used() {
+        return Err(Refusal::OpenFailed);
+    }
+    match Connection::open_files(alloc, files, OPTIONS) {
+        Ok(connection) => opened(alloc, connection),
+        Err(_) => Err(Refusal::OpenFailed),
+    }
+}
+
+/// Runs a script whose replies cannot be written, closes the database and opens it again, and gives why the run ended
+/// and the replies to a second script.
+fn run_unheard<D: Disk + Drop>(
+    alloc: Global,
+    files: Files<D>,
+    script: &str,
+    second: &str,
+) -> Result<(Option<Refusal>, Vec<u8>), Refusal> {
+    let mut desk = desk_in(alloc, files)?;
+    let mut lines = script.as_bytes();
+    let end = desk.run_script(
+        alloc,
+        &mut lines,
+        &mut Shut,
+        OnRefusal::GoOn,
+        &mut Unobserved,
+    );
+    let mut again = desk.reopen(alloc, OPTIONS)?;
+    Ok((end.fault, replies(alloc, &mut again, second)))
+}
+
+/// Runs a script, and gives its replies and the files, closed as far as their disk allows it.
+fn run_in<D: Disk + Drop>(
+    alloc: Global,
+    files: Files<D>,
+    script: &str,
+) -> Result<(Vec<u8>, Files<D>), Refusal> {
+    let mut desk = desk_in(alloc, files)?;
+    let text = replies(alloc, &mut desk, script);
+    let files = match desk.release().close_files() {
+        Ok(files) => files,
+        Err((_, store)) => store.close(),
+    };
+    Ok((text, files))
+}
+
+/// A disk with the bytes of one that has failed.
+fn mended(alloc: Global, failed: &Fuse<Memory>) -> io::Result<Memory> {
+    let mut disk = Memory::new(alloc);
+    disk.write_at(0, failed.inner().bytes())?;
+    Ok(disk)
+}
+
+#[test]
+fn an_unheard_command_is_kept(rt: HostRuntime) -> Result<(), Fail> {
+    let alloc = rt.alloc();
+    let files = Files {
+        log: Memory::new(alloc),
+        db: Memory::new(alloc),
+    };
+    let (fault, after) = run_unheard(alloc, files, "rule flush\n", "route get 10.1.2.3\n")?;
+    assert!(rt; fault == Some(Refusal::WriteFault));
+    assert!(rt; after.as_slice() == b"answer 1 none\n".as_slice());
+    Ok(())
+}
+
+#[test]
+fn a_closed_desk_answers(rt: HostRuntime) -> Result<(), Fail> {
+    let alloc = rt.alloc();
+    // The call that sets the count fails, and each one after it.
+    let files = Files {
+        log: Fuse::new(Memory::new(alloc), 76),
+        db: Fuse::new(Memory::new(alloc), u64::MAX),
+    };
+    let script = "route add 10/8 dev a\nroute add 10/8 dev a\nroute get 10.1.2.3\n";
+    let (text, files) = run_in(alloc, files, script)?;
+    assert!(rt;
+        text.as_slice() == b"error 27 StoreFailed\nerror 20 Closed\nanswer 0 none\n".as_slice()
+    );
+    let files = Files {
+        log: mended(alloc, &files.log)?,
+        db: mended(alloc, &files.db)?,
+    };
+    let (again, _files) = run_in(alloc, files, "route get 10.1.2.3\n")?;
+    assert!(rt; again.as_slice() == b"answer 0 none\n".as_slice());
+    Ok(())
+}
