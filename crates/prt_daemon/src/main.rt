@@ -4,7 +4,8 @@
 mod files;
 
 use files::DatabaseFiles;
-use prt_program::{program, report, words_fault};
+use prt_program::program;
+use prt_words::{report, words_fault};
 use std::process::ExitCode;
 use std::{env, io};
 

@@ -11,7 +11,7 @@ use Rattle.prt_addr.specs.declared.refusal.StoreCall.TheVariants.{Commit}
 use Rattle.prt_command.specs.declared.request.Command.{Command}
 use Rattle.prt_session.specs.Desk.{Befalls, DeskState, Mishap, no_room, no_memory, store_fails, commit_kept, publication_fails, request_turn, settled}
 use Rattle.prt_session.specs.Run.{RunIs}
-use Rattle.prt_session.specs.declared.script.OnRefusal.{OnRefusal}
+use Rattle.prt_addr.specs.declared.on_refusal.OnRefusal.{OnRefusal}
 use Rattle.prt_session.specs.declared.script.ScriptEnd.{ScriptEnd}
 use Rattle.prt_rows.specs.Format.{IsFormat1}
 use Rattle.prt_store.specs.Exits.{IsKnown, IsStored, MayLeave, Opens, Spells}

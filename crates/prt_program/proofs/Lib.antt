@@ -1,10 +1,2 @@
 pub mod Reports
 pub mod ReplayFile
-pub mod Rows
-pub mod Arguments
-pub mod CommandWords
-pub mod LostWords
-pub mod ParsedWords
-pub mod Walks
-pub mod WordClasses
-pub mod WordsRead

@@ -1,10 +1,11 @@
 -- A fault that was reported, and an input that was left alone.
 use Rattle.std.proofs.Common.{◌≡◌, ◌≢◌, ◌∙◌, ℕ, inl, inr, refl, List, Option, Some, None}
-use Rattle.prt_program.specs.Faults.{fault_status, IsFault}
-use Rattle.prt_program.specs.Invocation.{Invocation, Word, batch, replay}
+use Rattle.prt_program.specs.Faults.{IsFault}
+use Rattle.prt_words.specs.Faults.{fault_status}
+use Rattle.prt_words.specs.Invocation.{Invocation, Word, batch, replay}
 use Rattle.prt_program.specs.Program.{LeavesInput, LeavesInputFor, RunsNothing}
-use Rattle.prt_program.specs.declared.prt.Fault.{Fault}
-use Rattle.prt_program.specs.declared.prt.Fault.TheVariants.{Words, Opening}
+use Rattle.prt_words.specs.declared.fault.Fault.{Fault}
+use Rattle.prt_words.specs.declared.fault.Fault.TheVariants.{Words, Opening}
 
 pub reported : (asked : Invocation) (fault : Fault) (status : ℕ) (writer0 writer1 writer : Option (List ℕ)) → IsFault asked fault → status ≡ fault_status fault
     → writer1 ≡ writer0 → (status ≢ 0 → writer ≡ writer1) → RunsNothing asked writer0 writer status

@@ -1,6 +1,4 @@
-pub mod CommandLine
 pub mod Databases
-pub mod Invocation
 pub mod Messages
 pub mod Program
 pub mod Replay

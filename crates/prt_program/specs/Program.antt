@@ -1,13 +1,14 @@
 -- What the program does: it runs the session or the replay that its words ask for, or it says why it does not.
 use Rattle.std.specs.Prelude.{◌≡◌, ◌≢◌, ◌⊎◌, ℕ, Bool, true, false, List, Option, Some, None}
 use Rattle.prt_addr.specs.declared.refusal.Refusal.{Refusal}
-use Rattle.prt_program.specs.Faults.{IsStatusOf, database_of}
-use Rattle.prt_program.specs.Invocation.{Invocation, Word, batch, replay}
+use Rattle.prt_program.specs.Faults.{database_of}
+use Rattle.prt_words.specs.Faults.{IsStatusOf}
+use Rattle.prt_words.specs.Invocation.{Invocation, Word, batch, replay}
 use Rattle.prt_program.specs.Replay.{ReplayIs}
 use Rattle.prt_session.specs.Desk.{Befalls, DeskState, IsNoMemory, Mishap, request_turn, settled}
 use Rattle.prt_session.specs.Run.{RunIs}
 use Rattle.prt_version.specs.State.{State, opening_state}
-use Rattle.prt_session.specs.declared.script.OnRefusal.{OnRefusal}
+use Rattle.prt_addr.specs.declared.on_refusal.OnRefusal.{OnRefusal}
 use Rattle.prt_session.specs.declared.script.ScriptEnd.{ScriptEnd}
 
 -- 3 for a fault, else 1 for a refused line, else 0

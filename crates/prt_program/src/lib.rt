@@ -7,6 +7,6 @@ mod prt;
 mod replay;
 
 pub use databases::Databases;
-pub use prt::{Fault, program, report, words_fault};
+pub use prt::program;
 pub use prt_session::{Desk, Refusal, ScriptEnd};
 pub use replay::run_replay;

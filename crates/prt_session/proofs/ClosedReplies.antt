@@ -12,7 +12,7 @@ use Rattle.prt_session.proofs.Length.{sides}
 use Rattle.prt_session.specs.Desk.{DeskState, Mishap, no_room, no_memory, store_fails, commit_kept, publication_fails, command_or_refusal, query_turn, request_turn}
 use Rattle.prt_session.specs.Refusals.{IsClosedExchange}
 use Rattle.prt_session.specs.Session.{Exchange, Ending, Input, Session, exchange_of, first_mishap, is_fault, stops_after, line_turn, turn_on, session, session_lines}
-use Rattle.prt_session.specs.declared.script.OnRefusal.{OnRefusal}
+use Rattle.prt_addr.specs.declared.on_refusal.OnRefusal.{OnRefusal}
 use Rattle.prt_version.specs.Change.{refusal}
 
 query_stays : (desk : DeskState) (query : Query) (mishap : Option Mishap) → (query_turn desk query mishap).desk ≡ desk

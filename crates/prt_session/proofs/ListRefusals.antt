@@ -25,7 +25,7 @@ use Rattle.prt_session.specs.Refusals.{IsListRefusal, IsListReply, IsWithinLists
 use Rattle.prt_session.specs.Session.{Input, Path, replies, session}
 use Rattle.prt_session.specs.declared.reply.Reply.{Reply}
 use Rattle.prt_session.specs.declared.reply.Reply.TheVariants.{Refused}
-use Rattle.prt_session.specs.declared.script.OnRefusal.{OnRefusal}
+use Rattle.prt_addr.specs.declared.on_refusal.OnRefusal.{OnRefusal}
 use Rattle.prt_version.specs.Change.{change_of, check, has_rule, if_room, named_rule, rule_of, unless_count_full}
 use Rattle.prt_version.specs.State.{State}
 use Rattle.prt_version.specs.declared.change.Change.{Change}

@@ -14,7 +14,7 @@ use Rattle.prt_session.specs.Desk.{Befalls, DeskState, IsNoMemory, Mishap, no_ro
 use Rattle.prt_session.specs.Refusals.{IsListRefusal, IsListReply, of_line, of_command, of_memory, of_reader, of_line_length, of_line_count}
 use Rattle.prt_session.specs.Session.{TurnsOf, Turn, MayOn, LineMay, Path, Exchange, Ending, end_of_input, read_fault, Input, Session, at_ending, first_mishap, is_fault, stops_after, line_turn, turn_on, session, session_lines, replies, replies_of}
 use Rattle.prt_session.specs.declared.reply.Reply.TheVariants.{Refused}
-use Rattle.prt_session.specs.declared.script.OnRefusal.{OnRefusal}
+use Rattle.prt_addr.specs.declared.on_refusal.OnRefusal.{OnRefusal}
 use Rattle.prt_version.specs.Change.{refusal}
 use Rattle.prt_version.specs.State.{State}
 

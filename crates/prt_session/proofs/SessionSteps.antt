@@ -8,7 +8,7 @@ use Rattle.prt_command.specs.Lines.{Limits, Line, lines_of, bytes_of}
 use Rattle.prt_session.specs.Session.{TurnsOf, Ending, end_of_input, read_fault, Session, ends, exchange_of, after_exchange, session_lines, line_turn, stops_after}
 use Rattle.prt_session.specs.Steps.{HasNoNewline}
 use Rattle.prt_session.specs.declared.reply.Reply.TheVariants.{Refused}
-use Rattle.prt_session.specs.declared.script.OnRefusal.{OnRefusal}
+use Rattle.prt_addr.specs.declared.on_refusal.OnRefusal.{OnRefusal}
 
 not_zero : (n : ℕ) → 0 < n → (n == 0) ≡ false
 not_zero n h = grind (arith, nat_tests)

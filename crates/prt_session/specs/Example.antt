@@ -3,7 +3,7 @@ use Rattle.std.specs.Prelude.{ℕ, List, Option}
 use Rattle.prt_session.specs.Desk.{DeskState, Mishap, settled, request_turn}
 use Rattle.prt_session.specs.Reply.{replies_text}
 use Rattle.prt_session.specs.Session.{Ending, Session, session, replies}
-use Rattle.prt_session.specs.declared.script.OnRefusal.{OnRefusal}
+use Rattle.prt_addr.specs.declared.on_refusal.OnRefusal.{OnRefusal}
 use Rattle.prt_version.specs.State.{opening_state}
 
 abbrev pub session_on : OnRefusal → List ℕ → Ending → List (Option Mishap) → Session DeskState Mishap

@@ -7,7 +7,7 @@ use Rattle.prt_session.specs.Reply.{reply_text, replies_text}
 use Rattle.prt_session.specs.Session.{TurnsOf, Mishaps, Path, Input, end_of_input, read_fault, Session, session, replies}
 use Rattle.prt_session.specs.declared.reply.Reply.{Reply}
 use Rattle.prt_session.specs.declared.reply.Reply.TheVariants.{Silent, Refused}
-use Rattle.prt_session.specs.declared.script.OnRefusal.{OnRefusal}
+use Rattle.prt_addr.specs.declared.on_refusal.OnRefusal.{OnRefusal}
 use Rattle.prt_session.specs.declared.script.ScriptEnd.{ScriptEnd}
 
 -- a failed commit or publication, or a fault of the reader or the writer

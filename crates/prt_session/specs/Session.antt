@@ -8,8 +8,8 @@ use Rattle.prt_command.specs.declared.request.Request.{Request}
 use Rattle.prt_session.specs.Reply.{is_refused}
 use Rattle.prt_session.specs.declared.reply.Reply.{Reply}
 use Rattle.prt_session.specs.declared.reply.Reply.TheVariants.{Silent, Refused}
-use Rattle.prt_session.specs.declared.script.OnRefusal.{OnRefusal}
-use Rattle.prt_session.specs.declared.script.OnRefusal.TheVariants.{Stop, GoOn}
+use Rattle.prt_addr.specs.declared.on_refusal.OnRefusal.{OnRefusal}
+use Rattle.prt_addr.specs.declared.on_refusal.OnRefusal.TheVariants.{Stop, GoOn}
 
 -- ---- one line
 

@@ -4,7 +4,7 @@ ghost use Rattle.std.specs.List.{All};
 ghost use Rattle.prt_session.specs.Desk.{Befalls, DeskState, IsNoMemory, Mishap, request_turn, settled};
 ghost use Rattle.prt_session.specs.Refusals.{IsClosedExchange, IsListReply, IsWithinLists};
 ghost use Rattle.prt_session.specs.Session.{Input, Path, replies, session};
-ghost use Rattle.prt_session.specs.declared.script.OnRefusal.{OnRefusal};
+ghost use Rattle.prt_addr.specs.declared.on_refusal.OnRefusal.{OnRefusal};
 ghost use Rattle.prt_version.specs.State.{State};
 
 /// A session ends: it takes at most 1,000,000 lines of 65,537 bytes each, and one byte more.

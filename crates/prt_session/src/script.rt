@@ -8,18 +8,10 @@ use crate::executor::Executor;
 use crate::observer::Observer;
 use crate::reply::{Reply, Text};
 use crate::session::run_session;
+use prt_addr::OnRefusal;
 use prt_command::{Refusal, Request};
 use std::alloc::Global;
 use std::io::{Read, Write};
-
-/// What a session does after a refused line.
-#[derive(Clone, Copy, Debug, PartialEq, Eq)]
-pub enum OnRefusal {
-    /// End, and leave the rest unread.
-    Stop,
-    /// Go on with the next line.
-    GoOn,
-}
 
 /// How a session ended.
 #[derive(Clone, Copy, Debug, PartialEq, Eq)]

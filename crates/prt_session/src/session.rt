@@ -9,8 +9,9 @@ use crate::executor::Executor;
 use crate::input::{ByteRead, LineRead, Stop, next_byte, next_line};
 use crate::observer::Observer;
 use crate::reply::{Reply, write_reply};
-use crate::script::{OnRefusal, ScriptEnd};
+use crate::script::ScriptEnd;
 use arrayvec::ArrayVec;
+use prt_addr::OnRefusal;
 use prt_command::{LONGEST_LINE, MOST_LINES, Refusal, read_line};
 use std::io::{Read, Write};
 

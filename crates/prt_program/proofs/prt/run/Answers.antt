@@ -1,4 +1,4 @@
-use Rattle.prt_program.specs.Invocation.{invocation, arguments}
+use Rattle.prt_words.specs.Invocation.{invocation, arguments}
 use Rattle.prt_program.proofs.Reports.{unread}
 use Rattle.prt_program.proofs.prt.run.Goals as goal
 

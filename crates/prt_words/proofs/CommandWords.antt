@@ -1,0 +1,332 @@
+-- The words of a subcommand, as clap reads them and as the definition of an invocation does.
+use Rattle.std.proofs.Common.{◌≡◌, ◌∙◌, ◌&&◌, ℕ, Bool, cond, true, false, refl, sym, ap, subst, List, [], ◌∷◌, ◌++◌, Option, Some, None, is_some, codes}
+use Rattle.std.specs.Prelude.{option_and_then}
+use Rattle.clap.specs.Kinds.{Kinds, or_else}
+use Rattle.clap.specs.Faults.{turn_fault, walk_fault, settle_fault, defaults_fault, check_fault}
+use Rattle.clap.specs.Walk.{Held, Row, Text, Walk, has_row, option as waits_for, pushed, settled_rows, walked}
+use Rattle.clap.specs.declared.parser.matches.ValueSource.TheVariants.{CommandLine}
+use Rattle.clap.specs.declared.builder.value_parser.Reading.TheVariants.{AsWritten}
+use Rattle.clap.specs.declared.error.kind.ErrorKind.TheVariants as kind
+use Rattle.clap.proofs.OnLiterals.{clap_on_literals}
+use Rattle.prt_words.specs.Invocation.{Argument, Force, Verbose, Database, File, Given, Invocation, anywhere, at_path, at_operands, asks_help, argument, unknown, Subcommand, Batch, Replay, Word, asked, asked_by, file_of, has_given, is_delimiter, is_option, mode_of, nothing_given, usage_error, with_given}
+use Rattle.prt_words.proofs.Rows.{used_once}
+use Rattle.prt_words.proofs.Arguments.{AreGiven, both_quiet, checks_quiet, database_at_end, defaults_quiet, file_at_end, forced_at_end, given_has, one_more, row_of, verbose_at_end}
+use Rattle.prt_words.proofs.LostWords.{end_lost, lost, lost_operands, option_mistaken, position_of}
+use Rattle.prt_words.proofs.Walks.{Reads, as_part, faults, goes_on, rows_at_end, text_of_flag, word_mistaken, word_refused, word_taken}
+use Rattle.prt_words.proofs.WordClasses.{Class, Gives, Operand, IsMistake, after_operand, awaits_option, class_of, id_of, rules_of, settles, shape_of, value_turn, walk_at, walk_waiting, walk_when, word_turn}
+use Rattle.prt_words.proofs.WordClasses as class
+
+-- ---- where the walk stands when these were given
+
+-- the rows, with what is still pending
+abbrev held_rows : Subcommand → List Row → Option (Text × List Text) → List Row
+held_rows s rows pending = settled_rows (rules_of s) pending rows
+
+record Stands (s : Subcommand) (given : Given) (rows : List Row) (pending : Option (Text × List Text)) (position : ℕ) : Type 0 where
+  settled_here : settles s rows pending
+  are : AreGiven given (held_rows s rows pending)
+  placed : position ≡ position_of given.operand
+
+has_here : (s : Subcommand) (given : Given) (rows : List Row) (pending : Option (Text × List Text)) (position : ℕ) → Stands s given rows pending position
+    → (a : Argument) → has_row (id_of a) (held_rows s rows pending) ≡ has_given given a
+has_here s given rows pending position stands = given_has given (held_rows s rows pending) stands.are
+
+-- ---- the end of the words
+
+no_faults : (s : Subcommand) (rows : List Row) (pending : Option (Text × List Text)) (position : ℕ) (trailing : Bool) → settles s rows pending → faults s (walk_at rows pending position trailing) [] ≡ []
+unfolding walk_fault
+no_faults s rows pending position trailing settled_here =
+    let held = held_rows s rows pending in
+    let checks = check_fault (shape_of s) (rows_at_end s (walk_at rows pending position trailing) []) false in
+    both_quiet (settle_fault (rules_of s) false (walk_at rows pending position trailing).held) (or_else (defaults_fault held (rules_of s)) checks) settled_here
+    (both_quiet (defaults_fault held (rules_of s)) checks (defaults_quiet s held) (checks_quiet s (rows_at_end s (walk_at rows pending position trailing) [])))
+
+mode_goes_on : (forced : Bool) → goes_on (mode_of forced) ≡ forced
+mode_goes_on true = refl
+mode_goes_on false = refl
+
+at_end : (s : Subcommand) (given : Given) (rows : List Row) (pending : Option (Text × List Text)) (position : ℕ) (trailing : Bool) → Stands s given rows pending position
+    → Reads s (asked s given) (walk_at rows pending position trailing) []
+at_end Batch given rows pending position trailing stands =
+    let held = held_rows Batch rows pending in (
+      no_faults Batch rows pending position trailing stands.settled_here,
+      refl,
+      ap (option_and_then file_of) (file_at_end Batch given held stands.are),
+      database_at_end given held stands.are,
+      forced_at_end given held stands.are ∙ ap (λ b. Some (text_of_flag b)) (sym (mode_goes_on given.forced)),
+      verbose_at_end given held stands.are,
+    )
+at_end Replay given rows pending position trailing stands = (
+  no_faults Replay rows pending position trailing stands.settled_here,
+  refl,
+  ap (option_and_then file_of) (file_at_end Replay given (held_rows Replay rows pending) stands.are),
+)
+
+-- ---- an operand
+
+abbrev pending_file : Word → Option (Text × List Text)
+pending_file word = Some (codes "file", word ∷ [])
+
+quiet : (b : Bool) (kinds : Kinds) → kinds ≡ [] → cond b [] kinds ≡ []
+quiet true kinds none = refl
+quiet false kinds none = none
+
+never : {X : Type 0} (b : Bool) (x y : X) → cond (b && false) x y ≡ y
+never true x y = refl
+never false x y = refl
+
+-- the first one has no fault, and waits to be used
+first_operand : (s : Subcommand) (word : Word) (rows : List Row) (pending : Option (Text × List Text)) → settles s rows pending → value_turn s word rows pending 1 ≡ []
+unfolding walked
+first_operand Batch word rows pending settled_here = quiet _ _ settled_here
+first_operand Replay word rows pending settled_here = quiet _ _ settled_here
+
+abbrev waiting_operand : Word → Bool → Held → Walk
+waiting_operand word trailing held = record (walk_at [] None 2 trailing) { held = pushed (codes "file") word held }
+
+operand_waits : (s : Subcommand) (word : Word) (rows : List Row) (pending : Option (Text × List Text)) (trailing : Bool)
+    → after_operand s word rows pending 1 trailing ≡ walk_at (held_rows s rows pending) (pending_file word) 2 trailing
+operand_waits Batch word rows pending true = ap (waiting_operand word true) (never _ _ _)
+operand_waits Batch word rows pending false = ap (waiting_operand word false) (never _ _ _)
+operand_waits Replay word rows pending true = ap (waiting_operand word true) (never _ _ _)
+operand_waits Replay word rows pending false = ap (waiting_operand word false) (never _ _ _)
+
+-- a second one is a mistake
+second_operand : (s : Subcommand) (word : Word) (rows : List Row) (pending : Option (Text × List Text)) → IsMistake (value_turn s word rows pending 2)
+unfolding walked
+second_operand Batch word rows pending = refl
+second_operand Replay word rows pending = refl
+
+operand_rows : (s : Subcommand) (word : Word) (rows : List Row) → has_row (codes "file") rows ≡ false → held_rows s rows (pending_file word) ≡ rows ++ row_of (File word) ∷ []
+operand_rows Batch word rows none = used_once (codes "file") AsWritten CommandLine (word ∷ []) rows none
+operand_rows Replay word rows none = used_once (codes "file") AsWritten CommandLine (word ∷ []) rows none
+
+operand_settles : (s : Subcommand) (word : Word) (rows : List Row) → has_row (codes "file") rows ≡ false → settles s rows (pending_file word)
+operand_settles Batch word rows none = rw none refl
+operand_settles Replay word rows none = rw none refl
+
+with_operand : (s : Subcommand) (given : Given) (word : Word) (rows : List Row) (pending : Option (Text × List Text)) (position : ℕ) → has_given given (File word) ≡ false → Stands s given rows pending position
+    → Stands s (with_given given (File word)) (held_rows s rows pending) (pending_file word) 2
+with_operand s given word rows pending position free stands =
+    let held = held_rows s rows pending in
+    let none : has_row (codes "file") held ≡ false = has_here s given rows pending position stands (File word) ∙ free in
+    record {
+      settled_here = operand_settles s word held none;
+      are = subst (AreGiven (with_given given (File word))) (sym (operand_rows s word held none)) (one_more given held (File word) none stands.are);
+      placed = refl;
+    }
+
+-- a word that is met as a value: the first operand, or one too many
+operand_read : (s : Subcommand) (given : Given) (word : Word) (words : List Word) (rows : List Row) (pending : Option (Text × List Text)) (position : ℕ) (trailing : Bool) (more : Given → Invocation)
+    → Stands s given rows pending position
+    → turn_fault (shape_of s) [] (walk_at rows pending position trailing) word ≡ value_turn s word rows pending position
+    → walked (rules_of s) [] (walk_at rows pending position trailing) word ≡ after_operand s word rows pending position trailing
+    → (Stands s (with_given given (File word)) (held_rows s rows pending) (pending_file word) 2
+    → Reads s (more (with_given given (File word))) (walk_at (held_rows s rows pending) (pending_file word) 2 trailing) words)
+    → Reads s (cond (is_some given.operand) usage_error (more (with_given given (File word)))) (walk_at rows pending position trailing) (word ∷ words)
+operand_read s given word words rows pending position trailing more stands turn next rest = go given.operand refl
+  where
+    go : (operand : Option Word) → given.operand ≡ operand → Reads s (cond (is_some given.operand) usage_error (more (with_given given (File word)))) (walk_at rows pending position trailing) (word ∷ words)
+    go None free =
+        let first : position ≡ 1 = stands.placed ∙ ap position_of free in
+        subst (λ b. Reads s (cond b usage_error (more (with_given given (File word)))) (walk_at rows pending position trailing) (word ∷ words)) (sym (ap is_some free))
+        (word_taken s _ _ (walk_at (held_rows s rows pending) (pending_file word) 2 trailing) word words
+        (turn ∙ ap (value_turn s word rows pending) first ∙ first_operand s word rows pending stands.settled_here)
+        (next ∙ ap (λ p. after_operand s word rows pending p trailing) first ∙ operand_waits s word rows pending trailing)
+        (rest (with_operand s given word rows pending position (ap is_some free) stands)))
+    go (Some file) taken =
+        let second : position ≡ 2 = stands.placed ∙ ap position_of taken in
+        subst (λ b. Reads s (cond b usage_error (more (with_given given (File word)))) (walk_at rows pending position trailing) (word ∷ words)) (sym (ap is_some taken))
+        (word_mistaken s _ word words (subst IsMistake (sym (turn ∙ ap (value_turn s word rows pending) second)) (second_operand s word rows pending)))
+
+-- after `--`
+operands_read : (s : Subcommand) (given : Given) (rows : List Row) (pending : Option (Text × List Text)) (position : ℕ) → Stands s given rows pending position
+    → (words : List Word) → Reads s (asked_by s words at_operands given) (walk_at rows pending position true) words
+unfolding walked
+operands_read s given rows pending position stands [] = at_end s given rows pending position true stands
+operands_read s given rows pending position stands (word ∷ words) =
+    operand_read s given word words rows pending position true (asked_by s words at_operands) stands refl refl
+    (λ next. operands_read s (with_given given (File word)) (held_rows s rows pending) (pending_file word) 2 next words)
+
+-- ---- an option that gives an argument
+
+given_turn : (word : Text) (a : Argument) (rows : List Row) (pending : Option (Text × List Text)) (position : ℕ) (has : Bool) → Gives word a → settles Batch rows pending
+    → has_row (id_of a) (held_rows Batch rows pending) ≡ has → word_turn Batch word rows pending position ≡ cond has (kind.ArgumentConflict ∷ []) []
+given_turn word Force rows pending position true g settled_here is = rw (g.no_delimiter, g.long, settled_here, is) refl
+given_turn word Force rows pending position false g settled_here is = rw (g.no_delimiter, g.long, settled_here, is) refl
+given_turn word Verbose rows pending position true g settled_here is = rw (g.no_delimiter, g.long, settled_here, is) refl
+given_turn word Verbose rows pending position false g settled_here is = rw (g.no_delimiter, g.long, settled_here, is) refl
+given_turn word (Database path) rows pending position true g settled_here is = rw (g.no_delimiter, g.long, settled_here, is) refl
+given_turn word (Database path) rows pending position false g settled_here is = rw (g.no_delimiter, g.long, settled_here, is) refl
+given_turn word (File file) rows pending position has g settled_here is = absurd g.named
+
+given_next : (word : Text) (a : Argument) (rows : List Row) (pending : Option (Text × List Text)) (position : ℕ) → Gives word a → has_row (id_of a) (held_rows Batch rows pending) ≡ false
+    → walked (rules_of Batch) [] (walk_at rows pending position false) word ≡ walk_at (held_rows Batch rows pending ++ row_of a ∷ []) None position false
+unfolding walked
+given_next word Force rows pending position g none = rw (g.no_delimiter, g.long)
+    (ap (λ rs. walk_at rs None position false) (used_once (codes "force") AsWritten CommandLine (codes "true" ∷ []) (held_rows Batch rows pending) none))
+given_next word Verbose rows pending position g none = rw (g.no_delimiter, g.long)
+    (ap (λ rs. walk_at rs None position false) (used_once (codes "verbose") AsWritten CommandLine (codes "true" ∷ []) (held_rows Batch rows pending) none))
+given_next word (Database path) rows pending position g none = rw (g.no_delimiter, g.long)
+    (ap (λ rs. walk_at rs None position false) (used_once (codes "db") AsWritten CommandLine (path ∷ []) (held_rows Batch rows pending) none))
+given_next word (File file) rows pending position g none = absurd g.named
+
+same_place : (given : Given) (word : Text) (a : Argument) → Gives word a → position_of given.operand ≡ position_of (with_given given a).operand
+same_place given word Force g = refl
+same_place given word Verbose g = refl
+same_place given word (Database path) g = refl
+same_place given word (File file) g = absurd g.named
+
+with_option : (given : Given) (word : Text) (a : Argument) (rows : List Row) (pending : Option (Text × List Text)) (position : ℕ) → Gives word a → has_given given a ≡ false → Stands Batch given rows pending position
+    → Stands Batch (with_given given a) (held_rows Batch rows pending ++ row_of a ∷ []) None position
+with_option given word a rows pending position g free stands = record {
+  settled_here = refl;
+  are = one_more given (held_rows Batch rows pending) a (has_here Batch given rows pending position stands a ∙ free) stands.are;
+  placed = stands.placed ∙ same_place given word a g;
+}
+
+-- ---- the places that words are read from
+
+-- the words that follow are read as they are wherever the walk stands
+abbrev ReadsOn : Subcommand → List Word → Type 0
+ReadsOn s words = (given : Given) (rows : List Row) (pending : Option (Text × List Text)) (position : ℕ) → Stands s given rows pending position
+    → Reads s (asked_by s words anywhere given) (walk_at rows pending position false) words
+
+-- the same after `--db`
+abbrev ReadsPath : List Word → Type 0
+ReadsPath words = (given : Given) (rows : List Row) (position : ℕ) → Stands Batch given rows None position → Reads Batch (asked_by Batch words at_path given) (walk_waiting rows position) words
+
+option_read : (given : Given) (word : Word) (words : List Word) (rows : List Row) (pending : Option (Text × List Text)) (position : ℕ) (a : Argument) → Gives word a
+    → Stands Batch given rows pending position → ReadsOn Batch words
+    → Reads Batch (cond (has_given given a) usage_error (asked_by Batch words anywhere (with_given given a))) (walk_at rows pending position false) (word ∷ words)
+option_read given word words rows pending position a g stands rest = go (has_given given a) refl
+  where
+    go : (has : Bool) → has_given given a ≡ has → Reads Batch (cond (has_given given a) usage_error (asked_by Batch words anywhere (with_given given a))) (walk_at rows pending position false) (word ∷ words)
+    go true again = subst (λ b. Reads Batch (cond b usage_error (asked_by Batch words anywhere (with_given given a))) (walk_at rows pending position false) (word ∷ words)) (sym again)
+        (word_mistaken Batch _ word words (subst IsMistake (sym (given_turn word a rows pending position true g stands.settled_here (has_here Batch given rows pending position stands a ∙ again))) refl))
+    go false free = subst (λ b. Reads Batch (cond b usage_error (asked_by Batch words anywhere (with_given given a))) (walk_at rows pending position false) (word ∷ words)) (sym free)
+        (word_taken Batch _ _ (walk_at (held_rows Batch rows pending ++ row_of a ∷ []) None position false) word words
+        (given_turn word a rows pending position false g stands.settled_here (has_here Batch given rows pending position stands a ∙ free))
+        (given_next word a rows pending position g (has_here Batch given rows pending position stands a ∙ free))
+        (rest (with_given given a) (held_rows Batch rows pending ++ row_of a ∷ []) None position (with_option given word a rows pending position g free stands)))
+
+-- ---- `--db` and the next word
+
+abbrev pending_path : Word → Option (Text × List Text)
+pending_path word = Some (codes "db", word ∷ [])
+
+awaits_turn : (rows : List Row) (pending : Option (Text × List Text)) (position : ℕ) → settles Batch rows pending → word_turn Batch (codes "--db") rows pending position ≡ []
+unfolding clap_on_literals
+awaits_turn rows pending position settled_here = rw settled_here refl
+
+awaits_next : (rows : List Row) (pending : Option (Text × List Text)) (position : ℕ)
+    → walked (rules_of Batch) [] (walk_at rows pending position false) (codes "--db") ≡ walk_waiting (held_rows Batch rows pending) position
+unfolding clap_on_literals
+awaits_next rows pending position = refl
+
+path_lost : (word : Word) (rows : List Row) → has_row (codes "db") rows ≡ true → IsMistake (settle_fault (rules_of Batch) false (record { rows = rows; pending = pending_path word; skip = 0 }))
+path_lost word rows has = rw has refl
+
+path_settles : (word : Word) (rows : List Row) → has_row (codes "db") rows ≡ false → settles Batch rows (pending_path word)
+path_settles word rows none = rw none refl
+
+with_path : (given : Given) (word : Word) (rows : List Row) (position : ℕ) → has_given given (Database word) ≡ false → Stands Batch given rows None position
+    → Stands Batch (with_given given (Database word)) rows (pending_path word) position
+with_path given word rows position free stands =
+    let none : has_row (codes "db") rows ≡ false = has_here Batch given rows None position stands (Database word) ∙ free in
+    record {
+      settled_here = path_settles word rows none;
+      are = subst (AreGiven (with_given given (Database word))) (sym (used_once (codes "db") AsWritten CommandLine (word ∷ []) rows none)) (one_more given rows (Database word) none stands.are);
+      placed = stands.placed;
+    }
+
+path_taken : (given : Given) (word : Word) (words : List Word) (rows : List Row) (position : ℕ) → Operand Batch word → Stands Batch given rows None position → ReadsOn Batch words
+    → Reads Batch (cond (is_some given.database) usage_error (asked_by Batch words anywhere (with_given given (Database word)))) (walk_waiting rows position) (word ∷ words)
+path_taken given word words rows position o stands rest = go (is_some given.database) refl
+  where
+    go : (has : Bool) → is_some given.database ≡ has → Reads Batch (cond (is_some given.database) usage_error (asked_by Batch words anywhere (with_given given (Database word)))) (walk_waiting rows position) (word ∷ words)
+    go true again = subst (λ b. Reads Batch (cond b usage_error (asked_by Batch words anywhere (with_given given (Database word)))) (walk_waiting rows position) (word ∷ words)) (sym again)
+        (word_taken Batch usage_error _ (walk_at rows (pending_path word) position false) word words (o.path_turn rows position) (o.path_next rows position)
+        (subst (λ p. Reads Batch usage_error (walk_at rows (pending_path word) p false) words) (sym stands.placed)
+        (lost rows (word ∷ []) given.operand (path_lost word rows (has_here Batch given rows None position stands (Database word) ∙ again)) words)))
+    go false free = subst (λ b. Reads Batch (cond b usage_error (asked_by Batch words anywhere (with_given given (Database word)))) (walk_waiting rows position) (word ∷ words)) (sym free)
+        (word_taken Batch _ _ (walk_at rows (pending_path word) position false) word words (o.path_turn rows position) (o.path_next rows position)
+        (rest (with_given given (Database word)) rows (pending_path word) position (with_path given word rows position free stands)))
+
+path_missing : ReadsPath []
+path_missing given rows position stands = end_lost (waits_for (codes "db")) rows (Some (codes "db", [])) position false refl
+
+path_ends : (words : List Word) (given : Given) (rows : List Row) (position : ℕ) → Stands Batch given rows None position
+    → Reads Batch (asked_by Batch (codes "--" ∷ words) at_path given) (walk_waiting rows position) (codes "--" ∷ words)
+unfolding clap_on_literals
+path_ends words given rows position stands =
+    word_taken Batch usage_error (walk_waiting rows position) (walk_when (waits_for (codes "db")) rows (Some (codes "db", [])) position true) (codes "--") words refl refl
+    (subst (λ p. Reads Batch usage_error (walk_when (waits_for (codes "db")) rows (Some (codes "db", [])) p true) words) (sym stands.placed)
+    (lost_operands (waits_for (codes "db")) rows [] given.operand refl words))
+
+path_awaited : (given : Given) (words : List Word) (rows : List Row) (pending : Option (Text × List Text)) (position : ℕ) → Stands Batch given rows pending position → ReadsPath words
+    → Reads Batch (asked_by Batch (codes "--db" ∷ words) anywhere given) (walk_at rows pending position false) (codes "--db" ∷ words)
+unfolding clap_on_literals
+path_awaited given words rows pending position stands paths =
+    word_taken Batch (asked_by Batch words at_path given) (walk_at rows pending position false) (walk_waiting (held_rows Batch rows pending) position) (codes "--db") words
+    (awaits_turn rows pending position stands.settled_here) (awaits_next rows pending position)
+    (paths given (held_rows Batch rows pending) position (record { settled_here = refl; are = stands.are; placed = stands.placed }))
+
+path_read : (word : Word) (words : List Word) → ReadsOn Batch words → ReadsPath (word ∷ words)
+unfolding walked
+path_read word words rest given rows position stands = go (class_of Batch word)
+  where
+    option : is_delimiter word ≡ false → is_option word ≡ true → Reads Batch (asked_by Batch (word ∷ words) at_path given) (walk_waiting rows position) (word ∷ words)
+    option plain is = as_part Batch at_path given word words (walk_waiting rows position) unknown (rw is refl)
+        (word_mistaken Batch _ word words (option_mistaken (waits_for (codes "db")) word rows (Some (codes "db", [])) position plain is refl))
+
+    go : Class Batch word → Reads Batch (asked_by Batch (word ∷ words) at_path given) (walk_waiting rows position) (word ∷ words)
+    go (class.operand o) = as_part Batch at_path given word words (walk_waiting rows position) (argument (Database word)) (rw o.no_option refl) (path_taken given word words rows position o stands rest)
+    go (class.help h) = option h.no_delimiter h.is_one
+    go (class.unknown u) = option u.no_delimiter u.is_one
+    go (class.gives a batch g) = option g.no_delimiter g.is_one
+    go (class.awaits batch is) = option (subst (λ w. is_delimiter w ≡ false) (sym is) awaits_option.0) (subst (λ w. is_option w ≡ true) (sym is) awaits_option.1)
+    go (class.delimiter is) = subst (λ w. Reads Batch (asked_by Batch (w ∷ words) at_path given) (walk_waiting rows position) (w ∷ words)) (sym is) (path_ends words given rows position stands)
+
+-- ---- any word
+
+word_read : (s : Subcommand) (given : Given) (word : Word) (words : List Word) (rows : List Row) (pending : Option (Text × List Text)) (position : ℕ) → Stands s given rows pending position
+    → ReadsOn s words → ReadsPath words → Class s word → Reads s (asked_by s (word ∷ words) anywhere given) (walk_at rows pending position false) (word ∷ words)
+unfolding walked
+word_read s given word words rows pending position stands rest paths (class.delimiter is) =
+    subst (λ w. Reads s (asked_by s (w ∷ words) anywhere given) (walk_at rows pending position false) (w ∷ words)) (sym is)
+    (word_taken s (asked_by s words at_operands given) (walk_at rows pending position false) (walk_at rows pending position true) (codes "--") words refl refl (operands_read s given rows pending position stands words))
+word_read s given word words rows pending position stands rest paths (class.help h) =
+    as_part s anywhere given word words (walk_at rows pending position false) asks_help h.part
+    (word_refused s (walk_at rows pending position false) word words kind.DisplayHelp [] (h.turn rows pending position stands.settled_here))
+word_read s given word words rows pending position stands rest paths (class.unknown u) =
+    as_part s anywhere given word words (walk_at rows pending position false) unknown u.part
+    (word_mistaken s (walk_at rows pending position false) word words (u.turn rows pending position))
+word_read Batch given word words rows pending position stands rest paths (class.gives a batch g) =
+    as_part Batch anywhere given word words (walk_at rows pending position false) (argument a) g.part (option_read given word words rows pending position a g stands rest)
+word_read Replay given word words rows pending position stands rest paths (class.gives a batch g) = absurd batch
+word_read Batch given word words rows pending position stands rest paths (class.awaits batch is) =
+    subst (λ w. Reads Batch (asked_by Batch (w ∷ words) anywhere given) (walk_at rows pending position false) (w ∷ words)) (sym is)
+    (path_awaited given words rows pending position stands paths)
+word_read Replay given word words rows pending position stands rest paths (class.awaits batch is) = absurd batch
+word_read s given word words rows pending position stands rest paths (class.operand o) =
+    as_part s anywhere given word words (walk_at rows pending position false) (argument (File word)) o.part
+    (operand_read s given word words rows pending position false (asked_by s words anywhere) stands (o.turn rows pending position) (o.next rows pending position)
+    (rest (with_given given (File word)) (held_rows s rows pending) (pending_file word) 2))
+
+words_read : (s : Subcommand) (words : List Word) → ReadsOn s words × ReadsPath words
+words_read s [] = (λ given rows pending position stands. at_end s given rows pending position false stands, path_missing)
+words_read s (word ∷ words) = (
+  λ given rows pending position stands. word_read s given word words rows pending position stands (words_read s words).0 (words_read s words).1 (class_of s word),
+  path_read word words (words_read Batch words).0,
+)
+
+none_given : AreGiven nothing_given []
+none_given Force = refl
+none_given Verbose = refl
+none_given (Database path) = refl
+none_given (File word) = refl
+
+-- what the words of a subcommand ask for is what clap reads
+pub subcommand_reads : (s : Subcommand) (words : List Word) → Reads s (asked_by s words anywhere nothing_given) (walk_at [] None 1 false) words
+subcommand_reads s words = (words_read s words).0 nothing_given [] None 1 (record { settled_here = refl; are = none_given; placed = refl })

@@ -1,0 +1,221 @@
+-- The words of the program, as clap reads them and as the definition of an invocation does.
+use Rattle.std.proofs.Common.{◌≡◌, ◌∙◌, ℕ, Bool, true, false, refl, sym, ap, ap₂, subst, List, [], ◌∷◌, ◌++◌, Option, Some, None, is_some, codes, drop, append_assoc, append-nil, eqb-true, ne_eqb}
+use Rattle.std.proofs.lemmas.Bool.{eq-eqb, eqb-false}
+use Rattle.std.specs.Prelude.{◌==◌, slice_get}
+use Rattle.std.specs.List.{fold, after_first}
+use Rattle.std.specs.Str.{bytes_eq, chars}
+use Rattle.clap.proofs.OnLiterals.{clap_on_literals}
+use Rattle.clap.specs.Lexer.{long_of, has_byte}
+use Rattle.clap.specs.Kinds.{Kinds, or_else}
+use Rattle.clap.specs.Faults.{turn_fault, walk_fault, level_fault, entered_fault, settle_fault, defaults_fault, check_fault, fault_of, flags_fault}
+use Rattle.clap.specs.Simple.{Shape, built, entered, names_of, subcommand_of}
+use Rattle.clap.specs.Walk.{Names, Row, Text, Walk, walked, bundle_met, walk_from, nothing_held, settled, finished, rows_after}
+use Rattle.clap.specs.declared.error.kind.ErrorKind.TheVariants as kind
+use Rattle.prt_words.specs.CommandLine.{command_line}
+use Rattle.prt_words.specs.Invocation.{Invocation, Subcommand, Batch, Replay, Word, anywhere, asked_by, invocation, help, nothing_given, usage_error, is_help}
+use Rattle.prt_words.proofs.WordClasses.{IsMistake, rules_of, shape_of, same_bytes, long_name, long_of_is, before_none, no_value_in, no_name_of, differs, flipped}
+use Rattle.prt_words.proofs.CommandWords.{subcommand_reads}
+use Rattle.prt_words.proofs.Walks.{Agrees, name_of}
+
+abbrev top : Shape
+top = (built command_line).top
+
+abbrev names : Names
+names = names_of (built command_line)
+
+abbrev start : Walk
+start = walk_from nothing_held
+
+abbrev first_turn : Text → Kinds
+first_turn word = turn_fault top names start word
+
+-- the first word, where it is neither a subcommand nor `help`
+data First (word : Text) : Type 0 where
+  delimiter : word ≡ codes "--" → First word
+  asks : is_help word ≡ true → first_turn word ≡ kind.DisplayHelp ∷ [] → First word
+  mistake : is_help word ≡ false → IsMistake (first_turn word) → First word
+
+record IsOther (word : Text) : Type 0 where
+  no_batch : bytes_eq (codes "batch") word ≡ false
+  no_replay : bytes_eq (codes "replay") word ≡ false
+  no_help : bytes_eq (codes "help") word ≡ false
+
+first_empty : First []
+unfolding clap_on_literals
+first_empty = mistake refl refl
+
+first_hyphen : First (codes "-")
+unfolding clap_on_literals
+first_hyphen = mistake refl refl
+
+first_plain : (byte : ℕ) (rest : Text) → (byte == 45) ≡ false → IsOther (byte ∷ rest) → First (byte ∷ rest)
+unfolding clap_on_literals
+first_plain byte rest plain other = mistake (rw plain refl) (rw (other.no_batch, other.no_replay, other.no_help, plain, plain) refl)
+
+first_short : (byte : ℕ) (rest : Text) (letter : Option ℕ) → (byte == 45) ≡ false → slice_get (chars (byte ∷ rest)) 0 ≡ letter → First (45 ∷ byte ∷ rest)
+unfolding walked bundle_met flags_fault
+first_short byte rest None short is = mistake (rw (short, is) refl) (rw (short, short, is) refl)
+first_short byte rest (Some letter) short is = go (letter == 104) refl
+  where
+    go : (is_h : Bool) → (letter == 104) ≡ is_h → First (45 ∷ byte ∷ rest)
+    go true h = asks (rw (short, is, h) refl) (rw (short, short, is, eq-eqb 104 letter (sym (eqb-true letter 104 h))) refl)
+    go false h = mistake (rw (short, is, h) refl) (rw (short, short, is, ne_eqb 104 letter (λ e. eqb-false letter 104 h (sym e))) refl)
+
+-- a long option other than `--help`
+first_long_other : (byte : ℕ) (rest : Text) → ((byte ∷ rest) ≡ codes "help" → ⊥) → IsMistake (first_turn (45 ∷ 45 ∷ byte ∷ rest)) → First (45 ∷ 45 ∷ byte ∷ rest)
+unfolding chars
+first_long_other byte rest other turn = mistake (rw (differs (byte ∷ rest) (codes "help") other) refl) turn
+
+no_long : (word name : Text) (value : Option Text) → bytes_eq word (codes "--") ≡ false → IsOther word
+    → long_of word ≡ Some (name, value) → bytes_eq (codes "help") name ≡ false → IsMistake (first_turn word)
+no_long word name value plain other long no_help = rw (other.no_batch, other.no_replay, other.no_help, plain, long, no_help) refl
+
+help_valued : (word value : Text) → bytes_eq word (codes "--") ≡ false → IsOther word → long_of word ≡ Some (codes "help", Some value) → IsMistake (first_turn word)
+help_valued word value plain other long = rw (other.no_batch, other.no_replay, other.no_help, plain, long) refl
+
+long_other : (rest : Text) → IsOther (45 ∷ 45 ∷ rest)
+long_other rest = record { no_batch = refl; no_replay = refl; no_help = refl }
+
+first_help : First (codes "--help")
+unfolding clap_on_literals
+first_help = asks refl refl
+
+first_by_name : (byte : ℕ) (rest : Text) (is_help : Bool) → bytes_eq (codes "help") (long_name (byte ∷ rest)) ≡ is_help
+    → (has : Bool) → has_byte 61 (byte ∷ rest) ≡ has → First (45 ∷ 45 ∷ byte ∷ rest)
+first_by_name byte rest true h false v = subst (λ xs. First (45 ∷ 45 ∷ xs)) (same_bytes _ _ h ∙ before_none (λ x. x == 61) (byte ∷ rest) v) first_help
+first_by_name byte rest true h true v = first_long_other byte rest (no_value_in (byte ∷ rest) (codes "help") refl v)
+    (help_valued (45 ∷ 45 ∷ byte ∷ rest) _ refl (long_other (byte ∷ rest)) (long_of_is byte rest true v ∙ ap (λ xs. Some (xs, Some (after_first (λ x. x == 61) (byte ∷ rest)))) (sym (same_bytes _ _ h))))
+first_by_name byte rest false h has v = first_long_other byte rest (no_name_of (byte ∷ rest) (codes "help") h refl refl)
+    (no_long (45 ∷ 45 ∷ byte ∷ rest) _ _ refl (long_other (byte ∷ rest)) (long_of_is byte rest has v) h)
+
+first_hyphened : (rest : Text) → First (45 ∷ rest)
+first_hyphened [] = first_hyphen
+first_hyphened (byte ∷ rest) = go (byte == 45) refl
+  where
+    long : (rest : Text) → First (45 ∷ 45 ∷ rest)
+    long [] = delimiter refl
+    long (next ∷ rest) = first_by_name next rest _ refl _ refl
+
+    go : (is_hyphen : Bool) → (byte == 45) ≡ is_hyphen → First (45 ∷ byte ∷ rest)
+    go true e = subst (λ b. First (45 ∷ b ∷ rest)) (sym (eqb-true byte 45 e)) (long rest)
+    go false e = first_short byte rest _ e refl
+
+first_of_word : (word : Text) → IsOther word → First word
+first_of_word [] other = first_empty
+first_of_word (byte ∷ rest) other = go (byte == 45) refl
+  where
+    go : (is_hyphen : Bool) → (byte == 45) ≡ is_hyphen → First (byte ∷ rest)
+    go true e = subst (λ b. First (b ∷ rest)) (sym (eqb-true byte 45 e)) (first_hyphened rest)
+    go false e = first_plain byte rest e other
+
+-- ---- the whole
+
+-- after the name of a subcommand the walk over the program's own words passes
+abbrev stop_at : Subcommand → List Text → Walk
+stop_at s words = record start { stopped = Some (name_of s, words) }
+
+stays : (s : Subcommand) (seen words : List Text) → fold (walked top.rules names) (stop_at s seen) words ≡ stop_at s (seen ++ words)
+unfolding walked
+stays s seen [] = ap (stop_at s) (sym (append-nil seen))
+stays s seen (word ∷ words) = stays s (seen ++ word ∷ []) words ∙ ap (stop_at s) (append_assoc seen (word ∷ []) words)
+
+no_fault : (s : Subcommand) (seen words : List Text) → walk_fault top names (stop_at s seen) words ≡ []
+unfolding walked walk_fault
+no_fault s seen [] = refl
+no_fault s seen (word ∷ words) = no_fault s (seen ++ word ∷ []) words
+
+or_else-nil : (kinds : Kinds) → or_else kinds [] ≡ kinds
+or_else-nil [] = refl
+or_else-nil (k ∷ kinds) = refl
+
+abbrev pub AgreesOn : Invocation → List Text → Type 0
+AgreesOn asked words = Agrees asked (fault_of command_line words) (subcommand_of command_line words)
+
+-- the kinds of error after the walk over the program's own words
+abbrev kinds_after : Walk → Kinds
+kinds_after at = or_else (entered_fault (built command_line) at.stopped) (or_else (settle_fault top.rules false at.held)
+    (or_else (defaults_fault (settled top.rules at.held).rows top.rules) (check_fault top (finished top.rules at.held) (is_some (entered (built command_line) at.stopped)))))
+
+abbrev walk_over : Walk → List Text → Walk
+walk_over at words = fold (walked top.rules names) at words
+
+abbrev own_fault : Subcommand → List Text → Kinds
+own_fault s words = level_fault (shape_of s) [] nothing_held words false []
+
+fault_of_subcommand : (s : Subcommand) (program : Text) (words : List Text) → fault_of command_line (program ∷ name_of s ∷ words) ≡ own_fault s words
+unfolding walked walk_fault defaults_fault
+fault_of_subcommand Batch program words =
+    ap₂ (λ kinds at. or_else kinds (kinds_after at)) (no_fault Batch [] words) (stays Batch [] words) ∙ or_else-nil (own_fault Batch words)
+fault_of_subcommand Replay program words =
+    ap₂ (λ kinds at. or_else kinds (kinds_after at)) (no_fault Replay [] words) (stays Replay [] words) ∙ or_else-nil (own_fault Replay words)
+
+abbrev found_by : Subcommand → List Text → Option (Text × List Row)
+found_by s words = Some (name_of s, rows_after (rules_of s) [] words)
+
+subcommand_found : (s : Subcommand) (program : Text) (words : List Text) → subcommand_of command_line (program ∷ name_of s ∷ words) ≡ found_by s words
+unfolding walked
+subcommand_found Batch program words = ap (λ (at : Walk). entered (built command_line) at.stopped) (stays Batch [] words)
+subcommand_found Replay program words = ap (λ (at : Walk). entered (built command_line) at.stopped) (stays Replay [] words)
+
+own_words_agree : (s : Subcommand) (words : List Text) → Agrees (asked_by s words anywhere nothing_given) (own_fault s words) (found_by s words)
+own_words_agree Batch words = subcommand_reads Batch words
+own_words_agree Replay words = subcommand_reads Replay words
+
+agrees_on_subcommand : (s : Subcommand) (program : Text) (words : List Text) → AgreesOn (asked_by s words anywhere nothing_given) (program ∷ name_of s ∷ words)
+agrees_on_subcommand s program words =
+    subst (λ kinds. Agrees (asked_by s words anywhere nothing_given) kinds (subcommand_of command_line (program ∷ name_of s ∷ words))) (sym (fault_of_subcommand s program words))
+    (subst (Agrees (asked_by s words anywhere nothing_given) (own_fault s words)) (sym (subcommand_found s program words)) (own_words_agree s words))
+
+first_refused : (program word : Text) (words : List Text) (kinds : Kinds) → first_turn word ≡ kinds
+    → fault_of command_line (program ∷ word ∷ words) ≡ or_else (or_else kinds (walk_fault top names (walked top.rules names start word) words)) (kinds_after (walk_over (walked top.rules names start word) words))
+unfolding walk_fault
+first_refused program word words kinds turn =
+    ap (λ ks. or_else (or_else ks (walk_fault top names (walked top.rules names start word) words)) (kinds_after (walk_over (walked top.rules names start word) words))) turn
+
+first_mistaken : (program word : Text) (words : List Text) → IsMistake (first_turn word) → IsMistake (fault_of command_line (program ∷ word ∷ words))
+first_mistaken program word words bad = go (first_turn word) refl bad
+  where
+    go : (kinds : Kinds) → first_turn word ≡ kinds → IsMistake kinds → IsMistake (fault_of command_line (program ∷ word ∷ words))
+    go [] e none = absurd none
+    go (k ∷ kinds) e all = subst IsMistake (sym (first_refused program word words (k ∷ kinds) e)) all
+
+-- `--` leaves no option, and there is no operand
+after_delimiter : (program : Text) (words : List Text) → IsMistake (fault_of command_line (program ∷ codes "--" ∷ words))
+unfolding walked walk_fault defaults_fault
+after_delimiter program [] = refl
+after_delimiter program (word ∷ words) = refl
+
+asks_help : (word : Word) (words : List Word) → IsOther word → is_help word ≡ true → invocation (word ∷ words) ≡ help
+asks_help word words other h = rw (flipped (codes "batch") word other.no_batch, flipped (codes "replay") word other.no_replay, flipped (codes "help") word other.no_help, h) refl
+
+asks_nothing : (word : Word) (words : List Word) → IsOther word → is_help word ≡ false → invocation (word ∷ words) ≡ usage_error
+asks_nothing word words other h = rw (flipped (codes "batch") word other.no_batch, flipped (codes "replay") word other.no_replay, flipped (codes "help") word other.no_help, h) refl
+
+agrees_on_first : (program word : Text) (words : List Text) → First word → IsOther word → AgreesOn (invocation (word ∷ words)) (program ∷ word ∷ words)
+unfolding chars
+agrees_on_first program word words (delimiter is) other =
+    subst (λ w. AgreesOn (invocation (w ∷ words)) (program ∷ w ∷ words)) (sym is) (after_delimiter program words)
+agrees_on_first program word words (asks h turn) other =
+    subst (λ i. AgreesOn i (program ∷ word ∷ words)) (sym (asks_help word words other h)) (first_refused program word words (kind.DisplayHelp ∷ []) turn)
+agrees_on_first program word words (mistake h turn) other =
+    subst (λ i. AgreesOn i (program ∷ word ∷ words)) (sym (asks_nothing word words other h)) (first_mistaken program word words turn)
+
+agrees_on_words : (program word : Text) (words : List Text) (is_batch is_replay is_topic : Bool) → bytes_eq word (codes "batch") ≡ is_batch → bytes_eq word (codes "replay") ≡ is_replay → bytes_eq word (codes "help") ≡ is_topic
+    → AgreesOn (invocation (word ∷ words)) (program ∷ word ∷ words)
+unfolding walked walk_fault
+agrees_on_words program word words true is_replay is_topic b r h =
+    subst (λ w. AgreesOn (invocation (w ∷ words)) (program ∷ w ∷ words)) (sym (same_bytes word (codes "batch") b)) (agrees_on_subcommand Batch program words)
+agrees_on_words program word words false true is_topic b r h =
+    subst (λ w. AgreesOn (invocation (w ∷ words)) (program ∷ w ∷ words)) (sym (same_bytes word (codes "replay") r)) (agrees_on_subcommand Replay program words)
+agrees_on_words program word words false false true b r h =
+    subst (λ w. AgreesOn (invocation (w ∷ words)) (program ∷ w ∷ words)) (sym (same_bytes word (codes "help") h)) (first_refused program (codes "help") words (kind.DisplayHelp ∷ kind.InvalidSubcommand ∷ []) refl)
+agrees_on_words program word words false false false b r h =
+    let other : IsOther word = record { no_batch = flipped word (codes "batch") b; no_replay = flipped word (codes "replay") r; no_help = flipped word (codes "help") h } in
+    agrees_on_first program word words (first_of_word word other) other
+
+-- what a parse finds of the words is what they ask for
+pub words_agree : (words : List Text) → AgreesOn (invocation (drop 1 words)) words
+unfolding walk_fault defaults_fault
+words_agree [] = refl
+words_agree (program ∷ []) = refl
+words_agree (program ∷ word ∷ words) = agrees_on_words program word words _ _ _ refl refl refl

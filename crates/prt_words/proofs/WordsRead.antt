@@ -1,0 +1,121 @@
+-- From what a parse gives to what the words ask for.
+use Rattle.std.proofs.Common.{◌≡◌, ◌∙◌, ◌&&◌, Bool, true, false, refl, sym, ap, ap₂, subst, inl, inr, List, [], ◌∷◌, Option, Some, None, option_map, is_some, codes, true≢false}
+use Rattle.std.specs.Borrow.{Bor}
+use Rattle.std.specs.Box.{box_value}
+use Rattle.std.specs.Prelude.{Box, MatchOption, ℕ, ◌==◌, option_and_then, slice_get, unwrap_or}
+use Rattle.clap.specs.Words.{subcommand_rows}
+use Rattle.clap.specs.declared.parser.matches.SubCommand.{SubCommand}
+use Rattle.clap.specs.declared.parser.matches.ArgMatches.TheViews.{out-SubCommand}
+use Rattle.clap.specs.Walk.{Row}
+use Rattle.prt_words.specs.CommandLine.{IsTaskOf, invocation_of, subcommand_name, flag_text}
+use Rattle.std.specs.List.{list_all}
+use Rattle.clap.specs.Kinds.{HasKind, IsAmong, Kinds}
+use Rattle.clap.specs.Words.{Text, kind_of}
+use Rattle.clap.specs.declared.error.Error.{Error}
+use Rattle.clap.specs.declared.error.kind.ErrorKind.{ErrorKind}
+use Rattle.clap.specs.declared.error.kind.ErrorKind.TheVariants.{DisplayHelp, DisplayVersion, InvalidSubcommand}
+use Rattle.prt_words.specs.Faults.{FaultOf, IsStatusOf, IsWordsFault, words_status}
+use Rattle.prt_words.specs.Invocation.{Invocation, Word, batch, replay, help, help_on, usage_error, file_of}
+use Rattle.prt_addr.specs.declared.on_refusal.OnRefusal.{OnRefusal}
+use Rattle.prt_addr.specs.declared.on_refusal.OnRefusal.TheVariants.{Stop, GoOn}
+use Rattle.prt_words.specs.declared.fault.Fault.{Fault}
+use Rattle.prt_words.specs.declared.task.Task.{Task}
+use Rattle.prt_words.specs.declared.task.Task.TheVariants.{Batch, Replay}
+use Rattle.prt_words.proofs.Walks.{Agrees, goes_on, text_of_flag}
+use Rattle.prt_words.proofs.WordClasses.{IsMistake, is_mistake}
+
+not_empty : (k : ErrorKind) (kinds : Kinds) → (k ∷ kinds) ≡ [] → ⊥
+not_empty k kinds same = absurd (true≢false (ap is_some_kind same))
+  where
+    is_some_kind : Kinds → Bool
+    is_some_kind [] = false
+    is_some_kind (k ∷ kinds) = true
+
+mode_is : (found mode : OnRefusal) (flag : Option Text) → flag ≡ Some (text_of_flag (goes_on mode)) → (flag ≡ Some (codes "true") → found ≡ GoOn) → (flag ≡ Some (codes "false") → found ≡ Stop) → mode ≡ found
+mode_is found Stop flag is goes_on stops = sym (stops is)
+mode_is found GoOn flag is goes_on stops = sym (goes_on is)
+
+flag_is : (found set : Bool) (flag : Option Text) → flag ≡ Some (text_of_flag set) → (flag ≡ Some (codes "true") → found ≡ true) → (flag ≡ Some (codes "false") → found ≡ false) → set ≡ found
+flag_is found true flag is given left_out = sym (given is)
+flag_is found false flag is given left_out = sym (left_out is)
+
+script_is : {mode mode0 : OnRefusal} {verbose verbose0 : Bool} {database database0 file file0 : Option Word} → mode ≡ mode0 → verbose ≡ verbose0 → database ≡ database0 → file ≡ file0
+    → batch (record { mode = mode; verbose = verbose; database = database; file = file }) ≡ batch (record { mode = mode0; verbose = verbose0; database = database0; file = file0 })
+script_is a b c d = rw (a, b, c, d) refl
+
+other_name : Some (codes "batch") ≡ Some (codes "replay") → ⊥
+other_name same = absurd (true≢false (ap (λ name. is_b (unwrap_or (slice_get (unwrap_or name []) 0) 0)) same))
+  where
+    is_b : ℕ → Bool
+    is_b byte = byte == 98
+
+-- a parse without an error found a task
+pub task_is : (asked : Invocation) (kinds : Kinds) (found : Option (Text × List Row)) (task : Task) → Agrees asked kinds found → kinds ≡ [] → IsTaskOf found task → asked ≡ invocation_of task
+task_is (batch script) kinds found (Batch task) agrees none is =
+    script_is (mode_is task.mode script.mode (flag_text (codes "force") found) agrees.4 is.3 is.4) (flag_is task.is_verbose script.verbose (flag_text (codes "verbose") found) agrees.5 is.5 is.6)
+    (sym (is.2 ∙ agrees.3)) (sym (is.1 ∙ agrees.2))
+task_is (batch script) kinds found (Replay file) agrees none is = absurd (other_name (sym agrees.1 ∙ is.0))
+task_is (replay file) kinds found (Batch task) agrees none is = absurd (is.0 agrees.1)
+task_is (replay file) kinds found (Replay path) agrees none is = ap replay (sym (is.1 ∙ agrees.2))
+task_is help kinds found task agrees none is = absurd (not_empty _ _ (sym agrees ∙ none))
+task_is help_on kinds found task agrees none is = absurd (not_empty _ _ (sym agrees ∙ none))
+task_is usage_error kinds found task agrees none is = absurd (subst IsMistake none agrees)
+
+mistake_status : (k : ErrorKind) → is_mistake k ≡ true → words_status k ≡ 2
+mistake_status DisplayHelp bad = absurd (true≢false (sym bad))
+mistake_status DisplayVersion bad = absurd (true≢false (sym bad))
+mistake_status _ bad = refl
+
+both : (a b : Bool) → (a && b) ≡ true → (a ≡ true) × (b ≡ true)
+both true b e = (refl, e)
+both false b e = absurd (true≢false (sym e))
+
+mistakes_status : (kinds : Kinds) (k : ErrorKind) → list_all is_mistake kinds ≡ true → IsAmong k kinds → words_status k ≡ 2
+mistakes_status [] k all among = absurd among
+mistakes_status (x ∷ kinds) k all (inl is) = ap words_status is ∙ mistake_status x (both (is_mistake x) (list_all is_mistake kinds) all).0
+mistakes_status (x ∷ kinds) k all (inr among) = mistakes_status kinds k (both (is_mistake x) (list_all is_mistake kinds) all).1 among
+
+status_of_kind : (asked : Invocation) (kinds : Kinds) (found : Option (Text × List Row)) (k : ErrorKind) → Agrees asked kinds found → IsAmong k kinds → IsStatusOf asked (words_status k)
+status_of_kind (batch script) kinds found k agrees among = subst (IsAmong k) agrees.0 among
+status_of_kind (replay file) kinds found k agrees among = subst (IsAmong k) agrees.0 among
+status_of_kind help kinds found k agrees among = shown (subst (IsAmong k) agrees among)
+  where
+    shown : IsAmong k (DisplayHelp ∷ []) → words_status k ≡ 0
+    shown (inl is) = ap words_status is
+    shown (inr none) = absurd none
+status_of_kind help_on kinds found k agrees among = shown (subst (IsAmong k) agrees among)
+  where
+    shown : IsAmong k (DisplayHelp ∷ InvalidSubcommand ∷ []) → IsStatusOf help_on (words_status k)
+    shown (inl is) = inl (ap words_status is)
+    shown (inr (inl is)) = inr (ap words_status is)
+    shown (inr (inr none)) = absurd none
+status_of_kind usage_error [] found k agrees among = absurd agrees
+status_of_kind usage_error (x ∷ kinds) found k agrees among = mistakes_status (x ∷ kinds) k agrees among
+
+-- a parse with an error found no script, or memory was refused
+pub words_fault : (asked : Invocation) (kinds : Kinds) (found : Option (Text × List Row)) (error : Error) (fault : Fault) → Agrees asked kinds found → HasKind kinds error → FaultOf error fault
+    → IsWordsFault asked fault
+words_fault asked kinds found error fault agrees has (inl memory) = rw memory.1 refl
+words_fault asked kinds found error fault agrees (inl memory) (inr other) = absurd (other.0 memory)
+words_fault asked kinds found error fault agrees (inr among) (inr other) = rw other.1 (status_of_kind asked kinds found (kind_of error) agrees among)
+
+-- ---- what the matches say
+
+-- the subcommand that was found, by its name and its rows
+pub found_is : (found : Option (Text × List Row)) (name : Text) (rows : List Row) → Some name ≡ subcommand_name found → Some rows ≡ option_map (λ p. p.1) found → found ≡ Some (name, rows)
+found_is None name rows names has = absurd (true≢false (ap is_some names))
+found_is (Some p) name rows names has = ap₂ (λ n rs. Some (n, rs)) (ap (λ o. unwrap_or o p.0) (sym names)) (ap (λ o. unwrap_or o p.1) (sym has))
+
+pub none_found : (found : Option (Text × List Row)) → subcommand_name found ≡ None → found ≡ None
+none_found None none = refl
+none_found (Some p) none = absurd (true≢false (ap is_some none))
+
+-- the name that a parse gives is that of its rows
+pub name_of_found : {Z : Type 0} (found : Option (Box SubCommand Z)) → option_map (λ b. (out-SubCommand (box_value b)).name.now) found ≡ subcommand_name (subcommand_rows found)
+name_of_found None = refl
+name_of_found (Some b) = refl
+
+pub path_of : (operand path : Option (Bor Text)) → MatchOption operand (path ≡ None) (λ word. option_map (λ s. s.now) path ≡ file_of word.now)
+    → option_map (λ s. s.now) path ≡ option_and_then file_of (option_map (λ s. s.now) operand)
+path_of None path is = ap (option_map (λ s. s.now)) is
+path_of (Some word) path is = is

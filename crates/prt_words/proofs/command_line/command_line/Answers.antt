@@ -1,0 +1,24 @@
+use Rattle.std.proofs.Common.{◌≡◌, ◌∙◌, ap, ap₂, true}
+use Rattle.std.proofs.lemmas.Result.{IfOk-weaker}
+use Rattle.clap.specs.Words.{App, app_of, with_subcommand}
+use Rattle.clap.specs.Simple.{Shape, app_of_fields, on_top}
+use Rattle.clap.specs.declared.builder.command.Command.{Command}
+use Rattle.clap.specs.declared.builder.command.Command.TheOpen.{Command-F}
+use Rattle.prt_words.specs.CommandLine.{opening_line}
+use Rattle.prt_words.proofs.command_line.command_line.Goals as goal
+
+-- what the program's own line asks for
+abbrev needs_subcommand : Command-F Command → App
+needs_subcommand fields = app_of_fields (record fields { subcommand_required = true; arg_required_else_help = true })
+
+abbrev top_of : App → Shape
+top_of app = app.top
+
+pub returns : goal.returns
+returns c =
+    let opening_is : app_of c.arg_required_else_help.result ≡ opening_line = ap app_of_fields c.arg_required_else_help.ensures
+    ∙ ap (λ (fields : Command-F Command). app_of_fields (record fields { arg_required_else_help = true })) c.subcommand_required.ensures
+    ∙ ap needs_subcommand c.about.ensures ∙ ap needs_subcommand c.in_ok-bin_name.ensures.0
+    ∙ ap (on_top (λ (top : Shape). record top { subcommand_required = true; arg_required_else_help = true })) c.new.ensures.app in
+    let with_batch = c.in_ok-subcommand.ensures.shape c.in_ok-batch.ensures.own ∙ ap₂ with_subcommand opening_is (ap top_of c.in_ok-batch.ensures.line) in
+    IfOk-weaker c.subcommand-2.result _ _ (λ command added. added.shape c.in_ok-replay.ensures.own ∙ ap₂ with_subcommand with_batch (ap top_of c.in_ok-replay.ensures.line)) c.subcommand-2.ensures

@@ -1,0 +1,73 @@
+-- The words that the program knows, as a parse reads them, and what it finds of its subcommands.
+use Rattle.std.specs.Prelude.{◌≡◌, ◌≢◌, Bool, true, false, List, Option, Some, codes, option_and_then, option_map}
+use Rattle.clap.specs.Words.{App, Row, Rule, Text, first_of, one_of, new_app, new_rule, with_rule, with_subcommand}
+use Rattle.clap.specs.Simple.{on_top}
+use Rattle.clap.specs.declared.builder.action.ArgAction.TheVariants.{SetTrue}
+use Rattle.clap.specs.declared.builder.command.Command.{Command}
+use Rattle.clap.specs.declared.builder.command.Command.TheViews.{out-Command}
+use Rattle.prt_words.specs.Invocation.{Invocation, batch, file_of, replay}
+use Rattle.prt_words.specs.declared.task.Task.{Task}
+use Rattle.prt_words.specs.declared.task.Task.TheVariants.{Batch, Replay}
+use Rattle.prt_addr.specs.declared.on_refusal.OnRefusal.TheVariants.{Stop, GoOn}
+
+abbrev pub flag_rule : Text → Rule
+flag_rule name = record (new_rule name) { long = Some name; action = Some SetTrue }
+
+abbrev pub database_rule : Rule
+database_rule = record (new_rule (codes "db")) { long = Some (codes "db"); value_names = 1 }
+
+abbrev pub file_rule : Rule
+file_rule = record (new_rule (codes "file")) { value_names = 1 }
+
+abbrev pub batch_line : App
+batch_line = with_rule (with_rule (with_rule (with_rule (new_app (codes "batch")) (flag_rule (codes "force"))) database_rule) (flag_rule (codes "verbose"))) file_rule
+
+abbrev pub replay_line : App
+replay_line = with_rule (new_app (codes "replay")) file_rule
+
+abbrev pub opening_line : App
+opening_line = on_top (λ top. record top { subcommand_required = true; arg_required_else_help = true }) (new_app (codes "prt"))
+
+abbrev pub command_line : App
+command_line = with_subcommand (with_subcommand opening_line batch_line.top) replay_line.top
+
+-- whether an argument of the command is one of its subcommands too
+abbrev pub has_globals : Command → Bool
+has_globals command = (out-Command command).has_globals
+
+-- the name of the subcommand, the values of FILE and of `--db`, and the text of a flag
+abbrev pub subcommand_name : Option (Text × List Row) → Option Text
+subcommand_name = option_map (λ p. p.0)
+
+abbrev pub named_file : Option (Text × List Row) → Option Text
+named_file = option_and_then (λ p. first_of (codes "file") p.1)
+
+abbrev pub named_database : Option (Text × List Row) → Option Text
+named_database = option_and_then (λ p. first_of (codes "db") p.1)
+
+abbrev pub flag_text : Text → Option (Text × List Row) → Option Text
+flag_text name = option_and_then (λ p. one_of name p.1)
+
+-- the task is that of the subcommand that a parse found
+abbrev pub IsTaskOf : Option (Text × List Row) → Task → Type 0
+IsTaskOf found (Batch script) =
+    (subcommand_name found ≢ Some (codes "replay"))
+    × (option_map (λ path. path.now) script.file ≡ option_and_then file_of (named_file found))
+    × (option_map (λ path. path.now) script.database ≡ named_database found)
+    × (flag_text (codes "force") found ≡ Some (codes "true") → script.mode ≡ GoOn)
+    × (flag_text (codes "force") found ≡ Some (codes "false") → script.mode ≡ Stop)
+    × (flag_text (codes "verbose") found ≡ Some (codes "true") → script.is_verbose ≡ true)
+    × (flag_text (codes "verbose") found ≡ Some (codes "false") → script.is_verbose ≡ false)
+IsTaskOf found (Replay file) =
+    (subcommand_name found ≡ Some (codes "replay"))
+    × (option_map (λ path. path.now) file ≡ option_and_then file_of (named_file found))
+
+-- what a task was asked for by
+abbrev pub invocation_of : Task → Invocation
+invocation_of (Batch script) = batch (record {
+  mode = script.mode;
+  verbose = script.is_verbose;
+  database = option_map (λ path. path.now) script.database;
+  file = option_map (λ path. path.now) script.file;
+})
+invocation_of (Replay file) = replay (option_map (λ path. path.now) file)

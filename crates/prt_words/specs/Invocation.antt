@@ -1,0 +1,184 @@
+-- What the words after the program's name ask for: `batch [--force] [--db PATH] [--verbose] [FILE]`, `replay [FILE]`, or help.
+-- Options and operands are told apart as POSIX.1 does (Base Definitions, section 12.2, guidelines 4, 10 and 13), but options may follow operands, and `--db=PATH` is `--db PATH`.
+use Rattle.std.specs.Prelude.{ℕ, ◌==◌, ◌||◌, Bool, true, false, List, [], ◌∷◌, Option, Some, None, is_some, if◌then◌else◌, map, drop, codes, option_and_then, slice_get, chars, bytes_eq, String, string_bytes}
+use Rattle.std.specs.List.{before_first, after_first}
+use Rattle.std.specs.Option.{option_map_or}
+use Rattle.prt_addr.specs.declared.on_refusal.OnRefusal.{OnRefusal}
+use Rattle.prt_addr.specs.declared.on_refusal.OnRefusal.TheVariants.{Stop, GoOn}
+
+abbrev pub Word : Type 0
+Word = List ℕ
+
+-- A script: how it is run, and whether a person is told of it.
+pub record Script : Type 0 where
+  pub mode : OnRefusal
+  pub verbose : Bool
+  -- the path of its database; none for one in memory
+  pub database : Option Word
+  -- the path of its file; none for the input
+  pub file : Option Word
+
+pub data Invocation : Type 0 where
+  -- a session over a script
+  batch : Script → Invocation
+  -- a replay of the file of this path, or of the input
+  replay : Option Word → Invocation
+  help : Invocation
+  -- the word `help`, and what help is asked on, if there is such a thing
+  help_on : Invocation
+  usage_error : Invocation
+
+-- ---- one word
+
+-- the character after a hyphen (45): `h` (104) of `-h`, another hyphen of `--force`, none of `-`
+abbrev pub option_letter : Word → Option ℕ
+option_letter [] = None
+option_letter (byte ∷ rest) = if byte == 45 then slice_get (chars rest) 0 else None
+
+-- a hyphen and more: `-` alone is an operand
+abbrev pub is_option : Word → Bool
+is_option word = is_some (option_letter word)
+
+-- `--`, which ends the options
+abbrev pub is_delimiter : Word → Bool
+is_delimiter word = bytes_eq word (codes "--")
+
+-- `--help`, or `-h` and what begins so
+abbrev pub is_help : Word → Bool
+is_help word = bytes_eq word (codes "--help") || option_map_or (λ letter. letter == 104) (option_letter word) false
+
+-- `-` is the input
+abbrev pub file_of : Word → Option Word
+file_of word = if bytes_eq word (codes "-") then None else Some word
+
+-- ---- the arguments of a subcommand
+
+pub data Subcommand : Type 0 where
+  Batch : Subcommand
+  Replay : Subcommand
+
+pub data Argument : Type 0 where
+  -- `--force`
+  Force : Argument
+  -- `--verbose`
+  Verbose : Argument
+  -- `--db PATH`
+  Database : Word → Argument
+  -- FILE
+  File : Word → Argument
+
+-- What its words have given so far.
+pub record Given : Type 0 where
+  pub forced : Bool
+  pub verbose : Bool
+  pub database : Option Word
+  pub operand : Option Word
+
+abbrev pub nothing_given : Given
+nothing_given = record { forced = false; verbose = false; database = None; operand = None }
+
+-- such an argument was given
+abbrev pub has_given : Given → Argument → Bool
+has_given given Force = given.forced
+has_given given Verbose = given.verbose
+has_given given (Database path) = is_some given.database
+has_given given (File word) = is_some given.operand
+
+abbrev pub with_given : Given → Argument → Given
+with_given given Force = record given { forced = true }
+with_given given Verbose = record given { verbose = true }
+with_given given (Database path) = record given { database = Some path }
+with_given given (File word) = record given { operand = Some word }
+
+abbrev pub mode_of : Bool → OnRefusal
+mode_of true = GoOn
+mode_of false = Stop
+
+-- what the subcommand asks for with this
+abbrev pub asked : Subcommand → Given → Invocation
+asked Batch given = batch (record { mode = mode_of given.forced; verbose = given.verbose; database = given.database; file = option_and_then file_of given.operand })
+asked Replay given = replay (option_and_then file_of given.operand)
+
+-- ---- what a word of a subcommand is
+
+pub data Part : Type 0 where
+  delimiter : Part
+  asks_help : Part
+  argument : Argument → Part
+  -- `--db`, whose path is the next word
+  awaits_path : Part
+  -- an option that there is not
+  unknown : Part
+
+-- `=` (61)
+abbrev pub is_equals : ℕ → Bool
+is_equals byte = byte == 61
+
+-- an option other than help; `--db=` and what follows gives the path at once
+abbrev pub option_part : Subcommand → Word → Part
+option_part Replay word = unknown
+option_part Batch word =
+    if bytes_eq word (codes "--force") then argument Force
+    else (if bytes_eq word (codes "--verbose") then argument Verbose
+    else (if bytes_eq word (codes "--db") then awaits_path
+    else (if bytes_eq (before_first is_equals word) (codes "--db") then argument (Database (after_first is_equals word))
+    else unknown)))
+
+abbrev pub part_of : Subcommand → Word → Part
+part_of subcommand word =
+    if is_delimiter word then delimiter
+    else (if is_help word then asks_help
+    else (if is_option word then option_part subcommand word
+    else argument (File word)))
+
+-- Where a word stands.
+pub data Place : Type 0 where
+  anywhere : Place
+  -- after `--db`
+  at_path : Place
+  -- after `--`
+  at_operands : Place
+
+-- a path that begins with a hyphen is given by `--db=PATH`, but for `-` alone, which is a file of that name
+abbrev pub part_at : Place → Subcommand → Word → Part
+part_at anywhere subcommand word = part_of subcommand word
+part_at at_path subcommand word = if is_option word then unknown else argument (Database word)
+part_at at_operands subcommand word = argument (File word)
+
+-- ---- the words of a subcommand, from left to right
+
+abbrev pub place_after : Place → Place
+place_after at_operands = at_operands
+place_after _ = anywhere
+
+-- each argument is given once; `more` says what the words after this one ask for
+abbrev pub asked_with : Place → Given → Part → (Place → Given → Invocation) → Invocation
+asked_with place given delimiter more = more at_operands given
+asked_with place given asks_help more = help
+asked_with place given (argument a) more = if has_given given a then usage_error else more (place_after place) (with_given given a)
+asked_with place given awaits_path more = more at_path given
+asked_with place given unknown more = usage_error
+
+abbrev pub asked_at_end : Subcommand → Place → Given → Invocation
+asked_at_end subcommand at_path given = usage_error
+asked_at_end subcommand _ given = asked subcommand given
+
+-- help where an option asks for it and the words before it are right
+abbrev pub asked_by : Subcommand → List Word → Place → Given → Invocation
+asked_by subcommand [] place given = asked_at_end subcommand place given
+asked_by subcommand (word ∷ words) place given = asked_with place given (part_at place subcommand word) (asked_by subcommand words)
+
+-- ---- all words
+
+-- the words after the program's name
+abbrev pub arguments : {Z : Type 0} → List (String Z) → List Word
+arguments words = drop 1 (map string_bytes words)
+
+-- what they ask for
+abbrev pub invocation : List Word → Invocation
+invocation [] = usage_error
+invocation (word ∷ words) =
+    if bytes_eq word (codes "batch") then asked_by Batch words anywhere nothing_given
+    else (if bytes_eq word (codes "replay") then asked_by Replay words anywhere nothing_given
+    else (if bytes_eq word (codes "help") then help_on
+    else (if is_help word then help else usage_error)))

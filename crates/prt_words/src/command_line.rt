@@ -1,0 +1,93 @@
+//! The words that the program knows, as clap reads them.
+ghost use Rattle.std.specs.Prelude.{◌≡◌, IfOk, false};
+ghost use Rattle.clap.specs.Words.{app_of, rule_of};
+ghost use Rattle.prt_words.specs.CommandLine.{batch_line, command_line, database_rule, file_rule, flag_rule, has_globals, replay_line};
+
+use clap::{Arg, ArgAction, Command};
+use std::alloc::{AllocError, Global};
+
+/// Makes the operand that names a file.
+fn file_operand<'a>(alloc: Global, help: &'a str) -> Arg<'a>
+    ensures rule { rule_of result ≡ file_rule }
+    ensures own { result.global ≡ false }
+{
+    Arg::new(alloc, "file").value_name("FILE").help(help)
+}
+
+/// Makes a flag of this name.
+fn flag<'a>(alloc: Global, name: &'a str, help: &'a str) -> Arg<'a>
+    ensures rule { rule_of result ≡ flag_rule name.entry.now }
+    ensures own { result.global ≡ false }
+{
+    Arg::new(alloc, name)
+        .long(name)
+        .action(ArgAction::SetTrue)
+        .help(help)
+}
+
+/// Makes the option that names a database.
+fn database_option<'a>(alloc: Global) -> Arg<'a>
+    ensures rule { rule_of result ≡ database_rule }
+    ensures own { result.global ≡ false }
+{
+    Arg::new(alloc, "db").long("db").value_name("PATH").help(
+        "The database file, made where there is none; without it a new database in memory",
+    )
+}
+
+/// Says which words may follow `batch`.
+fn batch_line<'a>(alloc: Global) -> Result<Command<'a>, AllocError>
+    ensures line { IfOk result (λ command. app_of command ≡ batch_line) }
+    ensures own { IfOk result (λ command. has_globals command ≡ false) }
+{
+    let force = flag(
+        alloc,
+        "force",
+        "Go on with the next line after a refused one",
+    );
+    let database = database_option(alloc);
+    let verbose = flag(
+        alloc,
+        "verbose",
+        "Tell of each refused line on standard error, also where that is no terminal",
+    );
+    let file = file_operand(
+        alloc,
+        "The script; standard input where it is missing or `-`",
+    );
+    Command::new(alloc, "batch")
+        .about("Runs a script of route and rule commands over a database")
+        .arg(force)?
+        .arg(database)?
+        .arg(verbose)?
+        .arg(file)
+}
+
+/// Says which words may follow `replay`.
+fn replay_line<'a>(alloc: Global) -> Result<Command<'a>, AllocError>
+    ensures line { IfOk result (λ command. app_of command ≡ replay_line) }
+    ensures own { IfOk result (λ command. has_globals command ≡ false) }
+{
+    let file = file_operand(
+        alloc,
+        "The events, one a line; standard input where it is missing or `-`",
+    );
+    Command::new(alloc, "replay")
+        .about("Replays a list of events from a new database, and says what comes of each")
+        .arg(file)
+}
+
+/// Says which words the program knows.
+pub(crate) fn command_line<'a>(alloc: Global) -> Result<Command<'a>, AllocError>
+    ensures { IfOk result (λ command. app_of command ≡ command_line) }
+{
+    let batch = batch_line(alloc)?;
+    let replay = replay_line(alloc)?;
+    Command::new(alloc, "prt")
+        .bin_name("prt")?
+        .about("The table service of an IPv4 policy router")
+        .subcommand_required(true)
+        .arg_required_else_help(true)
+        .subcommand(batch)?
+        .subcommand(replay)
+}

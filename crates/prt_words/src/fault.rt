@@ -1,0 +1,108 @@
+//! Why the program runs nothing, and how it says so.
+ghost use Rattle.std.specs.Prelude.{◌≡◌, ◌≢◌, IfOk};
+ghost use Rattle.clap.specs.Words.{kind_of};
+ghost use Rattle.prt_addr.specs.declared.refusal.Refusal.TheVariants.{NoMemory};
+ghost use Rattle.prt_words.specs.Faults.{FaultOf, IsWordsFault, fault_status};
+ghost use Rattle.prt_words.specs.Invocation.{usage_error};
+ghost use Rattle.prt_words.specs.declared.fault.Fault.TheVariants.{Opening};
+
+use crate::command_line::command_line;
+use clap::error::ErrorKind;
+use prt_addr::Refusal;
+use std::alloc::{AllocError, Global};
+use std::io::{self, Write};
+use thiserror::Error;
+
+/// The exit status where no line was refused, and after help.
+pub const DONE: u8 = 0;
+
+/// The exit status for bad words.
+const BAD_WORDS: u8 = 2;
+
+/// The exit status for a fault.
+pub const FAULT: u8 = 3;
+
+/// Says of a word that it is no text.
+const NOT_TEXT: &str = "invalid UTF-8 was detected in one or more arguments";
+
+/// Why the program runs nothing.
+#[derive(Debug, Drop, Error)]
+pub enum Fault {
+    /// The words ask for help, or for nothing that there is.
+    #[error(transparent)]
+    Words(clap::Error),
+    /// The file or the database could not be opened, or memory was refused on the way there.
+    #[error("prt: {0}\n")]
+    Opening(Refusal),
+}
+
+impl From<AllocError> for Fault {
+    ghost from_gives = { λ _ fault. fault ≡ Opening NoMemory };
+
+    fn from(_: AllocError) -> Fault {
+        Fault::Opening(Refusal::NoMemory)
+    }
+}
+
+impl From<clap::Error> for Fault {
+    ghost from_gives = { λ error fault. FaultOf error fault };
+
+    fn from(error: clap::Error) -> Fault {
+        match error.kind() {
+            ErrorKind::OutOfMemory => Fault::Opening(Refusal::NoMemory),
+            _ => Fault::Words(error),
+        }
+    }
+}
+
+impl From<Refusal> for Fault {
+    ghost from_gives = { λ refusal fault. fault ≡ Opening refusal };
+
+    fn from(refusal: Refusal) -> Fault {
+        Fault::Opening(refusal)
+    }
+}
+
+/// Makes the error of a word that is no text, in the form of those of a parse.
+fn not_text(alloc: Global) -> Result<clap::Error, AllocError>
+    ensures { IfOk result (λ error. kind_of error ≡ ErrorKind.InvalidValue) }
+{
+    command_line(alloc)?.error(ErrorKind::InvalidValue, NOT_TEXT)
+}
+
+/// Tells why there are no words to read: `error` came in place of them, since one is no text or memory was refused.
+pub fn words_fault(alloc: Global, error: &io::Error) -> Fault
+    ensures { IsWordsFault usage_error result }
+{
+    if error.kind() == io::ErrorKind::OutOfMemory {
+        return Fault::Opening(Refusal::NoMemory);
+    }
+    match not_text(alloc) {
+        Ok(error) => Fault::Words(error),
+        Err(_) => Fault::Opening(Refusal::NoMemory),
+    }
+}
+
+/// Writes why the program runs nothing, and gives the exit status for it: 0 for help, 2 for bad words, 3 for a fault of
+/// opening.
+///
+/// Help goes to `output`, all else to `errors`. A fault of writing there changes nothing.
+pub fn report<W: Write, E: Write>(fault: &Fault, output: &mut W, errors: &mut E) -> u8
+    ensures status { result ≡ fault_status fault.now }
+    ensures unwritten { result ≢ DONE → W.contents output.new ≡ W.contents output.old }
+{
+    match fault {
+        Fault::Words(error) if !error.use_stderr() => {
+            let _ = write!(output, "{fault}");
+            DONE
+        }
+        Fault::Words(_) => {
+            let _ = write!(errors, "{fault}");
+            BAD_WORDS
+        }
+        Fault::Opening(_) => {
+            let _ = write!(errors, "{fault}");
+            FAULT
+        }
+    }
+}

@@ -1,0 +1,9 @@
+//! The words of the program `prt`: what they ask for, or why it runs nothing.
+#![tactic(auto)]
+
+mod command_line;
+mod fault;
+mod task;
+
+pub use fault::{DONE, FAULT, Fault, report, words_fault};
+pub use task::{Batch, STANDARD_INPUT, Task, read_words};

@@ -1,0 +1,122 @@
+//! What the words of the program ask for.
+ghost use Rattle.std.specs.Prelude.{◌≡◌, IfErr, IfOk, Some, codes, false, option_and_then, option_map, true};
+ghost use Rattle.clap.specs.Words.{first_of, found_of, one_of, rows_of, subcommand_rows_of};
+ghost use Rattle.prt_words.specs.CommandLine.{IsTaskOf, invocation_of};
+ghost use Rattle.prt_words.specs.Faults.{IsWordsFault};
+ghost use Rattle.prt_words.specs.Invocation.{arguments, file_of, invocation};
+
+use crate::command_line::command_line;
+use crate::fault::Fault;
+use clap::ArgMatches;
+use prt_addr::OnRefusal;
+use std::alloc::Global;
+
+/// The subcommand that replays events.
+const REPLAY: &str = "replay";
+
+/// The word for standard input in the place of a file.
+pub const STANDARD_INPUT: &str = "-";
+
+/// A script to run.
+#[derive(Drop)]
+pub struct Batch<'a> {
+    /// The path of the script; standard input where there is none.
+    pub file: Option<&'a str>,
+    /// The path of the database; a new one in memory where there is none.
+    pub database: Option<&'a str>,
+    /// What its session does after a refused line.
+    pub mode: OnRefusal,
+    /// Whether a person is told of it, wherever standard error goes.
+    pub is_verbose: bool,
+}
+
+/// What the words ask for.
+#[derive(Drop)]
+pub enum Task<'a> {
+    /// To run a script.
+    Batch(Batch<'a>),
+    /// To replay the file of this path; standard input where there is none.
+    Replay(Option<&'a str>),
+}
+
+/// Gives the path of an operand; none for `-`, which is standard input.
+fn file_of(operand: &str) -> Option<&str>
+    ensures { option_map (λ path. path.now) result ≡ file_of operand.entry.now }
+{
+    if operand == STANDARD_INPUT {
+        None
+    } else {
+        Some(operand)
+    }
+}
+
+/// Gives the path of the file that the matches of a subcommand name.
+fn file_in<'a>(matches: &ArgMatches<'a>) -> Option<&'a str>
+    ensures { option_map (λ path. path.now) result ≡ option_and_then file_of (first_of (codes "file") (rows_of (found_of matches.now))) }
+{
+    matches.get_str("file").and_then(file_of)
+}
+
+/// Gives the path that the matches of `batch` have for `--db`.
+fn database_in<'a>(matches: &ArgMatches<'a>) -> Option<&'a str>
+    ensures { option_map (λ path. path.now) result ≡ first_of (codes "db") (rows_of (found_of matches.now)) }
+{
+    matches.get_str("db")
+}
+
+/// Tells whether the matches of `batch` have a flag.
+fn has_flag(matches: &ArgMatches<'_>, name: &str) -> bool
+    ensures given { one_of name.now (rows_of (found_of matches.now)) ≡ Some (codes "true") → result ≡ true }
+    ensures left_out { one_of name.now (rows_of (found_of matches.now)) ≡ Some (codes "false") → result ≡ false }
+{
+    matches.get_flag(name)
+}
+
+/// Tells what a script does after a refused line, by the matches of `batch`.
+fn mode_in(matches: &ArgMatches<'_>) -> OnRefusal
+    ensures goes_on { one_of (codes "force") (rows_of (found_of matches.now)) ≡ Some (codes "true") → result ≡ OnRefusal.GoOn }
+    ensures stops { one_of (codes "force") (rows_of (found_of matches.now)) ≡ Some (codes "false") → result ≡ OnRefusal.Stop }
+{
+    if has_flag(matches, "force") {
+        OnRefusal::GoOn
+    } else {
+        OnRefusal::Stop
+    }
+}
+
+/// Tells what the matches of all words ask for.
+fn task_of<'a>(matches: &ArgMatches<'a>) -> Task<'a>
+    ensures { IsTaskOf (subcommand_rows_of matches.now) result }
+{
+    let Some((name, found)) = matches.subcommand() else {
+        return Task::Batch(Batch {
+            file: None,
+            database: None,
+            mode: OnRefusal::Stop,
+            is_verbose: false,
+        });
+    };
+    let file = file_in(found);
+    if name == REPLAY {
+        return Task::Replay(file);
+    }
+    Task::Batch(Batch {
+        file,
+        database: database_in(found),
+        mode: mode_in(found),
+        is_verbose: has_flag(found, "verbose"),
+    })
+}
+
+/// Reads what the words ask for, the first of which is the program's own name.
+///
+/// # Errors
+///
+/// `Words` where they ask for help or for nothing that there is, `Opening` with `NoMemory` where memory is refused.
+pub fn read_words<'a>(alloc: Global, words: &'a [String]) -> Result<Task<'a>, Fault>
+    ensures task { IfOk result (λ task. invocation (arguments words.entry.now) ≡ invocation_of task) }
+    ensures fault { IfErr result (IsWordsFault (invocation (arguments words.entry.now))) }
+{
+    let matches = command_line(alloc)?.try_get_matches_from(words)?;
+    Ok(task_of(&matches))
+}
