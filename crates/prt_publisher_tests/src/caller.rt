@@ -1,0 +1,52 @@
+//! Calls of a publisher, for connections and handles of any kind.
+ghost use Rattle.std.specs.Prelude.{◌≡◌, IfOk, OnOk};
+ghost use Rattle.prt_publisher.specs.Standing.{IsQuiet};
+
+use prt_command::{Command, Refusal};
+use prt_grace::Domain;
+use prt_publisher::{Phase, Publisher};
+use sqlite::{Alter, Connection};
+use std::alloc::Global;
+use std::sync::Wait;
+
+/// A publisher over the database of a connection, and its domain.
+pub fn adopted<S: Alter + Drop, H: Wait + Drop>(
+    rt: H,
+    alloc: Global,
+    connection: Connection<S>,
+) -> Result<(Publisher<S, H>, Domain), Refusal>
+    ensures { IfOk result (λ made. made.0.phase ≡ Phase.Ready) }
+{
+    match Publisher::adopt(rt, alloc, connection) {
+        Ok(made) => Ok(made),
+        Err((reason, _)) => Err(reason),
+    }
+}
+
+/// Submits a flush of the rules, which is always accepted, and gives the number of its receipt.
+pub fn submit_one<S: Alter + Drop, R: Wait + Drop, H: Wait>(
+    rt: &H,
+    publisher: &mut Publisher<S, R>,
+    domain: &Domain,
+) -> Result<u64, Refusal>
+    requires { IsQuiet publisher.old.phase }
+    ensures quiet { IsQuiet publisher.new.phase }
+    ensures ready { OnOk result (publisher.new.phase ≡ Phase.Ready) }
+{
+    match publisher.submit(rt, domain, &Command::RuleFlush) {
+        Ok(receipt) => Ok(receipt.number()),
+        Err(reason) => Err(reason),
+    }
+}
+
+/// Prepares a flush of the rules.
+pub fn prepare_one<S: Alter + Drop, R: Wait + Drop, H: Wait>(
+    rt: &H,
+    publisher: &mut Publisher<S, R>,
+    domain: &Domain,
+) -> Result<(), Refusal>
+    requires { IsQuiet publisher.old.phase }
+    ensures { OnOk result (publisher.new.phase ≡ Phase.Prepared) }
+{
+    publisher.prepare(rt, domain, &Command::RuleFlush)
+}

@@ -1,0 +1,9 @@
+//! Tests of publishers over databases in memory.
+#![tactic(auto)]
+
+#[cfg(test)]
+mod caller;
+#[cfg(test)]
+mod phases;
+#[cfg(test)]
+mod retention;
