@@ -10,6 +10,7 @@ use Rattle.prt_rule.specs.declared.packet.Packet.{Packet}
 use Rattle.prt_version.specs.Change.{apply, refusal}
 use Rattle.prt_version.specs.Select.{select}
 use Rattle.prt_version.specs.State.{State, opening_state}
+use Rattle.prt_version.proofs.Folds.{apply_count}
 use Rattle.prt_world.specs.Durability.{state_after}
 use Rattle.prt_world.specs.World as world
 use Rattle.prt_world.specs.World.{Ack, Lookup, LookerState, World, announced_by, kept, offline, online, published_version, start, step, stopped, run_from, version, with_count}
@@ -19,7 +20,7 @@ use Rattle.prt_world.specs.declared.event.Fate.{Fate}
 use Rattle.prt_world.specs.declared.event.Fate.TheVariants.{Kept}
 use Rattle.prt_world.specs.declared.phase.Phase.{Phase}
 use Rattle.prt_world.specs.declared.phase.Phase.TheVariants.{Ready, Prepared, Committed, Published, Noted, Closed, Stopped}
-use Rattle.prt_world.proofs.Folds.{apply_count, state_after_more, written_twice}
+use Rattle.prt_world.proofs.Folds.{state_after_more, written_twice}
 use Rattle.prt_world.proofs.History.{Agree, IsAcked, IsAnswer, IsHistory, IsServed, history_on, history_published, history_reclaimed, history_reopened, same_state}
 use Rattle.prt_grace.specs.declared.limits.TheConstants.{PLACES}
 use Rattle.prt_world.proofs.KeptVersions.{each_get, each_replicate, each_set, kept_alone, kept_count, slice_get-push}

@@ -17,6 +17,7 @@ use Rattle.prt_grace.specs.declared.place.PlaceState.{PlaceState}
 use Rattle.prt_version.specs.Change.{apply, check, put, put_if, refusal}
 use Rattle.prt_version.specs.State.{State}
 use Rattle.prt_version.specs.declared.change.Change.{Change}
+use Rattle.prt_version.proofs.Folds.{apply_count}
 use Rattle.prt_world.specs.Durability.{state_after}
 use Rattle.prt_world.specs.Machine as machine
 use Rattle.prt_world.specs.Machine.{LookersState, MachineState, MachineStep, SeatState, machine_outcomes, machine_step, opened}
@@ -27,7 +28,6 @@ use Rattle.prt_world.specs.declared.event.Fate.TheVariants.{Kept}
 use Rattle.prt_world.specs.declared.outcome.Outcome.TheVariants as outcomes
 use Rattle.prt_world.specs.declared.phase.Phase.{Phase}
 use Rattle.prt_world.specs.declared.phase.Phase.TheVariants.{Ready, Prepared, Committed, Published, Noted, Closed, Stopped}
-use Rattle.prt_world.proofs.Folds.{apply_count}
 use Rattle.prt_world.proofs.History.{IsServed, same_state}
 use Rattle.prt_world.proofs.KeptVersions.{kept_count}
 use Rattle.prt_world.proofs.SideBySide.{all_pass, none_pass}
