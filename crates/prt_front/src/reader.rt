@@ -72,7 +72,11 @@ impl FrontReader {
 }
 
 /// Makes all readers, which know the published list. `None` where memory is refused.
-pub(crate) fn readers_of(alloc: Global, writer: &mut CopyWriter, known: &Known) -> Option<Vec<FrontReader>>
+pub(crate) fn readers_of(
+    alloc: Global,
+    writer: &mut CopyWriter,
+    known: &Known,
+) -> Option<Vec<FrontReader>>
     requires known { writer.old.desk.shown.value ≡ known.now }
     requires knows { view writer.old.desk.place ≡ origin_of known.now.book }
     ensures writer { writer.new.desk.shown.value ≡ writer.old.desk.shown.value }
