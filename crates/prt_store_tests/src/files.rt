@@ -5,7 +5,7 @@ use crate::database::spells;
 use crate::steps::OPENING;
 use prt_store::Store;
 use prt_version::Refusal;
-use sqlite::Alter;
+use sqlite::{Alter, Connection};
 use std::alloc::Global;
 use std::fs;
 use std::test::Fail;
@@ -19,10 +19,12 @@ const PATH: &str = "prt_store_tests_files/routes.db";
 /// Tells whether the store that was opened spells the opening state.
 fn is_new<S: Alter + Drop>(
     alloc: Global,
-    opened: Result<Store<S>, Refusal>,
+    opened: Result<Store<S>, (Refusal, Option<Connection<S>>)>,
 ) -> Result<bool, Refusal> {
-    let store = opened?;
-    Ok(spells(alloc, store.release(), &OPENING)?.0)
+    match opened {
+        Ok(store) => Ok(spells(alloc, store.release(), &OPENING)?.0),
+        Err((reason, _connection)) => Err(reason),
+    }
 }
 
 #[test]
