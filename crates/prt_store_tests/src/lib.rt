@@ -10,9 +10,13 @@ mod failures;
 mod files;
 #[cfg(test)]
 mod openings;
+mod reopening;
+#[cfg(test)]
+mod restarts;
 #[cfg(test)]
 mod rows;
 #[cfg(test)]
 mod steps;
 
 pub use caller::submit;
+pub use reopening::reopened;
