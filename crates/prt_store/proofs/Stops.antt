@@ -77,7 +77,7 @@ module _ {S : Type 0} (g : Ghosts S) (made : Change) (number : ℕ) (old left : 
       survives_begin g old (state g left) _ (survives_then (state g (begun_from old)) (state g last) (state g left) _ _ (HasLeftNext g made number old call) (λ _ db none. absurd none) (λ _ db none. absurd none) one two)
 
   -- a crash finds what it could find before, or what the two statements left
-  left_by : (call : StoreCall) → StoppedIn g made number old call left → Survives (state g old) (state g left) (HasLeftNext g made number old call)
+  pub left_by : (call : StoreCall) → StoppedIn g made number old call left → Survives (state g old) (state g left) (HasLeftNext g made number old call)
   left_by Begin is = subst (λ h. Survives (state g old) (state g h) (HasLeftNext g made number old Begin)) (sym is) (survives_itself (state g old) _)
   left_by Write quiet = survives_begin g old (state g left) _ (survives_weaker (state g (begun_from old)) (state g left) _ (HasLeftNext g made number old Write) (λ _ db none. absurd none) quiet)
   left_by Count stopped = quiet_from Count stopped.0 stopped.1.1.1 stopped.2
