@@ -76,12 +76,12 @@ fn publish_two<S: Alter + Drop, H: Wait + Copy + Drop>(
     let first = publisher.publish(&rt, &domain)?.number();
     let second = submit_one(&rt, &mut publisher, &domain)?;
     let mut seats = publisher.seats(alloc);
-    let mut readers = 0;
+    let mut readers = 0usize;
     for _ in 0..100 {
         match seats.take() {
             Some(mut reader) => {
                 if reader.fetch()?.number() == second {
-                    readers += 1;
+                    readers = readers.saturating_add(1);
                 }
             }
             None => break,
