@@ -61,7 +61,7 @@ fn retain<S: Alter + Drop, H: Wait + Copy + Drop>(
     let online_at = domain.online(&rt, &mut place);
     let (last, refused) = submit_until_refused(&rt, &mut publisher, &domain);
     let phase = publisher.phase();
-    let retired = publisher.noted() - online_at;
+    let retired = publisher.noted().saturating_sub(online_at);
     if last < online_at {
         return Ok(None);
     }
