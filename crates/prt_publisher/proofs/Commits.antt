@@ -1,6 +1,6 @@
 -- What a commit leaves.
 use Rattle.std.proofs.Common.{◌≡◌, ◌⊎◌, inl, inr, ℕ, ◌+◌, Bool, None, Some, Ok, sym, ap, subst}
-use Rattle.std.specs.Prelude.{IsTrue}
+use Rattle.std.specs.Prelude.{IsSomeAnd, IsTrue}
 use Rattle.std.specs.Result.{result_err}
 use Rattle.sqlite.specs.Effect.{Database}
 use Rattle.sqlite.specs.Held.{Held, state}
@@ -12,12 +12,16 @@ use Rattle.prt_addr.specs.declared.refusal.StoreCall.TheVariants.{Commit}
 use Rattle.prt_command.specs.declared.request.Command.{Command}
 use Rattle.prt_store.proofs.Nexts.{next_of}
 use Rattle.prt_store.specs.Exits.{IsKnown, IsStored, MayLeave, Spells}
+use Rattle.prt_store.specs.Made.{MakesChange}
 use Rattle.prt_store.specs.Next.{IsNext}
+use Rattle.prt_store.specs.Openings.{HasDone}
 use Rattle.prt_store.specs.Stored.{Stores}
 use Rattle.prt_version.specs.Change.{apply, check, put, put_if, refusal}
 use Rattle.prt_version.specs.State.{State}
 use Rattle.prt_version.specs.declared.change.Change.{Change}
-use Rattle.prt_publisher.specs.Standing.{Agrees, IsLeft, IsOneMore}
+use Rattle.prt_front.specs.Line.{line_state}
+use Rattle.prt_publisher.specs.Exits.{HasCommitted}
+use Rattle.prt_publisher.specs.Standing.{Agrees, IsLeft, IsOneMore, Standing}
 use Rattle.prt_publisher.specs.Step.{IsPlan, IsStep, command_of, phase_of}
 use Rattle.prt_publisher.specs.declared.plan.Plan.{Plan}
 use Rattle.prt_publisher.specs.declared.publisher.Step.{Step}
@@ -73,3 +77,9 @@ module _ {S : Type 0} (g : Ghosts S) (old new : Held S) (published : State) (com
 pub without_some : {s t left : State} {P : Type 0} → (left ≡ s) ⊎ (P × (Some left ≡ Some t)) → (left ≡ s) ⊎ (P × (left ≡ t))
 without_some (inl is) = inl is
 without_some (inr more) = inr (more.0, cc more.1)
+
+-- what ran was the change of the command under way
+pub has_committed : {S : Type 0} (g : Ghosts S) (old : Standing (Held S)) (published : State) (conn new : Held S) (plan : Plan) (number : ℕ) → line_state old.line ≡ published → old.command ≡ Some plan.command → old.tables ≡ conn
+    → check published plan.command ≡ Ok plan.change → number ≡ published.count → HasDone g (MakesChange g plan.change (number + 1)) conn (state g new).committed → IsSomeAnd old.command (λ command. HasCommitted g old command new)
+has_committed g old published conn new plan number shown under held makes counted done =
+    rw (shown, under, held) (plan.change, makes, subst (λ (n : ℕ). HasDone g (MakesChange g plan.change (n + 1)) conn (state g new).committed) counted done)

@@ -1,5 +1,5 @@
 -- What the exits of a publisher's calls say.
-use Rattle.std.specs.Prelude.{◌≡◌, ◌⊎◌, ◌≤◌, length, IsTrue, Option, Some, None}
+use Rattle.std.specs.Prelude.{◌≡◌, ◌⊎◌, ◌+◌, ◌≤◌, length, IsTrue, Option, Some, None, Ok}
 use Rattle.sqlite.specs.Held.{Held, state}
 use Rattle.sqlite.specs.Store.{Ghosts}
 use Rattle.prt_addr.specs.declared.refusal.Refusal.{Refusal}
@@ -14,9 +14,12 @@ use Rattle.prt_publisher.specs.Standing.{Standing}
 use Rattle.prt_publisher.specs.declared.phase.Phase.{Phase}
 use Rattle.prt_publisher.specs.declared.phase.Phase.TheVariants.{Ready, Closed}
 use Rattle.prt_store.specs.Exits.{IsKnown, MayLeave, SparesOthers}
+use Rattle.prt_store.specs.Made.{MakesChange}
+use Rattle.prt_store.specs.Openings.{HasDone}
 use Rattle.prt_store.specs.Stored.{Stores}
-use Rattle.prt_version.specs.Change.{apply, refusal}
+use Rattle.prt_version.specs.Change.{apply, check, refusal}
 use Rattle.prt_version.specs.State.{State}
+use Rattle.prt_version.specs.declared.change.Change.{Change}
 
 -- the state after the command under way
 abbrev pub state_after : State → Option Command → Option State
@@ -67,6 +70,11 @@ pub record IsNotPublished {S : Type 0} (g : Ghosts S) (old : Standing (Held S)) 
 -- why a command is not acknowledged, and what that leaves
 abbrev pub IsNotAcknowledged : {S : Type 0} → Ghosts S → Standing (Held S) → Command → Refusal → Standing (Held S) → Type 0
 IsNotAcknowledged g old command why new = ((new ≡ old) × IsNotPrepared old.phase (line_state old.line) command why) ⊎ (IsNotStored g old command why new ⊎ IsNotPublished g old command why new)
+
+-- the change that the command makes of the published state ran in one transaction on the tables as they were, and what that left is committed, whatever the file
+abbrev pub HasCommitted : {S : Type 0} → Ghosts S → Standing (Held S) → Command → Held S → Type 0
+HasCommitted g old command new =
+    (made : Change) × (check (line_state old.line) command ≡ Ok made) × HasDone g (MakesChange g made ((line_state old.line).count + 1)) old.tables (state g new).committed
 
 -- the other tables of the file stay, where that can be seen
 abbrev pub Spares : {S : Type 0} → Ghosts S → Standing (Held S) → Standing (Held S) → Type 0

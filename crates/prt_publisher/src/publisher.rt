@@ -1,5 +1,5 @@
 //! The publisher of one database.
-ghost use Rattle.std.specs.Prelude.{◌≡◌, ◌⊎◌, ◌+◌, ◌<◌, ◌↔◌, [], length, None, Some, IfErr, IfOk, IsTrue, OnErr, OnOk, true};
+ghost use Rattle.std.specs.Prelude.{◌≡◌, ◌⊎◌, ◌+◌, ◌<◌, ◌↔◌, [], length, None, Some, IfErr, IfOk, IsSomeAnd, IsTrue, OnErr, OnOk, true};
 ghost use Rattle.sqlite.specs.Held.{state};
 ghost use Rattle.sqlite.specs.State.{HasCleanDisk, Survives};
 ghost use Rattle.prt_addr.specs.declared.refusal.Refusal.TheVariants.{Damaged, NoMemory, NotPublished, StoreFailed};
@@ -9,7 +9,7 @@ ghost use Rattle.prt_command.specs.Storable.{IsStorable};
 ghost use Rattle.prt_front.specs.Line.{grown, line_state};
 ghost use Rattle.prt_grace.specs.Registry.{noted_by, reclaimed};
 ghost use Rattle.prt_grace.specs.declared.limits.TheConstants.{MOST_RETIRED};
-ghost use Rattle.prt_publisher.specs.Exits.{IsAllowed, IsNotAcknowledged, IsNotAdmitted, IsNotPrepared, Spares, Takes, line_after, state_after};
+ghost use Rattle.prt_publisher.specs.Exits.{HasCommitted, IsAllowed, IsNotAcknowledged, IsNotAdmitted, IsNotPrepared, Spares, Takes, line_after, state_after};
 ghost use Rattle.prt_publisher.specs.Standing.{IsQuiet, Stands, unnoted};
 ghost use Rattle.prt_rows.specs.Format.{BeginsFormat1};
 ghost use Rattle.prt_store.specs.Adopted.{Adopts, AdoptsPart, LeavesPart};
@@ -268,6 +268,8 @@ impl<S: Alter + Drop, R: Wait + Drop> Publisher<S, R> {
             (left ≡ line_state self.old.line) ⊎ ((reason ≡ StoreFailed Commit) × (Some left ≡ state_after (line_state self.old.line) self.old.command))) }
         ensures now { IsKnown S.Store self.new.format_1 self.new.tables → IsTrue (state S.Store self.new.tables).is_open →
             OnErr result (Stores (state S.Store self.new.tables).now (line_state self.old.line)) }
+        ensures ran { HasCleanDisk (state S.Store self.new.tables) →
+            OnOk result (IsSomeAnd self.old.command (λ command. HasCommitted S.Store self.old command self.new.tables)) }
     {
         let number = self.version.number() + 1;
         match mem::replace(&mut self.step, Step::Closed(None)) {
@@ -406,6 +408,7 @@ impl<S: Alter + Drop, R: Wait + Drop> Publisher<S, R> {
         ensures clean { HasCleanDisk (state S.Store self.new.tables) → HasCleanDisk (state S.Store self.old.tables) }
         ensures others { Spares S.Store self.old self.new }
         ensures stands { Stands S.Store self.new }
+        ensures ran { HasCleanDisk (state S.Store self.new.tables) → OnOk result (HasCommitted S.Store self.old command.now self.new.tables) }
     {
         // Says what is stored.
         let _phase = self.phase();

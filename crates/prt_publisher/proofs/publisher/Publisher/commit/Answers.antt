@@ -9,7 +9,7 @@ use Rattle.prt_publisher.specs.Standing.{Standing, unnoted}
 use Rattle.prt_publisher.specs.Step.{command_of, phase_of}
 use Rattle.prt_publisher.specs.declared.publisher.Step.{Step}
 use Rattle.prt_publisher.specs.declared.publisher.Step.TheVariants as step
-use Rattle.prt_publisher.proofs.Commits.{CanCommit, can_commit, either_left, left_after, still_stored}
+use Rattle.prt_publisher.proofs.Commits.{CanCommit, can_commit, either_left, has_committed, left_after, still_stored}
 use Rattle.prt_publisher.proofs.publisher.Publisher.commit.Goals as goal
 
 pub returns-in-Err-clause-stands : goal.returns-in-Err-clause-stands
@@ -69,3 +69,17 @@ returns-in-Ok-clause-others g c known open_or =
     let can : CanCommit g.S.Store c.self.inside.is_format_1 conn s plan number = can_commit g.S.Store c.self.inside.is_format_1 conn s c.self.inside.step plan number (sym c.replace.ensures.value ∙ c.in-Prepared.is) counted c.self.invariant.3 c.self.invariant.4 in
     let spares = spares_after g.S.Store c.self.inside.is_format_1 conn c.commit.new.self.conn s plan.change (number + 1) can.next c.commit.ensures.clean can.kept c.in-Ok.ensures.ok known in
     subst (λ (t : Held _). SparesOthers (state g.S.Store t).now (state g.S.Store c.commit.new.self.conn).now) (ap (λ (v : Standing _). v.tables) c.self.view_is) spares
+
+pub returns-in-Ok-clause-ran : goal.returns-in-Ok-clause-ran
+returns-in-Ok-clause-ran g c clean =
+    let plan = c.in-Prepared.plan in
+    let is : c.self.inside.step ≡ step.Prepared plan = sym c.replace.ensures.value ∙ c.in-Prepared.is in
+    let s = line_state c.self.inside.front in
+    let conn = c.self.inside.store.conn in
+    let number = c.number-number.result in
+    let shown : line_state c.args.self.now.line ≡ s = ap (λ (v : Standing _). line_state v.line) (sym c.self.view_is) in
+    let under : c.args.self.now.command ≡ Some plan.command = ap (λ (v : Standing _). v.command) (sym c.self.view_is) ∙ ap command_of is in
+    let held : c.args.self.now.tables ≡ conn = ap (λ (v : Standing _). v.tables) (sym c.self.view_is) in
+    let counted : number ≡ s.count = c.number-number.ensures.value ∙ (ap (λ (v : State). v.count) c.deref.ensures ∙ ap (λ (v : State). v.count) c.self.invariant.0) in
+    let can : CanCommit g.S.Store c.self.inside.is_format_1 conn s plan number = can_commit g.S.Store c.self.inside.is_format_1 conn s c.self.inside.step plan number is counted c.self.invariant.3 c.self.invariant.4 in
+    has_committed g.S.Store c.args.self.now s conn c.commit.new.self.conn plan number shown under held can.planned.makes counted (c.in-Ok.ensures.ran clean)
