@@ -5,14 +5,17 @@ ghost use Rattle.prt_program.specs.Databases.{IsOpenOn, IsOpenRefusal};
 ghost use Rattle.prt_program.specs.Faults.{IsDatabaseFault, IsFault, IsOpening, IsScriptFault};
 ghost use Rattle.prt_program.specs.Program.{LeavesDatabases, LeavesInput, LeavesInputFor, Runs, RunsBatch, RunsFrom, RunsNothing, RunsOver, RunsReplay, exit_status};
 ghost use Rattle.prt_version.specs.State.{State};
-ghost use Rattle.prt_words.specs.Invocation.{arguments, invocation};
+ghost use Rattle.prt_words.specs.Faults.{IsWordsFault};
+ghost use Rattle.prt_words.specs.Invocation.{arguments, invocation, serve};
 ghost use Rattle.prt_words.specs.declared.fault.Fault.TheVariants.{Opening};
 
 use crate::databases::Databases;
 use crate::messages::Messages;
 use crate::replay::run_replay;
 use prt_session::{Desk, ListDesk, Observer, OnRefusal, Refusal, ScriptEnd, run_script};
-use prt_words::{Batch, DONE, FAULT, Fault, STANDARD_INPUT, Task, read_words, report};
+use prt_words::{
+    Batch, DONE, FAULT, Fault, STANDARD_INPUT, Task, read_words, report, serving_fault,
+};
 use std::alloc::Global;
 use std::fs::{self, Files};
 use std::io::{BufReader, IsTerminal, Read, Write};
@@ -20,6 +23,9 @@ use std::rt::Clock;
 
 /// The exit status where a line was refused.
 const REFUSED: u8 = 1;
+
+/// What is wrong where sessions are to be served.
+const NOT_SERVED: &str = "sessions can't be served by this program";
 
 /// Gives the exit status of a run.
 fn exit_status(end: ScriptEnd) -> u8
@@ -194,6 +200,13 @@ fn replay_of<F: Files, R: Read, W: Write, E: Write + Drop, K: Clock + Drop>(
     }
 }
 
+/// Tells why no sessions are served.
+fn serve_task(alloc: Global) -> Fault
+    ensures { IsWordsFault serve result }
+{
+    serving_fault(alloc, NOT_SERVED)
+}
+
 /// Runs what the words ask for, and gives the exit status of the run.
 fn run<
     'a,
@@ -225,6 +238,7 @@ fn run<
             files, databases, alloc, batch, input, output, messages,
         ),
         Task::Replay(path) => replay_of(files, alloc, path, input, output, messages),
+        Task::Serve(_) => Err(serve_task(alloc)),
     }
 }
 

@@ -1,13 +1,14 @@
 -- From what a parse gives to what the words ask for.
-use Rattle.std.proofs.Common.{◌≡◌, ◌∙◌, ◌&&◌, Bool, true, false, refl, sym, ap, ap₂, subst, inl, inr, List, [], ◌∷◌, Option, Some, None, option_map, is_some, codes, true≢false}
+use Rattle.std.proofs.Common.{◌≡◌, ◌∙◌, ◌&&◌, ◌⊎◌, Bool, true, false, refl, sym, ap, ap₂, subst, inl, inr, List, [], ◌∷◌, Option, Some, None, option_map, is_some, codes, drop, true≢false}
 use Rattle.std.specs.Borrow.{Bor}
 use Rattle.std.specs.Box.{box_value}
 use Rattle.std.specs.Prelude.{Box, MatchOption, ℕ, ◌==◌, option_and_then, slice_get, unwrap_or}
-use Rattle.clap.specs.Words.{subcommand_rows}
+use Rattle.clap.specs.Words.{fault_of, subcommand_name_of, subcommand_of, subcommand_rows, subcommand_rows_of}
 use Rattle.clap.specs.declared.parser.matches.SubCommand.{SubCommand}
-use Rattle.clap.specs.declared.parser.matches.ArgMatches.TheViews.{out-SubCommand}
+use Rattle.clap.specs.declared.parser.matches.ArgMatches.{ArgMatches}
+use Rattle.clap.specs.declared.parser.matches.ArgMatches.TheViews.{out-ArgMatches, out-SubCommand}
 use Rattle.clap.specs.Walk.{Row}
-use Rattle.prt_words.specs.CommandLine.{IsTaskOf, invocation_of, subcommand_name, flag_text}
+use Rattle.prt_words.specs.CommandLine.{IsTaskOf, command_line, invocation_of, subcommand_name, flag_text}
 use Rattle.std.specs.List.{list_all}
 use Rattle.clap.specs.Kinds.{HasKind, IsAmong, Kinds}
 use Rattle.clap.specs.Words.{Text, kind_of}
@@ -15,12 +16,13 @@ use Rattle.clap.specs.declared.error.Error.{Error}
 use Rattle.clap.specs.declared.error.kind.ErrorKind.{ErrorKind}
 use Rattle.clap.specs.declared.error.kind.ErrorKind.TheVariants.{DisplayHelp, DisplayVersion, InvalidSubcommand}
 use Rattle.prt_words.specs.Faults.{FaultOf, IsStatusOf, IsWordsFault, words_status}
-use Rattle.prt_words.specs.Invocation.{Invocation, Word, batch, replay, help, help_on, usage_error, file_of}
+use Rattle.prt_words.specs.Invocation.{Invocation, Word, batch, replay, serve, help, help_on, invocation, usage_error, file_of}
 use Rattle.prt_addr.specs.declared.on_refusal.OnRefusal.{OnRefusal}
 use Rattle.prt_addr.specs.declared.on_refusal.OnRefusal.TheVariants.{Stop, GoOn}
 use Rattle.prt_words.specs.declared.fault.Fault.{Fault}
 use Rattle.prt_words.specs.declared.task.Task.{Task}
-use Rattle.prt_words.specs.declared.task.Task.TheVariants.{Batch, Replay}
+use Rattle.prt_words.specs.declared.task.Task.TheVariants.{Batch, Replay, Serve}
+use Rattle.prt_words.proofs.ParsedWords.{words_agree}
 use Rattle.prt_words.proofs.Walks.{Agrees, goes_on, text_of_flag}
 use Rattle.prt_words.proofs.WordClasses.{IsMistake, is_mistake}
 
@@ -49,17 +51,34 @@ other_name same = absurd (true≢false (ap (λ name. is_b (unwrap_or (slice_get 
     is_b : ℕ → Bool
     is_b byte = byte == 98
 
--- a parse without an error found a task
-pub task_is : (asked : Invocation) (kinds : Kinds) (found : Option (Text × List Row)) (task : Task) → Agrees asked kinds found → kinds ≡ [] → IsTaskOf found task → asked ≡ invocation_of task
-task_is (batch script) kinds found (Batch task) agrees none is =
+no_batch : Some (codes "batch") ≡ Some (codes "serve") → ⊥
+no_batch same = absurd (true≢false (ap (λ name. unwrap_or (slice_get (unwrap_or name []) 0) 0 == 98) same))
+
+no_replay : Some (codes "replay") ≡ Some (codes "serve") → ⊥
+no_replay same = absurd (true≢false (ap (λ name. unwrap_or (slice_get (unwrap_or name []) 0) 0 == 114) same))
+
+-- a parse without an error found `serve`, or another task
+serve_is : (asked : Invocation) (kinds : Kinds) (found : Option (Text × List Row)) → Agrees asked kinds found → kinds ≡ [] → subcommand_name found ≡ Some (codes "serve") → asked ≡ serve
+serve_is (batch script) kinds found agrees none is = absurd (no_batch (sym agrees.1 ∙ is))
+serve_is (replay file) kinds found agrees none is = absurd (no_replay (sym agrees.1 ∙ is))
+serve_is serve kinds found agrees none is = refl
+serve_is help kinds found agrees none is = absurd (not_empty _ _ (sym agrees ∙ none))
+serve_is help_on kinds found agrees none is = absurd (not_empty _ _ (sym agrees ∙ none))
+serve_is usage_error kinds found agrees none is = absurd (subst IsMistake none agrees)
+
+task_is : (asked : Invocation) (kinds : Kinds) (found : Option (Text × List Row)) (task : Task) → Agrees asked kinds found → kinds ≡ [] → (subcommand_name found ≡ Some (codes "serve") → ⊥) → IsTaskOf found task
+    → asked ≡ invocation_of task
+task_is asked kinds found (Serve serving) agrees none other is = absurd is
+task_is (batch script) kinds found (Batch task) agrees none other is =
     script_is (mode_is task.mode script.mode (flag_text (codes "force") found) agrees.4 is.3 is.4) (flag_is task.is_verbose script.verbose (flag_text (codes "verbose") found) agrees.5 is.5 is.6)
     (sym (is.2 ∙ agrees.3)) (sym (is.1 ∙ agrees.2))
-task_is (batch script) kinds found (Replay file) agrees none is = absurd (other_name (sym agrees.1 ∙ is.0))
-task_is (replay file) kinds found (Batch task) agrees none is = absurd (is.0 agrees.1)
-task_is (replay file) kinds found (Replay path) agrees none is = ap replay (sym (is.1 ∙ agrees.2))
-task_is help kinds found task agrees none is = absurd (not_empty _ _ (sym agrees ∙ none))
-task_is help_on kinds found task agrees none is = absurd (not_empty _ _ (sym agrees ∙ none))
-task_is usage_error kinds found task agrees none is = absurd (subst IsMistake none agrees)
+task_is (batch script) kinds found (Replay file) agrees none other is = absurd (other_name (sym agrees.1 ∙ is.0))
+task_is (replay file) kinds found (Batch task) agrees none other is = absurd (is.0 agrees.1)
+task_is (replay file) kinds found (Replay path) agrees none other is = ap replay (sym (is.1 ∙ agrees.2))
+task_is serve kinds found task agrees none other is = absurd (other agrees)
+task_is help kinds found task agrees none other is = absurd (not_empty _ _ (sym agrees ∙ none))
+task_is help_on kinds found task agrees none other is = absurd (not_empty _ _ (sym agrees ∙ none))
+task_is usage_error kinds found task agrees none other is = absurd (subst IsMistake none agrees)
 
 mistake_status : (k : ErrorKind) → is_mistake k ≡ true → words_status k ≡ 2
 mistake_status DisplayHelp bad = absurd (true≢false (sym bad))
@@ -75,9 +94,16 @@ mistakes_status [] k all among = absurd among
 mistakes_status (x ∷ kinds) k all (inl is) = ap words_status is ∙ mistake_status x (both (is_mistake x) (list_all is_mistake kinds) all).0
 mistakes_status (x ∷ kinds) k all (inr among) = mistakes_status kinds k (both (is_mistake x) (list_all is_mistake kinds) all).1 among
 
+-- an error is a request for help, or bad words
+either_status : (k : ErrorKind) → (words_status k ≡ 0) ⊎ (words_status k ≡ 2)
+either_status DisplayHelp = inl refl
+either_status DisplayVersion = inl refl
+either_status _ = inr refl
+
 status_of_kind : (asked : Invocation) (kinds : Kinds) (found : Option (Text × List Row)) (k : ErrorKind) → Agrees asked kinds found → IsAmong k kinds → IsStatusOf asked (words_status k)
 status_of_kind (batch script) kinds found k agrees among = subst (IsAmong k) agrees.0 among
 status_of_kind (replay file) kinds found k agrees among = subst (IsAmong k) agrees.0 among
+status_of_kind serve kinds found k agrees among = either_status k
 status_of_kind help kinds found k agrees among = shown (subst (IsAmong k) agrees among)
   where
     shown : IsAmong k (DisplayHelp ∷ []) → words_status k ≡ 0
@@ -119,3 +145,16 @@ pub path_of : (operand path : Option (Bor Text)) → MatchOption operand (path �
     → option_map (λ s. s.now) path ≡ option_and_then file_of (option_map (λ s. s.now) operand)
 path_of None path is = ap (option_map (λ s. s.now)) is
 path_of (Some word) path is = is
+
+-- the task that a parse without an error found: `serve`, or another
+pub served_is : (words : List Text) (m : ArgMatches) → subcommand_rows_of m ≡ subcommand_of command_line words → fault_of command_line words ≡ [] → subcommand_name_of m ≡ Some (codes "serve")
+    → invocation (drop 1 words) ≡ serve
+served_is words m found none named =
+    serve_is (invocation (drop 1 words)) (fault_of command_line words) (subcommand_of command_line words) (words_agree words) none
+    (sym (ap subcommand_name found) ∙ sym (name_of_found (out-ArgMatches m).subcommand) ∙ named)
+
+pub other_is : (words : List Text) (m : ArgMatches) (task : Task) → subcommand_rows_of m ≡ subcommand_of command_line words → fault_of command_line words ≡ []
+    → (subcommand_name_of m ≡ Some (codes "serve") → ⊥) → IsTaskOf (subcommand_rows_of m) task → invocation (drop 1 words) ≡ invocation_of task
+other_is words m task found none other is =
+    task_is (invocation (drop 1 words)) (fault_of command_line words) (subcommand_of command_line words) task (words_agree words) none
+    (λ named. other (name_of_found (out-ArgMatches m).subcommand ∙ ap subcommand_name found ∙ named)) (subst (λ f. IsTaskOf f task) found is)

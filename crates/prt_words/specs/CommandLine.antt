@@ -1,13 +1,14 @@
 -- The words that the program knows, as a parse reads them, and what it finds of its subcommands.
-use Rattle.std.specs.Prelude.{◌≡◌, ◌≢◌, Bool, true, false, List, Option, Some, codes, option_and_then, option_map}
+use Rattle.std.specs.Prelude.{◌≡◌, ◌≢◌, ◌≤◌, Bool, true, false, List, [], ◌∷◌, Option, Some, codes, option_and_then, option_map}
 use Rattle.clap.specs.Words.{App, Row, Rule, Text, first_of, one_of, new_app, new_rule, with_rule, with_subcommand}
 use Rattle.clap.specs.Simple.{on_top}
 use Rattle.clap.specs.declared.builder.action.ArgAction.TheVariants.{SetTrue}
 use Rattle.clap.specs.declared.builder.command.Command.{Command}
 use Rattle.clap.specs.declared.builder.command.Command.TheViews.{out-Command}
-use Rattle.prt_words.specs.Invocation.{Invocation, batch, file_of, replay}
+use Rattle.prt_words.specs.Invocation.{Invocation, batch, file_of, replay, serve}
+use Rattle.prt_words.specs.declared.serving.Serving.{Serving}
 use Rattle.prt_words.specs.declared.task.Task.{Task}
-use Rattle.prt_words.specs.declared.task.Task.TheVariants.{Batch, Replay}
+use Rattle.prt_words.specs.declared.task.Task.TheVariants.{Batch, Replay, Serve}
 use Rattle.prt_addr.specs.declared.on_refusal.OnRefusal.TheVariants.{Stop, GoOn}
 
 abbrev pub flag_rule : Text → Rule
@@ -25,11 +26,24 @@ batch_line = with_rule (with_rule (with_rule (with_rule (new_app (codes "batch")
 abbrev pub replay_line : App
 replay_line = with_rule (new_app (codes "replay")) file_rule
 
+-- an option with a value, one that has to be given, and one that has this value where it isn't given
+abbrev pub option_rule : Text → Rule
+option_rule name = record (new_rule name) { long = Some name; value_names = 1 }
+
+abbrev pub needed_rule : Text → Rule
+needed_rule name = record (option_rule name) { required = true }
+
+abbrev pub number_rule : Text → Text → Rule
+number_rule name missing = record (option_rule name) { defaults = missing ∷ [] }
+
+abbrev pub serve_line : App
+serve_line = with_rule (with_rule (with_rule (with_rule (new_app (codes "serve")) (needed_rule (codes "db"))) (needed_rule (codes "listen"))) (number_rule (codes "workers") (codes "4"))) (number_rule (codes "sessions") (codes "0"))
+
 abbrev pub opening_line : App
 opening_line = on_top (λ top. record top { subcommand_required = true; arg_required_else_help = true }) (new_app (codes "prt"))
 
 abbrev pub command_line : App
-command_line = with_subcommand (with_subcommand opening_line batch_line.top) replay_line.top
+command_line = with_subcommand (with_subcommand (with_subcommand opening_line batch_line.top) replay_line.top) serve_line.top
 
 -- whether an argument of the command is one of its subcommands too
 abbrev pub has_globals : Command → Bool
@@ -48,7 +62,7 @@ named_database = option_and_then (λ p. first_of (codes "db") p.1)
 abbrev pub flag_text : Text → Option (Text × List Row) → Option Text
 flag_text name = option_and_then (λ p. one_of name p.1)
 
--- the task is that of the subcommand that a parse found
+-- the task is that of the subcommand that a parse found, other than `serve`
 abbrev pub IsTaskOf : Option (Text × List Row) → Task → Type 0
 IsTaskOf found (Batch script) =
     (subcommand_name found ≢ Some (codes "replay"))
@@ -61,6 +75,7 @@ IsTaskOf found (Batch script) =
 IsTaskOf found (Replay file) =
     (subcommand_name found ≡ Some (codes "replay"))
     × (option_map (λ path. path.now) file ≡ option_and_then file_of (named_file found))
+IsTaskOf found (Serve serving) = ⊥
 
 -- what a task was asked for by
 abbrev pub invocation_of : Task → Invocation
@@ -71,3 +86,13 @@ invocation_of (Batch script) = batch (record {
   file = option_map (λ path. path.now) script.file;
 })
 invocation_of (Replay file) = replay (option_map (λ path. path.now) file)
+invocation_of (Serve serving) = serve
+
+-- 1 to 64 workers, and at most 1,000,000 sessions
+abbrev pub IsServing : Serving → Type 0
+IsServing serving = (1 ≤ serving.workers) × (serving.workers ≤ 64) × (serving.sessions ≤ 1000000)
+
+-- what is to be served is within these limits
+abbrev pub IsWithinLimits : Task → Type 0
+IsWithinLimits (Serve serving) = IsServing serving
+IsWithinLimits task = Unit {0}

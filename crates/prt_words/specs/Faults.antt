@@ -5,7 +5,7 @@ use Rattle.clap.specs.declared.error.Error.{Error}
 use Rattle.clap.specs.declared.error.kind.ErrorKind.{ErrorKind}
 use Rattle.clap.specs.declared.error.kind.ErrorKind.TheVariants.{DisplayHelp, DisplayVersion, OutOfMemory}
 use Rattle.prt_addr.specs.declared.refusal.Refusal.TheVariants.{NoMemory}
-use Rattle.prt_words.specs.Invocation.{Invocation, batch, replay, help, help_on, usage_error}
+use Rattle.prt_words.specs.Invocation.{Invocation, batch, replay, serve, help, help_on, usage_error}
 use Rattle.prt_words.specs.declared.fault.Fault.{Fault}
 use Rattle.prt_words.specs.declared.fault.Fault.TheVariants.{Words, Opening}
 
@@ -28,6 +28,7 @@ fault_status (Opening reason) = 3
 abbrev pub IsStatusOf : Invocation → ℕ → Type 0
 IsStatusOf (batch script) status = ⊥
 IsStatusOf (replay file) status = ⊥
+IsStatusOf serve status = (status ≡ 0) ⊎ (status ≡ 2)
 IsStatusOf help status = status ≡ 0
 IsStatusOf help_on status = (status ≡ 0) ⊎ (status ≡ 2)
 IsStatusOf usage_error status = status ≡ 2

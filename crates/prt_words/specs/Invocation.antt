@@ -1,4 +1,4 @@
--- What the words after the program's name ask for: `batch [--force] [--db PATH] [--verbose] [FILE]`, `replay [FILE]`, or help.
+-- What the words after the program's name ask for: `batch [--force] [--db PATH] [--verbose] [FILE]`, `replay [FILE]`, `serve` with its options, or help.
 -- Options and operands are told apart as POSIX.1 does (Base Definitions, section 12.2, guidelines 4, 10 and 13), but options may follow operands, and `--db=PATH` is `--db PATH`.
 use Rattle.std.specs.Prelude.{ℕ, ◌==◌, ◌||◌, Bool, true, false, List, [], ◌∷◌, Option, Some, None, is_some, if◌then◌else◌, map, drop, codes, option_and_then, slice_get, chars, bytes_eq, String, string_bytes}
 use Rattle.std.specs.List.{before_first, after_first}
@@ -23,6 +23,8 @@ pub data Invocation : Type 0 where
   batch : Script → Invocation
   -- a replay of the file of this path, or of the input
   replay : Option Word → Invocation
+  -- the word `serve`: sessions over TCP, help on that, or bad words
+  serve : Invocation
   help : Invocation
   -- the word `help`, and what help is asked on, if there is such a thing
   help_on : Invocation
@@ -180,5 +182,6 @@ invocation [] = usage_error
 invocation (word ∷ words) =
     if bytes_eq word (codes "batch") then asked_by Batch words anywhere nothing_given
     else (if bytes_eq word (codes "replay") then asked_by Replay words anywhere nothing_given
+    else (if bytes_eq word (codes "serve") then serve
     else (if bytes_eq word (codes "help") then help_on
-    else (if is_help word then help else usage_error)))
+    else (if is_help word then help else usage_error))))

@@ -1,7 +1,7 @@
 //! The words that the program knows, as clap reads them.
 ghost use Rattle.std.specs.Prelude.{◌≡◌, IfOk, false};
 ghost use Rattle.clap.specs.Words.{app_of, rule_of};
-ghost use Rattle.prt_words.specs.CommandLine.{batch_line, command_line, database_rule, file_rule, flag_rule, has_globals, replay_line};
+ghost use Rattle.prt_words.specs.CommandLine.{batch_line, command_line, database_rule, file_rule, flag_rule, has_globals, needed_rule, number_rule, option_rule, replay_line, serve_line};
 
 use clap::{Arg, ArgAction, Command};
 use std::alloc::{AllocError, Global};
@@ -33,6 +33,39 @@ fn database_option<'a>(alloc: Global) -> Arg<'a>
     Arg::new(alloc, "db").long("db").value_name("PATH").help(
         "The database file, made where there is none; without it a new database in memory",
     )
+}
+
+/// Makes an option that has a value.
+fn option<'a>(alloc: Global, name: &'a str, value: &'a str, help: &'a str) -> Arg<'a>
+    ensures rule { rule_of result ≡ option_rule name.entry.now }
+    ensures own { result.global ≡ false }
+{
+    Arg::new(alloc, name)
+        .long(name)
+        .value_name(value)
+        .help(help)
+}
+
+/// Makes an option that has to be given.
+fn needed_option<'a>(alloc: Global, name: &'a str, value: &'a str, help: &'a str) -> Arg<'a>
+    ensures rule { rule_of result ≡ needed_rule name.entry.now }
+    ensures own { result.global ≡ false }
+{
+    option(alloc, name, value, help).required(true)
+}
+
+/// Makes an option whose value is a number, which is `missing` where it isn't given.
+fn number_option<'a>(
+    alloc: Global,
+    name: &'a str,
+    value: &'a str,
+    missing: &'a str,
+    help: &'a str,
+) -> Arg<'a>
+    ensures rule { rule_of result ≡ number_rule name.entry.now missing.entry.now }
+    ensures own { result.global ≡ false }
+{
+    option(alloc, name, value, help).default_value(missing)
 }
 
 /// Says which words may follow `batch`.
@@ -77,17 +110,58 @@ fn replay_line<'a>(alloc: Global) -> Result<Command<'a>, AllocError>
         .arg(file)
 }
 
+/// Says which words may follow `serve`.
+pub(crate) fn serve_line<'a>(alloc: Global) -> Result<Command<'a>, AllocError>
+    ensures line { IfOk result (λ command. app_of command ≡ serve_line) }
+    ensures own { IfOk result (λ command. has_globals command ≡ false) }
+{
+    let database = needed_option(
+        alloc,
+        "db",
+        "PATH",
+        "The database file, made where there is none",
+    );
+    let listen = needed_option(
+        alloc,
+        "listen",
+        "ADDR:PORT",
+        "The address and the port to listen at; port 0 takes a free one",
+    );
+    let workers = number_option(
+        alloc,
+        "workers",
+        "W",
+        "4",
+        "How many sessions are served at once, 1 to 64",
+    );
+    let sessions = number_option(
+        alloc,
+        "sessions",
+        "K",
+        "0",
+        "End after this many connections, up to 1000000; 0 is without end",
+    );
+    Command::new(alloc, "serve")
+        .about("Serves sessions of route and rule commands over TCP")
+        .arg(database)?
+        .arg(listen)?
+        .arg(workers)?
+        .arg(sessions)
+}
+
 /// Says which words the program knows.
 pub(crate) fn command_line<'a>(alloc: Global) -> Result<Command<'a>, AllocError>
     ensures { IfOk result (λ command. app_of command ≡ command_line) }
 {
     let batch = batch_line(alloc)?;
     let replay = replay_line(alloc)?;
+    let serve = serve_line(alloc)?;
     Command::new(alloc, "prt")
         .bin_name("prt")?
         .about("The table service of an IPv4 policy router")
         .subcommand_required(true)
         .arg_required_else_help(true)
         .subcommand(batch)?
-        .subcommand(replay)
+        .subcommand(replay)?
+        .subcommand(serve)
 }

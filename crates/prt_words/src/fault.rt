@@ -3,10 +3,10 @@ ghost use Rattle.std.specs.Prelude.{◌≡◌, ◌≢◌, IfOk};
 ghost use Rattle.clap.specs.Words.{kind_of};
 ghost use Rattle.prt_addr.specs.declared.refusal.Refusal.TheVariants.{NoMemory};
 ghost use Rattle.prt_words.specs.Faults.{FaultOf, IsWordsFault, fault_status};
-ghost use Rattle.prt_words.specs.Invocation.{usage_error};
+ghost use Rattle.prt_words.specs.Invocation.{serve, usage_error};
 ghost use Rattle.prt_words.specs.declared.fault.Fault.TheVariants.{Opening};
 
-use crate::command_line::command_line;
+use crate::command_line::{command_line, serve_line};
 use clap::error::ErrorKind;
 use prt_addr::Refusal;
 use std::alloc::{AllocError, Global};
@@ -78,6 +78,25 @@ pub fn words_fault(alloc: Global, error: &io::Error) -> Fault
         return Fault::Opening(Refusal::NoMemory);
     }
     match not_text(alloc) {
+        Ok(error) => Fault::Words(error),
+        Err(_) => Fault::Opening(Refusal::NoMemory),
+    }
+}
+
+/// Makes the error of words of `serve` of which the text tells what is wrong, in the form of those of a parse.
+fn serving_error(alloc: Global, text: &str) -> Result<clap::Error, AllocError>
+    ensures { IfOk result (λ error. kind_of error ≡ ErrorKind.ValueValidation) }
+{
+    serve_line(alloc)?
+        .bin_name("prt serve")?
+        .error(ErrorKind::ValueValidation, text)
+}
+
+/// Tells what is wrong with the words of `serve`, in this text.
+pub fn serving_fault(alloc: Global, text: &str) -> Fault
+    ensures { IsWordsFault serve result }
+{
+    match serving_error(alloc, text) {
         Ok(error) => Fault::Words(error),
         Err(_) => Fault::Opening(Refusal::NoMemory),
     }

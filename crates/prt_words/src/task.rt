@@ -1,18 +1,22 @@
 //! What the words of the program ask for.
 ghost use Rattle.std.specs.Prelude.{◌≡◌, IfErr, IfOk, Some, codes, false, option_and_then, option_map, true};
 ghost use Rattle.clap.specs.Words.{first_of, found_of, one_of, rows_of, subcommand_rows_of};
-ghost use Rattle.prt_words.specs.CommandLine.{IsTaskOf, invocation_of};
+ghost use Rattle.prt_words.specs.CommandLine.{IsTaskOf, IsWithinLimits, invocation_of};
 ghost use Rattle.prt_words.specs.Faults.{IsWordsFault};
 ghost use Rattle.prt_words.specs.Invocation.{arguments, file_of, invocation};
 
 use crate::command_line::command_line;
 use crate::fault::Fault;
+use crate::serving::{Serving, serving_of};
 use clap::ArgMatches;
 use prt_addr::OnRefusal;
 use std::alloc::Global;
 
 /// The subcommand that replays events.
 const REPLAY: &str = "replay";
+
+/// The subcommand that serves sessions.
+const SERVE: &str = "serve";
 
 /// The word for standard input in the place of a file.
 pub const STANDARD_INPUT: &str = "-";
@@ -37,6 +41,8 @@ pub enum Task<'a> {
     Batch(Batch<'a>),
     /// To replay the file of this path; standard input where there is none.
     Replay(Option<&'a str>),
+    /// To serve sessions over TCP.
+    Serve(Serving<'a>),
 }
 
 /// Gives the path of an operand; none for `-`, which is standard input.
@@ -84,7 +90,7 @@ fn mode_in(matches: &ArgMatches<'_>) -> OnRefusal
     }
 }
 
-/// Tells what the matches of all words ask for.
+/// Tells what the matches of all words ask for, where that is not to serve.
 fn task_of<'a>(matches: &ArgMatches<'a>) -> Task<'a>
     ensures { IsTaskOf (subcommand_rows_of matches.now) result }
 {
@@ -112,11 +118,15 @@ fn task_of<'a>(matches: &ArgMatches<'a>) -> Task<'a>
 ///
 /// # Errors
 ///
-/// `Words` where they ask for help or for nothing that there is, `Opening` with `NoMemory` where memory is refused.
+/// `Words` where they ask for help or for nothing that there is, or where a value of `serve` is none that it may have; `Opening` with `NoMemory` where memory is refused.
 pub fn read_words<'a>(alloc: Global, words: &'a [String]) -> Result<Task<'a>, Fault>
     ensures task { IfOk result (λ task. invocation (arguments words.entry.now) ≡ invocation_of task) }
+    ensures limits { IfOk result IsWithinLimits }
     ensures fault { IfErr result (IsWordsFault (invocation (arguments words.entry.now))) }
 {
     let matches = command_line(alloc)?.try_get_matches_from(words)?;
-    Ok(task_of(&matches))
+    match matches.subcommand_matches(SERVE) {
+        Some(found) => Ok(Task::Serve(serving_of(alloc, found)?)),
+        None => Ok(task_of(&matches)),
+    }
 }

@@ -1,13 +1,13 @@
-use Rattle.std.proofs.Common.{◌≡◌, ◌∙◌, ℕ, ap, subst, sym, map, List, []}
+use Rattle.std.proofs.Common.{rules, ◌∙◌, ℕ, is_some, ap, subst, sym, map, List, true≢false}
 use Rattle.std.proofs.lemmas.Result.{err_from_is_err_and}
 use Rattle.std.specs.Prelude.{string_bytes}
 use Rattle.clap.specs.Kinds.{HasKind}
-use Rattle.clap.specs.Words.{App, fault_of, is_simple, is_simple_and_free, subcommand_of, subcommand_rows_of}
-use Rattle.prt_words.specs.CommandLine.{IsTaskOf, command_line}
+use Rattle.clap.specs.Words.{App, fault_of, is_simple, is_simple_and_free, subcommand_of}
+use Rattle.prt_words.specs.CommandLine.{command_line}
 use Rattle.prt_words.specs.Invocation.{invocation, arguments}
 use Rattle.prt_words.proofs.WordClasses.{simple_line, free_line}
 use Rattle.prt_words.proofs.ParsedWords.{words_agree}
-use Rattle.prt_words.proofs.WordsRead.{task_is, words_fault}
+use Rattle.prt_words.proofs.WordsRead.{other_is, served_is, words_fault}
 use Rattle.prt_words.proofs.task.read_words.Goals as goal
 
 pub returns-in_err-matches-clause-fault : goal.returns-in_err-matches-clause-fault
@@ -21,12 +21,27 @@ returns-in_err-matches-clause-fault c =
     let given = err_from_is_err_and c.from_residual-in_err-matches.result c.from_residual-in_err-matches.ensures.1 in
     rw given.1 (words_fault (invocation (arguments c.args.words.now)) (fault_of command_line texts) found error given.0 (words_agree texts) has given.2)
 
+pub returns-in_err-serving_of-in-Some-clause-fault : goal.returns-in_err-serving_of-in-Some-clause-fault
+returns-in_err-serving_of-in-Some-clause-fault c =
+    let texts : List (List ℕ) = map string_bytes c.args.words.now in
+    let line = c.in_ok-command_line.ensures in
+    let found = (c.in_ok-matches.ensures.matches (ap is_simple line ∙ simple_line)).1 ∙ ap (λ (a : App). subcommand_of a texts) line in
+    let none = sym (ap (λ (a : App). fault_of a texts) line) ∙ c.in_ok-matches.ensures.kinds (ap is_simple_and_free line ∙ free_line) in
+    rw (served_is texts c.in_ok-matches.matches found none (c.subcommand_matches.ensures.found.0 (ap is_some c.in-Some.is))) (search rules)
+
+pub returns-in-Some-clause-task : goal.returns-in-Some-clause-task
+returns-in-Some-clause-task c =
+    let texts : List (List ℕ) = map string_bytes c.args.words.now in
+    let line = c.in_ok-command_line.ensures in
+    let found = (c.in_ok-matches.ensures.matches (ap is_simple line ∙ simple_line)).1 ∙ ap (λ (a : App). subcommand_of a texts) line in
+    let none = sym (ap (λ (a : App). fault_of a texts) line) ∙ c.in_ok-matches.ensures.kinds (ap is_simple_and_free line ∙ free_line) in
+    served_is texts c.in_ok-matches.matches found none (c.subcommand_matches.ensures.found.0 (ap is_some c.in-Some.is))
+
 pub returns-clause-task : goal.returns-clause-task
 returns-clause-task c =
     let texts : List (List ℕ) = map string_bytes c.args.words.now in
     let line = c.in_ok-command_line.ensures in
-    let found : subcommand_rows_of c.in_ok-matches.matches ≡ subcommand_of command_line texts =
-    (c.in_ok-matches.ensures.matches (ap is_simple line ∙ simple_line)).1 ∙ ap (λ (a : App). subcommand_of a texts) line in
-    let none : fault_of command_line texts ≡ [] = sym (ap (λ (a : App). fault_of a texts) line) ∙ c.in_ok-matches.ensures.kinds (ap is_simple_and_free line ∙ free_line) in
-    task_is (invocation (arguments c.args.words.now)) (fault_of command_line texts) (subcommand_of command_line texts) c.task_of.result (words_agree texts) none
-    (subst (λ f. IsTaskOf f c.task_of.result) found c.task_of.ensures)
+    let found = (c.in_ok-matches.ensures.matches (ap is_simple line ∙ simple_line)).1 ∙ ap (λ (a : App). subcommand_of a texts) line in
+    let none = sym (ap (λ (a : App). fault_of a texts) line) ∙ c.in_ok-matches.ensures.kinds (ap is_simple_and_free line ∙ free_line) in
+    other_is texts c.in_ok-matches.matches c.task_of.result found none
+    (λ named. absurd (true≢false (sym (c.subcommand_matches.ensures.found.1 named) ∙ ap is_some c.in-None.is))) c.task_of.ensures

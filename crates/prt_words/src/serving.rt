@@ -1,0 +1,103 @@
+//! What the words of `serve` ask for.
+ghost use Rattle.std.specs.Prelude.{◌≤◌, IfErr, IfOk, IfSome};
+ghost use Rattle.prt_words.specs.CommandLine.{IsServing};
+ghost use Rattle.prt_words.specs.Faults.{IsWordsFault};
+ghost use Rattle.prt_words.specs.Invocation.{serve};
+
+use crate::fault::{Fault, serving_fault};
+use clap::ArgMatches;
+use prt_addr::{Addr, read_addr, read_number};
+use std::alloc::Global;
+use std::net::{Ipv4Addr, SocketAddrV4};
+
+/// What is wrong where no database is named.
+const NO_DATABASE: &str = "a value is required for '--db <PATH>'";
+
+/// What is wrong with a place to listen at.
+const BAD_LISTEN: &str =
+    "invalid value for '--listen <ADDR:PORT>': it is an IPv4 address, `:` and a port of 0 to 65535";
+
+/// What is wrong with a number of workers.
+const BAD_WORKERS: &str = "invalid value for '--workers <W>': it is a number of 1 to 64";
+
+/// What is wrong with a number of sessions.
+const BAD_SESSIONS: &str = "invalid value for '--sessions <K>': it is a number of 0 to 1000000";
+
+/// Sessions over TCP that are to be served.
+#[derive(Drop)]
+pub struct Serving<'a> {
+    /// The path of the database.
+    pub database: &'a str,
+    /// Where to listen; port 0 is any free one.
+    pub listen: SocketAddrV4,
+    /// How many sessions are served at once, 1 to 64.
+    pub workers: u32,
+    /// How many connections are accepted, up to 1,000,000; 0 is without end.
+    pub sessions: u64,
+}
+
+/// Reads a number in decimal digits, where it is within these limits.
+///
+/// A number of two digits or more does not begin with 0.
+fn number_within(word: &str, least: u32, most: u32) -> Option<u32>
+    ensures { IfSome result (λ number. (least ≤ number) × (number ≤ most)) }
+{
+    if !word.bytes().all(|byte| byte.is_ascii_digit()) {
+        return None;
+    }
+    let number = read_number(word.as_bytes()).ok()?;
+    if least <= number && number <= most {
+        Some(number)
+    } else {
+        None
+    }
+}
+
+/// Reads `ADDR:PORT`, whose address is spelled as in a command.
+fn place_of(word: &str) -> Option<SocketAddrV4> {
+    let (address, port) = word.split_once(':')?;
+    let Addr(address) = read_addr(address.as_bytes()).ok()?;
+    let port = number_within(port, 0, 65535)?;
+    Some(SocketAddrV4::new(Ipv4Addr::from(address), port as u16))
+}
+
+/// Gives the number that the matches of `serve` have for an option, where it is within these limits.
+fn number_in(matches: &ArgMatches<'_>, name: &str, least: u32, most: u32) -> Option<u32>
+    ensures { IfSome result (λ number. (least ≤ number) × (number ≤ most)) }
+{
+    number_within(matches.get_str(name)?, least, most)
+}
+
+/// Gives the place to listen at that the matches of `serve` have.
+fn listen_in(matches: &ArgMatches<'_>) -> Option<SocketAddrV4> {
+    place_of(matches.get_str("listen")?)
+}
+
+/// Tells what the matches of `serve` ask for.
+///
+/// # Errors
+///
+/// `Words` where a value is none that its option may have, `Opening` with `NoMemory` where memory is refused.
+pub(crate) fn serving_of<'a>(alloc: Global, matches: &ArgMatches<'a>) -> Result<Serving<'a>, Fault>
+    ensures limits { IfOk result IsServing }
+    ensures fault { IfErr result (IsWordsFault serve) }
+{
+    let Some(database) = matches.get_str("db") else {
+        return Err(serving_fault(alloc, NO_DATABASE));
+    };
+    let Some(listen) = listen_in(matches) else {
+        return Err(serving_fault(alloc, BAD_LISTEN));
+    };
+    let Some(workers) = number_in(matches, "workers", 1, 64) else {
+        return Err(serving_fault(alloc, BAD_WORKERS));
+    };
+    let Some(sessions) = number_in(matches, "sessions", 0, 1_000_000) else {
+        return Err(serving_fault(alloc, BAD_SESSIONS));
+    };
+    Ok(Serving {
+        database,
+        listen,
+        workers,
+        sessions: u64::from(sessions),
+    })
+}
