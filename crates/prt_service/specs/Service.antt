@@ -1,0 +1,22 @@
+-- What a service says of a command.
+use Rattle.std.specs.Prelude.{◌≡◌, List, [], ◌∷◌, ◌++◌}
+use Rattle.prt_addr.specs.declared.refusal.Refusal.{Refusal}
+use Rattle.prt_addr.specs.declared.refusal.Refusal.TheVariants.{Busy, Closed, CountFull, Exists, Full, NoMemory, NoSuch, NotPublished, StoreFailed}
+use Rattle.prt_command.specs.declared.request.Command.{Command}
+
+-- the command is the last of the list
+abbrev pub EndsWith : List Command → Command → Type 0
+EndsWith list command = (before : List Command) × (list ≡ before ++ command ∷ [])
+
+-- what a command can be refused for
+abbrev pub IsServiceRefusal : Refusal → Type 0
+IsServiceRefusal Closed = Unit {0}
+IsServiceRefusal Exists = Unit {0}
+IsServiceRefusal NoSuch = Unit {0}
+IsServiceRefusal Full = Unit {0}
+IsServiceRefusal CountFull = Unit {0}
+IsServiceRefusal Busy = Unit {0}
+IsServiceRefusal NoMemory = Unit {0}
+IsServiceRefusal (StoreFailed call) = Unit {0}
+IsServiceRefusal NotPublished = Unit {0}
+IsServiceRefusal _ = ⊥

@@ -1,0 +1,16 @@
+//! The service: one publisher that any number of threads submit commands to, and lookers that read what it publishes.
+//!
+//! There are three locks. The publisher's is taken first, then the domain's, step by step; the lock of the spare readers
+//! is held with no other. A looker reads the version that it holds without any.
+#![tactic(auto)]
+
+mod held;
+mod looker;
+mod naming;
+mod quiet;
+mod service;
+mod spare;
+
+pub use looker::Looker;
+pub use naming::Naming;
+pub use service::Service;

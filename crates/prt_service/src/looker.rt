@@ -1,0 +1,153 @@
+//! Readers of one version at a time.
+ghost use Rattle.std.specs.Prelude.{◌≡◌, ◌↔◌, None, Some, IfErr, IfSome, IsSome, IsTrue, MatchResult};
+ghost use Rattle.prt_front.specs.Line.{Begins, line_state};
+ghost use Rattle.prt_service.specs.Look.{Look};
+ghost use Rattle.prt_version.specs.Select.{select};
+
+use crate::held::HeldVersion;
+use crate::{Naming, Service};
+use prt_front::FrontReader;
+use prt_grace::Place;
+use prt_publisher::Receipt;
+use prt_version::{Answer, Packet, Refusal, Version};
+use sqlite::Alter;
+use std::marker::Model;
+use std::sync::Wait;
+
+/// Reads one published version at a time, while others are published. One thread has it.
+///
+/// Online it holds a version, and has announced its number: that version and each later one wait for it. Offline it
+/// holds none, and nothing waits. One that is let go without `leave` keeps its place, its reader and what it announced.
+#[derive(Drop)]
+pub struct Looker {
+    reader: FrontReader,
+    place: Place,
+    held: Option<HeldVersion>,
+}
+
+impl Model for Looker {
+    ghost use Rattle.prt_service.specs.Look.{IsSteady, Look};
+
+    ghost Value = { Look };
+
+    ghost view = { λ l. record { known = l.reader; held = l.held; announced = l.place.announced } };
+
+    ghost invariant = { λ l. IsSteady (record { known = l.reader; held = l.held; announced = l.place.announced }) };
+}
+
+impl Looker {
+    pub(crate) fn new(reader: FrontReader, place: Place) -> Looker
+        requires { place.announced ≡ None }
+        ensures { result ≡ record { known = reader; held = None; announced = None } }
+    {
+        Looker {
+            reader,
+            place,
+            held: None,
+        }
+    }
+
+    /// Tells whether it holds a version.
+    pub fn is_online(&self) -> bool
+        ensures { IsTrue result ↔ IsSome self.now.held }
+    {
+        self.held.is_some()
+    }
+
+    /// The version that it holds, until it refreshes or rests. It is online.
+    pub fn version(&self) -> &Version
+        requires { IsSome self.now.held }
+        ensures { IfSome self.now.held (λ line. result.now ≡ line_state line) }
+    {
+        match &self.held {
+            Some(held) => held.version(),
+            None => unreachable!(),
+        }
+    }
+
+    /// What becomes of a packet by the version that it holds, and the number of that version. It is online. Takes no lock
+    /// and no memory.
+    pub fn look(&self, packet: &Packet) -> Answer
+        requires { IsSome self.now.held }
+        ensures number { IfSome self.now.held (λ line. result.number ≡ (line_state line).count) }
+        ensures verdict { IfSome self.now.held (λ line. result.verdict ≡ select (line_state line) packet.now) }
+    {
+        self.version().select(packet)
+    }
+
+    /// Learns the list of a receipt: each version that it takes from then on has it. What it holds stays.
+    pub fn learn(&mut self, receipt: Receipt)
+        requires { receipt.book ≡ self.old.known.book }
+        ensures mine { Begins self.old.known self.new.known }
+        ensures told { Begins receipt self.new.known }
+        ensures held { (self.new.held ≡ self.old.held) × (self.new.announced ≡ self.old.announced) }
+    {
+        self.reader.learn(receipt.told());
+    }
+
+    /// Takes the published version in place of the one that it holds, if any, and announces its number. Its list has all
+    /// that was known. Takes no memory, and the domain's lock alone.
+    ///
+    /// # Errors
+    ///
+    /// `NotFetched`, where the front can't be entered, its version has as many owners as can be counted, or the version
+    /// is older than what the looker has announced. It then holds and has announced what it had, and may know more.
+    pub fn refresh<S: Alter + Drop, R: Wait + Drop, J: Naming, W: Wait>(
+        &mut self,
+        rt: &W,
+        service: &Service<S, R, J>,
+    ) -> Result<(), Refusal>
+        ensures known { Begins self.old.known self.new.known }
+        ensures held { MatchResult result (λ _. (self.new.held ≡ Some self.new.known) × (self.new.announced ≡ Some (line_state self.new.known).count))
+            (λ _. (self.new.held ≡ self.old.held) × (self.new.announced ≡ self.old.announced)) }
+        ensures reason { IfErr result (λ reason. reason ≡ Refusal.NotFetched) }
+    {
+        let domain = service.domain();
+        let before = self.place.announced();
+        let least = domain.online(rt, &mut self.place);
+        if let Ok(version) = self.reader.fetch() {
+            let number = version.number();
+            if least <= number {
+                // Gives the old version back before it says so.
+                self.held = Some(HeldVersion::new(version, self.reader.known()));
+                domain.announce(rt, &mut self.place, number);
+                return Ok(());
+            }
+        }
+        if before.is_none() {
+            domain.offline(rt, &mut self.place);
+        }
+        Err(Refusal::NotFetched)
+    }
+
+    /// Gives its version back, and goes offline. What it knows stays.
+    pub fn rest<S: Alter + Drop, R: Wait + Drop, J: Naming, W: Wait>(
+        &mut self,
+        rt: &W,
+        service: &Service<S, R, J>,
+    )
+        ensures { self.new ≡ record self.old { held = None; announced = None } }
+    {
+        self.held = None;
+        service.domain().offline(rt, &mut self.place);
+    }
+
+    /// Gives its version, then its reader, and then its place back, to the service that it is of: a looker that gets the
+    /// place finds a reader.
+    pub fn leave<S: Alter + Drop, R: Wait + Drop, J: Naming, W: Wait>(
+        self,
+        rt: &W,
+        service: &Service<S, R, J>,
+    )
+        requires { (self.known.book ≡ J.book) × (self.known.base ≡ J.base) }
+    {
+        let Looker {
+            reader,
+            place,
+            held,
+        } = self;
+        drop(held);
+        service.take_back(rt, reader);
+        service.domain().part(rt, place);
+    }
+}

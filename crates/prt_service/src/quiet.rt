@@ -1,0 +1,78 @@
+//! What lies under the lock of a service.
+ghost use Rattle.std.specs.Prelude.{◌≡◌, IfErr, IfOk};
+ghost use Rattle.sqlite.specs.Held.{Held};
+ghost use Rattle.prt_command.specs.Storable.{IsStorable};
+ghost use Rattle.prt_publisher.specs.Standing.{IsQuiet, Standing, Stands};
+ghost use Rattle.prt_service.specs.Service.{EndsWith, IsServiceRefusal};
+
+use crate::Naming;
+use prt_command::{Command, Refusal};
+use prt_grace::Domain;
+use prt_publisher::{Publisher, Receipt};
+use sqlite::{Alter, Connection};
+use std::marker::{Model, PhantomData};
+use std::sync::Wait;
+
+/// A publisher of the named front with no command under way.
+#[derive(Drop)]
+pub(crate) struct QuietPublisher<S: Alter + Drop, R: Wait + Drop, J: Naming> {
+    publisher: Publisher<S, R>,
+    of: PhantomData<J>,
+}
+
+impl<S: Alter + Drop, R: Wait + Drop, J: Naming> Model for QuietPublisher<S, R, J> {
+    ghost use Rattle.std.specs.Prelude.{◌≡◌};
+    ghost use Rattle.sqlite.specs.Held.{Held, held_code};
+    ghost use Rattle.prt_publisher.specs.Standing.{IsQuiet, Standing, standing_code};
+
+    ghost Value = { Standing (Held S) };
+
+    ghost coded = { standing_code (held_code S.code) };
+
+    ghost view = { λ q. q.publisher };
+
+    ghost invariant = { λ q. IsQuiet q.publisher.phase × (q.publisher.line.book ≡ J.book) × (q.publisher.line.base ≡ J.base) };
+}
+
+impl<S: Alter + Drop, R: Wait + Drop, J: Naming> QuietPublisher<S, R, J> {
+    pub(crate) fn new(publisher: Publisher<S, R>) -> QuietPublisher<S, R, J>
+        requires quiet { IsQuiet publisher.phase }
+        requires of { (publisher.line.book ≡ J.book) × (publisher.line.base ≡ J.base) }
+        ensures { result ≡ publisher }
+    {
+        QuietPublisher {
+            publisher,
+            of: PhantomData,
+        }
+    }
+
+    /// Prepares, commits and publishes a command.
+    ///
+    /// # Errors
+    ///
+    /// Those of `Publisher::submit`, with what each leaves.
+    pub(crate) fn submit<W: Wait>(
+        &mut self,
+        rt: &W,
+        domain: &Domain,
+        command: &Command,
+    ) -> Result<Receipt, Refusal>
+        requires { IsStorable command.now }
+        ensures of { IfOk result (λ receipt. (receipt.book ≡ J.book) × (receipt.base ≡ J.base)) }
+        ensures last { IfOk result (λ receipt. EndsWith receipt.list command.now) }
+        ensures reason { IfErr result IsServiceRefusal }
+    {
+        let receipt = match self.publisher.submit(rt, domain, command) {
+            Ok(receipt) => receipt,
+            Err(reason) => return Err(reason),
+        };
+        Ok(receipt)
+    }
+
+    /// Gives the connection back, with its tables as they are.
+    pub(crate) fn release(self) -> Connection<S>
+        ensures { (s : Standing (Held S)) × (s.tables ≡ result) × IsQuiet s.phase × (s.line.book ≡ J.book) × (s.line.base ≡ J.base) × Stands S.Store s }
+    {
+        self.publisher.release()
+    }
+}

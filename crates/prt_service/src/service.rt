@@ -1,0 +1,107 @@
+//! A publisher for many threads.
+ghost use Rattle.std.specs.Prelude.{◌≡◌, None, IfErr, IfOk};
+ghost use Rattle.sqlite.specs.Held.{Held};
+ghost use Rattle.prt_command.specs.Storable.{IsStorable};
+ghost use Rattle.prt_publisher.specs.Standing.{IsQuiet, Standing, Stands};
+ghost use Rattle.prt_service.specs.Service.{EndsWith, IsServiceRefusal};
+
+use crate::quiet::QuietPublisher;
+use crate::spare::SpareReaders;
+use crate::{Looker, Naming};
+use prt_command::{Command, Refusal};
+use prt_front::FrontReader;
+use prt_grace::Domain;
+use prt_publisher::{Publisher, Receipt};
+use sqlite::{Alter, Connection};
+use std::sync::{Mutex, Wait};
+
+/// A publisher, its domain and the readers that no looker has, for any number of threads.
+///
+/// The publisher lies under a lock: whenever nobody holds it, the publisher is ready, and the published state is stored,
+/// or it is closed. The domain has its own lock, which a submission takes under the publisher's. The spare readers lie
+/// under a third, held with no other.
+#[derive(Drop)]
+pub struct Service<S: Alter + Drop, R: Wait + Drop, J: Naming> {
+    publisher: Mutex<QuietPublisher<S, R, J>>,
+    domain: Domain,
+    spare: Mutex<SpareReaders<J>>,
+}
+
+impl<S: Alter + Drop, R: Wait + Drop, J: Naming> Service<S, R, J> {
+    /// Shares a publisher of the named front, which is ready or closed, and its domain. The readers that it has are taken
+    /// out of it. Takes no memory.
+    pub fn new(mut publisher: Publisher<S, R>, domain: Domain) -> Service<S, R, J>
+        requires quiet { IsQuiet publisher.phase }
+        requires of { (publisher.line.book ≡ J.book) × (publisher.line.base ≡ J.base) }
+    {
+        let alloc = *publisher.published().shared_rules().allocator();
+        let seats = publisher.seats(alloc);
+        Service {
+            publisher: Mutex::new(QuietPublisher::new(publisher)),
+            domain,
+            spare: Mutex::new(SpareReaders::new(seats)),
+        }
+    }
+
+    /// Has a command stored, published and noted, one after another with those of other threads. The receipt's list ends
+    /// with the command.
+    ///
+    /// # Errors
+    ///
+    /// `Exists`, `NoSuch`, `Full` or `CountFull`, as the command is refused; `Busy` (64 versions that lookers may hold)
+    /// and `NoMemory`: nothing has changed. `StoreFailed` and `NotPublished`, with what `Publisher::submit` leaves: from
+    /// then on each command is refused with `Closed`, and lookers go on.
+    pub fn submit<W: Wait>(&self, rt: &W, command: &Command) -> Result<Receipt, Refusal>
+        requires { IsStorable command.now }
+        ensures of { IfOk result (λ receipt. (receipt.book ≡ J.book) × (receipt.base ≡ J.base)) }
+        ensures last { IfOk result (λ receipt. EndsWith receipt.list command.now) }
+        ensures reason { IfErr result IsServiceRefusal }
+    {
+        self.publisher.lock(rt).submit(rt, &self.domain, command)
+    }
+
+    /// Makes a looker, offline, with a place of the domain and one of the spare readers.
+    ///
+    /// # Errors
+    ///
+    /// `Full` where 64 lookers have places, or no reader is left. The service is then as it was.
+    pub fn looker<W: Wait>(&self, rt: &W) -> Result<Looker, Refusal>
+        ensures of { IfOk result (λ looker. (looker.known.book ≡ J.book) × (looker.known.base ≡ J.base)) }
+        ensures offline { IfOk result (λ looker. (looker.held ≡ None) × (looker.announced ≡ None)) }
+        ensures reason { IfErr result (λ reason. reason ≡ Refusal.Full) }
+    {
+        let Some(place) = self.domain.join(rt) else {
+            return Err(Refusal::Full);
+        };
+        // Lets the lock go before the domain's is taken.
+        let lent = self.spare.lock(rt).lend();
+        match lent {
+            Some(reader) => Ok(Looker::new(reader, place)),
+            None => {
+                self.domain.part(rt, place);
+                Err(Refusal::Full)
+            }
+        }
+    }
+
+    /// Where its lookers announce what they hold.
+    pub(crate) fn domain(&self) -> &Domain {
+        &self.domain
+    }
+
+    /// Takes the reader of a looker back, for the next one.
+    pub(crate) fn take_back<W: Wait>(&self, rt: &W, reader: FrontReader)
+        requires { (reader.book ≡ J.book) × (reader.base ≡ J.base) }
+    {
+        self.spare.lock(rt).take_back(reader);
+    }
+
+    /// Ends the service, and gives the connection back, with its tables as the lock keeps them. Of a file that is known,
+    /// a ready publisher's tables hold the published state, and those of a closed one that or the state after one command
+    /// more; a crash leaves no other.
+    pub fn release(self) -> Connection<S>
+        ensures { (s : Standing (Held S)) × (s.tables ≡ result) × IsQuiet s.phase × (s.line.book ≡ J.book) × (s.line.base ≡ J.base) × Stands S.Store s }
+    {
+        self.publisher.into_inner().release()
+    }
+}

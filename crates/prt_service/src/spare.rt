@@ -1,0 +1,53 @@
+//! Readers that no looker has.
+ghost use Rattle.std.specs.Prelude.{◌≡◌, IfSome};
+
+use crate::Naming;
+use prt_front::FrontReader;
+use prt_publisher::Seats;
+use std::marker::{Model, PhantomData};
+
+/// Readers of the named front that no looker has.
+#[derive(Drop)]
+pub(crate) struct SpareReaders<J: Naming> {
+    seats: Seats,
+    of: PhantomData<J>,
+}
+
+impl<J: Naming> Model for SpareReaders<J> {
+    ghost use Rattle.std.specs.Prelude.{◌≡◌};
+    ghost use Rattle.prt_front.specs.Line.{Line};
+
+    ghost Value = { Line };
+
+    ghost view = { λ s. s.seats };
+
+    ghost invariant = { λ s. (s.seats.book ≡ J.book) × (s.seats.base ≡ J.base) };
+}
+
+impl<J: Naming> SpareReaders<J> {
+    pub(crate) fn new(seats: Seats) -> SpareReaders<J>
+        requires { (seats.book ≡ J.book) × (seats.base ≡ J.base) }
+        ensures { result ≡ seats }
+    {
+        SpareReaders {
+            seats,
+            of: PhantomData,
+        }
+    }
+
+    /// Lends one of them. `None` where none is left.
+    pub(crate) fn lend(&mut self) -> Option<FrontReader>
+        ensures same { self.new ≡ self.old }
+        ensures of { IfSome result (λ reader. (reader.book ≡ J.book) × (reader.base ≡ J.base)) }
+    {
+        self.seats.take()
+    }
+
+    /// Takes one of them back.
+    pub(crate) fn take_back(&mut self, reader: FrontReader)
+        requires { (reader.book ≡ J.book) × (reader.base ≡ J.base) }
+        ensures { self.new ≡ self.old }
+    {
+        self.seats.give(reader);
+    }
+}
