@@ -1,27 +1,14 @@
 -- What the turns of a session make of the lists that are known.
-use Rattle.std.proofs.Common.{◌≡◌, List, [], ◌∷◌, ◌++◌, Option, Some, None, Result, Ok, Err, refl, sym, ap, ◌∙◌, subst, append_assoc}
-use Rattle.std.proofs.lemmas.List.{append-nil}
-use mathlib.Core.List.{IsPrefix}
+use Rattle.std.proofs.Common.{◌≡◌, List, [], ◌∷◌, ◌++◌, Option, Some, None, Result, Ok, Err, refl, sym, ◌∙◌, subst}
 use Rattle.prt_addr.specs.declared.refusal.Refusal.{Refusal}
 use Rattle.prt_command.specs.Reading.{reading}
 use Rattle.prt_command.specs.declared.request.Request.{Request}
 use Rattle.prt_command.specs.declared.request.Request.TheVariants as requests
 use Rattle.prt_front.specs.Line.{Line, Begins}
+use Rattle.prt_serve.specs.Growing.{begins_self, begins_trans}
 use Rattle.prt_serve.specs.Lists.{seen_by, seen_in, taken_by, taken_in, Rises, BeginsAll, AllBegin, reply_on, IsTold, Shows}
 use Rattle.prt_serve.specs.Requests.{Event, seen, unanswered, unseen, taken, refused, service_turn, service_may}
 use Rattle.prt_session.specs.Session.{Exchange, LineMay, MayOn, Path, line_turn, turn_on}
-
-prefix_self : {A : Type 0} (xs : List A) → IsPrefix xs xs
-prefix_self xs = ([], append-nil xs)
-
-prefix_trans : {A : Type 0} (xs ys zs : List A) → IsPrefix xs ys → IsPrefix ys zs → IsPrefix xs zs
-prefix_trans xs ys zs p q = (p.0 ++ q.0, sym (append_assoc xs p.0 q.0) ∙ (ap (λ w. w ++ q.0) p.1 ∙ q.1))
-
-pub begins_self : (l : Line) → Begins l l
-begins_self l = (refl, refl, prefix_self l.list)
-
-pub begins_trans : (l m n : Line) → Begins l m → Begins m n → Begins l n
-begins_trans l m n p q = (q.0 ∙ p.0, q.1 ∙ p.1, prefix_trans l.list m.list n.list p.2 q.2)
 
 rises_from : (l m : Line) (ls : List Line) → Begins l m → Rises m ls → Rises l ls
 rises_from l m [] p rises = tt

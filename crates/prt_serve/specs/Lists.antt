@@ -5,7 +5,8 @@ use Rattle.prt_command.specs.Reading.{reading}
 use Rattle.prt_command.specs.declared.request.Request.{Request}
 use Rattle.prt_command.specs.declared.request.Request.TheVariants as requests
 use Rattle.prt_front.specs.Line.{Line, Begins}
-use Rattle.prt_serve.specs.Requests.{Event, seen, unanswered, taken, EndsWith, reply_to}
+use Rattle.prt_serve.specs.Requests.{Event, seen, unanswered, taken, reply_to}
+use Rattle.prt_service.specs.Service.{EndsWith}
 use Rattle.prt_session.specs.Session.{Exchange}
 use Rattle.prt_session.specs.declared.reply.Reply.{Reply}
 use Rattle.prt_session.specs.declared.reply.Reply.TheVariants.{Refused, Silent}

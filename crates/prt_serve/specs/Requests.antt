@@ -1,12 +1,12 @@
 -- What a service that others share replies to the requests of a session.
-use Rattle.std.specs.Prelude.{◌≡◌, ℕ, ◌+◌, List, [], ◌∷◌, ◌++◌, length, Option, Some, None}
+use Rattle.std.specs.Prelude.{ℕ, ◌+◌, length, Option, Some, None}
 use Rattle.prt_addr.specs.declared.refusal.Refusal.{Refusal}
 use Rattle.prt_addr.specs.declared.refusal.Refusal.TheVariants as reasons
-use Rattle.prt_command.specs.declared.request.Command.{Command}
 use Rattle.prt_command.specs.declared.request.Request.{Request}
 use Rattle.prt_command.specs.declared.request.Request.TheVariants as requests
 use Rattle.prt_front.specs.Line.{Line, Begins, line_state}
 use Rattle.prt_listing.specs.QueryText.{query_text}
+use Rattle.prt_service.specs.Service.{EndsWith, IsServiceRefusal}
 use Rattle.prt_session.specs.Session.{Turn}
 use Rattle.prt_session.specs.declared.reply.Reply.{Reply}
 use Rattle.prt_session.specs.declared.reply.Reply.TheVariants.{Accepted, Answered, Refused}
@@ -27,23 +27,6 @@ pub data Event : Type 0 where
 -- the number of the last command of a list
 abbrev pub number_of : Line → ℕ
 number_of line = line.base.count + length line.list
-
--- the command is the last of the list
-abbrev pub EndsWith : List Command → Command → Type 0
-EndsWith commands command = (before : List Command) × (commands ≡ before ++ command ∷ [])
-
--- what a service refuses a command for
-abbrev pub IsServiceRefusal : Refusal → Type 0
-IsServiceRefusal reasons.Closed = Unit {0}
-IsServiceRefusal reasons.Exists = Unit {0}
-IsServiceRefusal reasons.NoSuch = Unit {0}
-IsServiceRefusal reasons.Full = Unit {0}
-IsServiceRefusal reasons.CountFull = Unit {0}
-IsServiceRefusal reasons.Busy = Unit {0}
-IsServiceRefusal reasons.NoMemory = Unit {0}
-IsServiceRefusal (reasons.StoreFailed call) = Unit {0}
-IsServiceRefusal reasons.NotPublished = Unit {0}
-IsServiceRefusal _ = ⊥
 
 -- the reply to a request: the answer from the version that was seen, the number of the receipt, or the refusal
 abbrev pub reply_to : Request → Option Event → Reply
