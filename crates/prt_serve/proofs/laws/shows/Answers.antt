@@ -1,0 +1,5 @@
+use Rattle.prt_serve.proofs.Serving.{shows_path}
+use Rattle.prt_serve.proofs.laws.shows.Goals as goal
+
+pub returns : goal.returns
+returns c = shows_path

@@ -1,0 +1,4 @@
+pub mod Requests
+pub mod Lists
+pub mod Growing
+pub mod Serving

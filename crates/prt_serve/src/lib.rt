@@ -1,0 +1,13 @@
+//! Sessions over a service that others share, and the workers that serve them.
+#![tactic(auto)]
+
+mod gate;
+pub mod laws;
+mod listen;
+mod session;
+mod worker;
+
+pub use gate::{Gate, OpenGate};
+pub use listen::{Accepting, Connected, Limits, accept};
+pub use session::{Visit, serve_session};
+pub use worker::{Job, work};
