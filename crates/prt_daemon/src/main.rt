@@ -16,7 +16,7 @@ fn main(rt: HostRuntime) -> ExitCode {
     let status = match words {
         Ok(words) => program(
             &rt,
-            &mut DatabaseFiles { rt: &rt },
+            &mut DatabaseFiles { host: &rt, rt },
             alloc,
             words.as_slice(),
             &mut rt.stdin(),

@@ -1,3 +1,5 @@
+pub mod Kept
 pub mod StoreTurns
+pub mod Leaves
 pub mod Openings
 pub mod Stops

@@ -1,4 +1,4 @@
--- What a crash leaves of a desk's tables, opened again.
+-- A desk that is closed and opened again.
 use Rattle.std.proofs.Common.{◌≡◌, inr, true, ap, subst, sym, ◌∙◌, arith}
 use Rattle.std.specs.Prelude.{IsTrue}
 use Rattle.sqlite.proofs.Callers.{finds_again}
@@ -7,7 +7,6 @@ use Rattle.sqlite.specs.Effect.{Database}
 use Rattle.sqlite.specs.Files.{Finds, IsOpened, file_state, over_files}
 use Rattle.sqlite.specs.Held.{Held}
 use Rattle.sqlite.specs.State.{HasCleanDisk, Survives}
-use Rattle.sqlite.specs.Store.{Ghosts}
 use Rattle.sqlite.specs.Tree.{Trees}
 use Rattle.sqlite_disk.specs.declared.Disk as disk
 use Rattle.sqlite_disk.specs.declared.Files.{Files}
@@ -15,29 +14,19 @@ use Rattle.sqlite_store.specs.Laws.{stays_at}
 use Rattle.sqlite_store.specs.declared.store.FileStore.{FileStore}
 use Rattle.sqlite_wal.proofs.LogLemmas.{SeenMayStay}
 use Rattle.sqlite_wal.specs.Reads.{AreClean}
+use Rattle.prt_publisher.specs.Standing.{Standing}
 use Rattle.prt_rows.specs.Format.{BeginsFormat1}
 use Rattle.prt_store.specs.Adopted.{LeavesPart}
 use Rattle.prt_version.specs.State.{State}
-use Rattle.prt_store.proofs.Exits.{found_is}
 use Rattle.prt_store.proofs.Spelled.{stored_there}
-use Rattle.prt_store.specs.Exits.{IsKnown, Spells}
-use Rattle.prt_desk.proofs.StoreTurns.{durable_is}
-use Rattle.prt_desk.specs.StoreDesk.{DeskOver, IsKept, MayBeStored, Reopens}
+use Rattle.prt_store.specs.Exits.{Spells}
+use Rattle.prt_desk.proofs.Kept.{durable_is}
+use Rattle.prt_desk.specs.StoreDesk.{IsKept, MayBeStored, published}
 
--- a crash leaves trees that spell a state which may be stored, and an opening gives that state
-pub reopens : {S : Type 0} (g : Ghosts S) (desk : DeskOver (Held S)) → IsKept g desk → IsKnown g desk.format_1 desk.tables → Reopens g desk.tables (MayBeStored g desk)
-reopens g desk kept known found sound may =
-    let left = durable_is g desk kept known found.trees may in (
-      (stored_there found left.0 sound left.1).tables,
-      λ opened opens. subst (MayBeStored g desk) (sym (found_is found opened left.0 opens sound left.1)) left.2,
-    )
-
--- ---- closed and opened again
-
-module _ {D : Type 0} {g : disk.Ghosts D} (stays : SeenMayStay g) (old again : DeskOver (Held (FileStore D g))) (found : Held (FileStore D g)) (files : Files D) (kept : IsKept over_files old)
+module _ {D : Type 0} {g : disk.Ghosts D} (stays : SeenMayStay g) (old again : Standing (Held (FileStore D g))) (found : Held (FileStore D g)) (files : Files D) (kept : IsKept over_files old)
     (copied : AreClean g files.log files.db → IsCopied old.tables files) (finds : HasCleanDisk (file_state found) → Finds files found) (opened : HasCleanDisk (file_state found) → IsOpened found)
     (survives : (HasCleanDisk (file_state found) → BeginsFormat1 (file_state found).now.schema) → Survives (file_state found) (file_state again.tables) (LeavesPart (file_state found).now))
-    (same : HasCleanDisk (file_state again.tables) → IsTrue (file_state found).is_open → (stored : State) → Spells (file_state found).now.trees stored → (again.format_1 ≡ true) × (again.published ≡ stored))
+    (same : HasCleanDisk (file_state again.tables) → IsTrue (file_state found).is_open → (stored : State) → Spells (file_state found).now.trees stored → (again.format_1 ≡ true) × (published again ≡ stored))
     (ours : old.format_1 ≡ true) where
   -- the open finds what was committed, which is what a crash may have left
   stored_then : HasCleanDisk (file_state found) → (stored : State) × Spells (file_state found).now.trees stored × MayBeStored over_files old stored
@@ -54,7 +43,7 @@ module _ {D : Type 0} {g : disk.Ghosts D} (stays : SeenMayStay g) (old again : D
       let live = opened clean in
       inr (inr (inr (stored_there (file_state found).now left.0 (live.1 live.0.is_open).0 left.1).tables))
 
-  pub reopened : HasCleanDisk (file_state again.tables) → (again.format_1 ≡ true) × MayBeStored over_files old again.published
+  pub reopened : HasCleanDisk (file_state again.tables) → (again.format_1 ≡ true) × MayBeStored over_files old (published again)
   reopened clean =
       let before : HasCleanDisk (file_state found) = omega (arith, (survives begins).clean, clean) in
       let left = stored_then before in

@@ -1,5 +1,5 @@
--- What no request changes of a desk over a store.
-use Rattle.std.proofs.Common.{◌≡◌, ◌⊎◌, inl, Bool, true, false, ap, refl, subst, sym, ◌∙◌}
+-- What no request changes of a desk over a publisher.
+use Rattle.std.proofs.Common.{◌≡◌, true, ap, refl, subst, sym, ◌∙◌}
 use Rattle.std.specs.Prelude.{IsTrue}
 use Rattle.sqlite.specs.Effect.{Database}
 use Rattle.sqlite.specs.Held.{Held, state}
@@ -7,20 +7,20 @@ use Rattle.sqlite.specs.Schema.{Schema}
 use Rattle.sqlite.specs.State.{HasCleanDisk}
 use Rattle.sqlite.specs.Store.{Ghosts}
 use Rattle.sqlite_rules.specs.Lists.{Has}
+use Rattle.prt_publisher.specs.Exits.{Spares}
+use Rattle.prt_publisher.specs.Standing.{Standing}
+use Rattle.prt_publisher.specs.declared.phase.Phase.{Phase}
+use Rattle.prt_publisher.specs.declared.phase.Phase.TheVariants.{Ready, Admitted, Prepared, Committed, Published, Closed}
 use Rattle.prt_session.specs.Preorder.{IsPreorder}
 use Rattle.prt_store.specs.Exits.{IsKnown, SparesOthers}
-use Rattle.prt_desk.specs.StoreDesk.{DeskOver}
+use Rattle.prt_desk.specs.StoreDesk.{is_closed_at, is_shut}
 
--- what the tables hold can be seen: the desk is open, or at least its connection
-abbrev pub IsSeen : {S : Type 0} → Ghosts S → DeskOver (Held S) → Type 0
-IsSeen g desk = (desk.closed ≡ false) ⊎ IsTrue (state g desk.tables).is_open
-
--- whether our tables are the first of the file, that its disk has failed, all of a desk that is closed, and the other tables of the file
-pub record Remains {S : Type 0} (g : Ghosts S) (old new : DeskOver (Held S)) : Type 0 where
+-- whether our tables are the first of the file, that its disk has failed, all of a desk that is closed, and the other tables of the file, where that can be seen: while the desk is open, or at least its connection
+pub record Remains {S : Type 0} (g : Ghosts S) (old new : Standing (Held S)) : Type 0 where
   pub format : new.format_1 ≡ old.format_1
   pub clean : HasCleanDisk (state g new.tables) → HasCleanDisk (state g old.tables)
-  pub closed : old.closed ≡ true → new ≡ old
-  pub others : IsKnown g new.format_1 new.tables → IsSeen g new → SparesOthers (state g old.tables).now (state g new.tables).now
+  pub closed : is_shut old ≡ true → new ≡ old
+  pub others : Spares g old new
 
 -- ---- it stays over any number of requests
 
@@ -30,21 +30,30 @@ spares_on old between last first next = record {
   rows = λ table there other. next.rows table (subst (λ (schema : Schema). Has schema.tables table) (sym first.schema) there) other ∙ first.rows table there other;
 }
 
-module _ {S : Type 0} (g : Ghosts S) (desk between last : DeskOver (Held S)) (first : Remains g desk between) (next : Remains g between last) where
-  others_on : (closed : Bool) → between.closed ≡ closed → IsKnown g last.format_1 last.tables → IsSeen g last → SparesOthers (state g desk.tables).now (state g last.tables).now
-  others_on true is known seen =
-      let same = next.closed is in
-      let spares = first.others (subst (λ (d : DeskOver (Held S)). IsKnown g d.format_1 d.tables) same known) (subst (IsSeen g) same seen) in
-      subst (λ (d : DeskOver (Held S)). SparesOthers (state g desk.tables).now (state g d.tables).now) (sym same) spares
-  others_on false is known seen =
-      spares_on (state g desk.tables).now (state g between.tables).now (state g last.tables).now (first.others (sym next.format ∙ known.0, next.clean known.1) (inl is)) (next.others known seen)
+module _ {S : Type 0} (g : Ghosts S) (desk between last : Standing (Held S)) (first : Remains g desk between) (next : Remains g between last) where
+  others_through : (between.phase ≡ Closed → ⊥) → Spares g desk last
+  others_through going known seen =
+      spares_on (state g desk.tables).now (state g between.tables).now (state g last.tables).now (first.others (sym next.format ∙ known.0, next.clean known.1) (λ closed. absurd (going closed)))
+      (next.others known seen)
+
+  others_on : (phase : Phase) → between.phase ≡ phase → Spares g desk last
+  others_on Ready is = others_through (λ closed. let both : Ready ≡ Closed = sym is ∙ closed in cc)
+  others_on Admitted is = others_through (λ closed. let both : Admitted ≡ Closed = sym is ∙ closed in cc)
+  others_on Prepared is = others_through (λ closed. let both : Prepared ≡ Closed = sym is ∙ closed in cc)
+  others_on Committed is = others_through (λ closed. let both : Committed ≡ Closed = sym is ∙ closed in cc)
+  others_on Published is = others_through (λ closed. let both : Published ≡ Closed = sym is ∙ closed in cc)
+  others_on Closed is = λ known seen.
+      let same : last ≡ between = next.closed (ap is_closed_at is) in
+      let spares =
+      first.others (subst (λ (d : Standing (Held S)). IsKnown g d.format_1 d.tables) same known) (subst (λ (d : Standing (Held S)). d.phase ≡ Closed → IsTrue (state g d.tables).is_open) same seen) in
+      subst (λ (d : Standing (Held S)). SparesOthers (state g desk.tables).now (state g d.tables).now) (sym same) spares
 
   remains_on : Remains g desk last
   remains_on = record {
     format = next.format ∙ first.format;
     clean = λ clean. first.clean (next.clean clean);
-    closed = λ closed. let same = first.closed closed in next.closed (ap (λ (d : DeskOver (Held S)). d.closed) same ∙ closed) ∙ same;
-    others = others_on between.closed refl;
+    closed = λ closed. let same = first.closed closed in next.closed (ap (λ (d : Standing (Held S)). is_shut d) same ∙ closed) ∙ same;
+    others = others_on between.phase refl;
   }
 
 pub remains_over_all : {S : Type 0} (g : Ghosts S) → IsPreorder (Remains g)

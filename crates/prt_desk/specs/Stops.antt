@@ -6,20 +6,21 @@ use Rattle.prt_addr.specs.declared.refusal.StoreCall.{StoreCall}
 use Rattle.prt_addr.specs.declared.refusal.StoreCall.TheVariants.{Commit}
 use Rattle.prt_command.specs.Storable.{IsStorable}
 use Rattle.prt_command.specs.declared.request.Command.{Command}
+use Rattle.prt_publisher.specs.Standing.{Standing}
 use Rattle.prt_store.specs.Exits.{IsKnown, MayLeave}
 use Rattle.prt_store.specs.Stops.{StoppedIn}
 use Rattle.prt_version.specs.Change.{apply, check}
 use Rattle.prt_version.specs.State.{State}
 use Rattle.prt_version.specs.declared.change.Change.{Change}
-use Rattle.prt_desk.specs.StoreDesk.{DeskOver, IsKept}
+use Rattle.prt_desk.specs.StoreDesk.{IsKept, is_shut, published}
 
 -- the change that the command makes of the published state was being committed, and a stop in this store call left this connection
-abbrev pub StopsIn : {S : Type 0} → Ghosts S → DeskOver (Held S) → Command → StoreCall → Held S → Type 0
-StopsIn g desk command call now = (made : Change) × (check desk.published command ≡ Ok made) × StoppedIn g made (desk.published.count + 1) desk.tables call now
+abbrev pub StopsIn : {S : Type 0} → Ghosts S → Standing (Held S) → Command → StoreCall → Held S → Type 0
+StopsIn g desk command call now = (made : Change) × (check (published desk) command ≡ Ok made) × StoppedIn g made ((published desk).count + 1) desk.tables call now
 
 -- Whichever store call of a command a stop falls into, a crash leaves the state before the command or, only where it fell into the call that commits, the one after it. Where it falls into none, a crash leaves the published state.
 abbrev pub LeavesAState : {S : Type 0} → Ghosts S → Type 0
-LeavesAState {S = S} g = (desk : DeskOver (Held S)) → IsKept g desk → desk.closed ≡ false → IsKnown g desk.format_1 desk.tables → (left : State) →
-    (MayLeave g desk.tables left → left ≡ desk.published)
+LeavesAState {S = S} g = (desk : Standing (Held S)) → IsKept g desk → is_shut desk ≡ false → IsKnown g desk.format_1 desk.tables → (left : State) →
+    (MayLeave g desk.tables left → left ≡ published desk)
     × ((command : Command) (call : StoreCall) (now : Held S) → IsStorable command → StopsIn g desk command call now → IsKnown g desk.format_1 now → MayLeave g now left
-    → (left ≡ desk.published) ⊎ ((call ≡ Commit) × (left ≡ apply desk.published command)))
+    → (left ≡ published desk) ⊎ ((call ≡ Commit) × (left ≡ apply (published desk) command)))

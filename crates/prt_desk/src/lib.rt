@@ -1,4 +1,4 @@
-//! The durable desk: a desk over a store, whose commands are acknowledged once they are committed.
+//! The durable desk: a desk over a publisher, whose commands are acknowledged once they are committed and published.
 #![tactic(auto)]
 
 mod laws;

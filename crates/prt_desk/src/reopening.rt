@@ -3,7 +3,7 @@
 ghost use Rattle.std.specs.Prelude.{◌≡◌, IfErr, IfOk, true};
 ghost use Rattle.sqlite.specs.Files.{file_state, over_files};
 ghost use Rattle.sqlite.specs.State.{HasCleanDisk};
-ghost use Rattle.prt_desk.specs.StoreDesk.{MayBeStored};
+ghost use Rattle.prt_desk.specs.StoreDesk.{MayBeStored, published};
 ghost use Rattle.prt_store.specs.Loaded.{IsLoadRefusal};
 
 use crate::StoreDesk;
@@ -11,20 +11,25 @@ use prt_session::Refusal;
 use sqlite::{Connection, FileStore, Options};
 use sqlite_disk::Disk;
 use std::alloc::Global;
+use std::sync::Wait;
 
-impl<D: Disk + Drop> StoreDesk<FileStore<D>> {
+impl<D: Disk + Drop, H: Wait + Copy + Drop> StoreDesk<FileStore<D>, H> {
     /// Closes the database, and opens a desk over its files again.
     ///
-    /// The state of that desk is one that may have been stored: of a desk that wasn't closed by a failed commit, the
-    /// published one.
+    /// The state of that desk is one that may have been stored: of a desk that wasn't closed, the published one.
     ///
     /// # Errors
     ///
     /// `OpenFailed` where the files can't be closed or opened; otherwise as `open`. The files are given up.
-    pub fn reopen(self, alloc: Global, options: Options) -> Result<StoreDesk<FileStore<D>>, Refusal>
+    pub fn reopen(
+        self,
+        alloc: Global,
+        options: Options,
+    ) -> Result<StoreDesk<FileStore<D>, H>, Refusal>
         ensures reason { IfErr result IsLoadRefusal }
-        ensures stored { IfOk result (λ again. self.format_1 ≡ true → HasCleanDisk (file_state again.tables) → (again.format_1 ≡ true) × MayBeStored over_files self again.published) }
+        ensures stored { IfOk result (λ again. self.format_1 ≡ true → HasCleanDisk (file_state again.tables) → (again.format_1 ≡ true) × MayBeStored over_files self (published again)) }
     {
+        let rt = self.rt;
         let files = match self.release().close_files() {
             Ok(files) => files,
             Err((_, store)) => {
@@ -36,7 +41,7 @@ impl<D: Disk + Drop> StoreDesk<FileStore<D>> {
             Ok(conn) => conn,
             Err(_) => return Err(Refusal::OpenFailed),
         };
-        match StoreDesk::open(alloc, conn) {
+        match StoreDesk::open(rt, alloc, conn) {
             Ok(desk) => Ok(desk),
             Err((reason, _)) => Err(reason),
         }

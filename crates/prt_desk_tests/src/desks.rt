@@ -4,6 +4,7 @@ use prt_desk::StoreDesk;
 use prt_session::{Desk, ListDesk, OnRefusal, Refusal, Unobserved, run_script};
 use sqlite::{Alter, Connection, Error};
 use std::alloc::Global;
+use std::sync::Wait;
 use std::test::Fail;
 
 /// Scripts with each command and each query.
@@ -28,35 +29,38 @@ pub fn replies<D: Desk>(alloc: Global, desk: &mut D, script: &str) -> Vec<u8> {
 }
 
 /// A desk over the database of a connection.
-pub fn opened<S: Alter + Drop>(
+pub fn opened<S: Alter + Drop, H: Wait + Copy + Drop>(
+    rt: H,
     alloc: Global,
     connection: Connection<S>,
-) -> Result<StoreDesk<S>, Refusal> {
-    match StoreDesk::open(alloc, connection) {
+) -> Result<StoreDesk<S, H>, Refusal> {
+    match StoreDesk::open(rt, alloc, connection) {
         Ok(desk) => Ok(desk),
         Err((reason, _)) => Err(reason),
     }
 }
 
 /// Tells whether a desk over the connection replies to a script as one over lists does.
-fn replies_as_lists<S: Alter + Drop>(
+fn replies_as_lists<S: Alter + Drop, H: Wait + Copy + Drop>(
+    rt: H,
     alloc: Global,
     connection: Connection<S>,
     script: &str,
 ) -> Result<bool, Refusal> {
-    let mut stored = opened(alloc, connection)?;
+    let mut stored = opened(rt, alloc, connection)?;
     let mut listed = ListDesk::opening(alloc)?;
     let wanted = replies(alloc, &mut listed, script);
     Ok(replies(alloc, &mut stored, script).as_slice() == wanted.as_slice())
 }
 
 /// Runs a script over the database of a connection, and gives its replies and the connection.
-fn run_over<S: Alter + Drop>(
+fn run_over<S: Alter + Drop, H: Wait + Copy + Drop>(
+    rt: H,
     alloc: Global,
     connection: Connection<S>,
     script: &str,
 ) -> Result<(Vec<u8>, Connection<S>), Refusal> {
-    let mut desk = opened(alloc, connection)?;
+    let mut desk = opened(rt, alloc, connection)?;
     let text = replies(alloc, &mut desk, script);
     Ok((text, desk.release()))
 }
@@ -71,7 +75,7 @@ fn replies_are_those_of_lists(rt: HostRuntime) -> Result<(), Fail> {
     let alloc = rt.alloc();
     for script in &SCRIPTS {
         let connection = Connection::open_in_memory(alloc)?;
-        let is_same = replies_as_lists(alloc, connection, script)?;
+        let is_same = replies_as_lists(rt, alloc, connection, script)?;
         assert!(rt; is_same);
     }
     Ok(())
@@ -81,8 +85,8 @@ fn replies_are_those_of_lists(rt: HostRuntime) -> Result<(), Fail> {
 fn a_second_run_goes_on(rt: HostRuntime) -> Result<(), Fail> {
     let alloc = rt.alloc();
     let connection = Connection::open_in_memory(alloc)?;
-    let (_first, connection) = run_over(alloc, connection, "route add 10/8 via 192.0.2.1\n")?;
-    let (second, _same) = run_over(alloc, connection, "route show\nroute del 10/8\n")?;
+    let (_first, connection) = run_over(rt, alloc, connection, "route add 10/8 via 192.0.2.1\n")?;
+    let (second, _same) = run_over(rt, alloc, connection, "route show\nroute del 10/8\n")?;
     assert!(rt; second.as_slice() == b"10.0.0.0/8 via 192.0.2.1\nend 1\nok 2\n".as_slice());
     Ok(())
 }
@@ -91,9 +95,9 @@ fn a_second_run_goes_on(rt: HostRuntime) -> Result<(), Fail> {
 fn a_full_count_refuses_a_command(rt: HostRuntime) -> Result<(), Fail> {
     let alloc = rt.alloc();
     let connection = Connection::open_in_memory(alloc)?;
-    let (_none, mut connection) = run_over(alloc, connection, "")?;
+    let (_none, mut connection) = run_over(rt, alloc, connection, "")?;
     fill_count(&mut connection)?;
-    let (replies, _same) = run_over(alloc, connection, "rule flush\n")?;
+    let (replies, _same) = run_over(rt, alloc, connection, "rule flush\n")?;
     assert!(rt; replies.as_slice() == b"error 24 CountFull\n".as_slice());
     Ok(())
 }

@@ -1,4 +1,4 @@
-//! Tests of sessions on streams that fail, and of the desk over a store, on a database in memory.
+//! Tests of sessions on streams that fail, and of the desk over a publisher, on a database in memory.
 #![tactic(auto)]
 
 #[cfg(test)]

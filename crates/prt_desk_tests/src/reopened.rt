@@ -9,6 +9,7 @@ use sqlite::{Connection, FileStore, Files, Options};
 use sqlite_disk::{Disk, Fuse, Memory};
 use std::alloc::Global;
 use std::io::{self, Write};
+use std::sync::Wait;
 use std::test::Fail;
 
 /// Each page is read from the log anew, so that each statement calls it.
@@ -34,28 +35,30 @@ impl Write for Shut {
 }
 
 /// A desk over the database of these files. For files of whatever kind, so that the proof knows nothing of them.
-fn desk_in<D: Disk + Drop>(
+fn desk_in<D: Disk + Drop, H: Wait + Copy + Drop>(
+    rt: H,
     alloc: Global,
     files: Files<D>,
-) -> Result<StoreDesk<FileStore<D>>, Refusal> {
+) -> Result<StoreDesk<FileStore<D>, H>, Refusal> {
     if !files.may_be_used() {
         return Err(Refusal::OpenFailed);
     }
     match Connection::open_files(alloc, files, OPTIONS) {
-        Ok(connection) => opened(alloc, connection),
+        Ok(connection) => opened(rt, alloc, connection),
         Err(_) => Err(Refusal::OpenFailed),
     }
 }
 
 /// Runs a script whose replies cannot be written, closes the database and opens it again, and gives why the run ended
 /// and the replies to a second script.
-fn run_unheard<D: Disk + Drop>(
+fn run_unheard<D: Disk + Drop, H: Wait + Copy + Drop>(
+    rt: H,
     alloc: Global,
     files: Files<D>,
     script: &str,
     second: &str,
 ) -> Result<(Option<Refusal>, Vec<u8>), Refusal> {
-    let mut desk = desk_in(alloc, files)?;
+    let mut desk = desk_in(rt, alloc, files)?;
     let mut lines = script.as_bytes();
     let end = desk.run_script(
         alloc,
@@ -69,12 +72,13 @@ fn run_unheard<D: Disk + Drop>(
 }
 
 /// Runs a script, and gives its replies and the files, closed as far as their disk allows it.
-fn run_in<D: Disk + Drop>(
+fn run_in<D: Disk + Drop, H: Wait + Copy + Drop>(
+    rt: H,
     alloc: Global,
     files: Files<D>,
     script: &str,
 ) -> Result<(Vec<u8>, Files<D>), Refusal> {
-    let mut desk = desk_in(alloc, files)?;
+    let mut desk = desk_in(rt, alloc, files)?;
     let text = replies(alloc, &mut desk, script);
     let files = match desk.release().close_files() {
         Ok(files) => files,
@@ -97,7 +101,7 @@ fn an_unheard_command_is_kept(rt: HostRuntime) -> Result<(), Fail> {
         log: Memory::new(alloc),
         db: Memory::new(alloc),
     };
-    let (fault, after) = run_unheard(alloc, files, "rule flush\n", "route get 10.1.2.3\n")?;
+    let (fault, after) = run_unheard(rt, alloc, files, "rule flush\n", "route get 10.1.2.3\n")?;
     assert!(rt; fault == Some(Refusal::WriteFault));
     assert!(rt; after.as_slice() == b"answer 1 none\n".as_slice());
     Ok(())
@@ -112,7 +116,7 @@ fn a_closed_desk_answers(rt: HostRuntime) -> Result<(), Fail> {
         db: Fuse::new(Memory::new(alloc), u64::MAX),
     };
     let script = "route add 10/8 dev a\nroute add 10/8 dev a\nroute get 10.1.2.3\n";
-    let (text, files) = run_in(alloc, files, script)?;
+    let (text, files) = run_in(rt, alloc, files, script)?;
     assert!(rt;
         text.as_slice() == b"error 27 StoreFailed\nerror 20 Closed\nanswer 0 none\n".as_slice()
     );
@@ -120,7 +124,7 @@ fn a_closed_desk_answers(rt: HostRuntime) -> Result<(), Fail> {
         log: mended(alloc, &files.log)?,
         db: mended(alloc, &files.db)?,
     };
-    let (again, _files) = run_in(alloc, files, "route get 10.1.2.3\n")?;
+    let (again, _files) = run_in(rt, alloc, files, "route get 10.1.2.3\n")?;
     assert!(rt; again.as_slice() == b"answer 0 none\n".as_slice());
     Ok(())
 }

@@ -2,8 +2,7 @@ use Rattle.std.proofs.Common.{subst}
 use Rattle.prt_session.specs.Desk.{Befalls, DeskState, request_turn}
 use Rattle.prt_session.specs.Run.{RunIs}
 use Rattle.prt_desk.specs.StoreDesk.{IsStoreMishap, StandsFor, desk_with}
-use Rattle.prt_desk.proofs.Openings.{reopens}
-use Rattle.prt_desk.proofs.StoreTurns.{durable_is, stands_with}
+use Rattle.prt_desk.proofs.Kept.{durable_is, reopens, stands_with}
 use Rattle.prt_desk.proofs.store_desk.StoreDesk.run_script.Goals as goal
 
 -- what the desk stands for at the end is explained by what it stood for before

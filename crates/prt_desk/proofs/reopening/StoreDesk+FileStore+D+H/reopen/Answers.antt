@@ -3,7 +3,7 @@ use Rattle.sqlite.specs.Closing.{IsCopied}
 use Rattle.sqlite.specs.Held.{Held}
 use Rattle.sqlite_wal.specs.Reads.{AreClean}
 use Rattle.prt_desk.proofs.Openings.{reopened}
-use Rattle.prt_desk.proofs.reopening.StoreDesk+FileStore+D.reopen.Goals as goal
+use Rattle.prt_desk.proofs.reopening.StoreDesk+FileStore+D+H.reopen.Goals as goal
 
 pub returns-in-Ok-open-clause-stored : goal.returns-in-Ok-open-clause-stored
 returns-in-Ok-open-clause-stored g c =
