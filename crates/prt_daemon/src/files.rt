@@ -17,6 +17,7 @@ pub(crate) struct DatabaseFiles<'a> {
 }
 
 impl<'a> Databases for DatabaseFiles<'a> {
+    ghost use Rattle.std.specs.Prelude.{⊤};
     ghost use Rattle.prt_version.specs.Sound.{IsSound};
 
     type Opened = StoreDesk<FileStore<File>>;
@@ -24,6 +25,11 @@ impl<'a> Databases for DatabaseFiles<'a> {
     type Error = Error;
 
     ghost holds = { λ _ _ opened. IsSound opened };
+
+    // Nothing can be known of the files of a machine: these hold of any.
+    ghost opens = { λ _ _ _ _. ⊤ };
+
+    ghost closed = { λ _ _ _. ⊤ };
 
     fn open(
         &mut self,
