@@ -20,6 +20,7 @@ pub(crate) struct DatabaseFiles<'a, H> {
 }
 
 impl<'a, H: Wait + Copy + Drop> Databases for DatabaseFiles<'a, H> {
+    ghost use Rattle.std.specs.Prelude.{⊤};
     ghost use Rattle.prt_version.specs.Sound.{IsSound};
 
     type Opened = StoreDesk<FileStore<File>, H>;
@@ -27,6 +28,11 @@ impl<'a, H: Wait + Copy + Drop> Databases for DatabaseFiles<'a, H> {
     type Error = Error;
 
     ghost holds = { λ _ _ opened. IsSound opened };
+
+    // Nothing can be known of the files of a machine: these hold of any.
+    ghost opens = { λ _ _ _ _. ⊤ };
+
+    ghost closed = { λ _ _ _. ⊤ };
 
     fn open(
         &mut self,

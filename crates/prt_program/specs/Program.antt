@@ -1,12 +1,14 @@
 -- What the program does: it runs the session or the replay that its words ask for, or it says why it does not.
 use Rattle.std.specs.Prelude.{◌≡◌, ◌≢◌, ◌⊎◌, ℕ, Bool, true, false, List, Option, Some, None}
 use Rattle.prt_addr.specs.declared.refusal.Refusal.{Refusal}
+use Rattle.prt_program.specs.Databases.{IsOpenOn, OpensAndCloses}
 use Rattle.prt_program.specs.Faults.{database_of}
 use Rattle.prt_words.specs.Faults.{IsStatusOf}
 use Rattle.prt_words.specs.Invocation.{Invocation, Word, batch, replay}
 use Rattle.prt_program.specs.Replay.{ReplayIs}
 use Rattle.prt_session.specs.Desk.{Befalls, DeskState, IsNoMemory, Mishap, request_turn, settled}
 use Rattle.prt_session.specs.Run.{RunIs}
+use Rattle.prt_session.specs.Stands.{Stands}
 use Rattle.prt_version.specs.State.{State, opening_state}
 use Rattle.prt_addr.specs.declared.on_refusal.OnRefusal.{OnRefusal}
 use Rattle.prt_session.specs.declared.script.ScriptEnd.{ScriptEnd}
@@ -20,18 +22,34 @@ status_by None false = 0
 abbrev pub exit_status : ScriptEnd → ℕ
 exit_status end = status_by end.fault end.refused
 
--- A session that begins with this state was run, and this is its exit status.
-pub record RunsFrom (opened : State) (may : Mishap → Type 0) (mode : OnRefusal) (reader0 writer0 writer : Option (List ℕ)) (status : ℕ) : Type 0 where
-  pub desk : DeskState
+-- A session that begins with this state was run, and this is its exit status. After it the desk stands for something, and for nothing but what the session left.
+pub record RunsOn {X : Type 0} (stands : X → DeskState → Type 0) (may : Mishap → Type 0) (mode : OnRefusal) (opened : State) (desk : X) (reader0 writer0 writer : Option (List ℕ)) (status : ℕ) : Type 0 where
   pub reader : Option (List ℕ)
   pub end : ScriptEnd
-  pub run : RunIs request_turn (Befalls may) mode (settled opened) desk reader0 reader writer0 writer end
+  pub left : Stands stands desk
+  pub run : (after : DeskState) → stands desk after → RunIs request_turn (Befalls may) mode (settled opened) after reader0 reader writer0 writer end
   pub status_is : status ≡ exit_status end
 
--- a session over a new database in memory, or over the one at this path: `holds` are the states that it may have, `may` what may befall a session over it
-abbrev pub RunsBatch : (Word → State → Type 0) → (Mishap → Type 0) → Option Word → OnRefusal → (reader0 writer0 writer : Option (List ℕ)) → ℕ → Type 0
-RunsBatch holds may None mode reader0 writer0 writer status = RunsFrom opening_state IsNoMemory mode reader0 writer0 writer status
-RunsBatch holds may (Some path) mode reader0 writer0 writer status = (opened : State) × holds path opened × RunsFrom opened may mode reader0 writer0 writer status
+-- A session was run over the database at a path. The desk that was opened stood for a state that may be there, the one that was closed stands for what the session left. Nothing else was done to databases.
+pub record RunsAt {D X : Type 0} (holds : D → Word → State → Type 0) (opens : D → D → Word → X → Type 0) (closed : D → D → X → Type 0) (stands : X → DeskState → Type 0) (keeps : X → X → Type 0) (may : Mishap → Type 0)
+    (old new : D) (path : Word) (mode : OnRefusal) (reader0 writer0 writer : Option (List ℕ)) (status : ℕ) : Type 0 where
+  pub opened : State
+  pub first : X
+  pub last : X
+  pub is_held : holds old path opened
+  pub is_open : IsOpenOn stands first opened
+  pub database : OpensAndCloses opens closed old new path first last
+  pub run : RunsOn stands may mode opened last reader0 writer0 writer status
+  pub kept : keeps first last
+
+-- a fact of a session: of its mode, the reader and the writer before it, the writer after it, and its exit status
+abbrev pub SessionFact : Type 1
+SessionFact = OnRefusal → (reader0 writer0 writer : Option (List ℕ)) → ℕ → Type 0
+
+-- a session over a new database in memory, which stays open, or over the one at this path
+abbrev pub RunsBatch : (Word → SessionFact) → Option Word → SessionFact
+RunsBatch RunAt None mode reader0 writer0 writer status = (left : State) × RunsOn (λ desk after. after ≡ settled desk) IsNoMemory mode opening_state left reader0 writer0 writer status
+RunsBatch RunAt (Some path) mode reader0 writer0 writer status = RunAt path mode reader0 writer0 writer status
 
 -- A replay was run, and this is its exit status.
 pub record RunsReplay (reader0 writer0 writer : Option (List ℕ)) (status : ℕ) : Type 0 where
@@ -45,10 +63,10 @@ RunsOver bytes Run None input writer0 writer status = Run input writer0 writer s
 RunsOver {File} bytes Run (Some path) input writer0 writer status = (file : File) × Run (bytes file) writer0 writer status
 
 -- what the words ask for was run
-abbrev pub Runs : {File : Type 0} → (File → Option (List ℕ)) → (Word → State → Type 0) → (Mishap → Type 0) → Invocation → (input writer0 writer : Option (List ℕ)) → ℕ → Type 0
-Runs bytes holds may (batch script) input writer0 writer status = RunsOver bytes (RunsBatch holds may script.database script.mode) script.file input writer0 writer status
-Runs bytes holds may (replay file) input writer0 writer status = RunsOver bytes RunsReplay file input writer0 writer status
-Runs bytes holds may asked input writer0 writer status = ⊥
+abbrev pub Runs : {File : Type 0} → (File → Option (List ℕ)) → (Word → SessionFact) → Invocation → (input writer0 writer : Option (List ℕ)) → ℕ → Type 0
+Runs bytes RunAt (batch script) input writer0 writer status = RunsOver bytes (RunsBatch RunAt script.database script.mode) script.file input writer0 writer status
+Runs bytes RunAt (replay file) input writer0 writer status = RunsOver bytes RunsReplay file input writer0 writer status
+Runs bytes RunAt asked input writer0 writer status = ⊥
 
 -- Nothing was run: the words ask for none, or there was a fault of opening. What the writer had is there alone, unless help was asked for.
 abbrev pub RunsNothing : Invocation → Option (List ℕ) → Option (List ℕ) → ℕ → Type 0

@@ -21,20 +21,29 @@ pub trait Databases {
     /// The states that the database at a path may hold.
     ghost holds: { Self → List ℕ → State → Type 0 };
 
+    /// What an opening of the database at a path makes of the databases, where it gives this desk.
+    ghost opens: { Self → Self → List ℕ → Self.Opened → Type 0 };
+
+    /// What the closing of this desk makes of the databases.
+    ghost closed: { Self → Self → Self.Opened → Type 0 };
+
     /// Opens the database at a path, and makes it where there is none. With a refusal comes the error of the file, if
     /// that could not be opened.
     ///
     /// # Errors
     ///
-    /// `OpenFailed`, `Damaged` where it holds no state, or `NoMemory`; then no database is open.
+    /// `OpenFailed`, `Damaged` where it holds no state, or `NoMemory`; then no database is open. What a refused opening
+    /// makes of the databases is left open.
     fn open(
         &mut self,
         alloc: Global,
         path: &str,
     ) -> Result<Self::Opened, (Refusal, Option<Self::Error>)>
         ensures opened { IfOk result (λ desk. (opened : State) × holds self.old path.now opened × IsOpenOn Self.Opened.stands desk opened) }
+        ensures opens { IfOk result (λ desk. opens self.old self.new path.now desk) }
         ensures reason { IfErr result (λ refused. IsOpenRefusal refused.0) };
 
     /// Closes a database, so that its file alone has all of it. A fault of closing loses nothing that was acknowledged.
-    fn close(&mut self, desk: Self::Opened);
+    fn close(&mut self, desk: Self::Opened)
+        ensures { closed self.old self.new desk };
 }

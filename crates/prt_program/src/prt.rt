@@ -3,7 +3,7 @@ ghost use Rattle.std.specs.Prelude.{◌≡◌, ◌≢◌, ◌⊎◌, IfErr, IfOk
 ghost use Rattle.prt_addr.specs.declared.refusal.Refusal.TheVariants.{ReadFault};
 ghost use Rattle.prt_program.specs.Databases.{IsOpenOn, IsOpenRefusal};
 ghost use Rattle.prt_program.specs.Faults.{IsDatabaseFault, IsFault, IsOpening, IsScriptFault};
-ghost use Rattle.prt_program.specs.Program.{LeavesDatabases, LeavesInput, LeavesInputFor, Runs, RunsBatch, RunsFrom, RunsNothing, RunsOver, RunsReplay, exit_status};
+ghost use Rattle.prt_program.specs.Program.{LeavesDatabases, LeavesInput, LeavesInputFor, Runs, RunsAt, RunsBatch, RunsNothing, RunsOn, RunsOver, RunsReplay, exit_status};
 ghost use Rattle.prt_version.specs.State.{State};
 ghost use Rattle.prt_words.specs.Faults.{IsWordsFault};
 ghost use Rattle.prt_words.specs.Invocation.{arguments, invocation, serve};
@@ -47,8 +47,9 @@ fn run_over<D: Desk, R: Read, W: Write, O: Observer>(
     mode: OnRefusal,
     observer: &mut O,
 ) -> u8
-    ensures { (opened : State) → IsOpenOn D.stands desk.old opened →
-        RunsFrom opened D.may mode (R.remaining reader.old) (W.contents output.old) (W.contents output.new) result }
+    ensures run { (opened : State) → IsOpenOn D.stands desk.old opened →
+        RunsOn D.stands D.may mode opened desk.new (R.remaining reader.old) (W.contents output.old) (W.contents output.new) result }
+    ensures keeps { D.keeps desk.old desk.new }
 {
     let end = run_script(alloc, desk, reader, output, mode, observer);
     exit_status(end)
@@ -62,6 +63,7 @@ fn open_database<D: Databases, E: Write + Drop, K: Clock + Drop>(
     messages: &mut Messages<'_, E, K>,
 ) -> Result<D::Opened, Fault>
     ensures opened { IfOk result (λ desk. (opened : State) × D.holds databases.old path.now opened × IsOpenOn D.Opened.stands desk opened) }
+    ensures opens { IfOk result (λ desk. D.opens databases.old databases.new path.now desk) }
     ensures fault { IfErr result (IsOpening IsOpenRefusal) }
 {
     match databases.open(alloc, path) {
@@ -85,8 +87,8 @@ fn run_batch<D: Databases, R: Read + Drop, W: Write, E: Write + Drop, K: Clock +
     mode: OnRefusal,
     messages: &mut Messages<'_, E, K>,
 ) -> Result<u8, Fault>
-    ensures run { IfOk result (RunsBatch (D.holds databases.old) D.Opened.may (option_map (λ path. path.now) database.entry) mode
-        (R.remaining input) (W.contents output.old) (W.contents output.new)) }
+    ensures run { IfOk result (RunsBatch (RunsAt D.holds D.opens D.closed D.Opened.stands D.Opened.keeps D.Opened.may databases.old databases.new)
+        (option_map (λ path. path.now) database.entry) mode (R.remaining input) (W.contents output.old) (W.contents output.new)) }
     ensures fault { IfErr result (IsOpening (IsDatabaseFault (option_map (λ path. path.now) database.entry))) }
     ensures unopened { option_map (λ path. path.now) database.entry ≡ None → databases.new ≡ databases.old }
     ensures unwritten { OnErr result (W.contents output.new ≡ W.contents output.old) }
@@ -152,8 +154,8 @@ fn run_script_of<
     output: &mut W,
     messages: &mut Messages<'a, E, K>,
 ) -> Result<u8, Fault>
-    ensures run { IfOk result (RunsOver F.File.remaining (RunsBatch (D.holds databases.old) D.Opened.may (option_map (λ path. path.now) batch.entry.database) batch.entry.mode)
-        (option_map (λ path. path.now) batch.entry.file) (R.remaining input.old) (W.contents output.old) (W.contents output.new)) }
+    ensures run { IfOk result (RunsOver F.File.remaining (RunsBatch (RunsAt D.holds D.opens D.closed D.Opened.stands D.Opened.keeps D.Opened.may databases.old databases.new)
+        (option_map (λ path. path.now) batch.entry.database) batch.entry.mode) (option_map (λ path. path.now) batch.entry.file) (R.remaining input.old) (W.contents output.old) (W.contents output.new)) }
     ensures unread { LeavesInputFor (option_map (λ path. path.now) batch.entry.file) (R.remaining input.old) (R.remaining input.new) }
     ensures fault { IfErr result (IsOpening (IsScriptFault (option_map (λ path. path.now) batch.entry.database))) }
     ensures unopened { option_map (λ path. path.now) batch.entry.database ≡ None → databases.new ≡ databases.old }
@@ -225,8 +227,8 @@ fn run<
     output: &mut W,
     messages: &mut Messages<'a, E, K>,
 ) -> Result<u8, Fault>
-    ensures run { IfOk result (Runs F.File.remaining (D.holds databases.old) D.Opened.may (invocation (arguments words.now))
-        (R.remaining input.old) (W.contents output.old) (W.contents output.new)) }
+    ensures run { IfOk result (Runs F.File.remaining (RunsAt D.holds D.opens D.closed D.Opened.stands D.Opened.keeps D.Opened.may databases.old databases.new)
+        (invocation (arguments words.now)) (R.remaining input.old) (W.contents output.old) (W.contents output.new)) }
     ensures unread { LeavesInput (invocation (arguments words.now)) (R.remaining input.old) (R.remaining input.new) }
     ensures fault { IfErr result (IsFault (invocation (arguments words.now))) }
     ensures unopened { LeavesDatabases (invocation (arguments words.now)) databases.old databases.new }
@@ -245,9 +247,13 @@ fn run<
 /// Runs the program with these words, the first of which is its own name, and gives its exit status.
 ///
 /// `batch [--force] [--db PATH] [--verbose] [FILE]` runs a script over the database at PATH or a new one in memory, and
-/// `replay [FILE]` replays a list of events. Where a FILE is named, `input` is not read; without `--db` no database is
-/// opened. The status is 0 where nothing was refused and after help, 1 where a line was refused, 2 for bad words, and 3
-/// for a fault of opening, of the store, of the reader or of the writer.
+/// `replay [FILE]` replays a list of events. Where a FILE is named, `input` is not read.
+///
+/// Without `--db` no database is opened. With it the one at PATH is opened, closed as the session left it, and nothing
+/// else is done to any database; what a refused opening makes of them is left open.
+///
+/// The status is 0 where nothing was refused and after help, 1 where a line was refused, 2 for bad words, and 3 for a
+/// fault of opening, of the store, of the reader or of the writer.
 pub fn program<
     F: Files + Clock,
     D: Databases,
@@ -263,8 +269,8 @@ pub fn program<
     output: &mut W,
     errors: &mut E,
 ) -> u8
-    ensures run { Runs F.File.remaining (D.holds databases.old) D.Opened.may (invocation (arguments words.now))
-        (R.remaining input.old) (W.contents output.old) (W.contents output.new) result
+    ensures run { Runs F.File.remaining (RunsAt D.holds D.opens D.closed D.Opened.stands D.Opened.keeps D.Opened.may databases.old databases.new)
+        (invocation (arguments words.now)) (R.remaining input.old) (W.contents output.old) (W.contents output.new) result
         ⊎ RunsNothing (invocation (arguments words.now)) (W.contents output.old) (W.contents output.new) result }
     ensures unread { LeavesInput (invocation (arguments words.now)) (R.remaining input.old) (R.remaining input.new) }
     ensures unopened { LeavesDatabases (invocation (arguments words.now)) databases.old databases.new }
