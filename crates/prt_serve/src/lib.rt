@@ -8,6 +8,6 @@ mod session;
 mod worker;
 
 pub use gate::{Gate, OpenGate};
-pub use listen::{Accepting, Connected, Limits, accept};
+pub use listen::{Accepting, Connected, Limits, ServeEnd, accept, serve_all};
 pub use session::{Visit, serve_session};
 pub use worker::{Job, work};

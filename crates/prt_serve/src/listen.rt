@@ -1,12 +1,20 @@
-//! The loop that accepts connections.
+//! The loop that accepts connections, and the threads that serve them.
 
-use crate::worker::Job;
-use crossbeam_channel::Sender;
+use crate::gate::Gate;
+use crate::worker::{Job, work};
+use crossbeam_channel::{Receiver, Sender};
+use prt_service::{Naming, Service};
+use prt_session::Refusal;
+use sqlite::Alter;
 use std::alloc::Global;
 use std::io::{self, BufReader, Read, Write};
 use std::net::{OpenListener, OpenStream};
-use std::sync::Wait;
+use std::sync::{Mutex, Wait};
+use std::thread::{self, Threads};
 use std::time::Duration;
+
+/// How many connections may wait for a worker.
+const WAITING: usize = 64;
 
 /// A connection whose session waits for a worker.
 pub type Connected<T> = Job<BufReader<T>, T>;
@@ -29,6 +37,14 @@ pub enum Accepting {
     Ended,
     /// The listener failed, or there was nobody to hand a connection to.
     Failed,
+}
+
+/// How serving ended.
+#[derive(Clone, Copy)]
+pub struct ServeEnd {
+    pub accepting: Accepting,
+    /// Why a worker got no looker, if one did.
+    pub refused: Option<Refusal>,
 }
 
 /// Makes a session of a connection: its bytes are read in blocks, and its second end is for writing.
@@ -78,4 +94,121 @@ pub fn accept<H: Wait, T: Read + Write + OpenStream + Drop, L: OpenListener<Stre
         }
     }
     Accepting::Failed
+}
+
+/// A worker whose thread is still to be started.
+#[derive(Drop)]
+struct Worker<
+    'a,
+    H: Wait,
+    S: Alter + Drop,
+    B: Wait + Drop,
+    J: Naming,
+    G: Gate,
+    T: Read + Write + Drop,
+> {
+    rt: &'a H,
+    alloc: Global,
+    service: &'a Service<S, B, J>,
+    gate: &'a G,
+    jobs: Receiver<Connected<T>>,
+    /// Where it notes why it got no looker.
+    refused: &'a Mutex<Option<Refusal>>,
+}
+
+impl<
+    'a,
+    H: Wait,
+    S: Alter + Drop,
+    B: Wait + Drop,
+    J: Naming,
+    G: Gate,
+    T: Read + Write + Drop,
+> Worker<'a, H, S, B, J, G, T> {
+    /// Serves jobs until the channel is closed.
+    fn run(self) {
+        if let Err(reason) = work(self.rt, self.alloc, self.service, &self.jobs, self.gate) {
+            *self.refused.lock(self.rt) = Some(reason);
+        }
+    }
+}
+
+/// Accepts connections, while each of the threads works. Returns once all of them have ended.
+fn accept_among_workers<
+    H: Threads + Wait + Sync,
+    S: Alter + Drop + Send,
+    B: Wait + Drop + Send,
+    J: Naming + Send,
+    G: Gate + Sync,
+    T: Read + Write + OpenStream + Drop + Send,
+    L: OpenListener<Stream = T>,
+>(
+    rt: &H,
+    alloc: Global,
+    service: &Service<S, B, J>,
+    gate: &G,
+    listener: &L,
+    limits: Limits,
+    ends: (Sender<Connected<T>>, Receiver<Connected<T>>),
+    refused: &Mutex<Option<Refusal>>,
+) -> Accepting {
+    let (to, from) = ends;
+    thread::scope(thread::scope_env(), rt, |scope| {
+        for _ in 0..limits.workers {
+            let Ok(jobs) = from.clone() else {
+                return Accepting::Failed;
+            };
+            let worker = Worker {
+                rt,
+                alloc,
+                service,
+                gate,
+                jobs,
+                refused,
+            };
+            if scope.spawn(move || worker.run()).is_err() {
+                return Accepting::Failed;
+            }
+        }
+        // Lets a send fail once no worker is left.
+        drop(from);
+        accept(rt, alloc, listener, to, limits)
+    })
+}
+
+/// Serves the connections of a listener by so many workers, each a session of its own, until the last that may come has
+/// ended. All threads have ended then.
+///
+/// Accepting stops for good where the listener fails, where a thread or the channel can't be made, and where no worker is
+/// left. A worker that gets no looker ends, and the others serve on.
+pub fn serve_all<
+    H: Threads + Wait + Sync,
+    S: Alter + Drop + Send,
+    B: Wait + Drop + Send,
+    J: Naming + Send,
+    G: Gate + Sync,
+    T: Read + Write + OpenStream + Drop + Send,
+    L: OpenListener<Stream = T>,
+>(
+    rt: &H,
+    alloc: Global,
+    service: &Service<S, B, J>,
+    gate: &G,
+    listener: &L,
+    limits: Limits,
+) -> ServeEnd {
+    let Ok(ends) = crossbeam_channel::bounded(alloc, WAITING) else {
+        return ServeEnd {
+            accepting: Accepting::Failed,
+            refused: None,
+        };
+    };
+    let refused = Mutex::new(None);
+    let accepting = accept_among_workers(
+        rt, alloc, service, gate, listener, limits, ends, &refused,
+    );
+    ServeEnd {
+        accepting,
+        refused: refused.into_inner(),
+    }
 }
