@@ -1,0 +1,9 @@
+//! Tests of services over databases in memory.
+#![tactic(auto)]
+
+#[cfg(test)]
+mod caller;
+#[cfg(test)]
+mod learning;
+#[cfg(test)]
+mod retention;
