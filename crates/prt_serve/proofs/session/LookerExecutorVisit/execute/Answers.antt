@@ -9,7 +9,7 @@ use Rattle.prt_serve.proofs.session.LookerExecutorVisit.execute.Goals as goal
 
 pub returns-in-Ok-clause-turn : goal.returns-in-Ok-clause-turn
 returns-in-Ok-clause-turn g c = λ after is.
-    (c.args.self.now.known, refl, (Some (taken c.in-Ok.receipt c.learn.new.self.known), rw c.in-Command.is (c.in-Ok.ensures.last, c.learn.ensures.told, c.learn.ensures.mine), rw c.in-Command.is (ap Accepted c.number-number.ensures.value), is))
+    (c.args.self.now.known, refl, (Some (taken c.in-Ok.receipt after), rw c.in-Command.is (c.in-Ok.ensures.last, rw is assumption, rw is assumption), rw c.in-Command.is (ap Accepted c.number-number.ensures.value), refl))
 
 pub returns-in-Err-clause-turn : goal.returns-in-Err-clause-turn
 returns-in-Err-clause-turn g c = λ after is.
