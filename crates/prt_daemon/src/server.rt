@@ -1,0 +1,155 @@
+//! Serving sessions over TCP.
+ghost use Rattle.std.specs.Prelude.{◌≡◌, IfErr, IfOk};
+ghost use Rattle.prt_program.specs.Databases.{IsOpenRefusal};
+ghost use Rattle.prt_publisher.specs.Standing.{IsQuiet};
+
+use prt_grace::Domain;
+use prt_program::{Refusal, cause_message};
+use prt_publisher::Publisher;
+use prt_serve::{Accepting, Limits, OpenGate, serve_all};
+use prt_service::{Naming, Service};
+use prt_words::{DONE, Fault, Serving, report};
+use sqlite::{Alter, Connection, Error, FileStore};
+use sqlite_disk::Disk;
+use std::alloc::Global;
+use std::fmt::Display;
+use std::io::{self, Write};
+use std::marker::Brand;
+use std::net::{Net, SocketAddr, TcpListener, TcpStream};
+use std::sync::Wait;
+use std::thread::Threads;
+use std::time::Duration;
+
+/// Reports why nothing is served, or no more, and gives the exit status for it. Under it stands the cause, if one is known.
+fn report_fault<W: Write, E: Write, P: Display, D: Display>(
+    alloc: Global,
+    fault: Fault,
+    cause: Option<(&P, &D)>,
+    output: &mut W,
+    errors: &mut E,
+) -> u8 {
+    let status = report(&fault, output, errors);
+    if let Some((place, reason)) = cause {
+        if let Ok(message) = cause_message(alloc, place, reason) {
+            let _ = errors.write_all(message.as_bytes());
+        }
+    }
+    status
+}
+
+/// Opens a publisher over the database of a connection that an open gave.
+fn publisher_over<S: Alter + Drop, R: Wait + Drop>(
+    rt: R,
+    alloc: Global,
+    conn: Result<Connection<S>, Error>,
+) -> Result<(Publisher<S, R>, Domain), (Refusal, Option<Error>)>
+    ensures quiet { IfOk result (λ made. IsQuiet made.0.phase) }
+    ensures reason { IfErr result (λ refused. IsOpenRefusal refused.0) }
+{
+    match conn {
+        Ok(conn) => match Publisher::adopt(rt, alloc, conn) {
+            Ok(made) => Ok(made),
+            Err((refusal, _)) => Err((refusal, None)),
+        },
+        Err(error) => Err((Refusal::OpenFailed, Some(error))),
+    }
+}
+
+/// Listens at a place, and says where on `output`, before anything is accepted.
+fn listen<H: Net<Listener = TcpListener, Stream = TcpStream>, W: Write>(
+    rt: &H,
+    asked: &Serving<'_>,
+    output: &mut W,
+) -> io::Result<TcpListener> {
+    let listener = TcpListener::bind(rt, SocketAddr::V4(asked.listen))?;
+    let address = listener.local_addr()?;
+    write!(output, "listening {address}\n")?;
+    output.flush()?;
+    Ok(listener)
+}
+
+/// Gives how long a session may send nothing; 0 seconds are without end.
+fn idle_of(seconds: u64) -> Option<Duration> {
+    if seconds == 0 {
+        None
+    } else {
+        Some(Duration::from_secs(seconds))
+    }
+}
+
+/// Serves what a listener accepts, by a service that is named here, and closes the database at the end.
+fn serve_named<
+    J: Naming + Send,
+    D: Disk + Drop + Send,
+    H: Net<Listener = TcpListener, Stream = TcpStream> + Threads + Wait + Sync,
+    R: Wait + Drop + Send,
+>(
+    rt: &H,
+    alloc: Global,
+    publisher: Publisher<FileStore<D>, R>,
+    domain: Domain,
+    listener: &TcpListener,
+    limits: Limits,
+) -> Result<(), Fault>
+    requires quiet { IsQuiet publisher.phase }
+    requires of { (publisher.line.book ≡ J.book) × (publisher.line.base ≡ J.base) }
+{
+    let service: Service<FileStore<D>, R, J> = Service::new(publisher, domain);
+    let end = serve_all(rt, alloc, &service, &OpenGate, listener, limits);
+    // A fault of closing is not told of: what was committed stays in the log beside the file.
+    let _ = service.release().close();
+    match (end.accepting, end.refused) {
+        (Accepting::Failed, _) => Err(Fault::Listener),
+        (Accepting::Ended, Some(reason)) => Err(Fault::Opening(reason)),
+        (Accepting::Ended, None) => Ok(()),
+    }
+}
+
+/// Serves the database of a connection that an open gave, and gives the exit status. Listens once the database is open.
+///
+/// The status is 0 where as many sessions as were asked for have ended, and 3 for a fault: of opening, of the listener and
+/// what brings its connections to the workers, or of a worker that got no looker.
+pub(crate) fn serve<
+    D: Disk + Drop + Send,
+    H: Net<Listener = TcpListener, Stream = TcpStream>
+        + Threads
+        + Wait
+        + Copy
+        + Drop
+        + Send
+        + Sync
+        + 'static,
+    W: Write,
+    E: Write,
+>(
+    rt: &H,
+    alloc: Global,
+    conn: Result<Connection<FileStore<D>>, Error>,
+    asked: &Serving<'_>,
+    output: &mut W,
+    errors: &mut E,
+) -> u8 {
+    let (publisher, domain) = match publisher_over(*rt, alloc, conn) {
+        Ok(made) => made,
+        Err((refusal, error)) => {
+            let cause = error.as_ref().map(|error| (&asked.database, error));
+            return report_fault(alloc, Fault::Opening(refusal), cause, output, errors);
+        }
+    };
+    let listener = match listen(rt, asked, output) {
+        Ok(listener) => listener,
+        Err(error) => {
+            let cause = Some((&asked.listen, &error));
+            return report_fault(alloc, Fault::Listener, cause, output, errors);
+        }
+    };
+    let limits = Limits {
+        workers: asked.workers as usize,
+        sessions: asked.sessions,
+        idle: idle_of(asked.idle),
+    };
+    match serve_named::<Brand, _, _, _>(rt, alloc, publisher, domain, &listener, limits) {
+        Ok(()) => DONE,
+        Err(fault) => report(&fault, output, errors),
+    }
+}

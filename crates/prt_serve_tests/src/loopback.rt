@@ -1,0 +1,79 @@
+//! A session over TCP.
+ghost use Rattle.std.specs.Prelude.{◌≡◌};
+ghost use Rattle.prt_publisher.specs.Standing.{IsQuiet};
+
+use crate::caller::adopted;
+use prt_grace::Domain;
+use prt_publisher::Publisher;
+use prt_serve::{Accepting, Limits, OpenGate, serve_all};
+use prt_service::{Naming, Service};
+use sqlite::{Alter, Connection};
+use std::alloc::Global;
+use std::io::{self, Read, Write};
+use std::marker::Brand;
+use std::net::{Ipv4Addr, Net, Shutdown, SocketAddr, TcpListener, TcpStream};
+use std::sync::Wait;
+use std::test::Fail;
+use std::thread::Threads;
+
+/// What a client reads that sends these lines and then waits for the end, and whether the listener ended with it.
+///
+/// The lines and the replies fit into what the system keeps for a connection, so client and server take turns in one
+/// thread, with one worker beside it.
+fn converse<
+    H: Net<Listener = TcpListener, Stream = TcpStream> + Threads + Wait + Sync,
+    S: Alter + Drop + Send,
+    B: Wait + Drop + Send,
+    J: Naming + Send,
+>(rt: &H, alloc: Global, service: &Service<S, B, J>, lines: &[u8]) -> io::Result<(Vec<u8>, bool)> {
+    let listener = TcpListener::bind(rt, SocketAddr::from((Ipv4Addr::LOCALHOST, 0)))?;
+    let mut client = TcpStream::connect(rt, listener.local_addr()?)?;
+    client.write_all(lines)?;
+    client.shutdown(Shutdown::Write)?;
+    let limits = Limits {
+        workers: 1,
+        sessions: 1,
+        idle: None,
+    };
+    let end = serve_all(rt, alloc, service, &OpenGate, &listener, limits);
+    let mut text = Vec::new(alloc);
+    client.read_to_end(&mut text)?;
+    let is_ended = matches!(end.accepting, Accepting::Ended) && end.refused.is_none();
+    Ok((text, is_ended))
+}
+
+/// Has that talk with a service of the publisher.
+fn converse_with<
+    H: Net<Listener = TcpListener, Stream = TcpStream> + Threads + Wait + Sync,
+    S: Alter + Drop + Send,
+    B: Wait + Drop + Send,
+    J: Naming + Send,
+>(
+    rt: &H,
+    alloc: Global,
+    publisher: Publisher<S, B>,
+    domain: Domain,
+    lines: &[u8],
+) -> io::Result<(Vec<u8>, bool)>
+    requires quiet { IsQuiet publisher.phase }
+    requires of { (publisher.line.book ≡ J.book) × (publisher.line.base ≡ J.base) }
+{
+    let service: Service<S, B, J> = Service::new(publisher, domain);
+    converse(rt, alloc, &service, lines)
+}
+
+#[test]
+fn loopback(rt: HostRuntime) -> Result<(), Fail> {
+    let alloc = rt.alloc();
+    let connection = Connection::open_in_memory(alloc)?;
+    let (publisher, domain) = adopted(rt, alloc, connection)?;
+    let lines =
+        b"route add default via 192.0.2.1 dev eth0\nroute get 198.51.100.7\nrule flush\nrule flush\n";
+    let (text, is_ended) = converse_with::<_, _, _, Brand>(&rt, alloc, publisher, domain, lines)?;
+    assert_eq!(rt;
+        text.as_slice(),
+        b"ok 1\nanswer 1 rule 32766 table main default via 192.0.2.1 dev eth0\nok 2\nok 3\n".as_slice()
+    );
+    assert!(rt; is_ended);
+    Ok(())
+}

@@ -1,0 +1,117 @@
+"""Starts `prt serve` for the cases serve_*, and talks to it over TCP.
+
+The program's path is the first argument of a case; it runs in an empty folder, in which the database is made.
+"""
+
+import re
+import socket
+import subprocess
+import sys
+import threading
+
+PROGRAM = sys.argv[1]
+DATABASE = "routes.db"
+# How many seconds a client waits for anything before its case fails.
+PATIENCE = 50
+
+
+class Server:
+    """A server on a free port of the loopback, with these further words."""
+
+    def __init__(self, *words, database=DATABASE):
+        self.process = subprocess.Popen(
+            [PROGRAM, "serve", "--listen", "127.0.0.1:0", "--db", database, *words],
+            stdin=subprocess.DEVNULL,
+            stdout=subprocess.PIPE,
+            stderr=subprocess.PIPE,
+            text=True,
+        )
+        line = self.process.stdout.readline()
+        told = re.fullmatch(r"listening 127\.0\.0\.1:(\d+)\n", line)
+        if not told:
+            self.process.kill()
+            sys.exit(f"the server said {line!r} and {self.process.communicate()[1]!r}")
+        self.port = int(told[1])
+
+    def connect(self):
+        """A client's end of a connection."""
+        end = socket.create_connection(("127.0.0.1", self.port), PATIENCE)
+        end.setsockopt(socket.IPPROTO_TCP, socket.TCP_NODELAY, 1)
+        return end
+
+    def end(self):
+        """Waits until the server ends by itself. Gives its status and all that it said since it was listening."""
+        said, told = self.process.communicate(timeout=PATIENCE)
+        return self.process.returncode, said + told
+
+    def kill(self, signal):
+        """Kills it with this signal."""
+        self.process.send_signal(signal)
+        self.process.communicate(timeout=PATIENCE)
+
+
+def read_all(end):
+    """All bytes until the other side ends; `reset` where it breaks off."""
+    parts = []
+    try:
+        while part := end.recv(65536):
+            parts.append(part)
+    except ConnectionResetError:
+        parts.append(b"reset")
+    return b"".join(parts)
+
+
+def converse(server, script):
+    """Sends a script, ends the writing side, and gives all replies. Sends and reads side by side."""
+    with server.connect() as end:
+        sender = threading.Thread(target=send, args=(end, script))
+        sender.start()
+        replies = read_all(end)
+        sender.join()
+    return replies
+
+
+def send(end, script):
+    """Sends a script and ends the writing side. A session that ended before it leaves the rest unread."""
+    try:
+        end.sendall(script)
+        end.shutdown(socket.SHUT_WR)
+    except OSError:
+        pass
+
+
+class Client:
+    """A connection on which a line is sent, and its reply awaited."""
+
+    def __init__(self, server):
+        self.end = server.connect()
+        self.replies = self.end.makefile("rb")
+
+    def ask(self, line):
+        """The first line of the reply to a line; empty where the connection has ended."""
+        self.end.sendall(line.encode() + b"\n")
+        return self.replies.readline().decode().rstrip("\n")
+
+    def close(self):
+        self.replies.close()
+        self.end.close()
+
+
+def batch(script, *words):
+    """What `prt batch --force` replies to a script."""
+    return subprocess.run([PROGRAM, "batch", "--force", *words], input=script, capture_output=True).stdout
+
+
+def in_threads(count, work):
+    """Runs work(0) to work(count - 1) side by side, and gives what they return."""
+    results = [None] * count
+
+    def run(place):
+        results[place] = work(place)
+
+    threads = [threading.Thread(target=run, args=(place,)) for place in range(count)]
+    for thread in threads:
+        thread.start()
+    for thread in threads:
+        thread.join()
+    return results
