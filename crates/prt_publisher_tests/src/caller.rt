@@ -23,6 +23,16 @@ pub fn adopted<S: Alter + Drop, H: Wait + Drop>(
     }
 }
 
+/// The number of the state that is stored in the database of a connection, and the connection.
+pub fn stored_number<S: Alter + Drop, H: Wait + Drop>(
+    rt: H,
+    alloc: Global,
+    connection: Connection<S>,
+) -> Result<(u64, Connection<S>), Refusal> {
+    let (publisher, _domain) = adopted(rt, alloc, connection)?;
+    Ok((publisher.published().number(), publisher.release()))
+}
+
 /// Submits a flush of the rules, which is always accepted, and gives the number of its receipt.
 pub fn submit_one<S: Alter + Drop, R: Wait + Drop, H: Wait>(
     rt: &H,

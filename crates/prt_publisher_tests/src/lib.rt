@@ -4,6 +4,10 @@
 #[cfg(test)]
 mod caller;
 #[cfg(test)]
+mod front;
+#[cfg(test)]
+mod memory;
+#[cfg(test)]
 mod phases;
 #[cfg(test)]
 mod retention;

@@ -1,6 +1,6 @@
 //! Each call of a publisher, and its end in each phase.
 
-use crate::caller::{adopted, prepare_one, submit_one};
+use crate::caller::{adopted, prepare_one, stored_number, submit_one};
 use prt_command::{Command, Refusal};
 use prt_front::READERS;
 use prt_publisher::Phase;
@@ -8,16 +8,6 @@ use sqlite::{Alter, Connection};
 use std::alloc::Global;
 use std::sync::Wait;
 use std::test::Fail;
-
-/// The number of the state that is stored in the database of a connection, and the connection.
-fn stored_number<S: Alter + Drop, H: Wait + Drop>(
-    rt: H,
-    alloc: Global,
-    connection: Connection<S>,
-) -> Result<(u64, Connection<S>), Refusal> {
-    let (publisher, _domain) = adopted(rt, alloc, connection)?;
-    Ok((publisher.published().number(), publisher.release()))
-}
 
 /// Goes on to a phase, and gives the number of the published state and the connection.
 fn release_at<S: Alter + Drop, H: Wait + Copy + Drop>(
