@@ -1,0 +1,99 @@
+"""Attempts: runs of the program with a library of this folder preloaded, and sweeps over them."""
+
+import collections
+import concurrent.futures
+import itertools
+import os
+import subprocess
+import tempfile
+from typing import NamedTuple
+
+import model
+
+HERE = os.path.dirname(os.path.realpath(__file__))
+TOP = os.path.dirname(os.path.dirname(HERE))
+PROGRAM = f"{TOP}/crates/prt_daemon/out/prt_daemon"
+# Files in memory, where the machine has them: a sweep syncs thousands of databases.
+ROOM = "/dev/shm" if os.access("/dev/shm", os.W_OK) else None
+CORES = len(os.sched_getaffinity(0))
+# The exit status of a process that was ended at a call.
+STOPPED = 77
+# What a database holds is seen by these queries.
+LISTINGS = "rule show\nroute show table all\nroute get 10.1.2.3\n"
+
+
+class Wrong(Exception):
+    """An attempt that met what no definition allows."""
+
+
+class Ended(NamedTuple):
+    """How a run ended: its status, what it wrote, and the numbers that its library told."""
+    status: int
+    replies: str
+    errors: str
+    told: list
+
+
+def library(name, folder):
+    """Compiles a library of this folder."""
+    made = f"{folder}/{name}.so"
+    subprocess.run(["cc", "-shared", "-fPIC", "-O1", "-o", made, f"{HERE}/{name}.c", "-ldl"], check=True)
+    return made
+
+
+def run(words, script="", preloaded=None, folder=None, **variables):
+    """Runs a program over a script; with a library, it tells its numbers in a file of the folder."""
+    variables = {name: str(value) for name, value in variables.items()}
+    if preloaded:
+        variables |= {"LD_PRELOAD": preloaded, "TOLD": f"{folder}/told"}
+    ended = subprocess.run(words, input=script, capture_output=True, text=True, env=variables, timeout=60)
+    told = []
+    if preloaded and os.path.exists(f"{folder}/told"):
+        with open(f"{folder}/told", encoding="ascii") as text:
+            told = [int(number) for number in text.read().split()]
+    return Ended(ended.returncode, ended.stdout, ended.stderr, told)
+
+
+def look_into(path, states):
+    """Opens a database again, and gives which of these states it holds."""
+    seen = run([PROGRAM, "batch", "--db", path], LISTINGS)
+    for place, state in enumerate(states):
+        if seen == (0, model.run(LISTINGS, state=state).replies, "", []):
+            return place
+    raise Wrong(f"opened again, it lists\n{seen.replies}{seen.errors}")
+
+
+def show(ended):
+    """A run as a person reads it."""
+    return f"status {ended.status}\n{ended.replies}{ended.errors}"
+
+
+def sweep(name, attempt, places):
+    """Makes an attempt at each place, side by side, and after them until one meets nothing.
+
+    An attempt gives what it met, and whether the library did anything. Prints how many met what, and tells whether none
+    was wrong.
+    """
+    def tried(place):
+        with tempfile.TemporaryDirectory(dir=ROOM) as folder:
+            try:
+                return attempt(place, folder)
+            except (Wrong, subprocess.TimeoutExpired) as wrong:
+                return f"wrong, at {place}: {wrong}", True
+
+    met = collections.Counter()
+    with concurrent.futures.ThreadPoolExecutor(CORES) as pool:
+        last = True
+        for what, last in pool.map(tried, places):
+            met[what] += 1
+    for place in itertools.count(places[-1] + 1):
+        if not last:
+            break
+        what, last = tried(place)
+        met[what] += 1
+    wrong = [what for what in met if what.startswith("wrong")]
+    print(f"{name}: {sum(met.values())} runs: " + ", ".join(f"{count} {what}" for what, count in met.most_common()
+                                                            if what not in wrong), flush=True)
+    for what in wrong[:5]:
+        print(f"{name}: {what}")
+    return not wrong
