@@ -34,6 +34,12 @@ class Ended(NamedTuple):
     told: list
 
 
+def text_of(path):
+    """The text of a file of the repository."""
+    with open(f"{TOP}/{path}", encoding="ascii") as text:
+        return text.read()
+
+
 def library(name, folder):
     """Compiles a library of this folder."""
     made = f"{folder}/{name}.so"
@@ -66,6 +72,32 @@ def look_into(path, states):
 def show(ended):
     """A run as a person reads it."""
     return f"status {ended.status}\n{ended.replies}{ended.errors}"
+
+
+def sessions(script, mishaps):
+    """Each session over a script with at most one of these mishaps, by its replies, with the name of what it met."""
+    lines = script.splitlines()
+    found = {}
+    for mishap in mishaps:
+        for place, line in enumerate(lines):
+            if model.is_command(line) or mishap == model.NO_MEMORY:
+                session = model.run(script, mishap, place)
+                kind = "command" if model.is_command(line) else "query"
+                found.setdefault(session.replies, (f"{mishap[3:]} at a {kind}", session))
+    whole = model.run(script)
+    found[whole.replies] = ("the whole replies", whole)
+    return found
+
+
+def met_by(ended, allowed, openings):
+    """What a run met: a refused opening, or one of the sessions; and the states that may be stored."""
+    for refusal in openings:
+        if ended[:3] == (3, "", f"prt: error {refusal}\n"):
+            return f"{refusal[3:]} at the opening", [model.State()]
+    what, session = allowed.get(ended.replies, (None, None))
+    if session is None or (ended.status, ended.errors) != (session.status, ""):
+        raise Wrong(show(ended))
+    return what, session.stored
 
 
 def sweep(name, attempt, places):

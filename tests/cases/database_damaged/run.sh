@@ -6,14 +6,15 @@ prt=$1
 opened() {
   rm -f routes.db*
   echo 'route add 10/8 dev eth0' | "$prt" batch --db routes.db >made
-  sqlite3 routes.db "$2"
+  sqlite3 routes.db "$2" || return
   sqlite3 routes.db .dump >before
   echo 'route add 12/8 dev eth0' | "$prt" batch --db routes.db >replies 2>&1
-  echo "$1: $(cat replies), status $?"
+  status=$?
+  echo "$1: $(cat replies), status $status"
   sqlite3 routes.db .dump | cmp -s - before && echo unchanged
 }
 
-# The columns of `rule` after id, and those of `route` before scope.
+# The columns of `rule` after id.
 rule='priority, inverted, src_net, src_len, dst_net, dst_len, iif, mark, mask, act, tbl'
 opened 'count -1' 'UPDATE meta SET count = -1'
 opened 'count 1000000000000001' 'UPDATE meta SET count = 1000000000000001'
@@ -40,5 +41,7 @@ opened 'unicast without gateway and interface' "INSERT INTO route VALUES (254, 1
 opened 'blackhole with scope 253' "INSERT INTO route VALUES (254, 184549376, 8, 0, 6, -1, '', -1, 3, 253)"
 opened 'interface a/b' "INSERT INTO route VALUES (254, 184549376, 8, 0, 1, -1, 'a/b', -1, 3, 253)"
 
-opened 'a column fewer' 'ALTER TABLE route DROP COLUMN scope'
+opened 'a column fewer' 'DROP TABLE route; CREATE TABLE route (tbl INTEGER NOT NULL, net INTEGER NOT NULL, len INTEGER NOT NULL,
+  metric INTEGER NOT NULL, kind INTEGER NOT NULL, via INTEGER NOT NULL, dev TEXT NOT NULL, src INTEGER NOT NULL,
+  proto INTEGER NOT NULL, PRIMARY KEY (tbl, net, len, metric)) STRICT'
 opened 'other columns' 'DROP TABLE route; CREATE TABLE route (tbl INTEGER NOT NULL) STRICT'

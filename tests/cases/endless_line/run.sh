@@ -5,8 +5,9 @@ run() {
   "$prt" batch --force
   echo "status $?"
 }
-printf '%65536s\nrule show\n' '' | tr ' ' a | run '65536 bytes and a newline'
-printf '%65537s\nrule show\n' '' | tr ' ' a | run '65537 bytes and a newline'
+for count in 65536 65537; do
+  { yes a | tr -d '\n' | head -c $count; printf '\nrule show\n'; } | run "$count bytes and a newline"
+done
 printf 'route get 1\n%70000s\nroute get 1\n' '' | run '70000 spaces'
 yes a | tr -d '\n' | run 'a for ever'
 yes '' | run 'newlines for ever'
