@@ -2,7 +2,6 @@
 
 import collections
 import concurrent.futures
-import itertools
 import os
 import subprocess
 import tempfile
@@ -18,6 +17,8 @@ ROOM = "/dev/shm" if os.access("/dev/shm", os.W_OK) else None
 CORES = len(os.sched_getaffinity(0))
 # The exit status of a process that was ended at a call.
 STOPPED = 77
+# No run makes as many requests or calls.
+MOST_PLACES = 20000
 # What a database holds is seen by these queries.
 LISTINGS = "rule show\nroute show table all\nroute get 10.1.2.3\n"
 
@@ -100,11 +101,19 @@ def met_by(ended, allowed, openings):
     return what, session.stored
 
 
-def sweep(name, attempt, places):
-    """Makes an attempt at each place, side by side, and after them until one meets nothing.
+def tell(name, met):
+    """Prints how many runs of a sweep met what, and tells whether none was wrong."""
+    right = [f"{count} {what}" for what, count in met.most_common() if not what.startswith("wrong")]
+    wrong = [what for what in met if what.startswith("wrong")]
+    print(f"{name}: {sum(met.values())} runs: {', '.join(right)}")
+    print("".join(f"{name}: {what}\n" for what in wrong[:5]), end="", flush=True)
+    return not wrong
 
-    An attempt gives what it met, and whether the library did anything. Prints how many met what, and tells whether none
-    was wrong.
+
+def sweep(name, attempt, places):
+    """Makes an attempt at each place, side by side, and then one at each further place until one meets nothing.
+
+    An attempt gives what it met, and whether the library did anything. Tells whether none was wrong.
     """
     def tried(place):
         with tempfile.TemporaryDirectory(dir=ROOM) as folder:
@@ -113,19 +122,10 @@ def sweep(name, attempt, places):
             except (Wrong, subprocess.TimeoutExpired) as wrong:
                 return f"wrong, at {place}: {wrong}", True
 
-    met = collections.Counter()
     with concurrent.futures.ThreadPoolExecutor(CORES) as pool:
-        last = True
-        for what, last in pool.map(tried, places):
-            met[what] += 1
-    for place in itertools.count(places[-1] + 1):
-        if not last:
-            break
-        what, last = tried(place)
-        met[what] += 1
-    wrong = [what for what in met if what.startswith("wrong")]
-    print(f"{name}: {sum(met.values())} runs: " + ", ".join(f"{count} {what}" for what, count in met.most_common()
-                                                            if what not in wrong), flush=True)
-    for what in wrong[:5]:
-        print(f"{name}: {what}")
-    return not wrong
+        tries = list(pool.map(tried, places))
+    place = places[-1]
+    while tries[-1][1] and not tries[-1][0].startswith("wrong") and place < MOST_PLACES:
+        place += 1
+        tries.append(tried(place))
+    return tell(name, collections.Counter(what for what, _ in tries))

@@ -7,7 +7,7 @@ import model
 from attempts import TOP, Wrong, run, sessions, show, sweep, text_of
 
 PROGRAM = f"{TOP}/crates/prt_faults/out/prt_faults"
-# What a looker that stays behind sees: 64 versions wait for it, and more when it is refreshed or rests; then 64 lookers.
+# 64 versions wait for a looker that stays behind, and more once it refreshes or rests; then there are 64 lookers, twice.
 SLOW_LOOKER = ["ok 0", "ok 64", "error 25 Busy", "ok 0", "ok 64", "ok 65", "ok 130", "ok 64", "ok 64"]
 # By how many of these lines come before a failure of the store: the receipts that may have come by then.
 RECEIPTS = {1: range(0, 64), 5: range(64, 65), 6: range(65, 130)}

@@ -90,7 +90,7 @@ def is_within(inner, outer):
 
 
 def read_line(line):
-    """The object and the verb of a line, and its items by their keywords; a kind, a range or a prefix by these words."""
+    """The object and verb of a line, and its items by their keywords; a kind, a range or a prefix by that word."""
     kind, verb, *words = line.split()
     items = {}
     words = iter(words)
@@ -189,7 +189,7 @@ class State:
 
 
 class Session(NamedTuple):
-    """The replies to a script with at most one mishap, the exit status, and the states that may be stored at its end."""
+    """The replies to a script with at most one mishap, the exit status, and the states that may be stored after it."""
     replies: str
     status: int
     stored: list

@@ -56,12 +56,13 @@ def stop(name, script, preloaded, how):
         return f"{what}, {further} more held" if what.startswith(("stopped", "StoreFailed")) else what, is_met
 
     with tempfile.TemporaryDirectory() as folder:
-        made = run([PROGRAM, "batch", "--force", "--db", f"{folder}/routes.db"], script, preloaded, folder).told[0]
+        words = [PROGRAM, "batch", "--force", "--db", f"{folder}/routes.db"]
+        made = run(words, script, preloaded, folder).told[0]
     return sweep(f"{name}, {how}", attempt, range(1, made + 2)), pairs
 
 
 def replayed(acknowledged, under_way, calls, end):
-    """The events of some commands that are acknowledged, of one that comes to so many calls, and of an end; and a look."""
+    """The events of commands that are acknowledged, of one that comes to so many calls, and of an end; and a look."""
     events = []
     for command in acknowledged:
         events += [f"submit {command}"] + ACKNOWLEDGED
@@ -84,7 +85,8 @@ def world_knows(name, script, pairs):
     ends = [(count, commands[count:count + 1], calls, end) for count in range(len(commands)) for calls in range(CALLS)
             for end in ("stop kept", "stop lost", "fail kept", "fail lost")]
     ends += [(count, [], 0, end) for count in range(len(commands) + 1) for end in ("stop kept", "stop lost")]
-    known = {pair_of(replayed(commands[:count], under_way, calls, end), states) for count, under_way, calls, end in ends}
+    known = {pair_of(replayed(commands[:count], under_way, calls, end), states)
+             for count, under_way, calls, end in ends}
     print(f"{name}, the world: {len(ends)} replays know {len(known)} pairs of commands acknowledged and held, "
           f"files gave {len(pairs)}")
     for pair in sorted(pairs - known):

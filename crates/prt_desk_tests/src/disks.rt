@@ -2,9 +2,10 @@
 
 use crate::desks::run;
 use prt_desk::StoreDesk;
+use prt_fault_disks::FailOnce;
 use prt_session::{Refusal, ScriptEnd};
 use sqlite::{Connection, FileStore, Files, Options};
-use sqlite_disk::{Disk, Memory};
+use sqlite_disk::{Disk, Fuse, Memory};
 use std::alloc::Global;
 use std::io;
 use std::sync::Wait;
@@ -16,6 +17,39 @@ pub const OPTIONS: Options = Options {
     checkpoint_frames: 1000,
     seed: 9,
 };
+
+/// Memory that can stop and fail. Each test has this disk, since each further one would be built with all of the database.
+pub type Faulty = FailOnce<Fuse<Memory>>;
+
+/// At which calls the two files stop or fail: each takes so many calls and fails each later one, or fails the one after
+/// so many.
+#[derive(Clone, Copy)]
+pub struct Faults {
+    pub log_stop: u64,
+    pub db_stop: u64,
+    pub log_failure: u64,
+    pub db_failure: u64,
+}
+
+impl Faults {
+    /// Nothing stops or fails.
+    pub const NONE: Faults = Faults {
+        log_stop: u64::MAX,
+        db_stop: u64::MAX,
+        log_failure: u64::MAX,
+        db_failure: u64::MAX,
+    };
+}
+
+/// New files with these faults.
+pub fn new_files(alloc: Global, faults: Faults) -> Files<Faulty> {
+    let log = Fuse::new(Memory::new(alloc), faults.log_stop);
+    let db = Fuse::new(Memory::new(alloc), faults.db_stop);
+    Files {
+        log: FailOnce::new(log, faults.log_failure),
+        db: FailOnce::new(db, faults.db_failure),
+    }
+}
 
 /// The files of a connection, closed as far as their disk allows it.
 fn closed<D: Disk + Drop>(connection: Connection<FileStore<D>>) -> Files<D> {
@@ -58,17 +92,10 @@ pub fn run_in<D: Disk + Drop, H: Wait + Copy + Drop>(
     }
 }
 
-/// A disk that holds the bytes of one, and works.
-fn copy_of(alloc: Global, disk: &Memory) -> io::Result<Memory> {
-    let mut copy = Memory::new(alloc);
-    copy.write_at(0, disk.bytes())?;
-    Ok(copy)
-}
-
-/// Files that hold the bytes of these disks, and work.
-pub fn copied(alloc: Global, log: &Memory, db: &Memory) -> io::Result<Files<Memory>> {
-    Ok(Files {
-        log: copy_of(alloc, log)?,
-        db: copy_of(alloc, db)?,
-    })
+/// Files that hold the bytes of these, and work.
+pub fn mended(alloc: Global, files: &Files<Faulty>) -> io::Result<Files<Faulty>> {
+    let mut mended = new_files(alloc, Faults::NONE);
+    mended.log.write_at(0, files.log.inner().inner().bytes())?;
+    mended.db.write_at(0, files.db.inner().inner().bytes())?;
+    Ok(mended)
 }

@@ -1,11 +1,8 @@
 //! A script over files of which each call in turn is the last that works, or the only one that fails.
 
-use crate::disks::{copied, run_in};
+use crate::disks::{Faults, Faulty, mended, new_files, run_in};
 use prt_addr::StoreCall;
-use prt_fault_disks::FailOnce;
 use prt_session::{Refusal, ScriptEnd};
-use sqlite::Files;
-use sqlite_disk::{Fuse, Memory};
 use std::alloc::Global;
 use std::sync::Wait;
 use std::test::Fail;
@@ -61,60 +58,23 @@ fn may_leave(ran: &Result<(Vec<u8>, ScriptEnd), Refusal>, held: &[u8]) -> bool {
     }
 }
 
-/// Tells whether these disks, working again, hold what a run may have left.
-fn hold_what_is_left<H: Wait + Copy + Drop>(
+/// Runs the script over new files with these faults. Tells whether they hold what it may have left once they work again,
+/// and whether a call failed that was to fail alone.
+fn is_right_with<H: Wait + Copy + Drop>(
     rt: H,
     alloc: Global,
-    ran: &Result<(Vec<u8>, ScriptEnd), Refusal>,
-    log: &Memory,
-    db: &Memory,
-) -> Result<bool, Fail> {
-    let files = copied(alloc, log, db)?;
-    let (again, _files) = run_in(rt, alloc, files, LISTINGS);
-    Ok(may_leave(ran, again?.0.as_slice()))
-}
-
-/// Runs the script over files that take so many calls. Tells whether they hold what it may have left.
-fn is_right_after_stop<H: Wait + Copy + Drop>(
-    rt: H,
-    alloc: Global,
-    log: u64,
-    db: u64,
-) -> Result<bool, Fail> {
-    let files = Files {
-        log: Fuse::new(Memory::new(alloc), log),
-        db: Fuse::new(Memory::new(alloc), db),
-    };
-    let (ran, files) = run_in(rt, alloc, files, CHURN);
-    hold_what_is_left(rt, alloc, &ran, files.log.inner(), files.db.inner())
-}
-
-/// Files in memory of which one call fails, after so many of the file.
-fn failing(alloc: Global, log: u64, db: u64) -> Files<FailOnce<Memory>> {
-    Files {
-        log: FailOnce::new(Memory::new(alloc), log),
-        db: FailOnce::new(Memory::new(alloc), db),
-    }
-}
-
-/// Runs the script over files of which one call fails. Tells whether they hold what it may have left, and whether that
-/// call came.
-fn is_right_after_failure<H: Wait + Copy + Drop>(
-    rt: H,
-    alloc: Global,
-    log: u64,
-    db: u64,
+    faults: Faults,
 ) -> Result<(bool, bool), Fail> {
-    let (ran, files) = run_in(rt, alloc, failing(alloc, log, db), CHURN);
+    let (ran, files) = run_in(rt, alloc, new_files(alloc, faults), CHURN);
     let has_failed = files.log.has_failed() || files.db.has_failed();
-    let is_right = hold_what_is_left(rt, alloc, &ran, files.log.inner(), files.db.inner())?;
-    Ok((is_right, has_failed))
+    let (again, _files) = run_in(rt, alloc, mended(alloc, &files)?, LISTINGS);
+    Ok((may_leave(&ran, again?.0.as_slice()), has_failed))
 }
 
 /// How many calls of the log, and of the database's file, the script makes where none fails.
 fn calls_made<H: Wait + Copy + Drop>(rt: H, alloc: Global) -> (u64, u64) {
-    let (_ran, files) = run_in(rt, alloc, failing(alloc, u64::MAX, u64::MAX), CHURN);
-    let made = |disk: &FailOnce<Memory>| u64::MAX - disk.calls_left();
+    let (_ran, files) = run_in(rt, alloc, new_files(alloc, Faults::NONE), CHURN);
+    let made = |disk: &Faulty| u64::MAX - disk.calls_left();
     (made(&files.log), made(&files.db))
 }
 
@@ -123,10 +83,22 @@ fn stops_at_each_call(rt: HostRuntime) -> Result<(), Fail> {
     let alloc = rt.alloc();
     let (log, db) = calls_made(rt, alloc);
     for calls in 0..=log.max(db) {
-        let of_log = is_right_after_stop(rt, alloc, calls, u64::MAX)?;
-        assert!(rt; of_log, "the log, after {calls}");
-        let of_db = is_right_after_stop(rt, alloc, u64::MAX, calls)?;
-        assert!(rt; of_db, "the file, after {calls}");
+        let of_log = Faults {
+            log_stop: calls,
+            ..Faults::NONE
+        };
+        assert!(rt;
+            is_right_with(rt, alloc, of_log)?.0,
+            "the log, after {calls}"
+        );
+        let of_db = Faults {
+            db_stop: calls,
+            ..Faults::NONE
+        };
+        assert!(rt;
+            is_right_with(rt, alloc, of_db)?.0,
+            "the file, after {calls}"
+        );
     }
     Ok(())
 }
@@ -136,10 +108,18 @@ fn fails_once_at_each_call(rt: HostRuntime) -> Result<(), Fail> {
     let alloc = rt.alloc();
     let (log, db) = calls_made(rt, alloc);
     for calls in 0..=log.max(db) {
-        let of_log = is_right_after_failure(rt, alloc, calls, u64::MAX)?;
-        assert_eq!(rt; of_log, (true, calls < log), "the log, after {calls}");
-        let of_db = is_right_after_failure(rt, alloc, u64::MAX, calls)?;
-        assert_eq!(rt; of_db, (true, calls < db), "the file, after {calls}");
+        let of_log = Faults {
+            log_failure: calls,
+            ..Faults::NONE
+        };
+        let met = is_right_with(rt, alloc, of_log)?;
+        assert_eq!(rt; met, (true, calls < log), "the log, after {calls}");
+        let of_db = Faults {
+            db_failure: calls,
+            ..Faults::NONE
+        };
+        let met = is_right_with(rt, alloc, of_db)?;
+        assert_eq!(rt; met, (true, calls < db), "the file, after {calls}");
     }
     Ok(())
 }

@@ -3,11 +3,11 @@
 ghost use Rattle.std.specs.Prelude.{IsTrue};
 
 use crate::desks::{opened, replies};
-use crate::disks::{OPTIONS, copied, run_in};
+use crate::disks::{Faults, OPTIONS, mended, new_files, run_in};
 use prt_desk::StoreDesk;
 use prt_session::{OnRefusal, Refusal, Unobserved};
 use sqlite::{Connection, FileStore, Files};
-use sqlite_disk::{Disk, Fuse, Memory};
+use sqlite_disk::Disk;
 use std::alloc::Global;
 use std::io::{self, Write};
 use std::sync::Wait;
@@ -67,10 +67,7 @@ fn run_unheard<D: Disk + Drop, H: Wait + Copy + Drop>(
 #[test]
 fn an_unheard_command_is_kept(rt: HostRuntime) -> Result<(), Fail> {
     let alloc = rt.alloc();
-    let files = Files {
-        log: Memory::new(alloc),
-        db: Memory::new(alloc),
-    };
+    let files = new_files(alloc, Faults::NONE);
     let (fault, after) = run_unheard(rt, alloc, files, "rule flush\n", "route get 10.1.2.3\n")?;
     assert!(rt; fault == Some(Refusal::WriteFault));
     assert!(rt; after.as_slice() == b"answer 1 none\n".as_slice());
@@ -81,16 +78,16 @@ fn an_unheard_command_is_kept(rt: HostRuntime) -> Result<(), Fail> {
 fn a_closed_desk_answers(rt: HostRuntime) -> Result<(), Fail> {
     let alloc = rt.alloc();
     // The call that sets the count fails, and each one after it.
-    let files = Files {
-        log: Fuse::new(Memory::new(alloc), 76),
-        db: Fuse::new(Memory::new(alloc), u64::MAX),
+    let faults = Faults {
+        log_stop: 76,
+        ..Faults::NONE
     };
     let script = "route add 10/8 dev a\nroute add 10/8 dev a\nroute get 10.1.2.3\n";
-    let (ran, files) = run_in(rt, alloc, files, script);
+    let (ran, files) = run_in(rt, alloc, new_files(alloc, faults), script);
     assert!(rt;
         ran?.0.as_slice() == b"error 27 StoreFailed\nerror 20 Closed\nanswer 0 none\n".as_slice()
     );
-    let files = copied(alloc, files.log.inner(), files.db.inner())?;
+    let files = mended(alloc, &files)?;
     let (again, _files) = run_in(rt, alloc, files, "route get 10.1.2.3\n");
     assert!(rt; again?.0.as_slice() == b"answer 0 none\n".as_slice());
     Ok(())

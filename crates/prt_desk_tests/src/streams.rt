@@ -241,12 +241,10 @@ fn replies_end_at_a_write_fault(rt: HostRuntime) -> Result<(), Fail> {
 }
 
 /// A route that is added, and asked for.
-const FIRST_RUN: &str =
-    "route add default via 192.0.2.1 dev eth0\nroute get 198.51.100.7\n";
+const FIRST_RUN: &str = "route add default via 192.0.2.1 dev eth0\nroute get 198.51.100.7\n";
 
 /// The replies to that script.
-const FIRST_REPLIES: &str =
-    "ok 1\nanswer 1 rule 32766 table main default via 192.0.2.1 dev eth0\n";
+const FIRST_REPLIES: &str = "ok 1\nanswer 1 rule 32766 table main default via 192.0.2.1 dev eth0\n";
 
 /// The replies to so many lines of that script, after which the reader failed.
 fn replies_before_fault(lines: usize) -> &'static str {
@@ -286,7 +284,10 @@ fn writer_fails_at_each_write(rt: HostRuntime) -> Result<(), Fail> {
     let alloc = rt.alloc();
     for count in 0..FIRST_REPLIES.len() {
         assert!(rt; ends_after(alloc, count, Trouble::Fails(count))?, "{count}");
-        assert!(rt; ends_after(alloc, count, Trouble::TakesNothing(count))?, "{count}");
+        assert!(rt;
+            ends_after(alloc, count, Trouble::TakesNothing(count))?,
+            "{count}"
+        );
     }
     Ok(())
 }

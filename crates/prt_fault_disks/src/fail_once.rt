@@ -119,32 +119,56 @@ impl<D: Disk> Disk for FailOnce<D> {
     }
 
     fn len(&mut self) -> io::Result<usize> {
-        spend(&mut self.calls_left, &mut self.has_failed, &mut self.refused)?;
+        spend(
+            &mut self.calls_left,
+            &mut self.has_failed,
+            &mut self.refused,
+        )?;
         self.inner.len()
     }
 
     fn read_at(&mut self, at: usize, buf: &mut [u8]) -> io::Result<()> {
-        spend(&mut self.calls_left, &mut self.has_failed, &mut self.refused)?;
+        spend(
+            &mut self.calls_left,
+            &mut self.has_failed,
+            &mut self.refused,
+        )?;
         self.inner.read_at(at, buf)
     }
 
     fn read_checked(&mut self, key: u64, want: u64, at: usize, buf: &mut [u8]) -> io::Result<()> {
-        spend(&mut self.calls_left, &mut self.has_failed, &mut self.refused)?;
+        spend(
+            &mut self.calls_left,
+            &mut self.has_failed,
+            &mut self.refused,
+        )?;
         self.inner.read_checked(key, want, at, buf)
     }
 
     fn write_at(&mut self, at: usize, bytes: &[u8]) -> io::Result<()> {
-        spend(&mut self.calls_left, &mut self.has_failed, &mut self.refused)?;
+        spend(
+            &mut self.calls_left,
+            &mut self.has_failed,
+            &mut self.refused,
+        )?;
         self.inner.write_at(at, bytes)
     }
 
     fn set_len(&mut self, len: usize) -> io::Result<()> {
-        spend(&mut self.calls_left, &mut self.has_failed, &mut self.refused)?;
+        spend(
+            &mut self.calls_left,
+            &mut self.has_failed,
+            &mut self.refused,
+        )?;
         self.inner.set_len(len)
     }
 
     fn sync(&mut self) -> io::Result<()> {
-        if let Err(error) = spend(&mut self.calls_left, &mut self.has_failed, &mut self.refused) {
+        if let Err(error) = spend(
+            &mut self.calls_left,
+            &mut self.has_failed,
+            &mut self.refused,
+        ) {
             self.sync_refused = true;
             return Err(error);
         }

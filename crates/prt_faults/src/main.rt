@@ -41,7 +41,12 @@ fn run<H: Wait + Copy + Drop, R: Read, W: Write>(
         "slow_looker" => slow_looker::run(rt, alloc, memory()?, output),
         "grace_period" => grace_period::replay(alloc, input, output),
         "session" => session::run(rt, alloc, memory()?, input, output),
-        "quiet" => quiet::run(rt, alloc, [memory()?, memory()?, memory()?, memory()?], output),
+        "quiet" => quiet::run(
+            rt,
+            alloc,
+            [memory()?, memory()?, memory()?, memory()?],
+            output,
+        ),
         _ => Err(Refusal::UnknownWord),
     }
 }

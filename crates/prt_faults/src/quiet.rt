@@ -53,11 +53,13 @@ fn made_versions(alloc: Global) -> Result<Versions, Refusal> {
 
 /// Tells whether words, lines, versions, tables, registries and domains answer.
 fn answer<H: Wait>(rt: &H, versions: &Versions) -> Result<bool, Refusal> {
-    Ok(are_read()
-        && are_lines_read()
-        && has_route(&versions.second, &versions.add, &versions.choice)
-        && registry_keeps(&versions.first, &versions.second)?
-        && domain_keeps(rt, &versions.first, &versions.second)?)
+    Ok(
+        are_read()
+            && are_lines_read()
+            && has_route(&versions.second, &versions.add, &versions.choice)
+            && registry_keeps(&versions.first, &versions.second)?
+            && domain_keeps(rt, &versions.first, &versions.second)?,
+    )
 }
 
 /// A store that has committed a command, and the stamp of that.
@@ -149,8 +151,7 @@ fn are_ended<S: Alter + Drop, H: Wait + Drop>(ended: Ended<S, H>) -> bool {
         store,
         stamp,
     } = ended;
-    let is_shown =
-        matches!(publisher.phase(), Phase::Ready) && publisher.published().number() == 0;
+    let is_shown = matches!(publisher.phase(), Phase::Ready) && publisher.published().number() == 0;
     drop(publisher.release());
     drop(store.release());
     is_shown && stamp.number() == 1

@@ -7,10 +7,7 @@ use prt_version::owners::share;
 use std::sync::{Arc, Wait};
 
 /// Tells whether a registry holds the first version back until its looker announces the second, and gives it up then.
-pub(crate) fn registry_keeps(
-    first: &Arc<Version>,
-    second: &Arc<Version>,
-) -> Result<bool, Refusal> {
+pub(crate) fn registry_keeps(first: &Arc<Version>, second: &Arc<Version>) -> Result<bool, Refusal> {
     let mut registry = Registry::new(share(first)?);
     let Some(mut place) = registry.join() else {
         return Ok(false);

@@ -1,5 +1,5 @@
-//! Publishers and services, for connections and handles of any kind. A call that refuses for memory has changed nothing,
-//! and is made again.
+//! Publishers and services, for connections and handles of any kind. A call that refuses for memory has changed
+//! nothing, and is made again.
 ghost use Rattle.std.specs.Prelude.{◌≡◌, IfOk};
 ghost use Rattle.prt_command.specs.Storable.{IsStorable};
 

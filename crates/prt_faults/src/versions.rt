@@ -25,7 +25,11 @@ fn finds_in_table(table: &Table, choice: &RouteChoice) -> bool {
         }
         None => false,
     };
-    found && table.pieces().iter().any(|tree| finds_in_tree(tree, choice))
+    found
+        && table
+            .pieces()
+            .iter()
+            .any(|tree| finds_in_tree(tree, choice))
 }
 
 /// Tells whether a version, which is the one after a command that added a route, has that route, and refuses to add it

@@ -30,7 +30,8 @@ opened 'source 10.0.0.1/8' "INSERT INTO rule VALUES (4, 5, 0, 167772161, 8, 0, 0
 opened 'mask without mark' "INSERT INTO rule VALUES (4, 5, 0, 167772160, 8, 0, 0, '', -1, 4294967295, 1, 100)"
 opened 'two equal rules' "INSERT INTO rule SELECT 4, $rule FROM rule WHERE id = 1"
 for last in 1000 1001; do
-  opened "$last rules" "UPDATE meta SET count = 998; WITH RECURSIVE ids (id) AS (SELECT 4 UNION ALL SELECT id + 1 FROM ids WHERE id < $last)
+  opened "$last rules" "UPDATE meta SET count = 998;
+    WITH RECURSIVE ids (id) AS (SELECT 4 UNION ALL SELECT id + 1 FROM ids WHERE id < $last)
     INSERT INTO rule SELECT id, id, 0, 0, 0, 0, 0, '', -1, -1, 1, 100 FROM ids"
 done
 
@@ -41,7 +42,8 @@ opened 'unicast without gateway and interface' "INSERT INTO route VALUES (254, 1
 opened 'blackhole with scope 253' "INSERT INTO route VALUES (254, 184549376, 8, 0, 6, -1, '', -1, 3, 253)"
 opened 'interface a/b' "INSERT INTO route VALUES (254, 184549376, 8, 0, 1, -1, 'a/b', -1, 3, 253)"
 
-opened 'a column fewer' 'DROP TABLE route; CREATE TABLE route (tbl INTEGER NOT NULL, net INTEGER NOT NULL, len INTEGER NOT NULL,
-  metric INTEGER NOT NULL, kind INTEGER NOT NULL, via INTEGER NOT NULL, dev TEXT NOT NULL, src INTEGER NOT NULL,
-  proto INTEGER NOT NULL, PRIMARY KEY (tbl, net, len, metric)) STRICT'
+opened 'a column fewer' 'DROP TABLE route;
+  CREATE TABLE route (tbl INTEGER NOT NULL, net INTEGER NOT NULL, len INTEGER NOT NULL, metric INTEGER NOT NULL,
+  kind INTEGER NOT NULL, via INTEGER NOT NULL, dev TEXT NOT NULL, src INTEGER NOT NULL, proto INTEGER NOT NULL,
+  PRIMARY KEY (tbl, net, len, metric)) STRICT'
 opened 'other columns' 'DROP TABLE route; CREATE TABLE route (tbl INTEGER NOT NULL) STRICT'
