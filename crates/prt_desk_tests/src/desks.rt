@@ -1,7 +1,7 @@
 //! Scripts over desks, whose databases are opened again.
 
 use prt_desk::StoreDesk;
-use prt_session::{Desk, ListDesk, OnRefusal, Refusal, Unobserved, run_script};
+use prt_session::{Desk, ListDesk, OnRefusal, Refusal, ScriptEnd, Unobserved, run_script};
 use sqlite::{Alter, Connection, Error};
 use std::alloc::Global;
 use std::sync::Wait;
@@ -13,11 +13,11 @@ const SCRIPTS: [&str; 2] = [
     "rule add priority 5 from 10/8 table 100\nrule add to 10/8 iif a fwmark 0x10/0xf0 prohibit\nrule show\nroute get 10.0.0.1 iif a mark 0x1f\nrule del priority 5\nrule flush\nrule show\n",
 ];
 
-/// The replies of a desk to a script.
-pub fn replies<D: Desk>(alloc: Global, desk: &mut D, script: &str) -> Vec<u8> {
+/// The replies of a desk to a script, and how it ended.
+pub fn run<D: Desk>(alloc: Global, desk: &mut D, script: &str) -> (Vec<u8>, ScriptEnd) {
     let mut text = Vec::new(alloc);
     let mut lines = script.as_bytes();
-    let _end = run_script(
+    let end = run_script(
         alloc,
         desk,
         &mut lines,
@@ -25,7 +25,12 @@ pub fn replies<D: Desk>(alloc: Global, desk: &mut D, script: &str) -> Vec<u8> {
         OnRefusal::GoOn,
         &mut Unobserved,
     );
-    text
+    (text, end)
+}
+
+/// The replies of a desk to a script.
+pub fn replies<D: Desk>(alloc: Global, desk: &mut D, script: &str) -> Vec<u8> {
+    run(alloc, desk, script).0
 }
 
 /// A desk over the database of a connection.

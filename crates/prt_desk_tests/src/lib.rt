@@ -4,6 +4,10 @@
 #[cfg(test)]
 mod desks;
 #[cfg(test)]
+mod disks;
+#[cfg(test)]
+mod each_call;
+#[cfg(test)]
 mod reopened;
 #[cfg(test)]
 mod streams;

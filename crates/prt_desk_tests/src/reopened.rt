@@ -3,22 +3,15 @@
 ghost use Rattle.std.specs.Prelude.{IsTrue};
 
 use crate::desks::{opened, replies};
+use crate::disks::{Faults, OPTIONS, mended, new_files, run_in};
 use prt_desk::StoreDesk;
 use prt_session::{OnRefusal, Refusal, Unobserved};
-use sqlite::{Connection, FileStore, Files, Options};
-use sqlite_disk::{Disk, Fuse, Memory};
+use sqlite::{Connection, FileStore, Files};
+use sqlite_disk::Disk;
 use std::alloc::Global;
 use std::io::{self, Write};
 use std::sync::Wait;
 use std::test::Fail;
-
-/// Each page is read from the log anew, so that each statement calls it.
-const OPTIONS: Options = Options {
-    cache_pages: 1,
-    spill_pages: 1,
-    checkpoint_frames: 1000,
-    seed: 9,
-};
 
 /// A writer that fails.
 #[derive(Clone, Copy)]
@@ -71,36 +64,10 @@ fn run_unheard<D: Disk + Drop, H: Wait + Copy + Drop>(
     Ok((end.fault, replies(alloc, &mut again, second)))
 }
 
-/// Runs a script, and gives its replies and the files, closed as far as their disk allows it.
-fn run_in<D: Disk + Drop, H: Wait + Copy + Drop>(
-    rt: H,
-    alloc: Global,
-    files: Files<D>,
-    script: &str,
-) -> Result<(Vec<u8>, Files<D>), Refusal> {
-    let mut desk = desk_in(rt, alloc, files)?;
-    let text = replies(alloc, &mut desk, script);
-    let files = match desk.release().close_files() {
-        Ok(files) => files,
-        Err((_, store)) => store.close(),
-    };
-    Ok((text, files))
-}
-
-/// A disk with the bytes of one that has failed.
-fn mended(alloc: Global, failed: &Fuse<Memory>) -> io::Result<Memory> {
-    let mut disk = Memory::new(alloc);
-    disk.write_at(0, failed.inner().bytes())?;
-    Ok(disk)
-}
-
 #[test]
 fn an_unheard_command_is_kept(rt: HostRuntime) -> Result<(), Fail> {
     let alloc = rt.alloc();
-    let files = Files {
-        log: Memory::new(alloc),
-        db: Memory::new(alloc),
-    };
+    let files = new_files(alloc, Faults::NONE);
     let (fault, after) = run_unheard(rt, alloc, files, "rule flush\n", "route get 10.1.2.3\n")?;
     assert!(rt; fault == Some(Refusal::WriteFault));
     assert!(rt; after.as_slice() == b"answer 1 none\n".as_slice());
@@ -111,20 +78,17 @@ fn an_unheard_command_is_kept(rt: HostRuntime) -> Result<(), Fail> {
 fn a_closed_desk_answers(rt: HostRuntime) -> Result<(), Fail> {
     let alloc = rt.alloc();
     // The call that sets the count fails, and each one after it.
-    let files = Files {
-        log: Fuse::new(Memory::new(alloc), 76),
-        db: Fuse::new(Memory::new(alloc), u64::MAX),
+    let faults = Faults {
+        log_stop: 76,
+        ..Faults::NONE
     };
     let script = "route add 10/8 dev a\nroute add 10/8 dev a\nroute get 10.1.2.3\n";
-    let (text, files) = run_in(rt, alloc, files, script)?;
+    let (ran, files) = run_in(rt, alloc, new_files(alloc, faults), script);
     assert!(rt;
-        text.as_slice() == b"error 27 StoreFailed\nerror 20 Closed\nanswer 0 none\n".as_slice()
+        ran?.0.as_slice() == b"error 27 StoreFailed\nerror 20 Closed\nanswer 0 none\n".as_slice()
     );
-    let files = Files {
-        log: mended(alloc, &files.log)?,
-        db: mended(alloc, &files.db)?,
-    };
-    let (again, _files) = run_in(rt, alloc, files, "route get 10.1.2.3\n")?;
-    assert!(rt; again.as_slice() == b"answer 0 none\n".as_slice());
+    let files = mended(alloc, &files)?;
+    let (again, _files) = run_in(rt, alloc, files, "route get 10.1.2.3\n");
+    assert!(rt; again?.0.as_slice() == b"answer 0 none\n".as_slice());
     Ok(())
 }

@@ -144,10 +144,11 @@ enum Trouble {
     FailsToFlush(usize),
 }
 
-/// A writer that takes one byte a call.
+/// A writer that takes so many bytes a call at most.
 #[derive(Drop)]
 struct Slow {
     taken: Vec<u8>,
+    most: usize,
     trouble: Trouble,
 }
 
@@ -164,10 +165,11 @@ impl Write for Slow {
             }
             _ => {}
         }
-        if buf.is_empty() || self.taken.push(buf[0]).is_err() {
-            return Ok(0);
+        let bytes = &buf[..buf.len().min(self.most)];
+        match self.taken.extend_from_slice(bytes) {
+            Ok(()) => Ok(bytes.len()),
+            Err(_) => Ok(0),
         }
-        Ok(1)
     }
 
     fn flush(&mut self) -> io::Result<()> {
@@ -185,9 +187,34 @@ impl Write for Slow {
     }
 }
 
+/// Runs a script whose replies go to a writer that takes so many bytes a call and meets this trouble. Gives what the
+/// writer took, and how the session ended.
+fn run_into(
+    alloc: Global,
+    script: &str,
+    most: usize,
+    trouble: Trouble,
+) -> Result<(Vec<u8>, ScriptEnd), Refusal> {
+    let mut desk = ListDesk::opening(alloc)?;
+    let mut lines = script.as_bytes();
+    let mut writer = Slow {
+        taken: Vec::new(alloc),
+        most,
+        trouble,
+    };
+    let end = desk.run_script(
+        alloc,
+        &mut lines,
+        &mut writer,
+        OnRefusal::GoOn,
+        &mut Unobserved,
+    );
+    Ok((writer.taken, end))
+}
+
 #[test]
 fn replies_end_at_a_write_fault(rt: HostRuntime) -> Result<(), Fail> {
-    let alloc = rt.alloc();
+    let script = "route add 10/8 dev a\nroute add 10/8 dev b\nroute get 1\n";
     for (trouble, fault, want) in [
         (
             Trouble::None,
@@ -206,21 +233,71 @@ fn replies_end_at_a_write_fault(rt: HostRuntime) -> Result<(), Fail> {
             b"ok 1\nerror 21 Exists\n".as_slice(),
         ),
     ] {
-        let mut desk = ListDesk::opening(alloc)?;
-        let mut reader = b"route add 10/8 dev a\nroute add 10/8 dev b\nroute get 1\n".as_slice();
-        let mut writer = Slow {
-            taken: Vec::new(alloc),
-            trouble,
-        };
-        let end = desk.run_script(
-            alloc,
-            &mut reader,
-            &mut writer,
-            OnRefusal::GoOn,
-            &mut Unobserved,
-        );
-        assert!(rt; writer.taken.as_slice() == want);
+        let (taken, end) = run_into(rt.alloc(), script, 1, trouble)?;
+        assert!(rt; taken.as_slice() == want);
         assert!(rt; end.fault == fault);
+    }
+    Ok(())
+}
+
+/// A route that is added, and asked for.
+const FIRST_RUN: &str = "route add default via 192.0.2.1 dev eth0\nroute get 198.51.100.7\n";
+
+/// The replies to that script.
+const FIRST_REPLIES: &str = "ok 1\nanswer 1 rule 32766 table main default via 192.0.2.1 dev eth0\n";
+
+/// The replies to so many lines of that script, after which the reader failed.
+fn replies_before_fault(lines: usize) -> &'static str {
+    match lines {
+        0 => "error 32 ReadFault\n",
+        1 => "ok 1\nerror 32 ReadFault\n",
+        _ => {
+            "ok 1\nanswer 1 rule 32766 table main default via 192.0.2.1 dev eth0\nerror 32 ReadFault\n"
+        }
+    }
+}
+
+#[test]
+fn reader_fails_at_each_byte(rt: HostRuntime) -> Result<(), Fail> {
+    let script = FIRST_RUN.as_bytes();
+    for count in 0..=script.len() {
+        let before = &script[..count];
+        let left = run_interrupted(rt.alloc(), before)?;
+        let lines = before.iter().filter(|byte| **byte == b'\n').count();
+        let wanted = replies_before_fault(lines);
+        assert!(rt; left.replies.as_slice() == wanted.as_bytes(), "{count}");
+        assert!(rt; left.end.fault == Some(Refusal::ReadFault), "{count}");
+        assert!(rt; !left.end.refused && left.unread == 9, "{count}");
+    }
+    Ok(())
+}
+
+/// Tells whether that script's replies end after so many bytes, at which a writer meets this trouble.
+fn ends_after(alloc: Global, count: usize, trouble: Trouble) -> Result<bool, Refusal> {
+    let (taken, end) = run_into(alloc, FIRST_RUN, 1, trouble)?;
+    let is_cut = FIRST_REPLIES.as_bytes().get(..count) == Some(taken.as_slice());
+    Ok(is_cut && end.fault == Some(Refusal::WriteFault))
+}
+
+#[test]
+fn writer_fails_at_each_write(rt: HostRuntime) -> Result<(), Fail> {
+    let alloc = rt.alloc();
+    for count in 0..FIRST_REPLIES.len() {
+        assert!(rt; ends_after(alloc, count, Trouble::Fails(count))?, "{count}");
+        assert!(rt;
+            ends_after(alloc, count, Trouble::TakesNothing(count))?,
+            "{count}"
+        );
+    }
+    Ok(())
+}
+
+#[test]
+fn one_byte_a_write(rt: HostRuntime) -> Result<(), Fail> {
+    for most in [1, 2, usize::MAX] {
+        let (taken, end) = run_into(rt.alloc(), FIRST_RUN, most, Trouble::None)?;
+        assert!(rt; taken.as_slice() == FIRST_REPLIES.as_bytes(), "{most}");
+        assert!(rt; end.fault.is_none() && !end.refused, "{most}");
     }
     Ok(())
 }

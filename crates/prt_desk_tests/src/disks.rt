@@ -1,0 +1,101 @@
+//! Runs over the two files of a database, which come back also where they can't be opened.
+
+use crate::desks::run;
+use prt_desk::StoreDesk;
+use prt_fault_disks::FailOnce;
+use prt_session::{Refusal, ScriptEnd};
+use sqlite::{Connection, FileStore, Files, Options};
+use sqlite_disk::{Disk, Fuse, Memory};
+use std::alloc::Global;
+use std::io;
+use std::sync::Wait;
+
+/// Each page is read from the log anew, so that each statement calls it.
+pub const OPTIONS: Options = Options {
+    cache_pages: 1,
+    spill_pages: 1,
+    checkpoint_frames: 1000,
+    seed: 9,
+};
+
+/// Memory that can stop and fail. Each test has this disk, since each further one would be built with all of the database.
+pub type Faulty = FailOnce<Fuse<Memory>>;
+
+/// At which calls the two files stop or fail: each takes so many calls and fails each later one, or fails the one after
+/// so many.
+#[derive(Clone, Copy)]
+pub struct Faults {
+    pub log_stop: u64,
+    pub db_stop: u64,
+    pub log_failure: u64,
+    pub db_failure: u64,
+}
+
+impl Faults {
+    /// Nothing stops or fails.
+    pub const NONE: Faults = Faults {
+        log_stop: u64::MAX,
+        db_stop: u64::MAX,
+        log_failure: u64::MAX,
+        db_failure: u64::MAX,
+    };
+}
+
+/// New files with these faults.
+pub fn new_files(alloc: Global, faults: Faults) -> Files<Faulty> {
+    let log = Fuse::new(Memory::new(alloc), faults.log_stop);
+    let db = Fuse::new(Memory::new(alloc), faults.db_stop);
+    Files {
+        log: FailOnce::new(log, faults.log_failure),
+        db: FailOnce::new(db, faults.db_failure),
+    }
+}
+
+/// The files of a connection, closed as far as their disk allows it.
+fn closed<D: Disk + Drop>(connection: Connection<FileStore<D>>) -> Files<D> {
+    match connection.close_files() {
+        Ok(files) => files,
+        Err((_, store)) => store.close(),
+    }
+}
+
+/// Runs a script over the database of a connection. Gives the replies and how it ended, or why no desk was made; and the
+/// files.
+fn run_over<D: Disk + Drop, H: Wait + Copy + Drop>(
+    rt: H,
+    alloc: Global,
+    connection: Connection<FileStore<D>>,
+    script: &str,
+) -> (Result<(Vec<u8>, ScriptEnd), Refusal>, Files<D>) {
+    match StoreDesk::open(rt, alloc, connection) {
+        Ok(mut desk) => {
+            let ran = run(alloc, &mut desk, script);
+            (Ok(ran), closed(desk.release()))
+        }
+        Err((reason, connection)) => (Err(reason), closed(connection)),
+    }
+}
+
+/// Runs a script over the database of these files. For files of whatever kind, so that the proof knows nothing of them.
+pub fn run_in<D: Disk + Drop, H: Wait + Copy + Drop>(
+    rt: H,
+    alloc: Global,
+    files: Files<D>,
+    script: &str,
+) -> (Result<(Vec<u8>, ScriptEnd), Refusal>, Files<D>) {
+    if !files.may_be_used() {
+        return (Err(Refusal::OpenFailed), files);
+    }
+    match Connection::open_files(alloc, files, OPTIONS) {
+        Ok(connection) => run_over(rt, alloc, connection, script),
+        Err((_, left)) => (Err(Refusal::OpenFailed), left.into_files()),
+    }
+}
+
+/// Files that hold the bytes of these, and work.
+pub fn mended(alloc: Global, files: &Files<Faulty>) -> io::Result<Files<Faulty>> {
+    let mut mended = new_files(alloc, Faults::NONE);
+    mended.log.write_at(0, files.log.inner().inner().bytes())?;
+    mended.db.write_at(0, files.db.inner().inner().bytes())?;
+    Ok(mended)
+}
