@@ -1,0 +1,12 @@
+pub mod Steps
+pub mod Between
+pub mod Woven
+pub mod Registering
+pub mod Exits
+pub mod Stopping
+pub mod Opening
+pub mod Headline
+pub mod Joined
+pub mod Planned
+pub mod Submitted
+pub mod Ran

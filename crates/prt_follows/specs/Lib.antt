@@ -1,0 +1,6 @@
+pub mod Spots
+pub mod Events
+pub mod StandsFor
+pub mod Registers
+pub mod Laws
+pub mod Runs

@@ -1,0 +1,18 @@
+//! Laws of the definitions, which no program calls.
+ghost use Rattle.prt_follows.specs.Runs.{EveryFailureLeaves, EveryRunLeaves, EveryRunStands};
+
+use sqlite::Alter;
+
+/// After each list of exits of a publisher's calls, whatever lookers do between them, and wherever it is stopped and
+/// adopted again:
+///
+/// * the publisher and the registry stand for the world of the list's events, which has acknowledged each receipt and
+///   nothing else (`stands`);
+/// * on a new file, what a crash leaves is a beginning of the accepted commands that lacks one at most; it has each
+///   command of a receipt under its number, and the version by which each answer was given (`leaves`);
+/// * that holds too where the next commit fails, of each state that may be left then (`failed`).
+pub fn every_run_of_calls<S: Alter>()
+    ensures stands { EveryRunStands S.Store }
+    ensures leaves { EveryRunLeaves S.Store }
+    ensures failed { EveryFailureLeaves S.Store }
+{}
