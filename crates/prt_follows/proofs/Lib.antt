@@ -9,4 +9,6 @@ pub mod Headline
 pub mod Joined
 pub mod Planned
 pub mod Submitted
+pub mod Acks
 pub mod Ran
+pub mod Desks

@@ -4,3 +4,4 @@ pub mod StandsFor
 pub mod Registers
 pub mod Laws
 pub mod Runs
+pub mod Desks

@@ -1,4 +1,5 @@
 //! Laws of the definitions, which no program calls.
+ghost use Rattle.prt_follows.specs.Desks.{DeskHoldsAll, TurnIsSteps};
 ghost use Rattle.prt_follows.specs.Runs.{EveryFailureLeaves, EveryRunLeaves, EveryRunStands};
 
 use sqlite::Alter;
@@ -15,4 +16,12 @@ pub fn every_run_of_calls<S: Alter>()
     ensures stands { EveryRunStands S.Store }
     ensures leaves { EveryRunLeaves S.Store }
     ensures failed { EveryFailureLeaves S.Store }
+{}
+
+/// Each turn of a command at a desk, whatever befalls it, is the world's events: they show its reply, lead to a world of
+/// the desk that it leaves, and acknowledge the command where the reply does. In such a world what is stored holds all
+/// that was acknowledged.
+pub fn turn_is_steps()
+    ensures turn { TurnIsSteps }
+    ensures holds { DeskHoldsAll }
 {}
