@@ -12,3 +12,4 @@ pub mod Submitted
 pub mod Acks
 pub mod Ran
 pub mod Desks
+pub mod Scripts

@@ -1,5 +1,5 @@
 //! Laws of the definitions, which no program calls.
-ghost use Rattle.prt_follows.specs.Desks.{DeskHoldsAll, TurnIsSteps};
+ghost use Rattle.prt_follows.specs.Desks.{DeskHoldsAll, ReopenedDesk, ScriptIsRun, TurnIsSteps};
 ghost use Rattle.prt_follows.specs.Runs.{EveryFailureLeaves, EveryRunLeaves, EveryRunStands};
 
 use sqlite::Alter;
@@ -24,4 +24,12 @@ pub fn every_run_of_calls<S: Alter>()
 pub fn turn_is_steps()
     ensures turn { TurnIsSteps }
     ensures holds { DeskHoldsAll }
+{}
+
+/// The lines of a script, whatever befalls each, are some list of events of a world without lookers: it leads to a world
+/// of the desk that the script leaves, and acknowledges what the replies do. A desk whose stored state is opened again
+/// is such a world too, stopped and reopened.
+pub fn script_is_run()
+    ensures run { ScriptIsRun }
+    ensures reopened { ReopenedDesk }
 {}
