@@ -1,5 +1,5 @@
 -- Each turn of a desk's definition is the world's events.
-use Rattle.std.proofs.Common.{◌≡◌, ◌+◌, ℕ, Bool, true, false, List, [], ◌∷◌, ◌++◌, Option, Some, None, refl, sym, ap, ◌∙◌, subst}
+use Rattle.std.proofs.Common.{◌≡◌, ◌+◌, Bool, true, false, List, [], ◌∷◌, ◌++◌, Option, Some, None, refl, sym, ap, ◌∙◌, subst}
 use Rattle.std.specs.List.{AllByRecursion as Each}
 use Rattle.std.proofs.lemmas.List.{append-nil}
 use Rattle.prt_addr.specs.declared.refusal.Refusal.{Refusal}
@@ -10,7 +10,6 @@ use Rattle.prt_command.specs.declared.request.Command.{Command}
 use Rattle.prt_front.specs.Line.{Line, grown, line_state}
 use Rattle.prt_session.specs.Desk.{DeskState, Mishap, command_or_refusal, commit_kept, no_memory, no_room, publication_fails, settled, shut, store_fails, submit}
 use Rattle.prt_session.specs.Session.{Turn}
-use Rattle.prt_session.specs.declared.reply.Reply.{Reply}
 use Rattle.prt_session.specs.declared.reply.Reply.TheVariants.{Accepted, Refused}
 use Rattle.prt_version.specs.Change.{apply, refusal}
 use Rattle.prt_version.specs.State.{State}
@@ -26,7 +25,7 @@ use Rattle.prt_world.specs.declared.phase.Phase.TheVariants as moments
 use Rattle.prt_world.proofs.KeptVersions.{kept_count}
 use Rattle.prt_world.proofs.Phases.{Holds, shown_version}
 use Rattle.prt_follows.specs.Desks.{DeskHoldsAll, HasRoomFor, IsDeskOf, TurnIsSteps, Weaves, events_by, moment_between, reply_acks, reply_after, reply_by, shown_reply, submitted_events}
-use Rattle.prt_follows.specs.Events.{commit_events, commit_outcomes, fail_events, fail_outcomes, note_outcomes, own, own_outcomes, publish_events}
+use Rattle.prt_follows.specs.Events.{commit_events, commit_outcomes, fail_events, fail_outcomes, own, own_outcomes, publish_events}
 use Rattle.prt_follows.specs.Spots.{HasRoom, IsAt, IsReached, IsTold, Spot}
 use Rattle.prt_follows.proofs.Acks.{failed_none, is_ack, woven_acks, woven_keeps}
 use Rattle.prt_follows.proofs.Exits.{commit_goes, goes_on, kept_goes, lost_goes, publish_fails, publish_goes, spot}

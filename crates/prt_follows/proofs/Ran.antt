@@ -1,10 +1,8 @@
 -- A run of a publisher's calls leads to a world that it stands for, which has acknowledged each receipt.
-use Rattle.std.proofs.Common.{◌≡◌, ℕ, Bool, true, false, List, [], ◌∷◌, ◌++◌, Option, Some, None, refl, sym, ap, ◌∙◌, subst, cond}
-use Rattle.std.specs.List.{AllByRecursion as Each}
+use Rattle.std.proofs.Common.{◌≡◌, true, false, List, [], ◌∷◌, ◌++◌, Option, Some, None, refl, sym, ap, ◌∙◌, subst}
 use Rattle.std.proofs.lemmas.List.{append-nil, append_assoc}
 use Rattle.sqlite.specs.Held.{Held}
 use Rattle.sqlite.specs.Store.{Ghosts}
-use Rattle.prt_addr.specs.declared.refusal.Refusal.{Refusal}
 use Rattle.prt_addr.specs.declared.refusal.StoreCall.{StoreCall}
 use Rattle.prt_addr.specs.declared.refusal.StoreCall.TheVariants as calls
 use Rattle.prt_command.specs.declared.request.Command.{Command}
@@ -12,7 +10,6 @@ use Rattle.prt_store.specs.Exits.{IsStored, Spells}
 use Rattle.prt_publisher.specs.Standing.{Standing}
 use Rattle.prt_publisher.specs.declared.phase.Phase.{Phase}
 use Rattle.prt_publisher.specs.declared.phase.Phase.TheVariants.{Ready, Admitted, Prepared, Committed, Published, Closed}
-use Rattle.prt_version.specs.Change.{refusal}
 use Rattle.prt_version.specs.State.{State}
 use Rattle.prt_world.specs.World as world
 use Rattle.prt_world.specs.World.{Ack, LookerState, Step, World, has_room, looker_state, offline, online, outcomes_from, published_version, run_from, start, step}
@@ -20,7 +17,6 @@ use Rattle.prt_world.specs.declared.event.Event.{Event}
 use Rattle.prt_world.specs.declared.event.Event.TheVariants as events
 use Rattle.prt_world.specs.declared.event.Fate.{Fate}
 use Rattle.prt_world.specs.declared.event.Fate.TheVariants.{Lost}
-use Rattle.prt_world.specs.declared.outcome.Outcome.TheVariants as outcomes
 use Rattle.prt_world.specs.declared.phase.Phase.{Phase as Moment}
 use Rattle.prt_world.specs.declared.phase.Phase.TheVariants as moments
 use Rattle.prt_front.specs.Line.{Line, line_state}
@@ -37,7 +33,7 @@ use Rattle.prt_follows.proofs.Between.{room_published}
 use Rattle.prt_follows.proofs.Exits.{SameVersions, committed_command, same_registers, spot, submits}
 use Rattle.prt_follows.proofs.Registering.{joins, registers_beside, registers_published}
 use Rattle.prt_follows.proofs.Steps.{publishes}
-use Rattle.prt_follows.specs.Events.{commit_events, fail_events, is_lookers, note_events, own, stop_events}
+use Rattle.prt_follows.specs.Events.{commit_events, fail_events, stop_events}
 use Rattle.prt_follows.specs.Runs.{EveryFailureLeaves, EveryRunLeaves, EveryRunStands, Turn, Turns, adopted, admitted, beside, committed, declined, events_of, failed, noted, planned, receipts_of, seated, shown, stopped, turn_events, turn_receipts, unplanned, unshown}
 use Rattle.prt_follows.specs.StandsFor.{HasDisk, StandFor, StandsFor, moment_of}
 use Rattle.prt_follows.proofs.Exits.{published_command}

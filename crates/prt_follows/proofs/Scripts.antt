@@ -1,5 +1,5 @@
 -- The lines of a script are a list of the world's events.
-use Rattle.std.proofs.Common.{◌≡◌, ◌<◌, ℕ, Bool, true, false, not, ◌&&◌, List, [], ◌∷◌, ◌++◌, Option, Some, None, Result, Ok, Err, length, map, replicate, refl, sym, ap, ◌∙◌, subst, cond}
+use Rattle.std.proofs.Common.{◌≡◌, ℕ, Bool, true, false, not, ◌&&◌, List, [], ◌∷◌, ◌++◌, Option, Some, None, Result, Ok, Err, length, map, refl, sym, ap, ◌∙◌, subst, cond}
 use Rattle.std.specs.Prelude.{filter, nat_lt}
 use Rattle.std.specs.List.{AllByRecursion as Each, list_any}
 use Rattle.std.proofs.lemmas.List.{append-nil, append_assoc}
@@ -17,10 +17,10 @@ use Rattle.prt_grace.specs.declared.limits.TheConstants.{MOST_RETIRED, PLACES}
 use Rattle.prt_session.specs.Desk.{DeskState, Mishap, command_or_refusal, command_turn, commit_kept, no_memory, no_room, publication_fails, query_turn, request_turn, settled, store_fails}
 use Rattle.prt_session.specs.Session as session
 use Rattle.prt_session.specs.Session.{Exchange, turn_on}
-use Rattle.prt_version.specs.Change.{apply, refusal}
-use Rattle.prt_version.specs.State.{State}
+use Rattle.prt_version.specs.Change.{refusal}
+use Rattle.prt_version.specs.State.{State, opening_state}
 use Rattle.prt_world.specs.World as world
-use Rattle.prt_world.specs.World.{Ack, LookerState, Step, World, announced_by, has_room, offline, published_version, run_from, step}
+use Rattle.prt_world.specs.World.{Ack, LookerState, Step, World, announced_by, has_room, offline, published_version, run_from, start, step}
 use Rattle.prt_world.specs.declared.event.Event.{Event}
 use Rattle.prt_world.specs.declared.event.Event.TheVariants as events
 use Rattle.prt_world.specs.declared.event.Fate.{Fate}
@@ -29,13 +29,14 @@ use Rattle.prt_world.specs.declared.phase.Phase.{Phase as Moment}
 use Rattle.prt_world.specs.declared.phase.Phase.TheVariants as moments
 use Rattle.prt_world.proofs.History.{stays}
 use Rattle.prt_world.proofs.KeptVersions.{each_replicate}
-use Rattle.prt_follows.specs.Desks.{AreOffline, Exchanges, HasRoomFor, IsDeskOf, ReopenedDesk, ScriptIsRun, Weaves, accepted_in, desk_events, events_by, moment_between, reply_acks, request_acks, submitted_events}
-use Rattle.prt_follows.specs.Events.{commit_events, fail_events, is_lookers, own, publish_events, submit_events, unpublished_events}
-use Rattle.prt_follows.specs.Spots.{HasRoom, IsAt}
-use Rattle.prt_follows.proofs.Acks.{event_keeps, list_keeps}
+use Rattle.prt_follows.specs.Desks.{AreOffline, HasRoomFor, IsDeskOf, ReopenedDesk, ScriptIsRun, Sessions, SessionsHold, Weaves, accepted_by, accepted_in, desk_events, events_by, moment_between, reply_acks, request_acks, submitted_events}
+use Rattle.prt_follows.specs.Events.{commit_events, fail_events, publish_events}
+use Rattle.prt_follows.specs.Spots.{HasRoom, IsReached}
+use Rattle.prt_follows.proofs.Acks.{event_keeps}
 use Rattle.prt_follows.proofs.Between.{stays_there}
 use Rattle.prt_follows.proofs.Desks.{desk_of, line_at, placed, turn_is_steps}
 use Rattle.prt_follows.proofs.Exits.{spot}
+use Rattle.prt_follows.proofs.Headline.{holds_all}
 use Rattle.prt_follows.proofs.Opening.{reopens, stops}
 use Rattle.prt_follows.proofs.Steps.{holds_of, run_more}
 
@@ -264,3 +265,21 @@ reopened_desk desk w h =
     asked : (b : Bool) → HasRoom w (moment_between b)
     asked true = tt
     asked false = tt
+
+-- ---- scripts on one file
+
+sessions_from : (sessions : List (List (Exchange Mishap))) (stored left : State) (w : World) → IsDeskOf (settled stored) w → AreOffline w → Sessions stored sessions left
+    → (v : World) × IsReached v × (v.disk ≡ left) × (v.acks ≡ w.acks ++ accepted_by sessions)
+sessions_from [] stored left w h all is = (w, h.reached, h.stored ∙ sym is, sym (append-nil w.acks))
+sessions_from (xs ∷ sessions) stored left w h all s =
+    let desk : DeskState = s.0 in
+    let run = script_is_run xs (settled stored) desk w h all s.1 in
+    let v : World = run_from w run.0 in
+    let again = reopened_desk desk v run.1 in
+    let rest = sessions_from sessions desk.stored left (run_from v (events.Stop Lost ∷ events.Reopen ∷ [])) again.0 again.1 s.2 in
+    (rest.0, rest.1, rest.2, rest.3 ∙ ap (λ acks. acks ++ accepted_by sessions) (again.2 ∙ run.3) ∙ append_assoc w.acks (accepted_in xs) (accepted_by sessions))
+
+pub sessions_hold : SessionsHold
+sessions_hold sessions left s =
+    let there = sessions_from sessions opening_state left start (record { reached = ([], refl); between = refl; published = refl; stored = refl }) (each_replicate (λ looker. looker ≡ offline) PLACES offline refl) s in
+    (there.0, there.1, there.2, there.3, holds_all there.0 [] (accepted_by sessions) left (holds_of there.0 there.1) (sym there.2) there.3)

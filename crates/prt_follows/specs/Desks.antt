@@ -1,5 +1,5 @@
 -- The turns of a desk's definition, beside the world's events.
-use Rattle.std.specs.Prelude.{◌≡◌, ◌++◌, Bool, true, false, List, [], ◌∷◌, Option, Some, None, Result, Ok, Err, ⊤}
+use Rattle.std.specs.Prelude.{◌≡◌, ◌++◌, Bool, true, false, List, [], ◌∷◌, Option, Some, None, Result, Ok, ⊤}
 use Rattle.std.specs.List.{AllByRecursion as Each}
 use Rattle.prt_addr.specs.declared.refusal.Refusal.{Refusal}
 use Rattle.prt_addr.specs.declared.refusal.Refusal.TheVariants.{NoMemory}
@@ -11,9 +11,10 @@ use Rattle.prt_command.specs.declared.request.Request.TheVariants as requests
 use Rattle.prt_session.specs.Desk.{Befalls, DeskState, Mishap, command_turn, commit_kept, no_memory, no_room, publication_fails, request_turn, settled, store_fails}
 use Rattle.prt_session.specs.Session.{Exchange, Path}
 use Rattle.prt_session.specs.declared.reply.Reply.{Reply}
-use Rattle.prt_session.specs.declared.reply.Reply.TheVariants.{Accepted, Refused, Silent}
+use Rattle.prt_session.specs.declared.reply.Reply.TheVariants.{Accepted, Refused}
 use Rattle.prt_version.specs.Change.{refusal}
-use Rattle.prt_world.specs.World.{Ack, World, has_room, offline, published_version, run_from, start}
+use Rattle.prt_version.specs.State.{State, opening_state}
+use Rattle.prt_world.specs.World.{Ack, World, has_room, offline, published_version, run_from}
 use Rattle.prt_world.specs.declared.event.Event.{Event}
 use Rattle.prt_world.specs.declared.event.Event.TheVariants as events
 use Rattle.prt_world.specs.declared.event.Fate.TheVariants.{Kept, Lost}
@@ -128,3 +129,19 @@ ReopenedDesk = (desk : DeskState) (w : World) → IsDeskOf desk w → IsDeskOf (
 -- In each world of a desk, what is stored holds every command that was acknowledged.
 abbrev pub DeskHoldsAll : Type 0
 DeskHoldsAll = (desk : DeskState) (w : World) → IsDeskOf desk w → HoldsAll w w.acks desk.stored
+
+-- ---- scripts on one file
+
+-- Each script begins at an open desk on what the one before left stored.
+abbrev pub Sessions : State → List (List (Exchange Mishap)) → State → Type 0
+Sessions stored [] left = left ≡ stored
+Sessions stored (xs ∷ sessions) left = (desk : DeskState) × Exchanges (settled stored) xs desk × Sessions desk.stored sessions left
+
+-- the commands that their replies acknowledge
+abbrev pub accepted_by : List (List (Exchange Mishap)) → List Ack
+accepted_by [] = []
+accepted_by (xs ∷ sessions) = accepted_in xs ++ accepted_by sessions
+
+-- What any number of scripts on a new file leave is on disk in a world that acknowledged what their replies do: it holds all of that.
+abbrev pub SessionsHold : Type 0
+SessionsHold = (sessions : List (List (Exchange Mishap))) (left : State) → Sessions opening_state sessions left → (v : World) × IsReached v × (v.disk ≡ left) × (v.acks ≡ accepted_by sessions) × HoldsAll v (accepted_by sessions) left

@@ -1,5 +1,5 @@
 //! Laws of the definitions, which no program calls.
-ghost use Rattle.prt_follows.specs.Desks.{DeskHoldsAll, ReopenedDesk, ScriptIsRun, TurnIsSteps};
+ghost use Rattle.prt_follows.specs.Desks.{DeskHoldsAll, ReopenedDesk, ScriptIsRun, SessionsHold, TurnIsSteps};
 ghost use Rattle.prt_follows.specs.Runs.{EveryFailureLeaves, EveryRunLeaves, EveryRunStands};
 
 use sqlite::Alter;
@@ -28,8 +28,10 @@ pub fn turn_is_steps()
 
 /// The lines of a script, whatever befalls each, are some list of events of a world without lookers: it leads to a world
 /// of the desk that the script leaves, and acknowledges what the replies do. A desk whose stored state is opened again
-/// is such a world too, stopped and reopened.
+/// is such a world too, stopped and reopened. So what any number of scripts on one file leave holds each command that a
+/// reply acknowledged, under the number that the reply tells.
 pub fn script_is_run()
     ensures run { ScriptIsRun }
     ensures reopened { ReopenedDesk }
+    ensures sessions { SessionsHold }
 {}
