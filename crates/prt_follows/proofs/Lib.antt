@@ -13,3 +13,4 @@ pub mod Acks
 pub mod Ran
 pub mod Desks
 pub mod Scripts
+pub mod Looking

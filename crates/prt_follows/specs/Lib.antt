@@ -5,3 +5,4 @@ pub mod Registers
 pub mod Laws
 pub mod Runs
 pub mod Desks
+pub mod Lookers

@@ -1,5 +1,6 @@
 //! Laws of the definitions, which no program calls.
 ghost use Rattle.prt_follows.specs.Desks.{DeskHoldsAll, ReopenedDesk, ScriptIsRun, SessionsHold, TurnIsSteps};
+ghost use Rattle.prt_follows.specs.Lookers.{EveryLookersEvent};
 ghost use Rattle.prt_follows.specs.Runs.{EveryFailureLeaves, EveryRunLeaves, EveryRunStands};
 
 use sqlite::Alter;
@@ -34,4 +35,9 @@ pub fn script_is_run()
     ensures run { ScriptIsRun }
     ensures reopened { ReopenedDesk }
     ensures sessions { SessionsHold }
+{}
+
+/// Whatever a looker does, or a reclaim: a publisher and its registry stand for the world after it.
+pub fn lookers_events<S: Alter>()
+    ensures { EveryLookersEvent S.Store }
 {}

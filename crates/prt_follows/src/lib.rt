@@ -3,3 +3,4 @@
 
 pub mod calls;
 pub mod laws;
+pub mod lookers;
