@@ -36,10 +36,10 @@ set_same : {X : Type 0} (xs : List X) (i : ℕ) (x : X) → slice_get xs i ≡ S
 set_same xs i x is = ap (set xs i) (sym (get_or_from_slice_get xs i x x is)) ∙ set-get_or xs i x
 
 -- a looker's event of a world that runs
-runs : (w : World) (s : Step) → world.is_stopped w.phase ≡ false → cond (world.is_stopped w.phase) (world.unmet w) s ≡ s
+pub runs : (w : World) (s : Step) → world.is_stopped w.phase ≡ false → cond (world.is_stopped w.phase) (world.unmet w) s ≡ s
 runs w s is = ap (λ b. cond b (world.unmet w) s) is
 
-sits_there : (w : World) (i : ℕ) (state : LookerState) → i < length w.lookers → looker_state (world.with_looker w i state) i ≡ state
+pub sits_there : (w : World) (i : ℕ) (state : LookerState) → i < length w.lookers → looker_state (world.with_looker w i state) i ≡ state
 sits_there w i state within = get_or-set_same w.lookers i state offline within
 
 module _ (r new : RegistryState) (before place : Place) (has : HasPlace r before) where

@@ -81,7 +81,7 @@ ack_seats : (w : World) (moment : Moment) → Seats w (world.acknowledge w momen
 ack_seats w (moments.Noted command) = refl
 ack_seats w moment = refl
 
-abbrev is_command : Event → Bool
+abbrev pub is_command : Event → Bool
 is_command (events.Submit command) = true
 is_command events.Call = true
 is_command (events.Fail fate) = true
@@ -91,7 +91,7 @@ is_command events.Note = true
 is_command events.Ack = true
 is_command event = false
 
-event_seats : (w : World) (event : Event) → is_command event ≡ true → Seats w (step w event)
+pub event_seats : (w : World) (event : Event) → is_command event ≡ true → Seats w (step w event)
 event_seats w (events.Submit command) is = submit_seats w command w.phase
 event_seats w events.Call is = call_seats w w.phase
 event_seats w (events.Fail fate) is = fail_seats w fate w.phase
@@ -101,7 +101,7 @@ event_seats w events.Note is = note_seats w w.phase
 event_seats w events.Ack is = ack_seats w w.phase
 event_seats w event is = absurd cc
 
-list_seats : (list : List Event) → Each (λ event. is_command event ≡ true) list → (w : World) → (run_from w list).lookers ≡ w.lookers
+pub list_seats : (list : List Event) → Each (λ event. is_command event ≡ true) list → (w : World) → (run_from w list).lookers ≡ w.lookers
 list_seats [] all w = refl
 list_seats (event ∷ list) all w = list_seats list all.1 (step w event).world ∙ event_seats w event all.0
 
