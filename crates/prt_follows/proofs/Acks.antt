@@ -131,12 +131,6 @@ stopped_none calls.Write fate = (refl, (refl, tt))
 stopped_none calls.Count fate = (refl, (refl, (refl, tt)))
 stopped_none calls.Commit fate = (refl, (refl, (refl, (refl, tt))))
 
-pub stopped_own : (call : StoreCall) (fate : Fate) → own (stop_events call fate) ≡ stop_events call fate
-stopped_own calls.Begin fate = refl
-stopped_own calls.Write fate = refl
-stopped_own calls.Count fate = refl
-stopped_own calls.Commit fate = refl
-
 pub failed_own : (call : StoreCall) (fate : Fate) → own (fail_events call fate) ≡ fail_events call fate
 failed_own calls.Begin fate = refl
 failed_own calls.Write fate = refl

@@ -29,9 +29,6 @@ use Rattle.prt_follows.proofs.Steps.{disk_after, holds_of, phased_of, reached_ru
 abbrev retired : ℕ → List State → ℕ
 retired noted versions = length (filter (λ state. is_retired noted state.count) versions)
 
-no_more_by : (a b c : ℕ) → a < c → b ≤ a → b < c
-no_more_by a b c less low = omega arith
-
 has_by : (n m : ℕ) → m ≤ n → nat_lt n MOST_RETIRED ≡ true → nat_lt m MOST_RETIRED ≡ true
 has_by n m low has = grind (arith, nat_tests)
 
@@ -128,6 +125,9 @@ beside w (events.Offline at) is reached = unless w (world.go_offline w at (looke
 beside w (events.Look at packet) is reached = unless w (world.look w packet (looker_state w at)) (world.is_stopped w.phase) (looks w packet (looker_state w at))
 beside w events.Reclaim is reached = unless w (world.reclaim w) (world.is_stopped w.phase) (reclaims w (holds_of w reached))
 beside w event is reached = absurd cc
+
+pub moment_stays : (w : World) (event : Event) → is_lookers event ≡ true → IsReached w → (step w event).world.phase ≡ w.phase
+moment_stays w event is reached = (beside w event is reached).moment
 
 pub room_stays : (w : World) (event : Event) → is_lookers event ≡ true → IsReached w → has_room w ≡ true → has_room (step w event).world ≡ true
 room_stays w event is reached room = (beside w event is reached).room room

@@ -22,8 +22,7 @@ use Rattle.prt_world.specs.declared.outcome.Outcome.{Outcome}
 use Rattle.prt_world.specs.declared.outcome.Outcome.TheVariants as outcomes
 use Rattle.prt_world.specs.declared.phase.Phase.{Phase as Moment}
 use Rattle.prt_world.specs.declared.phase.Phase.TheVariants as moments
-use Rattle.prt_world.proofs.KeptVersions.{kept_count}
-use Rattle.prt_world.proofs.Phases.{Holds, shown_version}
+use Rattle.prt_world.proofs.Phases.{shown_version}
 use Rattle.prt_follows.specs.Desks.{DeskHoldsAll, HasRoomFor, IsDeskOf, TurnIsSteps, Weaves, events_by, moment_between, reply_acks, reply_after, reply_by, shown_reply, submitted_events}
 use Rattle.prt_follows.specs.Events.{commit_events, commit_outcomes, fail_events, fail_outcomes, own, own_outcomes, publish_events}
 use Rattle.prt_follows.specs.Spots.{HasRoom, IsAt, IsReached, IsTold, Spot}
@@ -31,7 +30,7 @@ use Rattle.prt_follows.proofs.Acks.{failed_none, is_ack, woven_acks, woven_keeps
 use Rattle.prt_follows.proofs.Exits.{commit_goes, goes_on, kept_goes, lost_goes, publish_fails, publish_goes, spot}
 use Rattle.prt_follows.proofs.Headline.{holds_all}
 use Rattle.prt_follows.proofs.Joined.{shown_more, split}
-use Rattle.prt_follows.proofs.Steps.{Moves, acknowledges, busy, holds_of, notes, refuses, run_more, shut as closed, takes, told_opened}
+use Rattle.prt_follows.proofs.Steps.{Moves, acknowledges, busy, holds_of, notes, refuses, run_more, shown_number, shut as closed, takes, told_opened}
 use Rattle.prt_follows.proofs.Woven.{Goes, woven}
 
 -- ---- where a desk's world is
@@ -40,14 +39,9 @@ use Rattle.prt_follows.proofs.Woven.{Goes, woven}
 abbrev pub line_at : World → Line
 line_at w = record { book = record { number = 0; log_name = 0; cells_name = 0 }; base = published_version w; list = [] }
 
-count_at : (w : World) → IsReached w → (published_version w).count ≡ w.published
-count_at w reached =
-    let holds : Holds w = holds_of w reached in
-    ap (λ (state : State). state.count) (shown_version w holds) ∙ kept_count w.versions w.published (state_after w.accepted w.published) holds.history.top_kept
-
 pub placed : (w : World) (moment : Moment) → IsReached w → w.phase ≡ moment → HasRoom w moment → IsAt (spot (line_at w) w.disk moment) w
 placed w moment reached is room =
-    let count = count_at w reached in
+    let count = shown_number w reached in
     let base : published_version w ≡ state_after w.accepted (published_version w).count = shown_version w (holds_of w reached) ∙ ap (state_after w.accepted) (sym count) in
     record {
       reached = reached;
@@ -144,8 +138,8 @@ module _ (w : World) (command : Command) where
         let number : (line_state line).count ≡ (apply desk.published command).count = ap (λ (s : State). s.count) next_is in
         let quiet : u.acks ≡ w.acks = woven_keeps (events.Submit command ∷ p.0) (events.Submit command ∷ (commit_events ++ events.Publish ∷ events.Note ∷ [])) (ap (λ xs. events.Submit command ∷ xs) p.3) (refl, (refl, (refl, (refl, (refl, (refl, (refl, tt))))))) w in (
           ap (λ os. reply_after (reply_by (Refused refusals.NoMemory) (step w (events.Submit command)).outcome) os) out
-          ∙ ap (λ o. reply_after (reply_by (Refused refusals.NoMemory) o) ((commit_outcomes ++ outcomes.Published (line_state line).count ∷ outcomes.Noted (line_state line).count ∷ []) ++ outcomes.Acknowledged (line_state line).count ∷ [])) prepared.0
-          ∙ ap Accepted number,
+              ∙ ap (λ o. reply_after (reply_by (Refused refusals.NoMemory) o) ((commit_outcomes ++ outcomes.Published (line_state line).count ∷ outcomes.Noted (line_state line).count ∷ []) ++ outcomes.Acknowledged (line_state line).count ∷ [])) prepared.0
+              ∙ ap Accepted number,
           desk_of (settled (apply desk.published command)) line next moments.Ready (run_from v more) (subst (IsAt (spot line next moments.Ready)) (sym ran) b.1) refl next_is next_is,
           ap (λ (x : World). x.acks) ran ∙ woven_acks line next command p.1 u p.4 a.1 ∙ ap (λ acks. acks ++ record { number = (line_state line).count; command = command } ∷ []) quiet ∙ ap (λ n. w.acks ++ record { number = n; command = command } ∷ []) number,
         ))
@@ -173,7 +167,7 @@ module _ (w : World) (command : Command) where
         let next : State = apply (published_version w) command in
         fails desk h is_open allowed room refusals.NotPublished (commit_events ++ events.PublishFail ∷ []) (commit_outcomes ++ outcomes.Refused refusals.NotPublished ∷ []) next (apply desk.published command)
         (goes_on commit_events commit_outcomes (events.PublishFail ∷ []) (outcomes.Refused refusals.NotPublished ∷ []) (spot (line_at w) w.disk (moments.Prepared command calls.Begin)) (spot (line_at w) next (moments.Committed command)) (spot (line_at w) next moments.Closed)
-            (commit_goes (line_at w) w.disk command) (publish_fails (line_at w) next command))
+        (commit_goes (line_at w) w.disk command) (publish_fails (line_at w) next command))
         (next_is desk h is_open allowed room) refl (refl, (refl, (refl, (refl, (refl, tt))))) all weaves
 
     by_reason : (shuts : Bool) (reason : Option Refusal) (mishap : Option Mishap) → desk.closed ≡ shuts → refusal desk.published command ≡ reason → (desk.closed ≡ false → refusal desk.published command ≡ None → HasRoomFor w mishap)

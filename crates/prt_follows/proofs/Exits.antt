@@ -267,7 +267,7 @@ module _ {S : Type 0} (g : Ghosts S) where
     reclaimed_at moment going place =
         let is : step w events.Reclaim ≡ reclaim w =
         ap (λ m. cond (is_stopped m) (unmet w) (reclaim w)) place.moment ∙ ap (λ b. cond b (unmet w) (reclaim w)) going in
-        (stays_there (spot old.line w.disk moment) w events.Reclaim refl place, subst (λ (t : Step). Registers (reclaimed before) t.world) (sym is) (registers_reclaimed (spot old.line w.disk moment) before w place held))
+        (stays_there (spot old.line w.disk moment) w events.Reclaim refl place, subst (λ (t : Step). Registers (reclaimed before) t.world) (sym is) (registers_reclaimed before w place.reached held))
 
     pub admits : (command : Command) → new ≡ record old { phase = Admitted; command = Some command } → old.phase ≡ Ready → (r ≡ reclaimed before) × (length r.retired < MOST_RETIRED) → StandFor g new r (step w events.Reclaim).world
     admits command is ready room =
@@ -275,7 +275,7 @@ module _ {S : Type 0} (g : Ghosts S) where
         let there = reclaimed_at moments.Ready refl place in
         let v : World = (step w events.Reclaim).world in
         let registers : Registers r v = subst (λ (q : RegistryState). Registers q v) (sym room.0) there.1 in
-        let has : has_room v ≡ true = room_is (spot old.line w.disk moments.Ready) r v there.0 registers ∙ is_less (length r.retired) MOST_RETIRED room.1 in
+        let has : has_room v ≡ true = room_is r v there.0.reached registers ∙ is_less (length r.retired) MOST_RETIRED room.1 in
         (subst (λ (p : Standing (Held S)). StandsFor g p v) (sym is) (stands (record old { phase = Admitted; command = Some command }) v w.disk moments.Ready refl there.0 (stored_in old new w s Ready ready) has), registers)
 
     pub noted : old.phase ≡ Published → new ≡ record old { phase = Ready; command = None } → r ≡ noted_by before (line_state old.line) → (outcomes_from w note_events ≡ note_outcomes old.line) × StandFor g new r (run_from w note_events)
@@ -314,7 +314,7 @@ module _ {S : Type 0} (g : Ghosts S) where
                     let u : World = (step v (events.Submit command)).world in
                     let there = reclaimed_at old new before r w h.0 h.1 moments.Ready refl (place_in old new w h.0 Ready moments.Ready ready refl) in
                     let registers : Registers r v = subst (λ (q : RegistryState). Registers q v) (sym full.1) there.1 in
-                    let has : has_room v ≡ false = room_is (spot old.line w.disk moments.Ready) r v there.0 registers ∙ is_not_less (length r.retired) MOST_RETIRED full.3 in
+                    let has : has_room v ≡ false = room_is r v there.0.reached registers ∙ is_not_less (length r.retired) MOST_RETIRED full.3 in
                     let m = busy old.line w.disk v command full.0 has there.0 in
                     (m.0 ∙ ap outcomes.Refused (sym full.2), (still old new w h.0 u moments.Ready clause.0 at m.1 (subst (λ (p : Phase). SawRoom p u) (sym ready) tt), submits command r v registers)),
               )

@@ -14,7 +14,6 @@ use Rattle.prt_world.specs.World.{LookerState, Step, World, announced_by, looker
 use Rattle.prt_world.specs.declared.event.Event.TheVariants as events
 use Rattle.prt_follows.specs.Lookers.{EveryLookersEvent, IsAnnounce, IsJoin, IsOffline, IsOnline, IsPart, held_online, seat}
 use Rattle.prt_follows.specs.Registers.{Registers, brought_online, taken_offline, told_number}
-use Rattle.prt_follows.specs.Spots.{Spot}
 use Rattle.prt_follows.specs.StandsFor.{StandsFor}
 use Rattle.prt_follows.proofs.Joined.{stands_beside}
 use Rattle.prt_follows.proofs.Opening.{open_moment}
@@ -52,10 +51,10 @@ module _ (r new : RegistryState) (before place : Place) (has : HasPlace r before
       let to : step w (events.Online before.index) ≡ world.go_online w before.index offline = runs w (world.go_online w before.index (looker_state w before.index)) going ∙ ap (world.go_online w before.index) was in (
         registry ∙ ap (λ n. with_place r before.index (places.Online n)) counted ∙ sym (ap (brought_online r before.index) was),
         ap (λ (p : Place). looker_state (step w (events.Online before.index)).world p.index) moved
-        ∙ ap (λ (t : Step). looker_state t.world before.index) to
-        ∙ sits_there w before.index (online w.noted None) (has_looker r w before s has)
-        ∙ ap (λ n. online n None) (sym noted)
-        ∙ sym (ap (λ (p : Place). seat p.announced (held_online before.announced held)) moved ∙ ap (λ a. seat (Some number) (held_online a held)) is),
+            ∙ ap (λ (t : Step). looker_state t.world before.index) to
+            ∙ sits_there w before.index (online w.noted None) (has_looker r w before s has)
+            ∙ ap (λ n. online n None) (sym noted)
+            ∙ sym (ap (λ (p : Place). seat p.announced (held_online before.announced held)) moved ∙ ap (λ a. seat (Some number) (held_online a held)) is),
       )
   onlined (Some told) number is counted moved registry held w going s sat =
       let was : looker_state w before.index ≡ online told held = sat ∙ ap (λ a. seat a held) is in
@@ -63,10 +62,10 @@ module _ (r new : RegistryState) (before place : Place) (has : HasPlace r before
       let there : slice_get r.places before.index ≡ Some (places.Online number) = has.1 ∙ ap (λ a. Some (announcing a)) is ∙ ap (λ n. Some (places.Online n)) (sym counted) in (
         registry ∙ ap (λ (ps : List PlaceState). record r { places = ps }) (set_same r.places before.index (places.Online number) there) ∙ sym (ap (brought_online r before.index) was),
         ap (λ (p : Place). looker_state (step w (events.Online before.index)).world p.index) moved
-        ∙ ap (λ (t : Step). looker_state t.world before.index) to
-        ∙ was
-        ∙ ap (λ n. online n held) (sym counted)
-        ∙ sym (ap (λ (p : Place). seat p.announced (held_online before.announced held)) moved ∙ ap (λ a. seat (Some number) (held_online a held)) is),
+            ∙ ap (λ (t : Step). looker_state t.world before.index) to
+            ∙ was
+            ∙ ap (λ n. online n held) (sym counted)
+            ∙ sym (ap (λ (p : Place). seat p.announced (held_online before.announced held)) moved ∙ ap (λ a. seat (Some number) (held_online a held)) is),
       )
 
   -- ---- announce
@@ -77,9 +76,9 @@ module _ (r new : RegistryState) (before place : Place) (has : HasPlace r before
       let to : step w (events.Announce before.index) ≡ world.announce w before.index (online told (Some number)) = runs w (world.announce w before.index (looker_state w before.index)) going ∙ ap (world.announce w before.index) was in (
         registry ∙ sym (ap (told_number r before.index) was),
         ap (λ (p : Place). looker_state (step w (events.Announce before.index)).world p.index) moved
-        ∙ ap (λ (t : Step). looker_state t.world before.index) to
-        ∙ sits_there w before.index (online number (Some number)) (has_looker r w before s has)
-        ∙ sym (ap (λ (p : Place). seat p.announced (Some number)) moved),
+            ∙ ap (λ (t : Step). looker_state t.world before.index) to
+            ∙ sits_there w before.index (online number (Some number)) (has_looker r w before s has)
+            ∙ sym (ap (λ (p : Place). seat p.announced (Some number)) moved),
       )
 
   pub announces : (number : ℕ) (told : Option ℕ) → before.announced ≡ told → IsSome before.announced → place ≡ record before { announced = Some number } → new ≡ with_place r before.index (places.Online number) → IsAnnounce r new before place number
@@ -101,9 +100,9 @@ module _ (r new : RegistryState) (before place : Place) (has : HasPlace r before
       let to : step w (events.Offline before.index) ≡ world.go_offline w before.index (online told held) = runs w (world.go_offline w before.index (looker_state w before.index)) going ∙ ap (world.go_offline w before.index) was in (
         registry ∙ sym (ap (taken_offline r before.index) was),
         ap (λ (p : Place). looker_state (step w (events.Offline before.index)).world p.index) moved
-        ∙ ap (λ (t : Step). looker_state t.world before.index) to
-        ∙ sits_there w before.index offline (has_looker r w before s has)
-        ∙ sym (ap (λ (p : Place). seat p.announced None) moved),
+            ∙ ap (λ (t : Step). looker_state t.world before.index) to
+            ∙ sits_there w before.index offline (has_looker r w before s has)
+            ∙ sym (ap (λ (p : Place). seat p.announced None) moved),
       )
 
 -- ---- join and part
@@ -138,14 +137,14 @@ parted r new place has None is registry held w going s sat =
     let to : step w (events.Offline place.index) ≡ world.go_offline w place.index offline = runs w (world.go_offline w place.index (looker_state w place.index)) going ∙ ap (world.go_offline w place.index) was in
     let told : announced (get_or r.places place.index places.Free) ≡ None = ap announced (get_or_from_slice_get r.places place.index (announcing place.announced) places.Free has.1) ∙ ap (λ a. announced (announcing a)) is in (
       subst (λ (q : RegistryState). Registers q (step w (events.Offline place.index)).world) (sym registry)
-      (subst (λ (t : Step). Registers (with_place r place.index places.Free) t.world) (sym to) (joins r w s place.index places.Free places.Free (sym told))),
+          (subst (λ (t : Step). Registers (with_place r place.index places.Free) t.world) (sym to) (joins r w s place.index places.Free places.Free (sym told))),
       ap (λ (t : Step). looker_state t.world place.index) to ∙ was,
     )
 parted r new place has (Some told) is registry held w going s sat =
     let was : looker_state w place.index ≡ online told held = sat ∙ ap (λ a. seat a held) is in
     let to : step w (events.Offline place.index) ≡ world.go_offline w place.index (online told held) = runs w (world.go_offline w place.index (looker_state w place.index)) going ∙ ap (world.go_offline w place.index) was in (
       subst (λ (q : RegistryState). Registers q (step w (events.Offline place.index)).world) (sym registry)
-      (subst (λ (t : Step). Registers (with_place r place.index places.Free) t.world) (sym to) (sits r w s place.index places.Free offline refl)),
+          (subst (λ (t : Step). Registers (with_place r place.index places.Free) t.world) (sym to) (sits r w s place.index places.Free offline refl)),
       ap (λ (t : Step). looker_state t.world place.index) to ∙ sits_there w place.index offline (has_looker r w place s has),
     )
 
@@ -154,6 +153,5 @@ parted r new place has (Some told) is registry held w going s sat =
 pub lookers_event : {S : Type 0} (g : Ghosts S) → EveryLookersEvent g
 lookers_event g p r w event is h =
     let s : StandsFor g p w = h.0 in
-    let spot : Spot = record { line = p.line; disk = w.disk; moment = s.moment } in
     let going : world.is_stopped w.phase ≡ false = ap world.is_stopped s.place.moment ∙ open_moment p.phase p.command s.moment s.is in
-    (stands_beside g p w event is s, registers_beside spot r w event is going s.place h.1)
+    (stands_beside g p w event is s, registers_beside r w event is going s.place.reached h.1)

@@ -3,8 +3,6 @@ use Rattle.std.proofs.Common.{◌≡◌, true, false, List, [], ◌∷◌, ◌++
 use Rattle.std.proofs.lemmas.List.{append-nil, append_assoc}
 use Rattle.sqlite.specs.Held.{Held}
 use Rattle.sqlite.specs.Store.{Ghosts}
-use Rattle.prt_addr.specs.declared.refusal.StoreCall.{StoreCall}
-use Rattle.prt_addr.specs.declared.refusal.StoreCall.TheVariants as calls
 use Rattle.prt_command.specs.declared.request.Command.{Command}
 use Rattle.prt_store.specs.Exits.{IsStored, Spells}
 use Rattle.prt_publisher.specs.Standing.{Standing}
@@ -15,7 +13,6 @@ use Rattle.prt_world.specs.World as world
 use Rattle.prt_world.specs.World.{Ack, LookerState, Step, World, has_room, looker_state, offline, online, outcomes_from, published_version, run_from, start, step}
 use Rattle.prt_world.specs.declared.event.Event.{Event}
 use Rattle.prt_world.specs.declared.event.Event.TheVariants as events
-use Rattle.prt_world.specs.declared.event.Fate.{Fate}
 use Rattle.prt_world.specs.declared.event.Fate.TheVariants.{Lost}
 use Rattle.prt_world.specs.declared.phase.Phase.{Phase as Moment}
 use Rattle.prt_world.specs.declared.phase.Phase.TheVariants as moments
@@ -23,11 +20,10 @@ use Rattle.prt_front.specs.Line.{Line, line_state}
 use Rattle.prt_version.proofs.Folds.{fold_push}
 use Rattle.prt_grace.specs.Registry.{RegistryState, new_registry}
 use Rattle.prt_grace.specs.declared.place.PlaceState.TheVariants.{Free}
-use Rattle.prt_addr.proofs.Each.{each_append}
 use Rattle.sqlite.specs.Held.{state}
 use Rattle.sqlite.specs.Tree.{Trees}
 use Rattle.prt_version.specs.Change.{apply}
-use Rattle.prt_follows.specs.Spots.{IsAt, Spot}
+use Rattle.prt_follows.specs.Spots.{IsAt}
 use Rattle.prt_follows.specs.Registers.{Registers}
 use Rattle.prt_follows.proofs.Between.{room_published}
 use Rattle.prt_follows.proofs.Exits.{SameVersions, committed_command, same_registers, spot, submits}
@@ -37,7 +33,8 @@ use Rattle.prt_follows.specs.Events.{commit_events, fail_events, stop_events}
 use Rattle.prt_follows.specs.Runs.{EveryFailureLeaves, EveryRunLeaves, EveryRunStands, Turn, Turns, adopted, admitted, beside, committed, declined, events_of, failed, noted, planned, receipts_of, seated, shown, stopped, turn_events, turn_receipts, unplanned, unshown}
 use Rattle.prt_follows.specs.StandsFor.{HasDisk, StandFor, StandsFor, moment_of}
 use Rattle.prt_follows.proofs.Exits.{published_command}
-use Rattle.prt_follows.proofs.Acks.{acknowledged, failed_none, failed_own, is_ack, list_keeps, lookers_none, stopped_none, stopped_own}
+use Rattle.prt_follows.proofs.Acks.{acknowledged, event_keeps, failed_none, failed_own, list_keeps, lookers_none, stopped_none, woven_keeps}
+use Rattle.prt_follows.proofs.Through.{failed_store, through}
 use Rattle.prt_follows.proofs.Headline.{holds_all}
 use Rattle.prt_follows.proofs.Joined.{stands_beside}
 use Rattle.prt_follows.proofs.Opening.{left_is, open_moment}
@@ -45,46 +42,11 @@ use Rattle.prt_follows.proofs.Steps.{holds_of, run_more}
 
 -- ---- the registry: these events leave versions and lookers as they are
 
-call_same : (w : World) (moment : Moment) → SameVersions w (world.call w moment).world
-call_same w (moments.Prepared command calls.Begin) = record { noted = refl; published = refl; versions = refl; lookers = refl }
-call_same w (moments.Prepared command calls.Write) = record { noted = refl; published = refl; versions = refl; lookers = refl }
-call_same w (moments.Prepared command calls.Count) = record { noted = refl; published = refl; versions = refl; lookers = refl }
-call_same w (moments.Prepared command calls.Commit) = record { noted = refl; published = refl; versions = refl; lookers = refl }
-call_same w moment = record { noted = refl; published = refl; versions = refl; lookers = refl }
-
-fail_same : (w : World) (fate : Fate) (moment : Moment) → SameVersions w (world.fail w fate moment).world
-fail_same w fate (moments.Prepared command next) = record { noted = refl; published = refl; versions = refl; lookers = refl }
-fail_same w fate moment = record { noted = refl; published = refl; versions = refl; lookers = refl }
-
 unshown_same : (w : World) (moment : Moment) → SameVersions w (world.fail_publication w moment).world
 unshown_same w (moments.Committed command) = record { noted = refl; published = refl; versions = refl; lookers = refl }
 unshown_same w moment = record { noted = refl; published = refl; versions = refl; lookers = refl }
 
 module _ (r : RegistryState) where
-  calls_on : (w : World) → Registers r w → Registers r (step w events.Call).world
-  calls_on w h = same_registers r w (step w events.Call).world (call_same w w.phase) h
-
-  fails_on : (w : World) (fate : Fate) → Registers r w → Registers r (step w (events.Fail fate)).world
-  fails_on w fate h = same_registers r w (step w (events.Fail fate)).world (fail_same w fate w.phase) h
-
-  commits_on : (w : World) → Registers r w → Registers r (run_from w commit_events)
-  commits_on w h =
-      let a : World = (step w events.Call).world in
-      let b : World = (step a events.Call).world in
-      let c : World = (step b events.Call).world in
-      calls_on c (calls_on b (calls_on a (calls_on w h)))
-
-  failed_on : (w : World) (call : StoreCall) (fate : Fate) → Registers r w → Registers r (run_from w (fail_events call fate))
-  failed_on w calls.Begin fate h = fails_on w fate h
-  failed_on w calls.Write fate h = fails_on (step w events.Call).world fate (calls_on w h)
-  failed_on w calls.Count fate h =
-      let a : World = (step w events.Call).world in
-      fails_on (step a events.Call).world fate (calls_on a (calls_on w h))
-  failed_on w calls.Commit fate h =
-      let a : World = (step w events.Call).world in
-      let b : World = (step a events.Call).world in
-      fails_on (step b events.Call).world fate (calls_on b (calls_on a (calls_on w h)))
-
   unshown_on : (w : World) → Registers r w → Registers r (step w events.PublishFail).world
   unshown_on w h = same_registers r w (step w events.PublishFail).world (unshown_same w w.phase) h
 
@@ -105,22 +67,28 @@ module _ {S : Type 0} (g : Ghosts S) where
   kept : {r after : RegistryState} {v : World} → after ≡ r → Registers r v → Registers after v
   kept {r} {after} {v} is h = subst (λ (q : RegistryState). Registers q v) (sym is) h
 
+  runs : (old : Standing (Held S)) (w : World) → StandsFor g old w → world.is_stopped w.phase ≡ false
+  runs old w s = ap world.is_stopped s.place.moment ∙ open_moment old.phase old.command s.moment s.is
+
   turned : (old new : Standing (Held S)) (r after : RegistryState) (w : World) (turn : Turn) → StandsFor g old w → Registers r w → Turns g old r w turn new after → Reaches new after w (turn_events turn) (turn_receipts turn)
   turned old new r after w (beside event) s h t =
-      let spot : Spot = record { line = old.line; disk = w.disk; moment = s.moment } in
-      let runs : world.is_stopped w.phase ≡ false = ap world.is_stopped s.place.moment ∙ open_moment old.phase old.command s.moment s.is in (
-        subst (λ (p : Standing (Held S)). StandsFor g p (step w event).world) (sym t.1) (stands_beside g old w event t.0 s),
-        kept t.2 (registers_beside spot r w event t.0 runs s.place h),
-        list_keeps (event ∷ []) (lookers_none event t.0, tt) w,
-      )
+      (subst (λ (p : Standing (Held S)). StandsFor g p (step w event).world) (sym t.1) (stands_beside g old w event t.0 s), kept t.2 (registers_beside r w event t.0 (runs old w s) s.place.reached h), list_keeps (event ∷ []) (lookers_none event t.0, tt) w)
   turned old new r after w (seated i place) s h t = (subst (λ (p : Standing (Held S)). StandsFor g p w) (sym t.2) s, kept t.3 (joins r w h i place Free (t.1 ∙ sym t.0)), sym (append-nil w.acks))
   turned old new r after w admitted s h t = ((t w (s, h)).0, (t w (s, h)).1, list_keeps (events.Reclaim ∷ []) (refl, tt) w)
   turned old new r after w (declined command why true) s h t = ((t w (s, h)).1.0, (t w (s, h)).1.1, list_keeps (events.Reclaim ∷ events.Submit command ∷ []) (refl, (refl, tt)) w)
   turned old new r after w (declined command why false) s h t = ((t w (s, h)).1.0, (t w (s, h)).1.1, list_keeps (events.Submit command ∷ []) (refl, tt) w)
   turned old new r after w (planned command) s h t = ((t.1 w s (events.Submit command ∷ []) refl).1, kept t.0 (submits command r w h), list_keeps (events.Submit command ∷ []) (refl, tt) w)
   turned old new r after w unplanned s h t = ((t.1.1 w s [] refl).1, kept t.0 h, sym (append-nil w.acks))
-  turned old new r after w committed s h t = ((t.1 w s commit_events refl).1, kept t.0 (commits_on r w h), list_keeps commit_events (refl, (refl, (refl, (refl, tt)))) w)
-  turned old new r after w (failed call fate left) s h t = ((t.1 w s (fail_events call fate) (failed_own call fate)).1, kept t.0 (failed_on r w call fate h), list_keeps (fail_events call fate) (failed_none call fate) w)
+  turned old new r after w (committed all) s h t = (
+    (t.2 w s all t.0).1,
+    kept t.1 (through all commit_events t.0 (refl, (refl, (refl, (refl, tt)))) r w (runs old w s) s.place.reached h),
+    woven_keeps all commit_events t.0 (refl, (refl, (refl, (refl, tt)))) w ∙ sym (append-nil w.acks),
+  )
+  turned old new r after w (failed call fate left all) s h t = (
+    (t.2 w s all t.0).1,
+    kept t.1 (through all (fail_events call fate) t.0 (failed_store call fate) r w (runs old w s) s.place.reached h),
+    woven_keeps all (fail_events call fate) t.0 (failed_none call fate) w ∙ sym (append-nil w.acks),
+  )
   turned old new r after w shown s h t =
       let c = committed_command old.command s.moment (s.is ∙ ap (λ (p : Phase). moment_of p old.command) t.1) in
       let place : IsAt (spot old.line w.disk (moments.Committed c.0)) w = subst (λ (m : Moment). IsAt (spot old.line w.disk m) w) c.2 s.place in
@@ -146,13 +114,13 @@ module _ {S : Type 0} (g : Ghosts S) where
       spelled_by Published command tables disk trees at under may closed held = held.durable trees may
       spelled_by Closed None tables disk trees at under may closed held = closed at under
       spelled_by Closed (Some command) tables disk trees at under may closed held = held.durable trees may
-  turned old new r after w (stopped call fate) s h t =
-      let there = t.1 w s (stop_events call fate) (stopped_own call fate) in
-      let list = stop_events call fate ++ events.Reopen ∷ [] in
-      let is : run_from w list ≡ (step (run_from w (stop_events call fate)) events.Reopen).world = run_more w (stop_events call fate) (events.Reopen ∷ []) in (
+  turned old new r after w (stopped call fate all) s h t =
+      let there = t.2 w s all t.0 in
+      let v : World = run_from w all in
+      let is : run_from w (all ++ events.Reopen ∷ []) ≡ (step v events.Reopen).world = run_more w all (events.Reopen ∷ []) in (
         subst (StandsFor g new) (sym is) there.2.0,
-        kept t.0 (subst (Registers (new_registry (line_state new.line))) (sym is) there.2.1),
-        list_keeps list (each_append (λ event. is_ack event ≡ false) (stop_events call fate) (events.Reopen ∷ []) (stopped_none call fate) (refl, tt)) w,
+        kept t.1 (subst (Registers (new_registry (line_state new.line))) (sym is) there.2.1),
+        ap (λ (u : World). u.acks) is ∙ event_keeps v events.Reopen refl ∙ woven_keeps all (stop_events call fate) t.0 (stopped_none call fate) w ∙ sym (append-nil w.acks),
       )
 
   -- a run leads to a world that the publisher and the registry stand for, with its receipts

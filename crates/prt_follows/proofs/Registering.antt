@@ -5,7 +5,7 @@ use Rattle.std.specs.List.{AllByRecursion as Each}
 use Rattle.std.proofs.lemmas.Bool.Decides.{nat_tests}
 use Rattle.std.proofs.lemmas.List.{append-nil, append_assoc, map-set}
 use Rattle.std.proofs.lemmas.List.Elements.{filter-append}
-use Rattle.prt_addr.proofs.Each.{each_append, each_filtered, each_implies, filtered_fit}
+use Rattle.prt_addr.proofs.Each.{each_append, each_filtered, each_implies}
 use Rattle.prt_front.specs.Line.{Line, line_state}
 use Rattle.prt_grace.specs.GracePeriod.{after_reclaim, is_retired}
 use Rattle.prt_grace.specs.Registry.{RegistryState, announced, new_registry, noted_by, reclaimed, with_noted, with_place}
@@ -24,10 +24,10 @@ use Rattle.prt_world.proofs.History.{not_retired, stays}
 use Rattle.prt_world.proofs.KeptVersions.{kept_alone, kept_filtered, other_number, same_number}
 use Rattle.prt_world.proofs.Phases.{Holds, Phased, version_kept}
 use Rattle.prt_world.proofs.SideBySide.{all_pass, map_set_same, none_pass}
-use Rattle.prt_follows.specs.Spots.{IsAt, Spot}
+use Rattle.prt_follows.specs.Spots.{IsAt, IsReached, Spot}
 use Rattle.prt_follows.specs.Events.{is_lookers}
 use Rattle.prt_follows.specs.Registers.{Registers, brought_online, registry_after, taken_offline, told_number, unnoted_version}
-use Rattle.prt_follows.proofs.Steps.{holds_of, number_of, phased_of}
+use Rattle.prt_follows.proofs.Steps.{holds_of, number_of, phased_of, shown_number}
 
 each_unnoted_version : (P : State → Type 0) (b : Bool) (state : State) → P state → Each P (unnoted_version b state)
 each_unnoted_version P true state here = tt
@@ -48,12 +48,9 @@ tops_high r w low number s =
     let noted : r.noted.count ≡ w.noted = s.noted in
     (omega arith, each_unnoted_version (λ state. w.noted ≤ state.count) (w.noted == w.published) (published_version w) (omega arith))
 
-module _ (spot : Spot) (r : RegistryState) (w : World) (h : IsAt spot w) (s : Registers r w) where
-  shown_count : (published_version w).count ≡ w.published
-  shown_count = ap (λ state. state.count) h.shown ∙ number_of spot w h
-
+module _ (r : RegistryState) (w : World) (reached : IsReached w) (s : Registers r w) where
   highs : Each (λ state. w.noted ≤ state.count) (tops r w)
-  highs = tops_high r w (holds_of w h.reached).counts.noted_low shown_count s
+  highs = tops_high r w (holds_of w reached).counts.noted_low (shown_number w reached) s
 
   retired_only : filter (λ state. is_retired w.noted state.count) w.versions ≡ r.retired
   retired_only =
@@ -75,7 +72,7 @@ module _ (spot : Spot) (r : RegistryState) (w : World) (h : IsAt spot w) (s : Re
       let told = map announced_by w.lookers in
       let q = λ (state : State). stays w.noted told state.count in
       let left = filter q r.retired in
-      let low : w.noted ≤ w.published = (holds_of w h.reached).counts.noted_low in
+      let low : w.noted ≤ w.published = (holds_of w reached).counts.noted_low in
       let same : (reclaimed r).retired ≡ left = ap (λ n. after_reclaim (λ (state : State). state.count) n (map announced r.places) r.retired) s.noted ∙ ap (λ ns. after_reclaim (λ (state : State). state.count) w.noted ns r.retired) s.told in
       let shown : published_version (world.reclaim w).world ≡ published_version w = ap (λ found. unwrap_or found opening_state) (kept_filtered (stays w.noted told) w.versions w.published (not_retired w.noted w.published told low)) in
       record {
@@ -120,7 +117,7 @@ module _ (line : Line) (disk : State) (command : Command) (r : RegistryState) (w
       let next : w.published ≡ w.noted + 1 = phased.1 in
       let noted : r.noted.count ≡ w.noted = s.noted in
       let count : version.count ≡ w.published = ap (λ state. state.count) is ∙ number_of spot w h in
-      let room : nat_lt (length r.retired) MOST_RETIRED ≡ true = sym (room_is spot r w h s) ∙ h.room in
+      let room : nat_lt (length r.retired) MOST_RETIRED ≡ true = sym (room_is r w h.reached s) ∙ h.room in
       let later : nat_lt r.noted.count version.count ≡ true = is_low version.count r.noted.count (omega arith) in
       let notes : noted_by r version ≡ with_noted r version =
       ap (λ b. cond (b && nat_lt r.noted.count version.count) (with_noted r version) r) room ∙ ap (λ b. cond (true && b) (with_noted r version) r) later in
@@ -225,19 +222,11 @@ going : (r : RegistryState) (w : World) (step : Step) → world.is_stopped w.pha
 going r w step is h = subst (λ b. Registers r (cond b (world.unmet w) step).world) (sym is) h
 
 -- an event of a looker, while the service runs
-pub registers_beside : (spot : Spot) (r : RegistryState) (w : World) (event : Event) → is_lookers event ≡ true → world.is_stopped w.phase ≡ false → IsAt spot w → Registers r w → Registers (registry_after r w event) (step w event).world
-registers_beside spot r w (events.Online i) is runs h s = going (brought_online r i (looker_state w i)) w (world.go_online w i (looker_state w i)) runs (onlines r w s i (looker_state w i))
-registers_beside spot r w (events.Fetch i) is runs h s = going r w (world.fetch w i (looker_state w i)) runs (fetches r w s i (looker_state w i) refl)
-registers_beside spot r w (events.Announce i) is runs h s = going (told_number r i (looker_state w i)) w (world.announce w i (looker_state w i)) runs (announces r w s i (looker_state w i))
-registers_beside spot r w (events.Offline i) is runs h s = going (taken_offline r i (looker_state w i)) w (world.go_offline w i (looker_state w i)) runs (offlines r w s i (looker_state w i))
-registers_beside spot r w (events.Look i packet) is runs h s = going r w (world.look w packet (looker_state w i)) runs (looks r w s packet (looker_state w i))
-registers_beside spot r w events.Reclaim is runs h s = going (reclaimed r) w (world.reclaim w) runs (registers_reclaimed spot r w h s)
-registers_beside spot r w event is runs h s = absurd cc
-
--- ---- room stays, whatever lookers do between its test and the note
-
-pub room_reclaimed : (r : RegistryState) → length r.retired < MOST_RETIRED → length (reclaimed r).retired < MOST_RETIRED
-room_reclaimed r room =
-    let q = λ (state : State). stays r.noted.count (map announced r.places) state.count in
-    let less : length (filter q r.retired) ≤ length r.retired = filtered_fit q r.retired (length r.retired) (omega arith) in
-    omega arith
+pub registers_beside : (r : RegistryState) (w : World) (event : Event) → is_lookers event ≡ true → world.is_stopped w.phase ≡ false → IsReached w → Registers r w → Registers (registry_after r w event) (step w event).world
+registers_beside r w (events.Online i) is runs reached s = going (brought_online r i (looker_state w i)) w (world.go_online w i (looker_state w i)) runs (onlines r w s i (looker_state w i))
+registers_beside r w (events.Fetch i) is runs reached s = going r w (world.fetch w i (looker_state w i)) runs (fetches r w s i (looker_state w i) refl)
+registers_beside r w (events.Announce i) is runs reached s = going (told_number r i (looker_state w i)) w (world.announce w i (looker_state w i)) runs (announces r w s i (looker_state w i))
+registers_beside r w (events.Offline i) is runs reached s = going (taken_offline r i (looker_state w i)) w (world.go_offline w i (looker_state w i)) runs (offlines r w s i (looker_state w i))
+registers_beside r w (events.Look i packet) is runs reached s = going r w (world.look w packet (looker_state w i)) runs (looks r w s packet (looker_state w i))
+registers_beside r w events.Reclaim is runs reached s = going (reclaimed r) w (world.reclaim w) runs (registers_reclaimed r w reached s)
+registers_beside r w event is runs reached s = absurd cc

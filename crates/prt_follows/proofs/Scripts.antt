@@ -181,6 +181,7 @@ module _ (w : World) (desk : DeskState) (h : IsDeskOf desk w) (all : AreOffline 
       going : (b : Bool) → world.is_stopped (moment_between b) ≡ false
       going true = refl
       going false = refl
+
       no_room_asked : (b : Bool) → HasRoom w (moment_between b)
       no_room_asked true = tt
       no_room_asked false = tt
@@ -262,6 +263,7 @@ reopened_desk desk w h =
     going : (b : Bool) → world.is_stopped (moment_between b) ≡ false
     going true = refl
     going false = refl
+
     asked : (b : Bool) → HasRoom w (moment_between b)
     asked true = tt
     asked false = tt

@@ -40,13 +40,14 @@ holds_of w reached = subst Holds (sym reached.1) (every_run_holds reached.0)
 pub phased_of : (w : World) (moment : Moment) → IsReached w → w.phase ≡ moment → Phased w moment
 phased_of w moment reached is = subst (Phased w) is (holds_of w reached).phased
 
--- the number of the published version
+-- the published version has the published number
+pub shown_number : (w : World) → IsReached w → (published_version w).count ≡ w.published
+shown_number w reached =
+    let holds : Holds w = holds_of w reached in
+    ap (λ state. state.count) (shown_version w holds) ∙ kept_count w.versions w.published (state_after w.accepted w.published) holds.history.top_kept
+
 pub number_of : (spot : Spot) (w : World) → IsAt spot w → (line_state spot.line).count ≡ w.published
-number_of spot w h =
-    let holds : Holds w = holds_of w h.reached in
-    ap (λ state. state.count) (sym h.shown)
-    ∙ ap (λ state. state.count) (shown_version w holds)
-    ∙ kept_count w.versions w.published (state_after w.accepted w.published) holds.history.top_kept
+number_of spot w h = ap (λ state. state.count) (sym h.shown) ∙ shown_number w h.reached
 
 -- ---- the commands of a line
 
@@ -152,10 +153,7 @@ module _ (line : Line) (disk : State) (w : World) where
   pub counts : (command : Command) → Here (moments.Prepared command calls.Count) → Moves w events.Call (outcomes.Called calls.Count) (record { line = line; disk = disk; moment = moments.Prepared command calls.Commit })
   counts command h = moved w events.Call (world.call w (moments.Prepared command calls.Count)) (record { line = line; disk = disk; moment = moments.Prepared command calls.Commit }) h.reached (ap (world.call w) h.moment) refl h.disk h.shown h.told h.room
 
-  -- between commands the disk holds the published version
-  pub disk_ready : Here moments.Ready → disk ≡ line_state line
-  disk_ready h = sym h.disk ∙ sym (settled_version w (holds_of w h.reached) (phased_of w moments.Ready h.reached h.moment)) ∙ h.shown
-
+  -- before a command's transaction the disk holds the published version
   pub disk_before : (command : Command) → Here (moments.Prepared command calls.Begin) → disk ≡ line_state line
   disk_before command h = sym h.disk ∙ sym (settled_version w (holds_of w h.reached) (phased_of w (moments.Prepared command calls.Begin) h.reached h.moment).0) ∙ h.shown
 

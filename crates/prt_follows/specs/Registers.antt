@@ -4,7 +4,7 @@ use Rattle.std.specs.List.{AllByRecursion as Each}
 use Rattle.prt_grace.specs.Registry.{RegistryState, announced, reclaimed, with_place}
 use Rattle.prt_grace.specs.declared.place.PlaceState.TheVariants as places
 use Rattle.prt_version.specs.State.{State}
-use Rattle.prt_world.specs.World.{LookerState, World, announced_by, looker_state, offline, online, published_version}
+use Rattle.prt_world.specs.World.{LookerState, World, announced_by, looker_state, offline, online, published_version, step}
 use Rattle.prt_world.specs.declared.event.Event.{Event}
 use Rattle.prt_world.specs.declared.event.Event.TheVariants as events
 
@@ -44,3 +44,8 @@ registry_after r w (events.Announce looker) = told_number r looker (looker_state
 registry_after r w (events.Offline looker) = taken_offline r looker (looker_state w looker)
 registry_after r w events.Reclaim = reclaimed r
 registry_after r w event = r
+
+-- and what a list of events makes of it, the publisher's own being outside the lock
+abbrev pub registry_through : RegistryState → World → List Event → RegistryState
+registry_through r w [] = r
+registry_through r w (event ∷ all) = registry_through (registry_after r w event) (step w event).world all

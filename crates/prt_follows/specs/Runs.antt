@@ -23,12 +23,12 @@ use Rattle.prt_world.specs.declared.event.Event.{Event}
 use Rattle.prt_world.specs.declared.event.Event.TheVariants as events
 use Rattle.prt_world.specs.declared.event.Fate.{Fate}
 use Rattle.prt_world.specs.declared.event.Fate.TheVariants.{Lost}
-use Rattle.prt_follows.specs.Events.{commit_events, fail_events, is_lookers, note_events, reclaim_events, stop_events}
+use Rattle.prt_follows.specs.Events.{commit_events, fail_events, is_lookers, note_events, own, reclaim_events, stop_events}
 use Rattle.prt_follows.specs.Laws.{Admits, AdoptsAgain, BeginsAt, Commits, Declines, DeclinesBy, FailsBy, FailsToCommit, Notes, PlansBy, PlansNot, PublishesNot, Shows, StopsBy}
-use Rattle.prt_follows.specs.Registers.{registry_after}
+use Rattle.prt_follows.specs.Registers.{registry_after, registry_through}
 use Rattle.prt_follows.specs.StandsFor.{StandFor, StandsFor}
 
--- An exit of a step, or what comes between two steps.
+-- An exit of a step, or what comes between two steps. The list of one that makes store calls has what lookers do between them.
 pub data Turn : Type 0 where
   -- an event of a looker, or a reclaim
   beside : (event : Event) → Turn
@@ -38,15 +38,15 @@ pub data Turn : Type 0 where
   declined : (command : Command) → (why : Refusal) → (reclaims : Bool) → Turn
   planned : (command : Command) → Turn
   unplanned : Turn
-  committed : Turn
-  failed : (call : StoreCall) → (fate : Fate) → (left : State) → Turn
+  committed : (all : List Event) → Turn
+  failed : (call : StoreCall) → (fate : Fate) → (left : State) → (all : List Event) → Turn
   shown : Turn
   unshown : Turn
   noted : (command : Command) → (told : Line) → Turn
   -- everything stops between store calls, and a file with these trees is adopted
   adopted : (trees : Trees) → Turn
   -- everything stops within this store call, and what that leaves is adopted
-  stopped : (call : StoreCall) → (fate : Fate) → Turn
+  stopped : (call : StoreCall) → (fate : Fate) → (all : List Event) → Turn
 
 -- what the world does
 abbrev pub turn_events : Turn → List Event
@@ -56,13 +56,13 @@ turn_events admitted = events.Reclaim ∷ []
 turn_events (declined command why reclaims) = reclaim_events reclaims ++ events.Submit command ∷ []
 turn_events (planned command) = events.Submit command ∷ []
 turn_events unplanned = []
-turn_events committed = commit_events
-turn_events (failed call fate left) = fail_events call fate
+turn_events (committed all) = all
+turn_events (failed call fate left all) = all
 turn_events shown = events.Publish ∷ []
 turn_events unshown = events.PublishFail ∷ []
 turn_events (noted command told) = note_events
 turn_events (adopted trees) = events.Stop Lost ∷ events.Reopen ∷ []
-turn_events (stopped call fate) = stop_events call fate ++ events.Reopen ∷ []
+turn_events (stopped call fate all) = all ++ events.Reopen ∷ []
 
 abbrev pub events_of : List Turn → List Event
 events_of [] = []
@@ -97,13 +97,13 @@ module _ {S : Type 0} (g : Ghosts S) where
   Turns old r w (declined command why reclaims) new after = DeclinesBy g old new reclaims r after command why
   Turns old r w (planned command) new after = (after ≡ r) × PlansBy g old new command
   Turns old r w unplanned new after = (after ≡ r) × PlansNot g old new NoMemory
-  Turns old r w committed new after = (after ≡ r) × Commits g old new
-  Turns old r w (failed call fate left) new after = (after ≡ r) × FailsBy g old new call fate left
+  Turns old r w (committed all) new after = (own all ≡ commit_events) × (after ≡ registry_through r w all) × Commits g old new
+  Turns old r w (failed call fate left all) new after = (own all ≡ fail_events call fate) × (after ≡ registry_through r w all) × FailsBy g old new call fate left
   Turns old r w shown new after = (after ≡ r) × (old.phase ≡ Committed) × Shows g old new
   Turns old r w unshown new after = (after ≡ r) × PublishesNot g old new NotPublished
   Turns old r w (noted command told) new after = (old.phase ≡ Published) × (old.command ≡ Some command) × Notes g old new r after told
   Turns old r w (adopted trees) new after = (after ≡ new_registry (line_state new.line)) × LeavesFile old w trees × AdoptsAgain g trees new
-  Turns old r w (stopped call fate) new after = (after ≡ new_registry (line_state new.line)) × StopsBy g old new call fate
+  Turns old r w (stopped call fate all) new after = (own all ≡ stop_events call fate) × (after ≡ new_registry (line_state new.line)) × StopsBy g old new call fate
 
   -- one after the other
   abbrev pub Ran : Standing (Held S) → RegistryState → World → List Turn → Standing (Held S) → RegistryState → Type 0

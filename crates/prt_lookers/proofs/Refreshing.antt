@@ -18,11 +18,10 @@ use Rattle.prt_world.specs.World as world
 use Rattle.prt_world.specs.World.{LookerState, Step, World, offline, online, published_version, run_from, step}
 use Rattle.prt_world.specs.declared.event.Event.TheVariants as events
 use Rattle.prt_world.specs.declared.outcome.Outcome.TheVariants as outcomes
-use Rattle.prt_world.proofs.KeptVersions.{kept_count}
 use Rattle.prt_world.proofs.History.{IsServed}
-use Rattle.prt_world.proofs.Phases.{Holds, looker_served, shown_version, version_kept}
+use Rattle.prt_world.proofs.Phases.{Holds, looker_served, version_kept}
 use Rattle.prt_follows.proofs.Looking.{runs}
-use Rattle.prt_follows.proofs.Steps.{holds_of, number_of, reached_run}
+use Rattle.prt_follows.proofs.Steps.{holds_of, number_of, reached_run, shown_number}
 use Rattle.prt_follows.specs.Spots.{IsAt, IsReached, Spot}
 use Rattle.prt_lookers.specs.Seated.{Looks, Refreshes, RefreshesNot, Rests, Runs, announcing_at, fetching, seat_of}
 use Rattle.prt_lookers.proofs.Seats.{At, announces_it, fetches_it, goes_offline, goes_online, others, stays_online}
@@ -38,12 +37,6 @@ up i None w going h = (w.noted, None, goes_online i w going h)
 up i (Some line) w going h =
     let number = (line_state line).count in
     (number, Some number, stays_online i w going number (Some number) h)
-
--- the number of the published version
-shown_number : (w : World) → IsReached w → (published_version w).count ≡ w.published
-shown_number w reached =
-    let holds : Holds w = holds_of w reached in
-    ap (λ (state : State). state.count) (shown_version w holds) ∙ kept_count w.versions w.published (state_after w.accepted w.published) holds.history.top_kept
 
 pub refreshes : (old new : Look) → new.held ≡ Some new.known → Refreshes old new
 refreshes old new held i w before between after reached seated first second third going at_fetch at_announce shown =
@@ -155,9 +148,9 @@ module _ (spot : Spot) (w : World) (h : IsAt spot w) (line : Line) (begins : Beg
       ∙ take-append-le n xs rest (omega arith)
       ∙ take_all n xs (omega arith) in
       sym (
-        ap (fold opening_state) taken
-        ∙ fold_joined opening_state (take b w.accepted) line.list
-        ∙ ap (λ (state : State). fold state line.list) (sym h.told.base ∙ base_is)
+      ap (fold opening_state) taken
+      ∙ fold_joined opening_state (take b w.accepted) line.list
+      ∙ ap (λ (state : State). fold state line.list) (sym h.told.base ∙ base_is)
       )
 
 answer_is : (answer : Answer) (line : Line) (packet : Packet) → answer.number ≡ (line_state line).count → answer.verdict ≡ select (line_state line) packet → world.answer_by (line_state line) packet ≡ answer
