@@ -3,7 +3,6 @@ pub mod Between
 pub mod Woven
 pub mod Registering
 pub mod Exits
-pub mod Stopping
 pub mod Opening
 pub mod Headline
 pub mod Joined

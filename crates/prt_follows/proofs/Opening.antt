@@ -34,7 +34,7 @@ use Rattle.prt_world.proofs.Phases.{version_kept}
 use Rattle.prt_follows.specs.Laws.{AdoptsStopped, BeginsAt, OpensAgain, StopsBy}
 use Rattle.prt_follows.specs.Registers.{Registers}
 use Rattle.prt_follows.proofs.Registering.{registers_opened, registers_started}
-use Rattle.prt_follows.proofs.Stopping.{stopped_leaves}
+use Rattle.prt_store.proofs.StoppedCommits.{stopped_leaves}
 use Rattle.prt_grace.specs.Registry.{new_registry}
 use Rattle.prt_store.proofs.Adoptions.{opening_stored}
 use Rattle.prt_world.specs.declared.event.Fate.{Fate}

@@ -5,7 +5,7 @@ use Rattle.sqlite.specs.Held.{Held}
 use Rattle.sqlite.specs.Store.{Ghosts}
 use Rattle.prt_command.specs.declared.request.Command.{Command}
 use Rattle.prt_store.specs.Exits.{IsStored, Spells}
-use Rattle.prt_publisher.specs.Standing.{Standing}
+use Rattle.prt_publisher.specs.Standing.{Agrees, IsLeft, Standing}
 use Rattle.prt_publisher.specs.declared.phase.Phase.{Phase}
 use Rattle.prt_publisher.specs.declared.phase.Phase.TheVariants.{Ready, Admitted, Prepared, Committed, Published, Closed}
 use Rattle.prt_version.specs.State.{State}
@@ -24,13 +24,13 @@ use Rattle.sqlite.specs.Held.{state}
 use Rattle.sqlite.specs.Tree.{Trees}
 use Rattle.prt_version.specs.Change.{apply}
 use Rattle.prt_follows.specs.Spots.{IsAt}
-use Rattle.prt_follows.specs.Registers.{Registers}
+use Rattle.prt_follows.specs.Registers.{Registers, registry_through}
 use Rattle.prt_follows.proofs.Between.{room_published}
 use Rattle.prt_follows.proofs.Exits.{SameVersions, committed_command, same_registers, spot, submits}
 use Rattle.prt_follows.proofs.Registering.{joins, registers_beside, registers_published}
 use Rattle.prt_follows.proofs.Steps.{publishes}
 use Rattle.prt_follows.specs.Events.{commit_events, fail_events, stop_events}
-use Rattle.prt_follows.specs.Runs.{EveryFailureLeaves, EveryRunLeaves, EveryRunStands, Turn, Turns, adopted, admitted, beside, committed, declined, events_of, failed, noted, planned, receipts_of, seated, shown, stopped, turn_events, turn_receipts, unplanned, unshown}
+use Rattle.prt_follows.specs.Runs.{EveryFailureGoesOn, EveryFailureLeaves, EveryRunLeaves, EveryRunStands, Turn, Turns, adopted, admitted, beside, committed, declined, events_of, failed, noted, planned, receipts_of, seated, shown, stopped, turn_events, turn_receipts, unplanned, unshown}
 use Rattle.prt_follows.specs.StandsFor.{HasDisk, StandFor, StandsFor, moment_of}
 use Rattle.prt_follows.proofs.Exits.{published_command}
 use Rattle.prt_follows.proofs.Acks.{acknowledged, event_keeps, failed_none, failed_own, list_keeps, lookers_none, stopped_none, woven_keeps}
@@ -166,3 +166,15 @@ module _ {S : Type 0} (g : Ghosts S) where
       let v : World = run_from u list in
       let acks : v.acks ≡ receipts_of turns = list_keeps list (failed_none failure.0 by.0) u ∙ append-nil u.acks ∙ reached.1 in
       (v, last.1, last.2, holds_all v [] (receipts_of turns) left (holds_of v last.1.place.reached) (sym last.2) acks)
+
+  -- after a failed commit whichever file is left is adopted
+  pub goes_on_after : EveryFailureGoesOn g
+  goes_on_after old new last r w why h failure closed stood known trees may adopts =
+      let shut : IsLeft g new.tables (line_state new.line) = subst (λ (o : Option Command). Agrees g Closed o (line_state new.line) new.tables) closed.1 (subst (λ (p : Phase). Agrees g p new.command (line_state new.line) new.tables) closed.0 (stood known)) in
+      let spelled = shut.durable trees may in
+      let left : State = spelled.0 in
+      let by = failure.2 known left (trees, may, spelled.1) in
+      let list = fail_events failure.0 by.0 in
+      let own_is = failed_own failure.0 by.0 in
+      let disk = (by.1 w h.0 list own_is).2 in
+      (failure.0, by.0, left, spelled.1, (new, registry_through r w list, (own_is, refl, by.1), (last, new_registry (line_state last.line), (refl, (known, may, λ _ _. subst (Spells trees) (sym disk) spelled.1), adopts), (refl, refl))))

@@ -13,7 +13,7 @@ abbrev pub unnoted_version : Bool → State → List State
 unnoted_version true state = []
 unnoted_version false state = state ∷ []
 
--- The registry has noted the world's number, its versions are those that the world keeps, but for one that is published and not noted, and its places announce what the world's lookers do.
+-- The registry has noted the world's number. Its versions are those that the world keeps, but for one that is published and not noted. Its places announce what the world's lookers do.
 pub record Registers (r : RegistryState) (w : World) : Type 0 where
   pub noted : r.noted.count ≡ w.noted
   pub below : Each (λ state. state.count < w.noted) r.retired

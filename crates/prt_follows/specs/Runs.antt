@@ -12,7 +12,7 @@ use Rattle.prt_front.specs.Line.{Line, line_state}
 use Rattle.prt_grace.specs.Registry.{RegistryState, announced, new_registry, with_place}
 use Rattle.prt_grace.specs.declared.place.PlaceState.{PlaceState}
 use Rattle.prt_grace.specs.declared.place.PlaceState.TheVariants.{Free}
-use Rattle.prt_publisher.specs.Standing.{Standing}
+use Rattle.prt_publisher.specs.Standing.{Standing, Stands}
 use Rattle.prt_publisher.specs.declared.phase.Phase.TheVariants.{Closed, Committed, Published}
 use Rattle.prt_store.specs.Exits.{IsKnown, MayLeave, Spells}
 use Rattle.prt_version.specs.Select.{select}
@@ -159,3 +159,9 @@ module _ {S : Type 0} (g : Ghosts S) where
   EveryFailureLeaves = (turns : List Turn) (old mid new : Standing (Held S)) (after : RegistryState) → BeginsAt g old start → Ran old (new_registry (line_state old.line)) start turns mid after
       → (why : Refusal) → FailsToCommit g mid new why → IsKnown g new.format_1 new.tables → (left : State) → MayLeave g new.tables left
       → (v : World) × StandsFor g new v × (v.disk ≡ left) × HoldsAll v (receipts_of turns) left
+
+  -- And whichever file it left is adopted: the run goes on by two turns, with the state that this file spells.
+  abbrev pub EveryFailureGoesOn : Type 0
+  EveryFailureGoesOn = (old new last : Standing (Held S)) (r : RegistryState) (w : World) (why : Refusal) → StandFor g old r w → FailsToCommit g old new why → (new.phase ≡ Closed) × (new.command ≡ None) → Stands g new
+      → IsKnown g new.format_1 new.tables → (trees : Trees) → (state g new.tables).may_leave trees → AdoptsAgain g trees last
+      → (call : StoreCall) × (fate : Fate) × (left : State) × Spells trees left × Ran old r w (failed call fate left (fail_events call fate) ∷ adopted trees ∷ []) last (new_registry (line_state last.line))

@@ -1,7 +1,7 @@
 //! Laws of the definitions, which no program calls.
 ghost use Rattle.prt_follows.specs.Desks.{DeskHoldsAll, ReopenedDesk, ScriptIsRun, SessionsHold, TurnIsSteps};
 ghost use Rattle.prt_follows.specs.Lookers.{EveryLookersEvent};
-ghost use Rattle.prt_follows.specs.Runs.{EveryFailureLeaves, EveryRunLeaves, EveryRunStands};
+ghost use Rattle.prt_follows.specs.Runs.{EveryFailureGoesOn, EveryFailureLeaves, EveryRunLeaves, EveryRunStands};
 
 use sqlite::Alter;
 
@@ -12,11 +12,13 @@ use sqlite::Alter;
 ///   nothing else (`stands`);
 /// * on a new file, what a crash leaves is a beginning of the accepted commands that lacks one at most; it has each
 ///   command of a receipt under its number, and the version by which each answer was given (`leaves`);
-/// * that holds too where the next commit fails, of each state that may be left then (`failed`).
+/// * that holds too where the next commit fails, of each state that may be left then (`failed`);
+/// * whichever file it left is adopted, the list goes on (`goes_on`).
 pub fn every_run_of_calls<S: Alter>()
     ensures stands { EveryRunStands S.Store }
     ensures leaves { EveryRunLeaves S.Store }
     ensures failed { EveryFailureLeaves S.Store }
+    ensures goes_on { EveryFailureGoesOn S.Store }
 {}
 
 /// Each turn of a command at a desk, whatever befalls it, is the world's events: they show its reply, lead to a world of

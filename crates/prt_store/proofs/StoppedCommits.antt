@@ -1,4 +1,4 @@
--- What a stop leaves that falls into a store call of a commit.
+-- What a crash finds where a stop falls into a store call of a commit: the state before its command or, in the commit call alone, the one after it.
 use Rattle.std.proofs.Common.{◌≡◌, ◌⊎◌, inl, inr, ◌+◌, Bool, Ok, refl, sym, ap, subst, ◌∙◌, arith}
 use Rattle.sqlite.specs.Held.{Held, state}
 use Rattle.sqlite.specs.State.{HasCleanDisk}
