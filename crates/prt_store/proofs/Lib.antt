@@ -14,4 +14,5 @@ pub mod Adoptions
 pub mod Spelled
 pub mod Exits
 pub mod Stops
+pub mod StoppedCommits
 pub mod Anywhere

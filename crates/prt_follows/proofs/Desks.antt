@@ -1,0 +1,185 @@
+-- Each turn of a desk's definition is the world's events.
+use Rattle.std.proofs.Common.{◌≡◌, ◌+◌, Bool, true, false, List, [], ◌∷◌, ◌++◌, Option, Some, None, refl, sym, ap, ◌∙◌, subst}
+use Rattle.std.specs.List.{AllByRecursion as Each}
+use Rattle.std.proofs.lemmas.List.{append-nil}
+use Rattle.prt_addr.specs.declared.refusal.Refusal.{Refusal}
+use Rattle.prt_addr.specs.declared.refusal.Refusal.TheVariants as refusals
+use Rattle.prt_addr.specs.declared.refusal.StoreCall.{StoreCall}
+use Rattle.prt_addr.specs.declared.refusal.StoreCall.TheVariants as calls
+use Rattle.prt_command.specs.declared.request.Command.{Command}
+use Rattle.prt_front.specs.Line.{Line, grown, line_state}
+use Rattle.prt_session.specs.Desk.{DeskState, Mishap, command_or_refusal, commit_kept, no_memory, no_room, publication_fails, settled, shut, store_fails, submit}
+use Rattle.prt_session.specs.Session.{Turn}
+use Rattle.prt_session.specs.declared.reply.Reply.TheVariants.{Accepted, Refused}
+use Rattle.prt_version.specs.Change.{apply, refusal}
+use Rattle.prt_version.specs.State.{State}
+use Rattle.prt_world.specs.Durability.{state_after}
+use Rattle.prt_world.specs.World.{World, has_room, published_version, run_from, step}
+use Rattle.prt_world.specs.declared.event.Event.{Event}
+use Rattle.prt_world.specs.declared.event.Event.TheVariants as events
+use Rattle.prt_world.specs.declared.event.Fate.TheVariants.{Kept, Lost}
+use Rattle.prt_world.specs.declared.outcome.Outcome.{Outcome}
+use Rattle.prt_world.specs.declared.outcome.Outcome.TheVariants as outcomes
+use Rattle.prt_world.specs.declared.phase.Phase.{Phase as Moment}
+use Rattle.prt_world.specs.declared.phase.Phase.TheVariants as moments
+use Rattle.prt_world.proofs.Phases.{shown_version}
+use Rattle.prt_follows.specs.Desks.{DeskHoldsAll, HasRoomFor, IsDeskOf, TurnIsSteps, Weaves, events_by, moment_between, reply_acks, reply_after, reply_by, shown_reply, submitted_events}
+use Rattle.prt_follows.specs.Events.{commit_events, commit_outcomes, fail_events, fail_outcomes, own, own_outcomes, publish_events}
+use Rattle.prt_follows.specs.Spots.{HasRoom, IsAt, IsReached, IsTold, Spot}
+use Rattle.prt_follows.proofs.Acks.{failed_none, is_ack, woven_acks, woven_keeps}
+use Rattle.prt_follows.proofs.Exits.{commit_goes, goes_on, kept_goes, lost_goes, publish_fails, publish_goes, spot}
+use Rattle.prt_follows.proofs.Headline.{holds_all}
+use Rattle.prt_follows.proofs.Joined.{shown_more, split}
+use Rattle.prt_follows.proofs.Steps.{Moves, acknowledges, busy, holds_of, notes, refuses, run_more, shown_number, shut as closed, takes, told_opened}
+use Rattle.prt_follows.proofs.Woven.{Goes, woven}
+
+-- ---- where a desk's world is
+
+-- a list that begins with the published version
+abbrev pub line_at : World → Line
+line_at w = record { book = record { number = 0; log_name = 0; cells_name = 0 }; base = published_version w; list = [] }
+
+pub placed : (w : World) (moment : Moment) → IsReached w → w.phase ≡ moment → HasRoom w moment → IsAt (spot (line_at w) w.disk moment) w
+placed w moment reached is room =
+    let count = shown_number w reached in
+    let base : published_version w ≡ state_after w.accepted (published_version w).count = shown_version w (holds_of w reached) ∙ ap (state_after w.accepted) (sym count) in
+    record {
+      reached = reached;
+      moment = is;
+      disk = refl;
+      shown = refl;
+      told = subst (λ n. IsTold (line_at w) w.accepted n) count (told_opened (line_at w) w.accepted (published_version w) refl refl base);
+      room = room;
+    }
+
+pub desk_of : (desk : DeskState) (line : Line) (disk : State) (moment : Moment) (v : World) → IsAt (spot line disk moment) v → moment ≡ moment_between desk.closed → line_state line ≡ desk.published → disk ≡ desk.stored → IsDeskOf desk v
+desk_of desk line disk moment v h between published stored = record { reached = h.reached; between = h.moment ∙ between; published = h.shown ∙ published; stored = h.disk ∙ stored }
+
+-- ---- one turn
+
+module _ (w : World) (command : Command) where
+  abbrev Is : Turn DeskState → List Event → Type 0
+  Is turn all = (shown_reply (own_outcomes w all) ≡ turn.reply) × IsDeskOf turn.desk (run_from w all) × ((run_from w all).acks ≡ w.acks ++ reply_acks command turn.reply)
+
+  -- a submission and its other events
+  submitted : (o : Outcome) (more rest : List Event) (shown : List Outcome) (first last : Spot) → Moves w (events.Submit command) o first → own more ≡ rest → Goes first rest shown last
+      → (own_outcomes w (events.Submit command ∷ more) ≡ o ∷ shown) × IsAt last (run_from w (events.Submit command ∷ more))
+  submitted o more rest shown first last m e goes =
+      let v : World = (step w (events.Submit command)).world in
+      let r = woven more rest shown first last v e goes m.1 in
+      (ap (λ x. x ∷ own_outcomes v more) m.0 ∙ ap (λ os. o ∷ os) r.0, r.1)
+
+  -- that acknowledge nothing
+  silent : (more rest : List Event) → own more ≡ rest → Each (λ event. is_ack event ≡ false) rest → (run_from w (events.Submit command ∷ more)).acks ≡ w.acks ++ []
+  silent more rest e none = woven_keeps (events.Submit command ∷ more) (events.Submit command ∷ rest) (ap (λ xs. events.Submit command ∷ xs) e) (refl, none) w ∙ sym (append-nil w.acks)
+
+  begun : (all rest : List Event) (turn : Turn DeskState) → Weaves (events.Submit command ∷ rest) all → ((more : List Event) → own more ≡ rest → Is turn (events.Submit command ∷ more)) → Is turn all
+  begun all rest turn weaves law = subst (λ (es : List Event). Is turn es) (sym weaves.1) (law weaves.0 weaves.2)
+
+  -- the world refuses it
+  refused : (desk : DeskState) (why : Refusal) (moment : Moment) → IsDeskOf desk w → moment ≡ moment_between desk.closed → Moves w (events.Submit command) (outcomes.Refused why) (spot (line_at w) w.disk moment)
+      → (all : List Event) → Weaves (events.Submit command ∷ []) all → Is (record { reply = Refused why; desk = desk }) all
+  refused desk why moment h between m all weaves = begun all [] (record { reply = Refused why; desk = desk }) weaves (λ more e.
+      let here = spot (line_at w) w.disk moment in
+      let r = submitted (outcomes.Refused why) more [] [] here here m e refl in (
+        ap shown_reply r.0,
+        desk_of desk (line_at w) w.disk moment (run_from w (events.Submit command ∷ more)) r.1 between h.published h.stored,
+        silent more [] e tt,
+      ))
+
+  module _ (desk : DeskState) (h : IsDeskOf desk w) (is_open : desk.closed ≡ false) (allowed : refusal desk.published command ≡ None) (has : has_room w ≡ true) where
+    abbrev here : Moment → Spot
+    here moment = spot (line_at w) w.disk moment
+
+    next_is : apply (published_version w) command ≡ apply desk.published command
+    next_is = ap (λ (s : State). apply s command) h.published
+
+    prepared : Moves w (events.Submit command) (outcomes.Prepared ((published_version w).count + 1)) (here (moments.Prepared command calls.Begin))
+    prepared = takes (line_at w) w.disk w command (ap (λ (s : State). refusal s command) h.published ∙ allowed) has (placed w moments.Ready h.reached (h.between ∙ ap moment_between is_open) tt)
+
+    -- a failing exit: closed, with this state on disk
+    fails : (why : Refusal) (rest : List Event) (shown : List Outcome) (disk stored : State) → Goes (here (moments.Prepared command calls.Begin)) rest shown (spot (line_at w) disk moments.Closed) → disk ≡ stored
+        → shown_reply (outcomes.Prepared ((published_version w).count + 1) ∷ shown) ≡ Refused why → Each (λ event. is_ack event ≡ false) rest
+        → (all : List Event) → Weaves (events.Submit command ∷ rest) all → Is (record { reply = Refused why; desk = shut desk stored }) all
+    fails why rest shown disk stored goes is told none all weaves = begun all rest (record { reply = Refused why; desk = shut desk stored }) weaves (λ more e.
+        let r = submitted (outcomes.Prepared ((published_version w).count + 1)) more rest shown (here (moments.Prepared command calls.Begin)) (spot (line_at w) disk moments.Closed) prepared e goes in (
+          ap shown_reply r.0 ∙ told,
+          desk_of (shut desk stored) (line_at w) disk moments.Closed (run_from w (events.Submit command ∷ more)) r.1 refl h.published is,
+          silent more rest e none,
+        ))
+
+    failed_reply : (call : StoreCall) → shown_reply (outcomes.Prepared ((published_version w).count + 1) ∷ fail_outcomes call) ≡ Refused (refusals.StoreFailed call)
+    failed_reply calls.Begin = refl
+    failed_reply calls.Write = refl
+    failed_reply calls.Count = refl
+    failed_reply calls.Commit = refl
+
+    -- up to the note, and then the acknowledgement
+    accepts : (all : List Event) → Weaves (submitted_events command None) all → Is (submit desk command None) all
+    accepts all weaves = begun all (commit_events ++ publish_events) (submit desk command None) weaves (λ more e.
+        let next : State = apply (published_version w) command in
+        let line : Line = grown (line_at w) command in
+        let first = here (moments.Prepared command calls.Begin) in
+        let stored = spot (line_at w) next (moments.Committed command) in
+        let shown = spot line next (moments.Published command) in
+        let known = spot line next (moments.Noted command) in
+        let noting : Goes shown (events.Note ∷ []) (outcomes.Noted (line_state line).count ∷ []) known = (known, λ v at. notes line next v command at, refl) in
+        let to_known = goes_on commit_events commit_outcomes (events.Publish ∷ events.Note ∷ []) (outcomes.Published (line_state line).count ∷ outcomes.Noted (line_state line).count ∷ []) first stored known
+        (commit_goes (line_at w) w.disk command)
+        (goes_on (events.Publish ∷ []) (outcomes.Published (line_state line).count ∷ []) (events.Note ∷ []) (outcomes.Noted (line_state line).count ∷ []) stored shown known (publish_goes (line_at w) next command) noting) in
+        let v : World = (step w (events.Submit command)).world in
+        let p = split more (commit_events ++ events.Publish ∷ events.Note ∷ []) (events.Ack ∷ []) e in
+        let a = woven p.0 (commit_events ++ events.Publish ∷ events.Note ∷ []) (commit_outcomes ++ outcomes.Published (line_state line).count ∷ outcomes.Noted (line_state line).count ∷ []) first known v p.3 to_known prepared.1 in
+        let u : World = run_from v p.0 in
+        let b = woven p.1 (events.Ack ∷ []) (outcomes.Acknowledged (line_state line).count ∷ []) known (spot line next moments.Ready) u p.4 (spot line next moments.Ready, λ v at. acknowledges line next v command at, refl) a.1 in
+        let ran : run_from v more ≡ run_from u p.1 = ap (run_from v) p.2 ∙ run_more v p.0 p.1 in
+        let out : own_outcomes v more ≡ (commit_outcomes ++ outcomes.Published (line_state line).count ∷ outcomes.Noted (line_state line).count ∷ []) ++ outcomes.Acknowledged (line_state line).count ∷ [] =
+        ap (own_outcomes v) p.2 ∙ shown_more v p.0 p.1 ∙ ap (λ os. os ++ own_outcomes u p.1) a.0 ∙ ap (λ os. (commit_outcomes ++ outcomes.Published (line_state line).count ∷ outcomes.Noted (line_state line).count ∷ []) ++ os) b.0 in
+        let number : (line_state line).count ≡ (apply desk.published command).count = ap (λ (s : State). s.count) next_is in
+        let quiet : u.acks ≡ w.acks = woven_keeps (events.Submit command ∷ p.0) (events.Submit command ∷ (commit_events ++ events.Publish ∷ events.Note ∷ [])) (ap (λ xs. events.Submit command ∷ xs) p.3) (refl, (refl, (refl, (refl, (refl, (refl, (refl, tt))))))) w in (
+          ap (λ os. reply_after (reply_by (Refused refusals.NoMemory) (step w (events.Submit command)).outcome) os) out
+              ∙ ap (λ o. reply_after (reply_by (Refused refusals.NoMemory) o) ((commit_outcomes ++ outcomes.Published (line_state line).count ∷ outcomes.Noted (line_state line).count ∷ []) ++ outcomes.Acknowledged (line_state line).count ∷ [])) prepared.0
+              ∙ ap Accepted number,
+          desk_of (settled (apply desk.published command)) line next moments.Ready (run_from v more) (subst (IsAt (spot line next moments.Ready)) (sym ran) b.1) refl next_is next_is,
+          ap (λ (x : World). x.acks) ran ∙ woven_acks line next command p.1 u p.4 a.1 ∙ ap (λ acks. acks ++ record { number = (line_state line).count; command = command } ∷ []) quiet ∙ ap (λ n. w.acks ++ record { number = n; command = command } ∷ []) number,
+        ))
+
+  module _ (desk : DeskState) (h : IsDeskOf desk w) where
+    by_mishap : (mishap : Option Mishap) → desk.closed ≡ false → refusal desk.published command ≡ None → HasRoomFor w mishap → (all : List Event) → Weaves (submitted_events command mishap) all → Is (submit desk command mishap) all
+    by_mishap None is_open allowed room all weaves = accepts desk h is_open allowed room all weaves
+    by_mishap (Some no_room) is_open allowed room all weaves =
+        let at = placed w moments.Ready h.reached (h.between ∙ ap moment_between is_open) tt in
+        refused desk refusals.Busy moments.Ready h (ap moment_between (sym is_open)) (busy (line_at w) w.disk w command (ap (λ (s : State). refusal s command) h.published ∙ allowed) room at) all weaves
+    by_mishap (Some no_memory) is_open allowed room all weaves =
+        let here = spot (line_at w) w.disk moments.Ready in
+        let at = placed w moments.Ready h.reached (h.between ∙ ap moment_between is_open) tt in
+        let r = woven all [] [] here here w weaves refl at in (
+          ap shown_reply r.0,
+          desk_of desk (line_at w) w.disk moments.Ready (run_from w all) r.1 (ap moment_between (sym is_open)) h.published h.stored,
+          woven_keeps all [] weaves tt w ∙ sym (append-nil w.acks),
+        )
+    by_mishap (Some (store_fails call)) is_open allowed room all weaves =
+        fails desk h is_open allowed room (refusals.StoreFailed call) (fail_events call Lost) (fail_outcomes call) w.disk desk.stored (lost_goes (line_at w) w.disk command call) h.stored (failed_reply desk h is_open allowed room call) (failed_none call Lost) all weaves
+    by_mishap (Some commit_kept) is_open allowed room all weaves =
+        fails desk h is_open allowed room (refusals.StoreFailed calls.Commit) (fail_events calls.Commit Kept) (fail_outcomes calls.Commit) (apply (published_version w) command) (apply desk.published command) (kept_goes (line_at w) w.disk command)
+        (next_is desk h is_open allowed room) refl (failed_none calls.Commit Kept) all weaves
+    by_mishap (Some publication_fails) is_open allowed room all weaves =
+        let next : State = apply (published_version w) command in
+        fails desk h is_open allowed room refusals.NotPublished (commit_events ++ events.PublishFail ∷ []) (commit_outcomes ++ outcomes.Refused refusals.NotPublished ∷ []) next (apply desk.published command)
+        (goes_on commit_events commit_outcomes (events.PublishFail ∷ []) (outcomes.Refused refusals.NotPublished ∷ []) (spot (line_at w) w.disk (moments.Prepared command calls.Begin)) (spot (line_at w) next (moments.Committed command)) (spot (line_at w) next moments.Closed)
+        (commit_goes (line_at w) w.disk command) (publish_fails (line_at w) next command))
+        (next_is desk h is_open allowed room) refl (refl, (refl, (refl, (refl, (refl, tt))))) all weaves
+
+    by_reason : (shuts : Bool) (reason : Option Refusal) (mishap : Option Mishap) → desk.closed ≡ shuts → refusal desk.published command ≡ reason → (desk.closed ≡ false → refusal desk.published command ≡ None → HasRoomFor w mishap)
+        → (all : List Event) → Weaves (events_by command shuts reason mishap) all → Is (command_or_refusal desk command shuts reason mishap) all
+    by_reason true reason mishap is asked room all weaves =
+        refused desk refusals.Closed moments.Closed h (ap moment_between (sym is)) (closed (line_at w) w.disk w command (placed w moments.Closed h.reached (h.between ∙ ap moment_between is) tt)) all weaves
+    by_reason false (Some why) mishap is asked room all weaves =
+        refused desk why moments.Ready h (ap moment_between (sym is)) (refuses (line_at w) w.disk w command why (ap (λ (s : State). refusal s command) h.published ∙ asked) (placed w moments.Ready h.reached (h.between ∙ ap moment_between is) tt)) all weaves
+    by_reason false None mishap is asked room all weaves = by_mishap mishap is asked (room is asked) all weaves
+
+pub turn_is_steps : TurnIsSteps
+turn_is_steps desk w command mishap h room all weaves = by_reason w command desk h desk.closed (refusal desk.published command) mishap refl refl room all weaves
+
+pub desk_holds_all : DeskHoldsAll
+desk_holds_all desk w h = holds_all w [] w.acks desk.stored (holds_of w h.reached) (sym h.stored) refl

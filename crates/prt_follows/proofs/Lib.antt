@@ -1,0 +1,16 @@
+pub mod Steps
+pub mod Between
+pub mod Woven
+pub mod Registering
+pub mod Exits
+pub mod Opening
+pub mod Headline
+pub mod Joined
+pub mod Planned
+pub mod Submitted
+pub mod Acks
+pub mod Through
+pub mod Ran
+pub mod Desks
+pub mod Scripts
+pub mod Looking

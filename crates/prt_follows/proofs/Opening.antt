@@ -1,0 +1,191 @@
+-- A database that is opened, first or again.
+use Rattle.std.proofs.Common.{◌≡◌, ◌⊎◌, inl, inr, false, [], ◌∷◌, Option, Some, None, refl, sym, ap, ◌∙◌, subst, cond, arith}
+use Rattle.sqlite.specs.Held.{Held, state}
+use Rattle.sqlite.specs.Store.{Ghosts}
+use Rattle.prt_addr.specs.declared.refusal.StoreCall.{StoreCall}
+use Rattle.prt_addr.specs.declared.refusal.StoreCall.TheVariants as calls
+use Rattle.prt_command.specs.declared.request.Command.{Command}
+use Rattle.prt_front.specs.Line.{Line, line_state}
+use Rattle.prt_store.specs.Exits.{IsKnown, IsStored, MayLeave, Spells}
+use Rattle.prt_publisher.specs.Standing.{Agrees, Standing, Stands}
+use Rattle.prt_publisher.specs.Exits.{state_after as after_command}
+use Rattle.prt_publisher.specs.declared.phase.Phase.{Phase}
+use Rattle.prt_publisher.specs.declared.phase.Phase.TheVariants.{Ready, Admitted, Prepared, Committed, Published, Closed}
+use Rattle.prt_store.proofs.Spelled.{spelled_once, stored_once}
+use Rattle.prt_rows.specs.Effects.{AreEmpty}
+use Rattle.prt_store.specs.Adopted.{Adopts}
+use Rattle.prt_store.specs.Stored.{Stores}
+use Rattle.std.specs.Prelude.{take}
+use Rattle.std.proofs.lemmas.List.{take-take}
+use Rattle.prt_world.specs.Durability.{state_after}
+use Rattle.prt_world.proofs.Phases.{Holds}
+use Rattle.prt_follows.proofs.Steps.{holds_of, told_opened}
+use Rattle.prt_version.specs.Change.{apply, fold}
+use Rattle.prt_version.specs.State.{State, opening_state}
+use Rattle.prt_world.specs.World as world
+use Rattle.prt_world.specs.World.{Step, World, published_version, run_from, outcomes_from, start, step}
+use Rattle.prt_world.specs.declared.event.Event.TheVariants as events
+use Rattle.prt_world.specs.declared.event.Fate.TheVariants.{Kept, Lost}
+use Rattle.prt_world.specs.declared.outcome.Outcome.TheVariants as outcomes
+use Rattle.prt_world.specs.declared.phase.Phase.{Phase as Moment}
+use Rattle.prt_world.specs.declared.phase.Phase.TheVariants as moments
+use Rattle.prt_world.proofs.KeptVersions.{kept_alone}
+use Rattle.prt_world.proofs.Phases.{version_kept}
+use Rattle.prt_follows.specs.Laws.{AdoptsStopped, BeginsAt, OpensAgain, StopsBy}
+use Rattle.prt_follows.specs.Registers.{Registers}
+use Rattle.prt_follows.proofs.Registering.{registers_opened, registers_started}
+use Rattle.prt_store.proofs.StoppedCommits.{stopped_leaves}
+use Rattle.prt_grace.specs.Registry.{new_registry}
+use Rattle.prt_store.proofs.Adoptions.{opening_stored}
+use Rattle.prt_world.specs.declared.event.Fate.{Fate}
+use Rattle.sqlite.specs.Tree.{Trees}
+use Rattle.prt_follows.specs.Spots.{IsAt, Spot}
+use Rattle.prt_follows.specs.Events.{own, stop_events, stop_outcomes}
+use Rattle.prt_follows.specs.StandsFor.{HasDisk, SawRoom, StandsFor, moment_of}
+use Rattle.prt_follows.proofs.Steps.{Moves, begins, counts, disk_before, moved, pending, writes}
+use Rattle.prt_follows.proofs.Woven.{Goes, woven}
+use Rattle.prt_follows.proofs.Exits.{one_state, prepared_command, spot, stands}
+
+-- ---- one event
+
+-- everything stops between store calls: the disk stays
+pub stops : (line : Line) (disk : State) (moment : Moment) (w : World) → world.is_stopped moment ≡ false → IsAt (spot line disk moment) w → Moves w (events.Stop Lost) outcomes.Stopped (spot line disk moments.Stopped)
+stops line disk moment w going h =
+    let is : step w (events.Stop Lost) ≡ world.stop w Lost =
+    ap (λ m. cond (world.is_stopped m) (world.unmet w) (world.stop w Lost)) h.moment ∙ ap (λ b. cond b (world.unmet w) (world.stop w Lost)) going in
+    moved w (events.Stop Lost) (world.stop w Lost) (spot line disk moments.Stopped) h.reached is refl h.disk h.shown h.told tt
+
+pub reopens : (line opened : Line) (disk : State) (w : World) → line_state opened ≡ disk → opened.list ≡ [] → IsAt (spot line disk moments.Stopped) w → Moves w events.Reopen (outcomes.Reopened (line_state opened).count) (spot opened disk moments.Ready)
+reopens line opened disk w loaded none h =
+    let found : line_state opened ≡ w.disk = loaded ∙ sym h.disk in
+    let shown : published_version (world.reopened w) ≡ line_state opened = version_kept (world.reopened w) w.disk.count w.disk (kept_alone w.disk) ∙ sym found in
+    let base : opened.base ≡ w.disk = ap (fold opened.base) (sym none) ∙ found in
+    let holds : Holds w = holds_of w h.reached in
+    let prefix : w.disk ≡ state_after (take w.disk.count w.accepted) w.disk.count = holds.counts.prefix ∙ ap (fold opening_state) (sym (take-take w.disk.count w.disk.count w.accepted (omega arith))) in
+    subst (λ n. Moves w events.Reopen (outcomes.Reopened n) (spot opened disk moments.Ready)) (ap (λ (s : State). s.count) (sym found))
+    (moved w events.Reopen (world.reopen w moments.Stopped) (spot opened disk moments.Ready) h.reached (ap (world.reopen w) h.moment) refl h.disk shown (told_opened opened (take w.disk.count w.accepted) w.disk base none prefix) tt)
+
+-- ---- publishers
+
+pub open_moment : (phase : Phase) (command : Option Command) (moment : Moment) → Some moment ≡ moment_of phase command → world.is_stopped moment ≡ false
+open_moment Ready command moment is = let e : moment ≡ moments.Ready = cc in ap world.is_stopped e
+open_moment Admitted command moment is = let e : moment ≡ moments.Ready = cc in ap world.is_stopped e
+open_moment Prepared None moment is = absurd cc
+open_moment Prepared (Some c) moment is = let e : moment ≡ moments.Prepared c calls.Begin = cc in ap world.is_stopped e
+open_moment Committed None moment is = absurd cc
+open_moment Committed (Some c) moment is = let e : moment ≡ moments.Committed c = cc in ap world.is_stopped e
+open_moment Published None moment is = absurd cc
+open_moment Published (Some c) moment is = let e : moment ≡ moments.Published c = cc in ap world.is_stopped e
+open_moment Closed command moment is = let e : moment ≡ moments.Closed = cc in ap world.is_stopped e
+
+module _ {S : Type 0} (g : Ghosts S) where
+  -- a publisher that was opened stores what it publishes
+  ready_stored : (new : Standing (Held S)) → new.phase ≡ Ready → Stands g new → IsKnown g new.format_1 new.tables → HasDisk g new.phase new.command new.tables (line_state new.line)
+  ready_stored new ready kept known =
+      let held : IsStored g new.tables (line_state new.line) = subst (λ (p : Phase). Agrees g p new.command (line_state new.line) new.tables) ready (kept known) in
+      subst (λ (p : Phase). HasDisk g p new.command new.tables (line_state new.line)) (sym ready) held
+
+  -- a publisher over a new database stands for the world's start
+  pub started : (new : Standing (Held S)) → (new.phase ≡ Ready) × (new.line.list ≡ []) → Stands g new → line_state new.line ≡ opening_state → BeginsAt g new start
+  started new first kept fresh =
+      let ready : new.phase ≡ Ready = first.0 in
+      let none : new.line.list ≡ [] = first.1 in
+      let place : IsAt (spot new.line opening_state moments.Ready) start = record { reached = ([], refl); moment = refl; disk = refl; shown = sym fresh; told = told_opened new.line [] opening_state (ap (fold new.line.base) (sym none) ∙ fresh) none refl; room = tt } in (
+        stands g new start opening_state moments.Ready (sym (ap (λ (p : Phase). moment_of p new.command) ready)) place
+            (λ known. subst (λ (s : State). HasDisk g new.phase new.command new.tables s) fresh (ready_stored new ready kept known)) (subst (λ (p : Phase). SawRoom p start) (sym ready) tt),
+        subst (λ (s : State). Registers (new_registry s) start) (sym fresh) registers_started,
+      )
+
+  -- three tables without rows, or none, are a new database
+  pub fresh_is : (was made : Held S) (opened : State) → AreEmpty (state g was).now → Adopts (state g was).now (state g made).now → Stores (state g made).now opened → opened ≡ opening_state
+  fresh_is was made opened empty adopts stores =
+      stored_once (state g made).now.schema (state g made).now.schema (state g made).now.trees opened opening_state stores (opening_stored (state g was).now (state g made).now adopts empty)
+
+  -- what a crash leaves is the world's disk, unless a commit failed
+  pub left_is : (old : Standing (Held S)) (w : World) → StandsFor g old w → IsKnown g old.format_1 old.tables → (left : State) → MayLeave g old.tables left → (HasDisk g old.phase old.command old.tables w.disk → IsStored g old.tables w.disk) → left ≡ w.disk
+  left_is old w s known left may stored = spelled_once may.0 left w.disk may.2 ((stored (s.stored known)).durable may.0 may.1)
+
+  -- opened again in a world that is stopped
+  pub opened_after : (line : Line) (left : State) (new : Standing (Held S)) (v : World) → IsAt (spot line left moments.Stopped) v → (new.phase ≡ Ready) × (new.line.list ≡ []) → Stands g new → line_state new.line ≡ left
+      → ((step v events.Reopen).outcome ≡ outcomes.Reopened (line_state new.line).count) × BeginsAt g new (step v events.Reopen).world
+  opened_after line left new v h first kept found =
+      let ready : new.phase ≡ Ready = first.0 in
+      let m = reopens line new.line left v found first.1 h in
+      let is : step v events.Reopen ≡ world.reopen v moments.Stopped = ap (world.reopen v) h.moment in (
+        m.0,
+        (
+          stands g new (step v events.Reopen).world left moments.Ready (sym (ap (λ (p : Phase). moment_of p new.command) ready)) m.1
+              (λ known. subst (λ (s : State). HasDisk g new.phase new.command new.tables s) found (ready_stored new ready kept known)) (subst (λ (p : Phase). SawRoom p (step v events.Reopen).world) (sym ready) tt),
+          subst (λ (t : Step). Registers (new_registry (line_state new.line)) t.world) (sym is) (registers_opened v (line_state new.line) (found ∙ sym h.disk)),
+        ),
+      )
+
+  -- stopped between calls, and opened again
+  pub opened_again : (old new : Standing (Held S)) (w : World) → StandsFor g old w → (new.phase ≡ Ready) × (new.line.list ≡ []) → Stands g new → line_state new.line ≡ w.disk
+      → OpensAgain g w new
+  opened_again old new w s first kept found =
+      let a = stops old.line w.disk s.moment w (open_moment old.phase old.command s.moment s.is) s.place in
+      let v : World = (step w (events.Stop Lost)).world in
+      let b = opened_after old.line w.disk new v a.1 first kept found in (
+        ap (λ o. o ∷ outcomes_from v (events.Reopen ∷ [])) a.0 ∙ ap (λ o. outcomes.Stopped ∷ o ∷ []) b.0,
+        b.1,
+      )
+
+-- ---- stopped within a store call
+
+pub stops_kept : (line : Line) (disk : State) (command : Command) (w : World) → IsAt (spot line disk (moments.Prepared command calls.Commit)) w → Moves w (events.Stop Kept) outcomes.Stopped (spot line (apply (line_state line) command) moments.Stopped)
+stops_kept line disk command w h =
+    let is : step w (events.Stop Kept) ≡ record { world = world.with_disk w (world.stopped w Kept (moments.Prepared command calls.Commit)) moments.Stopped; outcome = outcomes.Stopped } =
+    ap (λ m. cond (world.is_stopped m) (world.unmet w) (record { world = world.with_disk w (world.stopped w Kept m) moments.Stopped; outcome = outcomes.Stopped })) h.moment in
+    moved w (events.Stop Kept) (record { world = world.with_disk w (world.stopped w Kept (moments.Prepared command calls.Commit)) moments.Stopped; outcome = outcomes.Stopped }) (spot line (apply (line_state line) command) moments.Stopped) h.reached is refl (pending line disk w command h) h.shown h.told tt
+
+module _ (line : Line) (disk : State) (command : Command) where
+  abbrev at : StoreCall → Spot
+  at call = spot line disk (moments.Prepared command call)
+
+  pub cut_goes : (call : StoreCall) → Goes (at calls.Begin) (stop_events call Lost) (stop_outcomes call) (spot line disk moments.Stopped)
+  cut_goes calls.Begin = (spot line disk moments.Stopped, λ w h. stops line disk (moments.Prepared command calls.Begin) w refl h, refl)
+  cut_goes calls.Write = (at calls.Write, λ w h. begins line disk w command h, (spot line disk moments.Stopped, λ w h. stops line disk (moments.Prepared command calls.Write) w refl h, refl))
+  cut_goes calls.Count = (at calls.Write, λ w h. begins line disk w command h, (at calls.Count, λ w h. writes line disk w command h, (spot line disk moments.Stopped, λ w h. stops line disk (moments.Prepared command calls.Count) w refl h, refl)))
+  cut_goes calls.Commit = (at calls.Write, λ w h. begins line disk w command h, (at calls.Count, λ w h. writes line disk w command h, (at calls.Commit, λ w h. counts line disk w command h, (spot line disk moments.Stopped, λ w h. stops line disk (moments.Prepared command calls.Commit) w refl h, refl))))
+
+  pub cut_kept_goes : Goes (at calls.Begin) (stop_events calls.Commit Kept) (stop_outcomes calls.Commit) (spot line (apply (line_state line) command) moments.Stopped)
+  cut_kept_goes = (at calls.Write, λ w h. begins line disk w command h, (at calls.Count, λ w h. writes line disk w command h, (at calls.Commit, λ w h. counts line disk w command h, (spot line (apply (line_state line) command) moments.Stopped, λ w h. stops_kept line disk command w h, refl))))
+
+module _ {S : Type 0} (g : Ghosts S) where
+  -- Stopped within a store call of a commit: what is left is the published state or, within the commit call alone, the one after the command.
+  pub stopped_in : (old new : Standing (Held S)) → old.phase ≡ Prepared → (call : StoreCall) (left : State) → (left ≡ line_state old.line) ⊎ ((call ≡ calls.Commit) × (Some left ≡ after_command (line_state old.line) old.command))
+      → (new.phase ≡ Ready) × (new.line.list ≡ []) → Stands g new → line_state new.line ≡ left → (fate : Fate) × StopsBy g old new call fate
+  stopped_in old new phase call left may opened kept found = elim may [
+    | inl same ↦ (
+      Lost,
+      λ w s all e.
+          let c = prepared_command old.command s.moment (s.is ∙ ap (λ (p : Phase). moment_of p old.command) phase) in
+          let first = spot old.line w.disk (moments.Prepared c.0 calls.Begin) in
+          let place : IsAt first w = subst (λ (m : Moment). IsAt (spot old.line w.disk m) w) c.2 s.place in
+          let r = woven all (stop_events call Lost) (stop_outcomes call) first (spot old.line w.disk moments.Stopped) w e (cut_goes old.line w.disk c.0 call) place in
+          let is_left : w.disk ≡ left = disk_before old.line w.disk w c.0 place ∙ sym same in
+          let o = opened_after g old.line w.disk new (run_from w all) r.1 opened kept (found ∙ sym is_left) in
+          (r.0, o.0, o.1),
+    )
+    | inr more ↦ (
+      Kept,
+      λ w s all e.
+          let c = prepared_command old.command s.moment (s.is ∙ ap (λ (p : Phase). moment_of p old.command) phase) in
+          let next : State = apply (line_state old.line) c.0 in
+          let first = spot old.line w.disk (moments.Prepared c.0 calls.Begin) in
+          let place : IsAt first w = subst (λ (m : Moment). IsAt (spot old.line w.disk m) w) c.2 s.place in
+          let e' : own all ≡ stop_events calls.Commit Kept = e ∙ ap (λ (k : StoreCall). stop_events k Kept) more.0 in
+          let r = woven all (stop_events calls.Commit Kept) (stop_outcomes calls.Commit) first (spot old.line next moments.Stopped) w e' (cut_kept_goes old.line w.disk c.0) place in
+          let is_left : next ≡ left = sym (one_state left next (more.1 ∙ ap (after_command (line_state old.line)) c.1)) in
+          let o = opened_after g old.line next new (run_from w all) r.1 opened kept (found ∙ sym is_left) in
+          (r.0 ∙ ap stop_outcomes (sym more.0), o.0, o.1),
+    )
+  ]
+
+  -- in terms of the connection that the stop left
+  pub stopped_there : (new : Standing (Held S)) (trees : Trees) → (new.phase ≡ Ready) × (new.line.list ≡ []) → Stands g new → ((stored : State) → Spells trees stored → line_state new.line ≡ stored) → AdoptsStopped g trees new
+  stopped_there new trees opened kept found old call now left stood was known may spelled =
+      let keeps : IsKnown g old.format_1 old.tables → IsStored g old.tables (line_state old.line) = λ known. subst (λ (p : Phase). Agrees g p old.command (line_state old.line) old.tables) was.prepared (stood known) in
+      let left_is = stopped_leaves g (line_state old.line) old.format_1 old.tables now was.command call was.change was.storable keeps was.makes was.stops known left (trees, may, spelled) in
+      stopped_in old new was.prepared call left (elim left_is [ inl same ↦ inl same | inr more ↦ inr (more.0, ap Some more.1 ∙ sym (ap (after_command (line_state old.line)) was.under_way)) ]) opened kept (found left spelled)

@@ -1,0 +1,180 @@
+-- A run of a publisher's calls leads to a world that it stands for, which has acknowledged each receipt.
+use Rattle.std.proofs.Common.{◌≡◌, true, false, List, [], ◌∷◌, ◌++◌, Option, Some, None, refl, sym, ap, ◌∙◌, subst}
+use Rattle.std.proofs.lemmas.List.{append-nil, append_assoc}
+use Rattle.sqlite.specs.Held.{Held}
+use Rattle.sqlite.specs.Store.{Ghosts}
+use Rattle.prt_command.specs.declared.request.Command.{Command}
+use Rattle.prt_store.specs.Exits.{IsStored, Spells}
+use Rattle.prt_publisher.specs.Standing.{Agrees, IsLeft, Standing}
+use Rattle.prt_publisher.specs.declared.phase.Phase.{Phase}
+use Rattle.prt_publisher.specs.declared.phase.Phase.TheVariants.{Ready, Admitted, Prepared, Committed, Published, Closed}
+use Rattle.prt_version.specs.State.{State}
+use Rattle.prt_world.specs.World as world
+use Rattle.prt_world.specs.World.{Ack, LookerState, Step, World, has_room, looker_state, offline, online, outcomes_from, published_version, run_from, start, step}
+use Rattle.prt_world.specs.declared.event.Event.{Event}
+use Rattle.prt_world.specs.declared.event.Event.TheVariants as events
+use Rattle.prt_world.specs.declared.event.Fate.TheVariants.{Lost}
+use Rattle.prt_world.specs.declared.phase.Phase.{Phase as Moment}
+use Rattle.prt_world.specs.declared.phase.Phase.TheVariants as moments
+use Rattle.prt_front.specs.Line.{Line, line_state}
+use Rattle.prt_version.proofs.Folds.{fold_push}
+use Rattle.prt_grace.specs.Registry.{RegistryState, new_registry}
+use Rattle.prt_grace.specs.declared.place.PlaceState.TheVariants.{Free}
+use Rattle.sqlite.specs.Held.{state}
+use Rattle.sqlite.specs.Tree.{Trees}
+use Rattle.prt_version.specs.Change.{apply}
+use Rattle.prt_follows.specs.Spots.{IsAt}
+use Rattle.prt_follows.specs.Registers.{Registers, registry_through}
+use Rattle.prt_follows.proofs.Between.{room_published}
+use Rattle.prt_follows.proofs.Exits.{SameVersions, committed_command, same_registers, spot, submits}
+use Rattle.prt_follows.proofs.Registering.{joins, registers_beside, registers_published}
+use Rattle.prt_follows.proofs.Steps.{publishes}
+use Rattle.prt_follows.specs.Events.{commit_events, fail_events, stop_events}
+use Rattle.prt_follows.specs.Runs.{EveryFailureGoesOn, EveryFailureLeaves, EveryRunLeaves, EveryRunStands, Turn, Turns, adopted, admitted, beside, committed, declined, events_of, failed, noted, planned, receipts_of, seated, shown, stopped, turn_events, turn_receipts, unplanned, unshown}
+use Rattle.prt_follows.specs.StandsFor.{HasDisk, StandFor, StandsFor, moment_of}
+use Rattle.prt_follows.proofs.Exits.{published_command}
+use Rattle.prt_follows.proofs.Acks.{acknowledged, event_keeps, failed_none, failed_own, list_keeps, lookers_none, stopped_none, woven_keeps}
+use Rattle.prt_follows.proofs.Through.{failed_store, through}
+use Rattle.prt_follows.proofs.Headline.{holds_all}
+use Rattle.prt_follows.proofs.Joined.{stands_beside}
+use Rattle.prt_follows.proofs.Opening.{left_is, open_moment}
+use Rattle.prt_follows.proofs.Steps.{holds_of, run_more}
+
+-- ---- the registry: these events leave versions and lookers as they are
+
+unshown_same : (w : World) (moment : Moment) → SameVersions w (world.fail_publication w moment).world
+unshown_same w (moments.Committed command) = record { noted = refl; published = refl; versions = refl; lookers = refl }
+unshown_same w moment = record { noted = refl; published = refl; versions = refl; lookers = refl }
+
+module _ (r : RegistryState) where
+  unshown_on : (w : World) → Registers r w → Registers r (step w events.PublishFail).world
+  unshown_on w h = same_registers r w (step w events.PublishFail).world (unshown_same w w.phase) h
+
+  shown_on : (line : Line) (disk : State) (command : Command) (w : World) → IsAt (spot line disk (moments.Committed command)) w → Registers r w → Registers r (step w events.Publish).world
+  shown_on line disk command w h held =
+      let to : step w events.Publish ≡ world.publish w (moments.Committed command) = ap (world.publish w) h.moment in
+      let there = publishes line disk w command h (room_published w line disk command h) in
+      let made : published_version (step w events.Publish).world ≡ apply (published_version w) command = there.1.shown ∙ fold_push line.base line.list command ∙ ap (λ (s : State). apply s command) (sym h.shown) in
+      let now : published_version (world.publish w (moments.Committed command)).world ≡ apply (published_version w) command = subst (λ (t : Step). published_version t.world ≡ apply (published_version w) command) to made in
+      subst (λ (t : Step). Registers r t.world) (sym to) (registers_published line disk command r w held h now)
+
+-- ---- runs
+
+module _ {S : Type 0} (g : Ghosts S) where
+  abbrev Reaches : Standing (Held S) → RegistryState → World → List Event → List Ack → Type 0
+  Reaches new after w list told = StandsFor g new (run_from w list) × Registers after (run_from w list) × ((run_from w list).acks ≡ w.acks ++ told)
+
+  kept : {r after : RegistryState} {v : World} → after ≡ r → Registers r v → Registers after v
+  kept {r} {after} {v} is h = subst (λ (q : RegistryState). Registers q v) (sym is) h
+
+  runs : (old : Standing (Held S)) (w : World) → StandsFor g old w → world.is_stopped w.phase ≡ false
+  runs old w s = ap world.is_stopped s.place.moment ∙ open_moment old.phase old.command s.moment s.is
+
+  turned : (old new : Standing (Held S)) (r after : RegistryState) (w : World) (turn : Turn) → StandsFor g old w → Registers r w → Turns g old r w turn new after → Reaches new after w (turn_events turn) (turn_receipts turn)
+  turned old new r after w (beside event) s h t =
+      (subst (λ (p : Standing (Held S)). StandsFor g p (step w event).world) (sym t.1) (stands_beside g old w event t.0 s), kept t.2 (registers_beside r w event t.0 (runs old w s) s.place.reached h), list_keeps (event ∷ []) (lookers_none event t.0, tt) w)
+  turned old new r after w (seated i place) s h t = (subst (λ (p : Standing (Held S)). StandsFor g p w) (sym t.2) s, kept t.3 (joins r w h i place Free (t.1 ∙ sym t.0)), sym (append-nil w.acks))
+  turned old new r after w admitted s h t = ((t w (s, h)).0, (t w (s, h)).1, list_keeps (events.Reclaim ∷ []) (refl, tt) w)
+  turned old new r after w (declined command why true) s h t = ((t w (s, h)).1.0, (t w (s, h)).1.1, list_keeps (events.Reclaim ∷ events.Submit command ∷ []) (refl, (refl, tt)) w)
+  turned old new r after w (declined command why false) s h t = ((t w (s, h)).1.0, (t w (s, h)).1.1, list_keeps (events.Submit command ∷ []) (refl, tt) w)
+  turned old new r after w (planned command) s h t = ((t.1 w s (events.Submit command ∷ []) refl).1, kept t.0 (submits command r w h), list_keeps (events.Submit command ∷ []) (refl, tt) w)
+  turned old new r after w unplanned s h t = ((t.1.1 w s [] refl).1, kept t.0 h, sym (append-nil w.acks))
+  turned old new r after w (committed all) s h t = (
+    (t.2 w s all t.0).1,
+    kept t.1 (through all commit_events t.0 (refl, (refl, (refl, (refl, tt)))) r w (runs old w s) s.place.reached h),
+    woven_keeps all commit_events t.0 (refl, (refl, (refl, (refl, tt)))) w ∙ sym (append-nil w.acks),
+  )
+  turned old new r after w (failed call fate left all) s h t = (
+    (t.2 w s all t.0).1,
+    kept t.1 (through all (fail_events call fate) t.0 (failed_store call fate) r w (runs old w s) s.place.reached h),
+    woven_keeps all (fail_events call fate) t.0 (failed_none call fate) w ∙ sym (append-nil w.acks),
+  )
+  turned old new r after w shown s h t =
+      let c = committed_command old.command s.moment (s.is ∙ ap (λ (p : Phase). moment_of p old.command) t.1) in
+      let place : IsAt (spot old.line w.disk (moments.Committed c.0)) w = subst (λ (m : Moment). IsAt (spot old.line w.disk m) w) c.2 s.place in
+      ((t.2 w s (events.Publish ∷ []) refl).1, kept t.0 (shown_on r old.line w.disk c.0 w place h), list_keeps (events.Publish ∷ []) (refl, tt) w)
+  turned old new r after w unshown s h t = ((t.1.1 w s (events.PublishFail ∷ []) refl).1, kept t.0 (unshown_on r w h), list_keeps (events.PublishFail ∷ []) (refl, tt) w)
+  turned old new r after w (noted command told) s h t =
+      let e = t.2 w (s, h) in
+      let c = published_command old.command s.moment (s.is ∙ ap (λ (p : Phase). moment_of p old.command) t.0) in
+      let same : command ≡ c.0 = one (sym t.1 ∙ c.1) in
+      (e.1.0, e.1.1, acknowledged w command (line_state told).count (s.place.moment ∙ c.2 ∙ ap moments.Published (sym same)) e.0)
+    where
+      one : {x y : Command} → Some x ≡ Some y → x ≡ y
+      one is = cc
+  turned old new r after w (adopted trees) s h t =
+      let there = t.2 old w s (spelled_by old.phase old.command old.tables w.disk trees refl refl t.1.1 t.1.2 (s.stored t.1.0)) in
+      (there.1.0, kept t.0 there.1.1, list_keeps (events.Stop Lost ∷ events.Reopen ∷ []) (refl, (refl, tt)) w)
+    where
+      spelled_by : (phase : Phase) (command : Option Command) (tables : Held S) (disk : State) (trees : Trees) → old.phase ≡ phase → old.command ≡ command → (state g tables).may_leave trees → (old.phase ≡ Closed → old.command ≡ None → Spells trees disk) → HasDisk g phase command tables disk → Spells trees disk
+      spelled_by Ready command tables disk trees at under may closed held = held.durable trees may
+      spelled_by Admitted command tables disk trees at under may closed held = held.durable trees may
+      spelled_by Prepared command tables disk trees at under may closed held = held.durable trees may
+      spelled_by Committed command tables disk trees at under may closed held = held.durable trees may
+      spelled_by Published command tables disk trees at under may closed held = held.durable trees may
+      spelled_by Closed None tables disk trees at under may closed held = closed at under
+      spelled_by Closed (Some command) tables disk trees at under may closed held = held.durable trees may
+  turned old new r after w (stopped call fate all) s h t =
+      let there = t.2 w s all t.0 in
+      let v : World = run_from w all in
+      let is : run_from w (all ++ events.Reopen ∷ []) ≡ (step v events.Reopen).world = run_more w all (events.Reopen ∷ []) in (
+        subst (StandsFor g new) (sym is) there.2.0,
+        kept t.1 (subst (Registers (new_registry (line_state new.line))) (sym is) there.2.1),
+        ap (λ (u : World). u.acks) is ∙ event_keeps v events.Reopen refl ∙ woven_keeps all (stop_events call fate) t.0 (stopped_none call fate) w ∙ sym (append-nil w.acks),
+      )
+
+  -- a run leads to a world that the publisher and the registry stand for, with its receipts
+  pub ran : EveryRunStands g
+  ran [] old new r after w h t = ((subst (λ (p : Standing (Held S)). StandsFor g p w) (sym t.0) h.0, kept t.1 h.1), sym (append-nil w.acks))
+  ran (turn ∷ turns) old new r after w h t =
+      let first = turned old t.0 r t.1 w turn h.0 h.1 t.2 in
+      let v : World = run_from w (turn_events turn) in
+      let rest = ran turns t.0 new t.1 after v (first.0, first.1) t.3 in
+      let more : run_from w (turn_events turn ++ events_of turns) ≡ run_from v (events_of turns) = run_more w (turn_events turn) (events_of turns) in (
+        subst (StandFor g new after) (sym more) rest.0,
+        ap (λ (u : World). u.acks) more ∙ rest.1 ∙ ap (λ acks. acks ++ receipts_of turns) first.2 ∙ append_assoc w.acks (turn_receipts turn) (receipts_of turns),
+      )
+
+  -- ---- what a crash leaves after a run
+
+  left_in : (phase : Phase) (command : Option Command) (tables : Held S) (disk left : State) → HasDisk g phase command tables disk → (phase ≡ Closed → command ≡ None → left ≡ disk) → (IsStored g tables disk → left ≡ disk) → left ≡ disk
+  left_in Ready command tables disk left h shut stored = stored h
+  left_in Admitted command tables disk left h shut stored = stored h
+  left_in Prepared command tables disk left h shut stored = stored h
+  left_in Committed command tables disk left h shut stored = stored h
+  left_in Published command tables disk left h shut stored = stored h
+  left_in Closed None tables disk left h shut stored = shut refl refl
+  left_in Closed (Some command) tables disk left h shut stored = stored h
+
+  -- after a run, in its world; after a failed commit in that of the state which is left
+  pub leaves_all : EveryRunLeaves g
+  leaves_all turns old new after h t known left may shut =
+      let reached = ran turns old new (new_registry (line_state old.line)) after start h t in
+      let v : World = run_from start (events_of turns) in
+      let there : StandsFor g new v = reached.0.0 in
+      let is : left ≡ v.disk = left_in new.phase new.command new.tables v.disk left (there.stored known) shut (λ stored. left_is g new v there known left may (λ held. stored)) in
+      holds_all v [] (receipts_of turns) left (holds_of v there.place.reached) is reached.1
+
+  -- after a run whose last commit failed, for each state that may be left
+  pub leaves_failed : EveryFailureLeaves g
+  leaves_failed turns old mid new after h t why failure known left may =
+      let reached = ran turns old mid (new_registry (line_state old.line)) after start h t in
+      let u : World = run_from start (events_of turns) in
+      let by = failure.2 known left may in
+      let list = fail_events failure.0 by.0 in
+      let last = by.1 u reached.0.0 list (failed_own failure.0 by.0) in
+      let v : World = run_from u list in
+      let acks : v.acks ≡ receipts_of turns = list_keeps list (failed_none failure.0 by.0) u ∙ append-nil u.acks ∙ reached.1 in
+      (v, last.1, last.2, holds_all v [] (receipts_of turns) left (holds_of v last.1.place.reached) (sym last.2) acks)
+
+  -- after a failed commit whichever file is left is adopted
+  pub goes_on_after : EveryFailureGoesOn g
+  goes_on_after old new last r w why h failure closed stood known trees may adopts =
+      let shut : IsLeft g new.tables (line_state new.line) = subst (λ (o : Option Command). Agrees g Closed o (line_state new.line) new.tables) closed.1 (subst (λ (p : Phase). Agrees g p new.command (line_state new.line) new.tables) closed.0 (stood known)) in
+      let spelled = shut.durable trees may in
+      let left : State = spelled.0 in
+      let by = failure.2 known left (trees, may, spelled.1) in
+      let list = fail_events failure.0 by.0 in
+      let own_is = failed_own failure.0 by.0 in
+      let disk = (by.1 w h.0 list own_is).2 in
+      (failure.0, by.0, left, spelled.1, (new, registry_through r w list, (own_is, refl, by.1), (last, new_registry (line_state last.line), (refl, (known, may, λ _ _. subst (Spells trees) (sym disk) spelled.1), adopts), (refl, refl))))

@@ -1,0 +1,8 @@
+use Rattle.prt_follows.proofs.Submitted.{prepares, prepares_not}
+use Rattle.prt_follows.proofs.calls.prepare.Goals as goal
+
+pub returns-in-Ok-clause-ok : goal.returns-in-Ok-clause-ok
+returns-in-Ok-clause-ok g c = prepares g.S.Store c.args.publisher.now c.prepare.new.self c.args.command.now c.in-Ok.ensures.ok.0 c.in-Ok.ensures.ok.1
+
+pub returns-in-Err-clause-err : goal.returns-in-Err-clause-err
+returns-in-Err-clause-err g c = prepares_not g.S.Store c.args.publisher.now c.prepare.new.self c.in-Err.ensures.err.0 c.args.command.now c.in-Err.reason c.requires.quiet c.in-Err.ensures.err.1

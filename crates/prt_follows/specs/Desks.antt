@@ -1,0 +1,147 @@
+-- The turns of a desk's definition, beside the world's events.
+use Rattle.std.specs.Prelude.{◌≡◌, ◌++◌, Bool, true, false, List, [], ◌∷◌, Option, Some, None, Result, Ok, ⊤}
+use Rattle.std.specs.List.{AllByRecursion as Each}
+use Rattle.prt_addr.specs.declared.refusal.Refusal.{Refusal}
+use Rattle.prt_addr.specs.declared.refusal.Refusal.TheVariants.{NoMemory}
+use Rattle.prt_addr.specs.declared.refusal.StoreCall.TheVariants.{Commit}
+use Rattle.prt_command.specs.Reading.{reading}
+use Rattle.prt_command.specs.declared.request.Command.{Command}
+use Rattle.prt_command.specs.declared.request.Request.{Request}
+use Rattle.prt_command.specs.declared.request.Request.TheVariants as requests
+use Rattle.prt_session.specs.Desk.{Befalls, DeskState, Mishap, command_turn, commit_kept, no_memory, no_room, publication_fails, request_turn, settled, store_fails}
+use Rattle.prt_session.specs.Session.{Exchange, Path}
+use Rattle.prt_session.specs.declared.reply.Reply.{Reply}
+use Rattle.prt_session.specs.declared.reply.Reply.TheVariants.{Accepted, Refused}
+use Rattle.prt_version.specs.Change.{refusal}
+use Rattle.prt_version.specs.State.{State, opening_state}
+use Rattle.prt_world.specs.World.{Ack, World, has_room, offline, published_version, run_from}
+use Rattle.prt_world.specs.declared.event.Event.{Event}
+use Rattle.prt_world.specs.declared.event.Event.TheVariants as events
+use Rattle.prt_world.specs.declared.event.Fate.TheVariants.{Kept, Lost}
+use Rattle.prt_world.specs.declared.outcome.Outcome.{Outcome}
+use Rattle.prt_world.specs.declared.outcome.Outcome.TheVariants as outcomes
+use Rattle.prt_world.specs.declared.phase.Phase.{Phase as Moment}
+use Rattle.prt_world.specs.declared.phase.Phase.TheVariants as moments
+use Rattle.prt_follows.specs.Events.{fail_events, own, own_outcomes, submit_events, unpublished_events}
+use Rattle.prt_follows.specs.Runs.{HoldsAll}
+use Rattle.prt_follows.specs.Spots.{IsReached}
+
+-- ---- a desk and a world
+
+-- between commands
+abbrev pub moment_between : Bool → Moment
+moment_between true = moments.Closed
+moment_between false = moments.Ready
+
+-- The world publishes what the desk does, has on disk what is stored there, and is closed where the desk is.
+pub record IsDeskOf (desk : DeskState) (w : World) : Type 0 where
+  pub reached : IsReached w
+  pub between : w.phase ≡ moment_between desk.closed
+  pub published : published_version w ≡ desk.published
+  pub stored : w.disk ≡ desk.stored
+
+-- ---- one turn
+
+-- the events of a command that is refused for nothing, by what befalls it
+abbrev pub submitted_events : Command → Option Mishap → List Event
+submitted_events command None = submit_events command
+submitted_events command (Some no_room) = events.Submit command ∷ []
+submitted_events command (Some no_memory) = []
+submitted_events command (Some (store_fails call)) = events.Submit command ∷ fail_events call Lost
+submitted_events command (Some commit_kept) = events.Submit command ∷ fail_events Commit Kept
+submitted_events command (Some publication_fails) = unpublished_events command
+
+abbrev pub events_by : Command → Bool → Option Refusal → Option Mishap → List Event
+events_by command true reason mishap = events.Submit command ∷ []
+events_by command false (Some reason) mishap = events.Submit command ∷ []
+events_by command false None mishap = submitted_events command mishap
+
+-- the events of a turn
+abbrev pub desk_events : DeskState → Command → Option Mishap → List Event
+desk_events desk command mishap = events_by command desk.closed (refusal desk.published command) mishap
+
+-- the world has room where the command is to find some, and none where it is to find none
+abbrev pub HasRoomFor : World → Option Mishap → Type 0
+HasRoomFor w (Some no_room) = has_room w ≡ false
+HasRoomFor w (Some no_memory) = Unit {0}
+HasRoomFor w mishap = has_room w ≡ true
+
+-- The first of these events, and the others in turn, whatever lookers do after the first.
+abbrev pub Weaves : List Event → List Event → Type 0
+Weaves [] all = own all ≡ []
+Weaves (event ∷ list) all = (more : List Event) × (all ≡ event ∷ more) × (own more ≡ list)
+
+-- what the last outcome is as a reply
+abbrev pub reply_by : Reply → Outcome → Reply
+reply_by before (outcomes.Acknowledged number) = Accepted number
+reply_by before (outcomes.Refused reason) = Refused reason
+reply_by before outcome = before
+
+abbrev pub reply_after : Reply → List Outcome → Reply
+reply_after before [] = before
+reply_after before (outcome ∷ outcomes) = reply_after (reply_by before outcome) outcomes
+
+-- the reply of what was shown: where nothing was, memory was refused
+abbrev pub shown_reply : List Outcome → Reply
+shown_reply outcomes = reply_after (Refused NoMemory) outcomes
+
+-- the acknowledgement that a reply is
+abbrev pub reply_acks : Command → Reply → List Ack
+reply_acks command (Accepted number) = record { number = number; command = command } ∷ []
+reply_acks command reply = []
+
+-- Each turn of a command is the world's events: they show its reply, lead to a world of the desk that it leaves, and acknowledge the command where the reply does.
+abbrev pub TurnIsSteps : Type 0
+TurnIsSteps = (desk : DeskState) (w : World) (command : Command) (mishap : Option Mishap) → IsDeskOf desk w → (desk.closed ≡ false → refusal desk.published command ≡ None → HasRoomFor w mishap)
+    → (all : List Event) → Weaves (desk_events desk command mishap) all
+    → (shown_reply (own_outcomes w all) ≡ (command_turn desk command mishap).reply) × IsDeskOf (command_turn desk command mishap).desk (run_from w all)
+    × ((run_from w all).acks ≡ w.acks ++ reply_acks command (command_turn desk command mishap).reply)
+
+-- ---- a script
+
+-- no looker is online
+abbrev pub AreOffline : World → Type 0
+AreOffline w = Each (λ looker. looker ≡ offline) w.lookers
+
+abbrev pub request_acks : Result (Option Request) Refusal → Reply → List Ack
+request_acks (Ok (Some (requests.Command command))) reply = reply_acks command reply
+request_acks request reply = []
+
+-- the commands that the replies acknowledge, with the numbers that they tell
+abbrev pub accepted_in : {M : Type 0} → List (Exchange M) → List Ack
+accepted_in {M} [] = []
+accepted_in {M} (x ∷ xs) = request_acks (reading x.line) x.reply ++ accepted_in xs
+
+-- any mishap may befall a line
+abbrev pub Exchanges : DeskState → List (Exchange Mishap) → DeskState → Type 0
+Exchanges before xs after = Path request_turn (Befalls (λ mishap. ⊤)) before xs after
+
+-- The lines of a script are some list of events of a world without lookers: it leads to a world of the desk after them, and acknowledges what the replies do.
+abbrev pub ScriptIsRun : Type 0
+ScriptIsRun = (xs : List (Exchange Mishap)) (before after : DeskState) (w : World) → IsDeskOf before w → AreOffline w → Exchanges before xs after
+    → (list : List Event) × IsDeskOf after (run_from w list) × AreOffline (run_from w list) × ((run_from w list).acks ≡ w.acks ++ accepted_in xs)
+
+-- A desk whose stored state is opened again is a world that was stopped and reopened.
+abbrev pub ReopenedDesk : Type 0
+ReopenedDesk = (desk : DeskState) (w : World) → IsDeskOf desk w → IsDeskOf (settled desk.stored) (run_from w (events.Stop Lost ∷ events.Reopen ∷ [])) × AreOffline (run_from w (events.Stop Lost ∷ events.Reopen ∷ []))
+    × ((run_from w (events.Stop Lost ∷ events.Reopen ∷ [])).acks ≡ w.acks)
+
+-- In each world of a desk, what is stored holds every command that was acknowledged.
+abbrev pub DeskHoldsAll : Type 0
+DeskHoldsAll = (desk : DeskState) (w : World) → IsDeskOf desk w → HoldsAll w w.acks desk.stored
+
+-- ---- scripts on one file
+
+-- Each script begins at an open desk on what the one before left stored.
+abbrev pub Sessions : State → List (List (Exchange Mishap)) → State → Type 0
+Sessions stored [] left = left ≡ stored
+Sessions stored (xs ∷ sessions) left = (desk : DeskState) × Exchanges (settled stored) xs desk × Sessions desk.stored sessions left
+
+-- the commands that their replies acknowledge
+abbrev pub accepted_by : List (List (Exchange Mishap)) → List Ack
+accepted_by [] = []
+accepted_by (xs ∷ sessions) = accepted_in xs ++ accepted_by sessions
+
+-- What any number of scripts on a new file leave is on disk in a world that acknowledged what their replies do: it holds all of that.
+abbrev pub SessionsHold : Type 0
+SessionsHold = (sessions : List (List (Exchange Mishap))) (left : State) → Sessions opening_state sessions left → (v : World) × IsReached v × (v.disk ≡ left) × (v.acks ≡ accepted_by sessions) × HoldsAll v (accepted_by sessions) left

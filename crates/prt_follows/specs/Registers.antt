@@ -1,0 +1,51 @@
+-- Which worlds a registry of grace periods stands for, and what an event of a looker makes of it.
+use Rattle.std.specs.Prelude.{◌≡◌, ◌<◌, ◌++◌, ◌==◌, ℕ, Bool, true, false, List, [], ◌∷◌, map, None, Some}
+use Rattle.std.specs.List.{AllByRecursion as Each}
+use Rattle.prt_grace.specs.Registry.{RegistryState, announced, reclaimed, with_place}
+use Rattle.prt_grace.specs.declared.place.PlaceState.TheVariants as places
+use Rattle.prt_version.specs.State.{State}
+use Rattle.prt_world.specs.World.{LookerState, World, announced_by, looker_state, offline, online, published_version, step}
+use Rattle.prt_world.specs.declared.event.Event.{Event}
+use Rattle.prt_world.specs.declared.event.Event.TheVariants as events
+
+-- the version that is published and not noted
+abbrev pub unnoted_version : Bool → State → List State
+unnoted_version true state = []
+unnoted_version false state = state ∷ []
+
+-- The registry has noted the world's number. Its versions are those that the world keeps, but for one that is published and not noted. Its places announce what the world's lookers do.
+pub record Registers (r : RegistryState) (w : World) : Type 0 where
+  pub noted : r.noted.count ≡ w.noted
+  pub below : Each (λ state. state.count < w.noted) r.retired
+  pub all : w.versions ≡ r.retired ++ r.noted ∷ unnoted_version (w.noted == w.published) (published_version w)
+  pub told : map announced r.places ≡ map announced_by w.lookers
+
+-- ---- the calls of lookers
+
+-- an offline looker announces the noted number
+abbrev pub brought_online : RegistryState → ℕ → LookerState → RegistryState
+brought_online r looker offline = with_place r looker (places.Online r.noted.count)
+brought_online r looker (online announced held) = r
+
+-- one that holds a version announces its number
+abbrev pub told_number : RegistryState → ℕ → LookerState → RegistryState
+told_number r looker offline = r
+told_number r looker (online announced None) = r
+told_number r looker (online announced (Some held)) = with_place r looker (places.Online held)
+
+abbrev pub taken_offline : RegistryState → ℕ → LookerState → RegistryState
+taken_offline r looker offline = r
+taken_offline r looker (online announced held) = with_place r looker places.Offline
+
+-- what an event of a looker, or a reclaim, makes of the registry: to fetch or to look up is nothing to it
+abbrev pub registry_after : RegistryState → World → Event → RegistryState
+registry_after r w (events.Online looker) = brought_online r looker (looker_state w looker)
+registry_after r w (events.Announce looker) = told_number r looker (looker_state w looker)
+registry_after r w (events.Offline looker) = taken_offline r looker (looker_state w looker)
+registry_after r w events.Reclaim = reclaimed r
+registry_after r w event = r
+
+-- and what a list of events makes of it, the publisher's own being outside the lock
+abbrev pub registry_through : RegistryState → World → List Event → RegistryState
+registry_through r w [] = r
+registry_through r w (event ∷ all) = registry_through (registry_after r w event) (step w event).world all

@@ -1,0 +1,44 @@
+-- Worlds that some list of events leads to, by how far they are with a command.
+use Rattle.std.specs.Prelude.{◌≡◌, ℕ, ◌≤◌, ◌++◌, take, true, List}
+use Rattle.prt_command.specs.declared.request.Command.{Command}
+use Rattle.prt_front.specs.Line.{Line, line_state}
+use Rattle.prt_version.specs.State.{State}
+use Rattle.prt_world.specs.Durability.{state_after}
+use Rattle.prt_world.specs.World.{World, has_room, published_version, run_from, start}
+use Rattle.prt_world.specs.declared.event.Event.{Event}
+use Rattle.prt_world.specs.declared.phase.Phase.{Phase as Moment}
+use Rattle.prt_world.specs.declared.phase.Phase.TheVariants as moments
+
+-- some list of events leads there from a new database
+abbrev pub IsReached : World → Type 0
+IsReached w = (list : List Event) × (w ≡ run_from start list)
+
+-- from its preparation to its note a command has room for one more retired version
+abbrev pub HasRoom : World → Moment → Type 0
+HasRoom w moments.Ready = Unit {0}
+HasRoom w (moments.Prepared command call) = has_room w ≡ true
+HasRoom w (moments.Committed command) = has_room w ≡ true
+HasRoom w (moments.Published command) = has_room w ≡ true
+HasRoom w (moments.Noted command) = Unit {0}
+HasRoom w moments.Closed = Unit {0}
+HasRoom w moments.Stopped = Unit {0}
+
+-- what is published, what is on disk, and how far the world is with a command
+pub record Spot : Type 0 where
+  pub line : Line
+  pub disk : State
+  pub moment : Moment
+
+-- The line's commands are those that were accepted, from the state that was opened to the published version.
+pub record IsTold (line : Line) (accepted : List Command) (published : ℕ) : Type 0 where
+  pub low : line.base.count ≤ published
+  pub base : line.base ≡ state_after accepted line.base.count
+  pub list : take published accepted ≡ take line.base.count accepted ++ line.list
+
+pub record IsAt (spot : Spot) (w : World) : Type 0 where
+  pub reached : IsReached w
+  pub moment : w.phase ≡ spot.moment
+  pub disk : w.disk ≡ spot.disk
+  pub shown : published_version w ≡ line_state spot.line
+  pub told : IsTold spot.line w.accepted w.published
+  pub room : HasRoom w spot.moment
