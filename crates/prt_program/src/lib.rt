@@ -4,9 +4,7 @@
 mod databases;
 mod messages;
 mod prt;
-mod replay;
 
 pub use databases::Databases;
 pub use prt::program;
 pub use prt_session::{Desk, Refusal, ScriptEnd};
-pub use replay::run_replay;
