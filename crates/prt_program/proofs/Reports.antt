@@ -5,12 +5,13 @@ use Rattle.prt_words.specs.Faults.{fault_status}
 use Rattle.prt_words.specs.Invocation.{Invocation, Word, batch, replay}
 use Rattle.prt_program.specs.Program.{LeavesInput, LeavesInputFor, RunsNothing}
 use Rattle.prt_words.specs.declared.fault.Fault.{Fault}
-use Rattle.prt_words.specs.declared.fault.Fault.TheVariants.{Words, Opening}
+use Rattle.prt_words.specs.declared.fault.Fault.TheVariants.{Words, Opening, Listener}
 
 pub reported : (asked : Invocation) (fault : Fault) (status : ℕ) (writer0 writer1 writer : Option (List ℕ)) → IsFault asked fault → status ≡ fault_status fault
     → writer1 ≡ writer0 → (status ≢ 0 → writer ≡ writer1) → RunsNothing asked writer0 writer status
 reported asked (Words error) status writer0 writer1 writer may is same kept = (inl (rw is may), λ other. kept other ∙ same)
 reported asked (Opening reason) status writer0 writer1 writer may is same kept = (inr is, λ other. kept other ∙ same)
+reported asked Listener status writer0 writer1 writer may is same kept = absurd may
 
 unread_for : (file : Option Word) (input : Option (List ℕ)) → LeavesInputFor file input input
 unread_for None input = tt

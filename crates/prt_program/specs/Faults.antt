@@ -6,7 +6,7 @@ use Rattle.prt_program.specs.Databases.{IsOpenRefusal}
 use Rattle.prt_words.specs.Faults.{IsStatusOf, fault_status}
 use Rattle.prt_words.specs.Invocation.{Invocation, Word, batch}
 use Rattle.prt_words.specs.declared.fault.Fault.{Fault}
-use Rattle.prt_words.specs.declared.fault.Fault.TheVariants.{Words, Opening}
+use Rattle.prt_words.specs.declared.fault.Fault.TheVariants.{Words, Opening, Listener}
 
 -- the database at this path, or a new one in memory, could not be opened
 abbrev pub IsDatabaseFault : Option Word → Refusal → Type 0
@@ -21,6 +21,7 @@ IsScriptFault database reason = (reason ≡ ReadFault) ⊎ IsDatabaseFault datab
 abbrev pub IsOpening : (Refusal → Type 0) → Fault → Type 0
 IsOpening may (Words error) = ⊥
 IsOpening may (Opening reason) = may reason
+IsOpening may Listener = ⊥
 
 -- which database is asked for; none for one in memory
 abbrev pub database_of : Invocation → Option Word
@@ -31,3 +32,4 @@ database_of asked = None
 abbrev pub IsFault : Invocation → Fault → Type 0
 IsFault asked (Words error) = IsStatusOf asked (fault_status (Words error))
 IsFault asked (Opening reason) = IsScriptFault (database_of asked) reason
+IsFault asked Listener = ⊥

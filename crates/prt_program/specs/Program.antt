@@ -11,7 +11,10 @@ use Rattle.prt_session.specs.Run.{RunIs}
 use Rattle.prt_session.specs.Stands.{Stands}
 use Rattle.prt_version.specs.State.{State, opening_state}
 use Rattle.prt_addr.specs.declared.on_refusal.OnRefusal.{OnRefusal}
+use Rattle.prt_program.specs.declared.next.Next.{Next}
+use Rattle.prt_program.specs.declared.next.Next.TheVariants.{Exit, Serve}
 use Rattle.prt_session.specs.declared.script.ScriptEnd.{ScriptEnd}
+use Rattle.prt_words.specs.declared.serving.Serving.{Serving}
 
 -- 3 for a fault, else 1 for a refused line, else 0
 abbrev pub status_by : Option Refusal → Bool → ℕ
@@ -85,3 +88,13 @@ LeavesInput asked input0 input = input ≡ input0
 -- databases are touched for a run over one alone
 abbrev pub LeavesDatabases : {D : Type 0} → Invocation → D → D → Type 0
 LeavesDatabases asked old new = database_of asked ≡ None → new ≡ old
+
+-- of the exit status, where the program has one
+abbrev pub IfExit : (ℕ → Type 0) → Next → Type 0
+IfExit holds (Exit status) = holds status
+IfExit holds (Serve serving) = Unit {0}
+
+-- of the sessions that are to be served, where they are asked for
+abbrev pub IfServe : (Serving → Type 0) → Next → Type 0
+IfServe holds (Exit status) = Unit {0}
+IfServe holds (Serve serving) = holds serving

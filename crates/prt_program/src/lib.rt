@@ -3,8 +3,11 @@
 
 mod databases;
 mod messages;
+mod next;
 mod prt;
 
 pub use databases::Databases;
+pub use messages::cause_message;
+pub use next::Next;
 pub use prt::program;
 pub use prt_session::{Desk, Refusal, ScriptEnd};

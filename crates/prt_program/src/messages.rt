@@ -92,9 +92,17 @@ fn progress_message(alloc: Global, lines: u64, rate: u64) -> Result<String, Allo
     format!(in alloc; "{lines}, {rate} a second")
 }
 
-/// Makes the message of why a file could not be opened, in the words of what refused it.
-fn cause_message<D: Display>(alloc: Global, path: &str, reason: &D) -> Result<String, AllocError> {
-    format!(in alloc; "prt: {path}: {reason}\n")
+/// Makes the message of why a path, or a place to listen at, could not be opened, in the words of what refused it.
+///
+/// # Errors
+///
+/// `AllocError`, where memory is refused.
+pub fn cause_message<P: Display, D: Display>(
+    alloc: Global,
+    place: &P,
+    reason: &D,
+) -> Result<String, AllocError> {
+    format!(in alloc; "prt: {place}: {reason}\n")
 }
 
 /// What is told of a run.
@@ -171,7 +179,7 @@ impl<'a, E: Write + Drop, K: Clock + Drop> Messages<'a, E, K> {
     /// Keeps why a file could not be opened.
     pub(crate) fn keep_cause<D: Display>(&mut self, path: &str, reason: &D) {
         if self.is_on() {
-            self.cause = cause_message(self.alloc, path, reason).ok();
+            self.cause = cause_message(self.alloc, &path, reason).ok();
         }
     }
 

@@ -3,19 +3,18 @@ ghost use Rattle.std.specs.Prelude.{◌≡◌, ◌≢◌, ◌⊎◌, IfErr, IfOk
 ghost use Rattle.prt_addr.specs.declared.refusal.Refusal.TheVariants.{ReadFault};
 ghost use Rattle.prt_program.specs.Databases.{IsOpenOn, IsOpenRefusal};
 ghost use Rattle.prt_program.specs.Faults.{IsDatabaseFault, IsFault, IsOpening, IsScriptFault};
-ghost use Rattle.prt_program.specs.Program.{LeavesDatabases, LeavesInput, LeavesInputFor, Runs, RunsAt, RunsBatch, RunsNothing, RunsOn, RunsOver, RunsReplay, exit_status};
+ghost use Rattle.prt_program.specs.Program.{IfExit, IfServe, LeavesDatabases, LeavesInput, LeavesInputFor, Runs, RunsAt, RunsBatch, RunsNothing, RunsOn, RunsOver, RunsReplay, exit_status};
 ghost use Rattle.prt_version.specs.State.{State};
-ghost use Rattle.prt_words.specs.Faults.{IsWordsFault};
+ghost use Rattle.prt_words.specs.CommandLine.{IsServing};
 ghost use Rattle.prt_words.specs.Invocation.{arguments, invocation, serve};
 ghost use Rattle.prt_words.specs.declared.fault.Fault.TheVariants.{Opening};
 
 use crate::databases::Databases;
 use crate::messages::Messages;
+use crate::next::Next;
 use prt_replay::run_replay;
 use prt_session::{Desk, ListDesk, Observer, OnRefusal, Refusal, ScriptEnd, run_script};
-use prt_words::{
-    Batch, DONE, FAULT, Fault, STANDARD_INPUT, Task, read_words, report, serving_fault,
-};
+use prt_words::{Batch, DONE, FAULT, Fault, STANDARD_INPUT, Task, read_words, report};
 use std::alloc::Global;
 use std::fs::{self, Files};
 use std::io::{BufReader, IsTerminal, Read, Write};
@@ -23,9 +22,6 @@ use std::rt::Clock;
 
 /// The exit status where a line was refused.
 const REFUSED: u8 = 1;
-
-/// What is wrong where sessions are to be served.
-const NOT_SERVED: &str = "sessions can't be served by this program";
 
 /// Gives the exit status of a run.
 fn exit_status(end: ScriptEnd) -> u8
@@ -202,14 +198,7 @@ fn replay_of<F: Files, R: Read, W: Write, E: Write + Drop, K: Clock + Drop>(
     }
 }
 
-/// Tells why no sessions are served.
-fn serve_task(alloc: Global) -> Fault
-    ensures { IsWordsFault serve result }
-{
-    serving_fault(alloc, NOT_SERVED)
-}
-
-/// Runs what the words ask for, and gives the exit status of the run.
+/// Runs what the words ask for, and gives the exit status of the run. Sessions that are to be served are handed back.
 fn run<
     'a,
     F: Files,
@@ -226,9 +215,10 @@ fn run<
     input: &mut R,
     output: &mut W,
     messages: &mut Messages<'a, E, K>,
-) -> Result<u8, Fault>
-    ensures run { IfOk result (Runs F.File.remaining (RunsAt D.holds D.opens D.closed D.Opened.stands D.Opened.keeps D.Opened.may databases.old databases.new)
-        (invocation (arguments words.now)) (R.remaining input.old) (W.contents output.old) (W.contents output.new)) }
+) -> Result<Next<'a>, Fault>
+    ensures run { IfOk result (IfExit (Runs F.File.remaining (RunsAt D.holds D.opens D.closed D.Opened.stands D.Opened.keeps D.Opened.may databases.old databases.new)
+        (invocation (arguments words.now)) (R.remaining input.old) (W.contents output.old) (W.contents output.new))) }
+    ensures serve { IfOk result (IfServe (λ serving. (invocation (arguments words.now) ≡ serve) × IsServing serving × (W.contents output.new ≡ W.contents output.old))) }
     ensures unread { LeavesInput (invocation (arguments words.now)) (R.remaining input.old) (R.remaining input.new) }
     ensures fault { IfErr result (IsFault (invocation (arguments words.now))) }
     ensures unopened { LeavesDatabases (invocation (arguments words.now)) databases.old databases.new }
@@ -236,18 +226,23 @@ fn run<
     ensures unwritten { OnErr result (W.contents output.new ≡ W.contents output.old) }
 {
     match read_words(alloc, words)? {
-        Task::Batch(batch) => run_script_of(
-            files, databases, alloc, batch, input, output, messages,
-        ),
-        Task::Replay(path) => replay_of(files, alloc, path, input, output, messages),
-        Task::Serve(_) => Err(serve_task(alloc)),
+        Task::Batch(batch) => {
+            let status = run_script_of(files, databases, alloc, batch, input, output, messages)?;
+            Ok(Next::Exit(status))
+        }
+        Task::Replay(path) => {
+            let status = replay_of(files, alloc, path, input, output, messages)?;
+            Ok(Next::Exit(status))
+        }
+        Task::Serve(serving) => Ok(Next::Serve(serving)),
     }
 }
 
 /// Runs the program with these words, the first of which is its own name, and gives its exit status.
 ///
 /// `batch [--force] [--db PATH] [--verbose] [FILE]` runs a script over the database at PATH or a new one in memory, and
-/// `replay [FILE]` replays a list of events. Where a FILE is named, `input` is not read.
+/// `replay [FILE]` replays a list of events. Where a FILE is named, `input` is not read. Of `serve` the words are read
+/// and handed back; nothing is written then, and no database touched.
 ///
 /// Without `--db` no database is opened. With it the one at PATH is opened, closed as the session left it, and nothing
 /// else is done to any database; what a refused opening makes of them is left open.
@@ -255,6 +250,7 @@ fn run<
 /// The status is 0 where nothing was refused and after help, 1 where a line was refused, 2 for bad words, and 3 for a
 /// fault of opening, of the store, of the reader or of the writer.
 pub fn program<
+    'a,
     F: Files + Clock,
     D: Databases,
     R: Read,
@@ -264,14 +260,15 @@ pub fn program<
     files: &F,
     databases: &mut D,
     alloc: Global,
-    words: &[String],
+    words: &'a [String],
     input: &mut R,
     output: &mut W,
     errors: &mut E,
-) -> u8
-    ensures run { Runs F.File.remaining (RunsAt D.holds D.opens D.closed D.Opened.stands D.Opened.keeps D.Opened.may databases.old databases.new)
-        (invocation (arguments words.now)) (R.remaining input.old) (W.contents output.old) (W.contents output.new) result
-        ⊎ RunsNothing (invocation (arguments words.now)) (W.contents output.old) (W.contents output.new) result }
+) -> Next<'a>
+    ensures run { IfExit (λ status. Runs F.File.remaining (RunsAt D.holds D.opens D.closed D.Opened.stands D.Opened.keeps D.Opened.may databases.old databases.new)
+        (invocation (arguments words.now)) (R.remaining input.old) (W.contents output.old) (W.contents output.new) status
+        ⊎ RunsNothing (invocation (arguments words.now)) (W.contents output.old) (W.contents output.new) status) result }
+    ensures serve { IfServe (λ serving. (invocation (arguments words.now) ≡ serve) × IsServing serving × (W.contents output.new ≡ W.contents output.old)) result }
     ensures unread { LeavesInput (invocation (arguments words.now)) (R.remaining input.old) (R.remaining input.new) }
     ensures unopened { LeavesDatabases (invocation (arguments words.now)) databases.old databases.new }
 {
@@ -281,11 +278,11 @@ pub fn program<
         messages.turn_on();
     }
     match run(files, databases, alloc, words, input, output, &mut messages) {
-        Ok(status) => status,
+        Ok(next) => next,
         Err(fault) => {
             let status = report(&fault, output, &mut *messages.errors);
             messages.tell_cause();
-            status
+            Next::Exit(status)
         }
     }
 }

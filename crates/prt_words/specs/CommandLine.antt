@@ -37,7 +37,7 @@ abbrev pub number_rule : Text → Text → Rule
 number_rule name missing = record (option_rule name) { defaults = missing ∷ [] }
 
 abbrev pub serve_line : App
-serve_line = with_rule (with_rule (with_rule (with_rule (new_app (codes "serve")) (needed_rule (codes "db"))) (needed_rule (codes "listen"))) (number_rule (codes "workers") (codes "4"))) (number_rule (codes "sessions") (codes "0"))
+serve_line = with_rule (with_rule (with_rule (with_rule (with_rule (new_app (codes "serve")) (needed_rule (codes "db"))) (needed_rule (codes "listen"))) (number_rule (codes "workers") (codes "4"))) (number_rule (codes "sessions") (codes "0"))) (number_rule (codes "idle") (codes "0"))
 
 abbrev pub opening_line : App
 opening_line = on_top (λ top. record top { subcommand_required = true; arg_required_else_help = true }) (new_app (codes "prt"))
@@ -88,9 +88,9 @@ invocation_of (Batch script) = batch (record {
 invocation_of (Replay file) = replay (option_map (λ path. path.now) file)
 invocation_of (Serve serving) = serve
 
--- 1 to 64 workers, and at most 1,000,000 sessions
+-- 1 to 64 workers, at most 1,000,000 sessions, and at most as many seconds without a byte
 abbrev pub IsServing : Serving → Type 0
-IsServing serving = (1 ≤ serving.workers) × (serving.workers ≤ 64) × (serving.sessions ≤ 1000000)
+IsServing serving = (1 ≤ serving.workers) × (serving.workers ≤ 64) × (serving.sessions ≤ 1000000) × (serving.idle ≤ 1000000)
 
 -- what is to be served is within these limits
 abbrev pub IsWithinLimits : Task → Type 0

@@ -7,7 +7,7 @@ use Rattle.clap.specs.declared.error.kind.ErrorKind.TheVariants.{DisplayHelp, Di
 use Rattle.prt_addr.specs.declared.refusal.Refusal.TheVariants.{NoMemory}
 use Rattle.prt_words.specs.Invocation.{Invocation, batch, replay, serve, help, help_on, usage_error}
 use Rattle.prt_words.specs.declared.fault.Fault.{Fault}
-use Rattle.prt_words.specs.declared.fault.Fault.TheVariants.{Words, Opening}
+use Rattle.prt_words.specs.declared.fault.Fault.TheVariants.{Words, Opening, Listener}
 
 -- 0 for help, 2 for bad words
 abbrev pub words_status : ErrorKind → ℕ
@@ -19,10 +19,11 @@ words_status _ = 2
 abbrev pub FaultOf : Error → Fault → Type 0
 FaultOf error fault = ((kind_of error ≡ OutOfMemory) × (fault ≡ Opening NoMemory)) ⊎ ((kind_of error ≢ OutOfMemory) × (fault ≡ Words error))
 
--- 3 for a fault of opening
+-- 3 for a fault of opening, or of a listener
 abbrev pub fault_status : Fault → ℕ
 fault_status (Words error) = words_status (kind_of error)
 fault_status (Opening reason) = 3
+fault_status Listener = 3
 
 -- the status of words that ask for no run
 abbrev pub IsStatusOf : Invocation → ℕ → Type 0
@@ -37,3 +38,4 @@ IsStatusOf usage_error status = status ≡ 2
 abbrev pub IsWordsFault : Invocation → Fault → Type 0
 IsWordsFault asked (Words error) = IsStatusOf asked (words_status (kind_of error))
 IsWordsFault asked (Opening reason) = reason ≡ NoMemory
+IsWordsFault asked Listener = ⊥

@@ -141,12 +141,20 @@ pub(crate) fn serve_line<'a>(alloc: Global) -> Result<Command<'a>, AllocError>
         "0",
         "End after this many connections, up to 1000000; 0 is without end",
     );
+    let idle = number_option(
+        alloc,
+        "idle",
+        "SECONDS",
+        "0",
+        "End a session that sends nothing for so long, up to 1000000; 0 is no limit",
+    );
     Command::new(alloc, "serve")
         .about("Serves sessions of route and rule commands over TCP")
         .arg(database)?
         .arg(listen)?
         .arg(workers)?
-        .arg(sessions)
+        .arg(sessions)?
+        .arg(idle)
 }
 
 /// Says which words the program knows.

@@ -34,6 +34,9 @@ pub enum Fault {
     /// The file or the database could not be opened, or memory was refused on the way there.
     #[error("prt: {0}\n")]
     Opening(Refusal),
+    /// The listener of a server failed, or what brings its connections to the workers.
+    #[error("prt: listener failed\n")]
+    Listener,
 }
 
 impl From<AllocError> for Fault {
@@ -93,7 +96,7 @@ fn serving_error(alloc: Global, text: &str) -> Result<clap::Error, AllocError>
 }
 
 /// Tells what is wrong with the words of `serve`, in this text.
-pub fn serving_fault(alloc: Global, text: &str) -> Fault
+pub(crate) fn serving_fault(alloc: Global, text: &str) -> Fault
     ensures { IsWordsFault serve result }
 {
     match serving_error(alloc, text) {
@@ -103,7 +106,7 @@ pub fn serving_fault(alloc: Global, text: &str) -> Fault
 }
 
 /// Writes why the program runs nothing, and gives the exit status for it: 0 for help, 2 for bad words, 3 for a fault of
-/// opening.
+/// opening or of a listener.
 ///
 /// Help goes to `output`, all else to `errors`. A fault of writing there changes nothing.
 pub fn report<W: Write, E: Write>(fault: &Fault, output: &mut W, errors: &mut E) -> u8
@@ -119,7 +122,7 @@ pub fn report<W: Write, E: Write>(fault: &Fault, output: &mut W, errors: &mut E)
             let _ = write!(errors, "{fault}");
             BAD_WORDS
         }
-        Fault::Opening(_) => {
+        Fault::Opening(_) | Fault::Listener => {
             let _ = write!(errors, "{fault}");
             FAULT
         }

@@ -6,6 +6,6 @@ mod fault;
 mod serving;
 mod task;
 
-pub use fault::{DONE, FAULT, Fault, report, serving_fault, words_fault};
+pub use fault::{DONE, FAULT, Fault, report, words_fault};
 pub use serving::Serving;
 pub use task::{Batch, STANDARD_INPUT, Task, read_words};

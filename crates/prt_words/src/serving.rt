@@ -23,6 +23,9 @@ const BAD_WORKERS: &str = "invalid value for '--workers <W>': it is a number of 
 /// What is wrong with a number of sessions.
 const BAD_SESSIONS: &str = "invalid value for '--sessions <K>': it is a number of 0 to 1000000";
 
+/// What is wrong with a number of seconds.
+const BAD_IDLE: &str = "invalid value for '--idle <SECONDS>': it is a number of 0 to 1000000";
+
 /// Sessions over TCP that are to be served.
 #[derive(Drop)]
 pub struct Serving<'a> {
@@ -34,6 +37,8 @@ pub struct Serving<'a> {
     pub workers: u32,
     /// How many connections are accepted, up to 1,000,000; 0 is without end.
     pub sessions: u64,
+    /// After how many seconds without a byte a session ends, up to 1,000,000; 0 is no limit.
+    pub idle: u64,
 }
 
 /// Reads a number in decimal digits, where it is within these limits.
@@ -94,10 +99,14 @@ pub(crate) fn serving_of<'a>(alloc: Global, matches: &ArgMatches<'a>) -> Result<
     let Some(sessions) = number_in(matches, "sessions", 0, 1_000_000) else {
         return Err(serving_fault(alloc, BAD_SESSIONS));
     };
+    let Some(idle) = number_in(matches, "idle", 0, 1_000_000) else {
+        return Err(serving_fault(alloc, BAD_IDLE));
+    };
     Ok(Serving {
         database,
         listen,
         workers,
         sessions: u64::from(sessions),
+        idle: u64::from(idle),
     })
 }

@@ -1,0 +1,12 @@
+//! What is left to do after the program.
+
+use prt_words::Serving;
+
+/// What is left to do after the program.
+#[derive(Drop)]
+pub enum Next<'a> {
+    /// To end with this status.
+    Exit(u8),
+    /// To serve these sessions. Nothing was opened, read or written yet.
+    Serve(Serving<'a>),
+}
