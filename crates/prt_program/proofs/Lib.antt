@@ -1,3 +1,2 @@
 pub mod Reports
-pub mod ReplayFile
 pub mod Sessions

@@ -1,5 +1,4 @@
 pub mod Databases
 pub mod Messages
 pub mod Program
-pub mod Replay
 pub mod Faults

@@ -5,7 +5,7 @@ use Rattle.prt_program.specs.Databases.{IsOpenOn, OpensAndCloses}
 use Rattle.prt_program.specs.Faults.{database_of}
 use Rattle.prt_words.specs.Faults.{IsStatusOf}
 use Rattle.prt_words.specs.Invocation.{Invocation, Word, batch, replay}
-use Rattle.prt_program.specs.Replay.{ReplayIs}
+use Rattle.prt_replay.specs.Replay.{ReplayIs}
 use Rattle.prt_session.specs.Desk.{Befalls, DeskState, IsNoMemory, Mishap, request_turn, settled}
 use Rattle.prt_session.specs.Run.{RunIs}
 use Rattle.prt_session.specs.Stands.{Stands}

@@ -5,11 +5,9 @@ mod databases;
 mod messages;
 mod next;
 mod prt;
-mod replay;
 
 pub use databases::Databases;
 pub use messages::cause_message;
 pub use next::Next;
 pub use prt::program;
 pub use prt_session::{Desk, Refusal, ScriptEnd};
-pub use replay::run_replay;

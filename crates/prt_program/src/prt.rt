@@ -12,7 +12,7 @@ ghost use Rattle.prt_words.specs.declared.fault.Fault.TheVariants.{Opening};
 use crate::databases::Databases;
 use crate::messages::Messages;
 use crate::next::Next;
-use crate::replay::run_replay;
+use prt_replay::run_replay;
 use prt_session::{Desk, ListDesk, Observer, OnRefusal, Refusal, ScriptEnd, run_script};
 use prt_words::{Batch, DONE, FAULT, Fault, STANDARD_INPUT, Task, read_words, report};
 use std::alloc::Global;

@@ -4,12 +4,4 @@ pub mod History
 pub mod Phases
 pub mod Claims
 pub mod Told
-pub mod Seats
-pub mod Joins
 pub mod SideBySide
-pub mod Simulation
-pub mod LookersFollow
-pub mod WholeRuns
-pub mod FileLines
-pub mod EventSteps
-pub mod LookerNumbers

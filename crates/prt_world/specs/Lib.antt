@@ -1,9 +1,2 @@
-pub mod EventWords
-pub mod ReadEvents
-pub mod ReadSteps
-pub mod TraceText
-pub mod Example
 pub mod World
 pub mod Durability
-pub mod Replay
-pub mod Machine

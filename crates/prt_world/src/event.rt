@@ -24,7 +24,7 @@ impl Model for LookerNumber {
 }
 
 impl LookerNumber {
-    /// The looker of this number, if one may have it.
+    /// Gives the looker of this number, if one may have it.
     pub fn new(number: u32) -> Option<LookerNumber>
         ensures { SomeIff result (number < 64) number }
     {
@@ -36,20 +36,12 @@ impl LookerNumber {
         })
     }
 
-    /// The number, 0 to 63.
+    /// Gives the number, 0 to 63.
     pub fn get(self) -> u8
         ensures value { result ≡ self }
         ensures low { result < 64 }
     {
         self.number
-    }
-
-    /// The index of what belongs to the looker.
-    pub(crate) fn index(self) -> usize
-        ensures value { result ≡ self }
-        ensures low { result < 64 }
-    {
-        usize::from(self.number)
     }
 }
 

@@ -7,7 +7,7 @@ ghost use Rattle.prt_world.specs.Durability.{IsAcknowledged, IsAnswered, IsDurab
 ghost use Rattle.prt_world.specs.World.{outcomes_from, published_version, reopened, run_from, start};
 ghost use Rattle.prt_world.specs.declared.event.Event.{Event};
 
-/// Whatever the events and their order, after them:
+/// Says what holds after every list of events, whatever their order:
 ///
 /// * what is durable is a beginning of the accepted commands that lacks one at most, and the disk is the state after it;
 ///   what is published is durable; of what is published all is noted, or all but the last (`durable`);

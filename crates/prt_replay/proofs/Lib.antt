@@ -1,0 +1,9 @@
+pub mod Seats
+pub mod Joins
+pub mod Simulation
+pub mod LookerSteps
+pub mod WholeReplays
+pub mod FileLines
+pub mod EventSteps
+pub mod LookerNumbers
+pub mod ReplayFile

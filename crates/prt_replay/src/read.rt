@@ -1,0 +1,166 @@
+//! The event of a line.
+ghost use Rattle.std.specs.Prelude.{◌≡◌, Err, MatchResult, Ok};
+ghost use Rattle.prt_command.specs.Reading.{words};
+ghost use Rattle.prt_replay.specs.ReadEvents.{at_end, command, event_of, fate, line_event, line_request, lone_fate, lone_looker, look, looker, packet, value_word};
+
+use crate::words::{EventWord, event_word};
+use prt_addr::{Refusal, read_number};
+use prt_command::{Command, Packet, Query, Request, is, line_text, next_word, read_text};
+use prt_world::{Event, Fate, LookerNumber};
+
+/// Takes a value, which has to be there: its word, and the text after it.
+fn value_word(text: &[u8]) -> Result<(&[u8], &[u8]), Refusal>
+    ensures { MatchResult result
+        (λ next. value_word (words text.now) ≡ Ok (next.0.now, words next.1.now))
+        (λ e. value_word (words text.now) ≡ Err e) }
+{
+    next_word(text).ok_or(Refusal::MissingValue)
+}
+
+/// Gives this back where no word stands after it.
+fn at_end<T: Copy>(value: T, text: &[u8]) -> Result<T, Refusal>
+    ensures { result ≡ at_end value (words text.now) }
+{
+    match next_word(text) {
+        None => Ok(value),
+        Some(_) => Err(Refusal::UnknownWord),
+    }
+}
+
+/// Reads the number of a looker.
+fn read_looker(word: &[u8]) -> Result<LookerNumber, Refusal>
+    ensures { result ≡ looker word.now }
+{
+    let number = read_number(word)?;
+    LookerNumber::new(number).ok_or(Refusal::BadNumber)
+}
+
+/// Reads the number of a looker and nothing after it.
+fn read_lone_looker(text: &[u8]) -> Result<LookerNumber, Refusal>
+    ensures { result ≡ lone_looker (words text.now) }
+{
+    let (word, rest) = value_word(text)?;
+    at_end(read_looker(word)?, rest)
+}
+
+/// Reads `kept` or `lost`.
+fn read_fate(word: &[u8]) -> Result<Fate, Refusal>
+    ensures { result ≡ fate word.now }
+{
+    if is(word, b"kept") {
+        Ok(Fate::Kept)
+    } else if is(word, b"lost") {
+        Ok(Fate::Lost)
+    } else {
+        Err(Refusal::UnknownWord)
+    }
+}
+
+/// Reads `kept` or `lost` and nothing after it.
+fn read_lone_fate(text: &[u8]) -> Result<Fate, Refusal>
+    ensures { result ≡ lone_fate (words text.now) }
+{
+    let (word, rest) = value_word(text)?;
+    at_end(read_fate(word)?, rest)
+}
+
+/// Reads what a text asks for as a line of the command language.
+fn read_request(text: &[u8]) -> Result<Request, Refusal>
+    ensures { result ≡ line_request (words text.now) }
+{
+    match read_text(text) {
+        Ok(Some(request)) => Ok(request),
+        Ok(None) => Err(Refusal::MissingDestination),
+        Err(refusal) => Err(refusal),
+    }
+}
+
+/// Reads a command.
+fn read_command(text: &[u8]) -> Result<Command, Refusal>
+    ensures { result ≡ command (words text.now) }
+{
+    match read_request(text) {
+        Ok(Request::Command(command)) => Ok(command),
+        Ok(Request::Query(_)) => Err(Refusal::UnknownVerb),
+        Err(refusal) => Err(refusal),
+    }
+}
+
+/// Reads the packet of `route get`.
+fn read_packet(text: &[u8]) -> Result<Packet, Refusal>
+    ensures { result ≡ packet (words text.now) }
+{
+    match read_request(text) {
+        Ok(Request::Query(Query::Get(packet))) => Ok(packet),
+        Ok(_) => Err(Refusal::UnknownVerb),
+        Err(refusal) => Err(refusal),
+    }
+}
+
+/// Reads a looker, and the packet that it asks about.
+fn read_look(text: &[u8]) -> Result<(LookerNumber, Packet), Refusal>
+    ensures { result ≡ look (words text.now) }
+{
+    let (word, rest) = value_word(text)?;
+    let looker = read_looker(word)?;
+    let packet = read_packet(rest)?;
+    Ok((looker, packet))
+}
+
+/// Reads a command as the event that submits it.
+fn read_submit(text: &[u8]) -> Result<Event, Refusal>
+    ensures { result ≡ event_of EventWord.Submit (words text.now) }
+{
+    match read_command(text) {
+        Ok(command) => Ok(Event::Submit(command)),
+        Err(refusal) => Err(refusal),
+    }
+}
+
+/// Reads the event that this word begins.
+fn read_event(first: EventWord, text: &[u8]) -> Result<Event, Refusal>
+    ensures { result ≡ event_of first (words text.now) }
+{
+    match first {
+        EventWord::Submit => read_submit(text),
+        EventWord::Call => at_end(Event::Call, text),
+        EventWord::Fail => read_lone_fate(text).map(Event::Fail),
+        EventWord::Publish => at_end(Event::Publish, text),
+        EventWord::PublishFail => at_end(Event::PublishFail, text),
+        EventWord::Note => at_end(Event::Note, text),
+        EventWord::Ack => at_end(Event::Ack, text),
+        EventWord::Online => read_lone_looker(text).map(Event::Online),
+        EventWord::Fetch => read_lone_looker(text).map(Event::Fetch),
+        EventWord::Announce => read_lone_looker(text).map(Event::Announce),
+        EventWord::Offline => read_lone_looker(text).map(Event::Offline),
+        EventWord::Look => {
+            let (looker, packet) = read_look(text)?;
+            Ok(Event::Look(looker, packet))
+        }
+        EventWord::Reclaim => at_end(Event::Reclaim, text),
+        EventWord::Stop => read_lone_fate(text).map(Event::Stop),
+        EventWord::Reopen => at_end(Event::Reopen, text),
+    }
+}
+
+/// Reads the event of a line; None where the line is blank or a comment.
+///
+/// # Errors
+///
+/// The first fault of the line.
+#[tactic(auto, unfolding(crate::specs::ReadEvents::line_event))]
+pub(crate) fn read_event_line(line: &[u8]) -> Result<Option<Event>, Refusal>
+    ensures { result ≡ line_event line.now }
+{
+    let text = line_text(line)?;
+    match next_word(text) {
+        None => Ok(None),
+        Some((word, rest)) => {
+            let first = event_word(word).ok_or(Refusal::UnknownWord)?;
+            match read_event(first, rest) {
+                Ok(event) => Ok(Some(event)),
+                Err(refusal) => Err(refusal),
+            }
+        }
+    }
+}

@@ -1,0 +1,88 @@
+//! Replays of lists of events.
+ghost use Rattle.std.specs.Prelude.{◌≡◌, List, Err, MatchResult, Ok, true};
+ghost use Rattle.prt_replay.specs.Replay.{Finds, ReplayIs, fault_by, is_refusal};
+ghost use Rattle.prt_replay.specs.ReadEvents.{events_of};
+ghost use Rattle.prt_replay.specs.Replay.{answer_to};
+ghost use Rattle.prt_world.specs.declared.event.Event.{Event};
+
+use crate::play::play_events;
+use crate::replay_file::{LONGEST_REPLAY, read_events};
+use crate::text::trace_text;
+use prt_session::{Refusal, Reply, ScriptEnd, Text, write_reply};
+use std::alloc::Global;
+use std::io::{Read, Write};
+
+/// How many bytes are asked for by one call of the reader.
+const BLOCK: usize = 65_536;
+
+/// Reads a replay file: all of it, or of one that is too long what shows that.
+fn read_file<R: Read>(alloc: Global, reader: &mut R) -> Result<Vec<u8>, Refusal>
+    ensures { MatchResult result
+        (λ bytes. Finds (R.remaining reader.old) (events_of bytes.items))
+        (λ reason. Finds (R.remaining reader.old) (Err reason)) }
+{
+    let mut bytes = Vec::new(alloc);
+    let mut block = [0u8; BLOCK];
+    while bytes.len() <= LONGEST_REPLAY {
+        // One byte too many shows that the file is too long.
+        let room = (LONGEST_REPLAY + 1 - bytes.len()).min(BLOCK);
+        let count = match reader.read(&mut block[..room]) {
+            Ok(0) => return Ok(bytes),
+            Ok(count) => count,
+            Err(_) => return Err(Refusal::ReadFault),
+        };
+        bytes.extend_from_slice(&block[..count])?;
+    }
+    Ok(bytes)
+}
+
+/// Makes the text of the trace of a replay file.
+///
+/// # Errors
+///
+/// `TooManyLines` where the file is too long, `ReadFault` where it can't be read to its end, the refusal of its first
+/// refused line, or `NoMemory`.
+fn trace_of<R: Read>(alloc: Global, reader: &mut R) -> Result<Vec<u8>, Refusal>
+    ensures { MatchResult result
+        (λ text. (events : List Event) × Finds (R.remaining reader.old) (Ok events) × (text.items ≡ answer_to (Ok events)))
+        (λ reason. Finds (R.remaining reader.old) (Err reason)) }
+{
+    let bytes = read_file(alloc, reader)?;
+    let events = read_events(alloc, bytes.as_slice())?;
+    let trace = play_events(alloc, events.as_slice())?;
+    trace_text(alloc, &trace)
+}
+
+/// Tells how a replay ends whose answer is written.
+fn end_with(answer: &Result<Vec<u8>, Refusal>) -> ScriptEnd
+    ensures refused { result.refused ≡ is_refusal answer.now }
+    ensures fault { result.fault ≡ fault_by true answer.now }
+{
+    let (refused, fault) = match answer {
+        Ok(_) => (false, None),
+        Err(Refusal::ReadFault) => (false, Some(Refusal::ReadFault)),
+        Err(_) => (true, None),
+    };
+    ScriptEnd { refused, fault }
+}
+
+/// Replays a list of events, one a line, from a new database with no looker online, and writes what came of each.
+///
+/// The whole file is read first, of at most `LONGEST_REPLAY` bytes. A file that is longer or can't be read to its end,
+/// a line that is refused, and want of memory are answered by the one line `error C NAME` in place of the trace.
+/// `refused` says that there is such an answer, `fault` is `ReadFault` in its place where the reader failed, and
+/// `WriteFault` where the writer failed: then a part of the answer was written.
+pub fn run_replay<R: Read, W: Write>(alloc: Global, reader: &mut R, writer: &mut W) -> ScriptEnd
+    ensures { ReplayIs (R.remaining reader.old) (W.contents writer.old) (W.contents writer.new) result }
+{
+    let answer = trace_of(alloc, reader);
+    let end = end_with(&answer);
+    let reply = match answer {
+        Ok(text) => Reply::Answered(Text::new(text)),
+        Err(refusal) => Reply::Refused(refusal),
+    };
+    if write_reply(writer, &reply) {
+        return end;
+    }
+    end.with_write_fault()
+}

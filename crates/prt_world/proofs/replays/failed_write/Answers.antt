@@ -1,9 +1,0 @@
-use Rattle.std.proofs.Common.{refl}
-use Rattle.std.specs.Fmt.{digits}
-use Rattle.prt_command.specs.Lines.{lines_of}
-use Rattle.prt_world.specs.ReadEvents.{events_of, events_of_lines, line_event}
-use Rattle.prt_world.proofs.replays.failed_write.Goals as goal
-
-pub returns : goal.returns
-unfolding events_of events_of_lines line_event lines_of digits
-returns c = record { lost = refl; kept = refl }
