@@ -132,7 +132,7 @@ moment_stays w event is reached = (beside w event is reached).moment
 pub room_stays : (w : World) (event : Event) → is_lookers event ≡ true → IsReached w → has_room w ≡ true → has_room (step w event).world ≡ true
 room_stays w event is reached room = (beside w event is reached).room room
 
-room_beside : (w v : World) (moment : Moment) → (has_room w ≡ true → has_room v ≡ true) → HasRoom w moment → HasRoom v moment
+pub room_beside : (w v : World) (moment : Moment) → (has_room w ≡ true → has_room v ≡ true) → HasRoom w moment → HasRoom v moment
 room_beside w v moments.Ready room h = tt
 room_beside w v (moments.Prepared command call) room h = room h
 room_beside w v (moments.Committed command) room h = room h

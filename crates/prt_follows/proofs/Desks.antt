@@ -11,6 +11,7 @@ use Rattle.prt_front.specs.Line.{Line, grown, line_state}
 use Rattle.prt_session.specs.Desk.{DeskState, Mishap, command_or_refusal, commit_kept, no_memory, no_room, publication_fails, settled, shut, store_fails, submit}
 use Rattle.prt_session.specs.Session.{Turn}
 use Rattle.prt_session.specs.declared.reply.Reply.TheVariants.{Accepted, Refused}
+use Rattle.prt_version.proofs.Folds.{apply_count, fold_push}
 use Rattle.prt_version.specs.Change.{apply, refusal}
 use Rattle.prt_version.specs.State.{State}
 use Rattle.prt_world.specs.Durability.{state_after}
@@ -24,36 +25,53 @@ use Rattle.prt_world.specs.declared.phase.Phase.{Phase as Moment}
 use Rattle.prt_world.specs.declared.phase.Phase.TheVariants as moments
 use Rattle.prt_world.proofs.Phases.{shown_version}
 use Rattle.prt_follows.specs.Desks.{DeskHoldsAll, HasRoomFor, IsDeskOf, TurnIsSteps, Weaves, events_by, moment_between, reply_acks, reply_after, reply_by, shown_reply, submitted_events}
-use Rattle.prt_follows.specs.Events.{commit_events, commit_outcomes, fail_events, fail_outcomes, own, own_outcomes, publish_events}
+use Rattle.prt_follows.specs.Events.{commit_events, commit_outcomes, fail_events, fail_outcomes, own, own_outcomes, publish_events, submit_outcomes}
 use Rattle.prt_follows.specs.Spots.{HasRoom, IsAt, IsReached, IsTold, Spot}
 use Rattle.prt_follows.proofs.Acks.{failed_none, is_ack, woven_acks, woven_keeps}
 use Rattle.prt_follows.proofs.Exits.{commit_goes, goes_on, kept_goes, lost_goes, publish_fails, publish_goes, spot}
 use Rattle.prt_follows.proofs.Headline.{holds_all}
 use Rattle.prt_follows.proofs.Joined.{shown_more, split}
-use Rattle.prt_follows.proofs.Steps.{Moves, acknowledges, busy, holds_of, notes, refuses, run_more, shown_number, shut as closed, takes, told_opened}
+use Rattle.prt_follows.proofs.Steps.{Moves, acknowledges, busy, holds_of, line_at, notes, placed, refuses, run_more, shown_number, shut as closed, takes, told_opened}
 use Rattle.prt_follows.proofs.Woven.{Goes, woven}
 
 -- ---- where a desk's world is
 
--- a list that begins with the published version
-abbrev pub line_at : World → Line
-line_at w = record { book = record { number = 0; log_name = 0; cells_name = 0 }; base = published_version w; list = [] }
-
-pub placed : (w : World) (moment : Moment) → IsReached w → w.phase ≡ moment → HasRoom w moment → IsAt (spot (line_at w) w.disk moment) w
-placed w moment reached is room =
-    let count = shown_number w reached in
-    let base : published_version w ≡ state_after w.accepted (published_version w).count = shown_version w (holds_of w reached) ∙ ap (state_after w.accepted) (sym count) in
-    record {
-      reached = reached;
-      moment = is;
-      disk = refl;
-      shown = refl;
-      told = subst (λ n. IsTold (line_at w) w.accepted n) count (told_opened (line_at w) w.accepted (published_version w) refl refl base);
-      room = room;
-    }
-
 pub desk_of : (desk : DeskState) (line : Line) (disk : State) (moment : Moment) (v : World) → IsAt (spot line disk moment) v → moment ≡ moment_between desk.closed → line_state line ≡ desk.published → disk ≡ desk.stored → IsDeskOf desk v
 desk_of desk line disk moment v h between published stored = record { reached = h.reached; between = h.moment ∙ between; published = h.shown ∙ published; stored = h.disk ∙ stored }
+
+-- ---- a command that is acknowledged
+
+-- Up to the note, and then the acknowledgement: they show their outcomes, lead to the version after the command, and acknowledge it.
+pub accepted_there : (line : Line) (disk : State) (w : World) (command : Command) → IsAt (spot line disk moments.Ready) w → refusal (line_state line) command ≡ None → has_room w ≡ true → (more : List Event) → own more ≡ commit_events ++ publish_events
+    → (own_outcomes w (events.Submit command ∷ more) ≡ submit_outcomes (line_state (grown line command)).count) × IsAt (spot (grown line command) (apply (line_state line) command) moments.Ready) (run_from w (events.Submit command ∷ more))
+    × ((run_from w (events.Submit command ∷ more)).acks ≡ w.acks ++ record { number = (line_state (grown line command)).count; command = command } ∷ [])
+accepted_there line disk w command h allowed has more e =
+    let next : State = apply (line_state line) command in
+    let after : Line = grown line command in
+    let n = (line_state after).count in
+    let first = spot line disk (moments.Prepared command calls.Begin) in
+    let stored = spot line next (moments.Committed command) in
+    let shown = spot after next (moments.Published command) in
+    let known = spot after next (moments.Noted command) in
+    let prepared = takes line disk w command allowed has h in
+    let counted : n ≡ (line_state line).count + 1 = ap (λ (s : State). s.count) (fold_push line.base line.list command) ∙ apply_count (line_state line) command allowed in
+    let noting : Goes shown (events.Note ∷ []) (outcomes.Noted n ∷ []) known = (known, λ v at. notes after next v command at, refl) in
+    let to_known = goes_on commit_events commit_outcomes (events.Publish ∷ events.Note ∷ []) (outcomes.Published n ∷ outcomes.Noted n ∷ []) first stored known
+    (commit_goes line disk command)
+    (goes_on (events.Publish ∷ []) (outcomes.Published n ∷ []) (events.Note ∷ []) (outcomes.Noted n ∷ []) stored shown known (publish_goes line next command) noting) in
+    let v : World = (step w (events.Submit command)).world in
+    let p = split more (commit_events ++ events.Publish ∷ events.Note ∷ []) (events.Ack ∷ []) e in
+    let a = woven p.0 (commit_events ++ events.Publish ∷ events.Note ∷ []) (commit_outcomes ++ outcomes.Published n ∷ outcomes.Noted n ∷ []) first known v p.3 to_known prepared.1 in
+    let u : World = run_from v p.0 in
+    let b = woven p.1 (events.Ack ∷ []) (outcomes.Acknowledged n ∷ []) known (spot after next moments.Ready) u p.4 (spot after next moments.Ready, λ v at. acknowledges after next v command at, refl) a.1 in
+    let ran : run_from v more ≡ run_from u p.1 = ap (run_from v) p.2 ∙ run_more v p.0 p.1 in
+    let out : own_outcomes v more ≡ (commit_outcomes ++ outcomes.Published n ∷ outcomes.Noted n ∷ []) ++ outcomes.Acknowledged n ∷ [] =
+    ap (own_outcomes v) p.2 ∙ shown_more v p.0 p.1 ∙ ap (λ os. os ++ own_outcomes u p.1) a.0 ∙ ap (λ os. (commit_outcomes ++ outcomes.Published n ∷ outcomes.Noted n ∷ []) ++ os) b.0 in
+    let quiet : u.acks ≡ w.acks = woven_keeps (events.Submit command ∷ p.0) (events.Submit command ∷ (commit_events ++ events.Publish ∷ events.Note ∷ [])) (ap (λ xs. events.Submit command ∷ xs) p.3) (refl, (refl, (refl, (refl, (refl, (refl, (refl, tt))))))) w in (
+      ap (λ o. o ∷ own_outcomes v more) (prepared.0 ∙ ap outcomes.Prepared (sym counted)) ∙ ap (λ os. outcomes.Prepared n ∷ os) out,
+      subst (IsAt (spot after next moments.Ready)) (sym ran) b.1,
+      ap (λ (x : World). x.acks) ran ∙ woven_acks after next command p.1 u p.4 a.1 ∙ ap (λ acks. acks ++ record { number = n; command = command } ∷ []) quiet,
+    )
 
 -- ---- one turn
 
@@ -114,34 +132,16 @@ module _ (w : World) (command : Command) where
     failed_reply calls.Count = refl
     failed_reply calls.Commit = refl
 
-    -- up to the note, and then the acknowledgement
     accepts : (all : List Event) → Weaves (submitted_events command None) all → Is (submit desk command None) all
     accepts all weaves = begun all (commit_events ++ publish_events) (submit desk command None) weaves (λ more e.
         let next : State = apply (published_version w) command in
         let line : Line = grown (line_at w) command in
-        let first = here (moments.Prepared command calls.Begin) in
-        let stored = spot (line_at w) next (moments.Committed command) in
-        let shown = spot line next (moments.Published command) in
-        let known = spot line next (moments.Noted command) in
-        let noting : Goes shown (events.Note ∷ []) (outcomes.Noted (line_state line).count ∷ []) known = (known, λ v at. notes line next v command at, refl) in
-        let to_known = goes_on commit_events commit_outcomes (events.Publish ∷ events.Note ∷ []) (outcomes.Published (line_state line).count ∷ outcomes.Noted (line_state line).count ∷ []) first stored known
-        (commit_goes (line_at w) w.disk command)
-        (goes_on (events.Publish ∷ []) (outcomes.Published (line_state line).count ∷ []) (events.Note ∷ []) (outcomes.Noted (line_state line).count ∷ []) stored shown known (publish_goes (line_at w) next command) noting) in
-        let v : World = (step w (events.Submit command)).world in
-        let p = split more (commit_events ++ events.Publish ∷ events.Note ∷ []) (events.Ack ∷ []) e in
-        let a = woven p.0 (commit_events ++ events.Publish ∷ events.Note ∷ []) (commit_outcomes ++ outcomes.Published (line_state line).count ∷ outcomes.Noted (line_state line).count ∷ []) first known v p.3 to_known prepared.1 in
-        let u : World = run_from v p.0 in
-        let b = woven p.1 (events.Ack ∷ []) (outcomes.Acknowledged (line_state line).count ∷ []) known (spot line next moments.Ready) u p.4 (spot line next moments.Ready, λ v at. acknowledges line next v command at, refl) a.1 in
-        let ran : run_from v more ≡ run_from u p.1 = ap (run_from v) p.2 ∙ run_more v p.0 p.1 in
-        let out : own_outcomes v more ≡ (commit_outcomes ++ outcomes.Published (line_state line).count ∷ outcomes.Noted (line_state line).count ∷ []) ++ outcomes.Acknowledged (line_state line).count ∷ [] =
-        ap (own_outcomes v) p.2 ∙ shown_more v p.0 p.1 ∙ ap (λ os. os ++ own_outcomes u p.1) a.0 ∙ ap (λ os. (commit_outcomes ++ outcomes.Published (line_state line).count ∷ outcomes.Noted (line_state line).count ∷ []) ++ os) b.0 in
-        let number : (line_state line).count ≡ (apply desk.published command).count = ap (λ (s : State). s.count) next_is in
-        let quiet : u.acks ≡ w.acks = woven_keeps (events.Submit command ∷ p.0) (events.Submit command ∷ (commit_events ++ events.Publish ∷ events.Note ∷ [])) (ap (λ xs. events.Submit command ∷ xs) p.3) (refl, (refl, (refl, (refl, (refl, (refl, (refl, tt))))))) w in (
-          ap (λ os. reply_after (reply_by (Refused refusals.NoMemory) (step w (events.Submit command)).outcome) os) out
-              ∙ ap (λ o. reply_after (reply_by (Refused refusals.NoMemory) o) ((commit_outcomes ++ outcomes.Published (line_state line).count ∷ outcomes.Noted (line_state line).count ∷ []) ++ outcomes.Acknowledged (line_state line).count ∷ [])) prepared.0
-              ∙ ap Accepted number,
-          desk_of (settled (apply desk.published command)) line next moments.Ready (run_from v more) (subst (IsAt (spot line next moments.Ready)) (sym ran) b.1) refl next_is next_is,
-          ap (λ (x : World). x.acks) ran ∙ woven_acks line next command p.1 u p.4 a.1 ∙ ap (λ acks. acks ++ record { number = (line_state line).count; command = command } ∷ []) quiet ∙ ap (λ n. w.acks ++ record { number = n; command = command } ∷ []) number,
+        let at = placed w moments.Ready h.reached (h.between ∙ ap moment_between is_open) tt in
+        let r = accepted_there (line_at w) w.disk w command at (ap (λ (s : State). refusal s command) h.published ∙ allowed) has more e in
+        let number : (line_state line).count ≡ (apply desk.published command).count = ap (λ (s : State). s.count) next_is in (
+          ap shown_reply r.0 ∙ ap Accepted number,
+          desk_of (settled (apply desk.published command)) line next moments.Ready (run_from w (events.Submit command ∷ more)) r.1 refl next_is next_is,
+          r.2 ∙ ap (λ n. w.acks ++ record { number = n; command = command } ∷ []) number,
         ))
 
   module _ (desk : DeskState) (h : IsDeskOf desk w) where

@@ -135,7 +135,7 @@ submit_same w command moment = record { noted = refl; published = refl; versions
 pub submits : (command : Command) (r : RegistryState) (w : World) → Registers r w → Registers r (step w (events.Submit command)).world
 submits command r w s = same_registers r w (step w (events.Submit command)).world (submit_same w command w.phase) s
 
-ack_same : (w : World) (moment : Moment) → SameVersions w (acknowledge w moment).world
+pub ack_same : (w : World) (moment : Moment) → SameVersions w (acknowledge w moment).world
 ack_same w (moments.Noted command) = record { noted = refl; published = refl; versions = refl; lookers = refl }
 ack_same w moment = record { noted = refl; published = refl; versions = refl; lookers = refl }
 

@@ -1,5 +1,5 @@
 -- A run of a publisher's calls leads to a world that it stands for, which has acknowledged each receipt.
-use Rattle.std.proofs.Common.{◌≡◌, true, false, List, [], ◌∷◌, ◌++◌, Option, Some, None, refl, sym, ap, ◌∙◌, subst}
+use Rattle.std.proofs.Common.{◌≡◌, ℕ, true, false, List, [], ◌∷◌, ◌++◌, Option, Some, None, refl, sym, ap, ◌∙◌, subst}
 use Rattle.std.proofs.lemmas.List.{append-nil, append_assoc}
 use Rattle.sqlite.specs.Held.{Held}
 use Rattle.sqlite.specs.Store.{Ghosts}
@@ -16,7 +16,7 @@ use Rattle.prt_world.specs.declared.event.Event.TheVariants as events
 use Rattle.prt_world.specs.declared.event.Fate.TheVariants.{Lost}
 use Rattle.prt_world.specs.declared.phase.Phase.{Phase as Moment}
 use Rattle.prt_world.specs.declared.phase.Phase.TheVariants as moments
-use Rattle.prt_front.specs.Line.{Line, line_state}
+use Rattle.prt_front.specs.Line.{Line, grown, line_state}
 use Rattle.prt_version.proofs.Folds.{fold_push}
 use Rattle.prt_grace.specs.Registry.{RegistryState, new_registry}
 use Rattle.prt_grace.specs.declared.place.PlaceState.TheVariants.{Free}
@@ -26,37 +26,20 @@ use Rattle.prt_version.specs.Change.{apply}
 use Rattle.prt_follows.specs.Spots.{IsAt}
 use Rattle.prt_follows.specs.Registers.{Registers, registry_through}
 use Rattle.prt_follows.proofs.Between.{room_published}
-use Rattle.prt_follows.proofs.Exits.{SameVersions, committed_command, same_registers, spot, submits}
+use Rattle.prt_follows.proofs.Exits.{place_in, submits}
 use Rattle.prt_follows.proofs.Registering.{joins, registers_beside, registers_published}
 use Rattle.prt_follows.proofs.Steps.{publishes}
-use Rattle.prt_follows.specs.Events.{commit_events, fail_events, stop_events}
-use Rattle.prt_follows.specs.Runs.{EveryFailureGoesOn, EveryFailureLeaves, EveryRunLeaves, EveryRunStands, Turn, Turns, adopted, admitted, beside, committed, declined, events_of, failed, noted, planned, receipts_of, seated, shown, stopped, turn_events, turn_receipts, unplanned, unshown}
+use Rattle.prt_follows.specs.Events.{commit_events, fail_events, own, publish_events, stop_events, submit_events, submit_outcomes, unpublished_events}
+use Rattle.prt_follows.specs.Runs.{EveryFailureGoesOn, EveryFailureLeaves, EveryRunLeaves, EveryRunStands, Turn, Turns, adopted, admitted, beside, committed, declined, events_of, failed, noted, planned, receipts_of, refused, seated, shown, stopped, submit_failed, submit_unpublished, submitted, turn_events, turn_receipts, unplanned, unshown}
 use Rattle.prt_follows.specs.StandsFor.{HasDisk, StandFor, StandsFor, moment_of}
 use Rattle.prt_follows.proofs.Exits.{published_command}
 use Rattle.prt_follows.proofs.Acks.{acknowledged, event_keeps, failed_none, failed_own, list_keeps, lookers_none, stopped_none, woven_keeps}
-use Rattle.prt_follows.proofs.Through.{failed_store, through}
+use Rattle.prt_follows.proofs.Desks.{accepted_there}
+use Rattle.prt_follows.proofs.Through.{all_go_on, failed_go_on, registers_event, through}
 use Rattle.prt_follows.proofs.Headline.{holds_all}
 use Rattle.prt_follows.proofs.Joined.{stands_beside}
 use Rattle.prt_follows.proofs.Opening.{left_is, open_moment}
 use Rattle.prt_follows.proofs.Steps.{holds_of, run_more}
-
--- ---- the registry: these events leave versions and lookers as they are
-
-unshown_same : (w : World) (moment : Moment) → SameVersions w (world.fail_publication w moment).world
-unshown_same w (moments.Committed command) = record { noted = refl; published = refl; versions = refl; lookers = refl }
-unshown_same w moment = record { noted = refl; published = refl; versions = refl; lookers = refl }
-
-module _ (r : RegistryState) where
-  unshown_on : (w : World) → Registers r w → Registers r (step w events.PublishFail).world
-  unshown_on w h = same_registers r w (step w events.PublishFail).world (unshown_same w w.phase) h
-
-  shown_on : (line : Line) (disk : State) (command : Command) (w : World) → IsAt (spot line disk (moments.Committed command)) w → Registers r w → Registers r (step w events.Publish).world
-  shown_on line disk command w h held =
-      let to : step w events.Publish ≡ world.publish w (moments.Committed command) = ap (world.publish w) h.moment in
-      let there = publishes line disk w command h (room_published w line disk command h) in
-      let made : published_version (step w events.Publish).world ≡ apply (published_version w) command = there.1.shown ∙ fold_push line.base line.list command ∙ ap (λ (s : State). apply s command) (sym h.shown) in
-      let now : published_version (world.publish w (moments.Committed command)).world ≡ apply (published_version w) command = subst (λ (t : Step). published_version t.world ≡ apply (published_version w) command) to made in
-      subst (λ (t : Step). Registers r t.world) (sym to) (registers_published line disk command r w held h now)
 
 -- ---- runs
 
@@ -81,19 +64,16 @@ module _ {S : Type 0} (g : Ghosts S) where
   turned old new r after w unplanned s h t = ((t.1.1 w s [] refl).1, kept t.0 h, sym (append-nil w.acks))
   turned old new r after w (committed all) s h t = (
     (t.2 w s all t.0).1,
-    kept t.1 (through all commit_events t.0 (refl, (refl, (refl, (refl, tt)))) r w (runs old w s) s.place.reached h),
+    kept t.1 (through all (all_go_on all commit_events t.0 (refl, (refl, (refl, (refl, tt))))) r w (runs old w s) s.place.reached h),
     woven_keeps all commit_events t.0 (refl, (refl, (refl, (refl, tt)))) w ∙ sym (append-nil w.acks),
   )
   turned old new r after w (failed call fate left all) s h t = (
     (t.2 w s all t.0).1,
-    kept t.1 (through all (fail_events call fate) t.0 (failed_store call fate) r w (runs old w s) s.place.reached h),
+    kept t.1 (through all (all_go_on all (fail_events call fate) t.0 (failed_go_on call fate)) r w (runs old w s) s.place.reached h),
     woven_keeps all (fail_events call fate) t.0 (failed_none call fate) w ∙ sym (append-nil w.acks),
   )
-  turned old new r after w shown s h t =
-      let c = committed_command old.command s.moment (s.is ∙ ap (λ (p : Phase). moment_of p old.command) t.1) in
-      let place : IsAt (spot old.line w.disk (moments.Committed c.0)) w = subst (λ (m : Moment). IsAt (spot old.line w.disk m) w) c.2 s.place in
-      ((t.2 w s (events.Publish ∷ []) refl).1, kept t.0 (shown_on r old.line w.disk c.0 w place h), list_keeps (events.Publish ∷ []) (refl, tt) w)
-  turned old new r after w unshown s h t = ((t.1.1 w s (events.PublishFail ∷ []) refl).1, kept t.0 (unshown_on r w h), list_keeps (events.PublishFail ∷ []) (refl, tt) w)
+  turned old new r after w shown s h t = ((t.2 w s (events.Publish ∷ []) refl).1, kept t.0 (registers_event r w s.place.reached h events.Publish refl (runs old w s)), list_keeps (events.Publish ∷ []) (refl, tt) w)
+  turned old new r after w unshown s h t = ((t.1.1 w s (events.PublishFail ∷ []) refl).1, kept t.0 (registers_event r w s.place.reached h events.PublishFail refl (runs old w s)), list_keeps (events.PublishFail ∷ []) (refl, tt) w)
   turned old new r after w (noted command told) s h t =
       let e = t.2 w (s, h) in
       let c = published_command old.command s.moment (s.is ∙ ap (λ (p : Phase). moment_of p old.command) t.0) in
@@ -102,6 +82,35 @@ module _ {S : Type 0} (g : Ghosts S) where
     where
       one : {x y : Command} → Some x ≡ Some y → x ≡ y
       one is = cc
+  turned old new r after w (submitted command told more) s h t =
+      let list = events.Submit command ∷ more in
+      let own_is : own list ≡ submit_events command = ap (λ xs. events.Submit command ∷ xs) t.0 in
+      let law = t.4 w s t.1 list own_is in
+      let place = place_in g old old w s Ready moments.Ready t.3.0 refl in
+      let took = accepted_there old.line w.disk w command place t.3.1 t.1 more t.0 in
+      let number : (line_state told).count ≡ (line_state (grown old.line command)).count = same_submit (line_state told).count (line_state (grown old.line command)).count (sym law.0 ∙ took.0) in (
+        law.1,
+        kept t.2 (through list (refl, all_go_on more (commit_events ++ publish_events) t.0 (refl, (refl, (refl, (refl, (refl, (refl, (refl, tt)))))))) r w (runs old w s) s.place.reached h),
+        took.2 ∙ ap (λ n. w.acks ++ record { number = n; command = command } ∷ []) (sym number),
+      )
+    where
+      same_submit : (a b : ℕ) → submit_outcomes a ≡ submit_outcomes b → a ≡ b
+      same_submit a b is = cc
+  turned old new r after w (refused command why) s h t = ((t.2 w s t.0).1, kept t.1 (submits command r w h), list_keeps (events.Submit command ∷ []) (refl, tt) w)
+  turned old new r after w (submit_failed command call fate left more) s h t =
+      let list = events.Submit command ∷ more in
+      let own_is : own list ≡ events.Submit command ∷ fail_events call fate = ap (λ xs. events.Submit command ∷ xs) t.0 in (
+        (t.3 w s t.1 list own_is).1,
+        kept t.2 (through list (refl, all_go_on more (fail_events call fate) t.0 (failed_go_on call fate)) r w (runs old w s) s.place.reached h),
+        woven_keeps list (events.Submit command ∷ fail_events call fate) own_is (refl, failed_none call fate) w ∙ sym (append-nil w.acks),
+      )
+  turned old new r after w (submit_unpublished command more) s h t =
+      let list = events.Submit command ∷ more in
+      let own_is : own list ≡ unpublished_events command = ap (λ xs. events.Submit command ∷ xs) t.0 in (
+        (t.3.1 w s t.1 list own_is).1,
+        kept t.2 (through list (refl, all_go_on more (commit_events ++ events.PublishFail ∷ []) t.0 (refl, (refl, (refl, (refl, (refl, tt)))))) r w (runs old w s) s.place.reached h),
+        woven_keeps list (unpublished_events command) own_is (refl, (refl, (refl, (refl, (refl, (refl, tt)))))) w ∙ sym (append-nil w.acks),
+      )
   turned old new r after w (adopted trees) s h t =
       let there = t.2 old w s (spelled_by old.phase old.command old.tables w.disk trees refl refl t.1.1 t.1.2 (s.stored t.1.0)) in
       (there.1.0, kept t.0 there.1.1, list_keeps (events.Stop Lost ∷ events.Reopen ∷ []) (refl, (refl, tt)) w)
@@ -160,21 +169,26 @@ module _ {S : Type 0} (g : Ghosts S) where
   leaves_failed turns old mid new after h t why failure known left may =
       let reached = ran turns old mid (new_registry (line_state old.line)) after start h t in
       let u : World = run_from start (events_of turns) in
-      let by = failure.2 known left may in
-      let list = fail_events failure.0 by.0 in
-      let last = by.1 u reached.0.0 list (failed_own failure.0 by.0) in
-      let v : World = run_from u list in
-      let acks : v.acks ≡ receipts_of turns = list_keeps list (failed_none failure.0 by.0) u ∙ append-nil u.acks ∙ reached.1 in
-      (v, last.1, last.2, holds_all v [] (receipts_of turns) left (holds_of v last.1.place.reached) (sym last.2) acks)
+      let call = failure.2 in
+      let by = failure.4 known left may in
+      let list = fail_events call by.0 in
+      let last = by.1 u reached.0.0 list (failed_own call by.0) in
+      let v : World = run_from start (events_of turns ++ list) in
+      let is : v ≡ run_from u list = run_more start (events_of turns) list in
+      let acks : v.acks ≡ receipts_of turns = ap (λ (x : World). x.acks) is ∙ list_keeps list (failed_none call by.0) u ∙ append-nil u.acks ∙ reached.1 in
+      let there : StandsFor g new v = subst (StandsFor g new) (sym is) last.1 in
+      let disk : v.disk ≡ left = ap (λ (x : World). x.disk) is ∙ last.2 in
+      (list, there, holds_all v [] (receipts_of turns) left (holds_of v there.place.reached) (sym disk) acks)
 
   -- after a failed commit whichever file is left is adopted
   pub goes_on_after : EveryFailureGoesOn g
-  goes_on_after old new last r w why h failure closed stood known trees may adopts =
-      let shut : IsLeft g new.tables (line_state new.line) = subst (λ (o : Option Command). Agrees g Closed o (line_state new.line) new.tables) closed.1 (subst (λ (p : Phase). Agrees g p new.command (line_state new.line) new.tables) closed.0 (stood known)) in
+  goes_on_after old new last r w why h failure stood known trees may adopts =
+      let shut : IsLeft g new.tables (line_state new.line) = subst (λ (o : Option Command). Agrees g Closed o (line_state new.line) new.tables) failure.1 (subst (λ (p : Phase). Agrees g p new.command (line_state new.line) new.tables) failure.0 (stood known)) in
       let spelled = shut.durable trees may in
       let left : State = spelled.0 in
-      let by = failure.2 known left (trees, may, spelled.1) in
-      let list = fail_events failure.0 by.0 in
-      let own_is = failed_own failure.0 by.0 in
+      let call = failure.2 in
+      let by = failure.4 known left (trees, may, spelled.1) in
+      let list = fail_events call by.0 in
+      let own_is = failed_own call by.0 in
       let disk = (by.1 w h.0 list own_is).2 in
-      (failure.0, by.0, left, spelled.1, (new, registry_through r w list, (own_is, refl, by.1), (last, new_registry (line_state last.line), (refl, (known, may, λ _ _. subst (Spells trees) (sym disk) spelled.1), adopts), (refl, refl))))
+      (call, by.0, left, spelled.1, (new, registry_through r w list, (own_is, refl, by.1), (last, new_registry (line_state last.line), (refl, (known, may, λ _ _. subst (Spells trees) (sym disk) spelled.1), adopts), (refl, refl))))

@@ -34,11 +34,11 @@ use Rattle.prt_follows.specs.Events.{commit_events, fail_events, publish_events}
 use Rattle.prt_follows.specs.Spots.{HasRoom, IsReached}
 use Rattle.prt_follows.proofs.Acks.{event_keeps}
 use Rattle.prt_follows.proofs.Between.{stays_there}
-use Rattle.prt_follows.proofs.Desks.{desk_of, line_at, placed, turn_is_steps}
+use Rattle.prt_follows.proofs.Desks.{desk_of, turn_is_steps}
 use Rattle.prt_follows.proofs.Exits.{spot}
 use Rattle.prt_follows.proofs.Headline.{holds_all}
 use Rattle.prt_follows.proofs.Opening.{reopens, stops}
-use Rattle.prt_follows.proofs.Steps.{holds_of, run_more}
+use Rattle.prt_follows.proofs.Steps.{holds_of, line_at, placed, run_more}
 
 -- ---- a desk's events leave lookers as they are
 

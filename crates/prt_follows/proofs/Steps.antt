@@ -90,6 +90,25 @@ told_opened line accepted disk base list is =
       list = sym (append-nil (take line.base.count accepted)) ∙ ap (λ xs. take line.base.count accepted ++ xs) (sym list);
     })
 
+-- ---- where a reached world is
+
+-- a list that begins with the published version
+abbrev pub line_at : World → Line
+line_at w = record { book = record { number = 0; log_name = 0; cells_name = 0 }; base = published_version w; list = [] }
+
+pub placed : (w : World) (moment : Moment) → IsReached w → w.phase ≡ moment → HasRoom w moment → IsAt (record { line = line_at w; disk = w.disk; moment = moment }) w
+placed w moment reached is room =
+    let count = shown_number w reached in
+    let base : published_version w ≡ state_after w.accepted (published_version w).count = shown_version w (holds_of w reached) ∙ ap (state_after w.accepted) (sym count) in
+    record {
+      reached = reached;
+      moment = is;
+      disk = refl;
+      shown = refl;
+      told = subst (λ n. IsTold (line_at w) w.accepted n) count (told_opened (line_at w) w.accepted (published_version w) refl refl base);
+      room = room;
+    }
+
 -- ---- one event
 
 -- the event shows this, and leads there

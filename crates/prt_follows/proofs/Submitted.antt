@@ -133,6 +133,8 @@ module _ {S : Type 0} (g : Ghosts S) where
 
     pub submit_fails : (why : Refusal) → IsNotStored g old command why new → SubmitFails g old new command why
     submit_fails why fails = (
+      ap (λ (p : Standing (Held S)). p.phase) fails.left,
+      ap (λ (p : Standing (Held S)). p.command) fails.left,
       fails.call,
       fails.why_is,
       λ known left may.

@@ -1,26 +1,32 @@
--- A registry over the store calls of a commit, whatever lookers do between them.
-use Rattle.std.proofs.Common.{◌≡◌, Bool, true, false, List, [], ◌∷◌, refl, sym, ◌∙◌, ap, subst}
+-- A registry over a list of events.
+use Rattle.std.proofs.Common.{◌≡◌, Bool, true, false, List, [], ◌∷◌, Option, Some, None, refl, sym, ◌∙◌, ap, subst, cond}
 use Rattle.std.specs.List.{AllByRecursion as Each}
+use Rattle.prt_addr.specs.declared.refusal.Refusal.{Refusal}
 use Rattle.prt_addr.specs.declared.refusal.StoreCall.{StoreCall}
 use Rattle.prt_addr.specs.declared.refusal.StoreCall.TheVariants as calls
-use Rattle.prt_grace.specs.Registry.{RegistryState}
+use Rattle.prt_command.specs.declared.request.Command.{Command}
+use Rattle.prt_front.specs.Line.{Line, grown, line_state}
+use Rattle.prt_grace.specs.Registry.{RegistryState, noted_by}
+use Rattle.prt_version.proofs.Folds.{fold_push}
+use Rattle.prt_version.specs.Change.{apply, refusal}
+use Rattle.prt_version.specs.State.{State}
 use Rattle.prt_world.specs.World as world
-use Rattle.prt_world.specs.World.{World, run_from, step}
+use Rattle.prt_world.specs.World.{Step, World, has_room, published_version, run_from, start, step}
 use Rattle.prt_world.specs.declared.event.Event.{Event}
 use Rattle.prt_world.specs.declared.event.Event.TheVariants as events
 use Rattle.prt_world.specs.declared.event.Fate.{Fate}
 use Rattle.prt_world.specs.declared.phase.Phase.{Phase as Moment}
 use Rattle.prt_world.specs.declared.phase.Phase.TheVariants as moments
 use Rattle.prt_follows.specs.Events.{fail_events, is_lookers, own}
-use Rattle.prt_follows.specs.Registers.{Registers, registry_after, registry_through}
-use Rattle.prt_follows.specs.Spots.{IsReached}
-use Rattle.prt_follows.proofs.Between.{moment_stays}
-use Rattle.prt_follows.proofs.Exits.{SameVersions, same_registers}
-use Rattle.prt_follows.proofs.Registering.{registers_beside}
-use Rattle.prt_follows.proofs.Steps.{reached_run}
+use Rattle.prt_follows.specs.Registers.{Registers, noted_at, registry_after, registry_through}
+use Rattle.prt_follows.specs.Spots.{HasRoom, IsAt, IsReached}
+use Rattle.prt_follows.proofs.Between.{moment_stays, room_beside, room_published, room_stays}
+use Rattle.prt_follows.proofs.Exits.{SameVersions, ack_same, same_registers, spot, submits}
+use Rattle.prt_follows.proofs.Registering.{registers_beside, registers_noted, registers_published}
+use Rattle.prt_follows.proofs.Steps.{line_at, placed, publishes, reached_run}
 use Rattle.prt_follows.proofs.Woven.{own_by}
 
--- ---- store calls leave versions and lookers as they are
+-- ---- events that leave versions and lookers as they are
 
 call_same : (w : World) (moment : Moment) → SameVersions w (world.call w moment).world
 call_same w (moments.Prepared command calls.Begin) = record { noted = refl; published = refl; versions = refl; lookers = refl }
@@ -33,52 +39,219 @@ fail_same : (w : World) (fate : Fate) (moment : Moment) → SameVersions w (worl
 fail_same w fate (moments.Prepared command next) = record { noted = refl; published = refl; versions = refl; lookers = refl }
 fail_same w fate moment = record { noted = refl; published = refl; versions = refl; lookers = refl }
 
--- ---- and a world that runs goes on
+unshown_same : (w : World) (moment : Moment) → SameVersions w (world.fail_publication w moment).world
+unshown_same w (moments.Committed command) = record { noted = refl; published = refl; versions = refl; lookers = refl }
+unshown_same w moment = record { noted = refl; published = refl; versions = refl; lookers = refl }
 
-call_runs : (w : World) (moment : Moment) → w.phase ≡ moment → world.is_stopped moment ≡ false → world.is_stopped (world.call w moment).world.phase ≡ false
-call_runs w (moments.Prepared command calls.Begin) is going = refl
-call_runs w (moments.Prepared command calls.Write) is going = refl
-call_runs w (moments.Prepared command calls.Count) is going = refl
-call_runs w (moments.Prepared command calls.Commit) is going = refl
-call_runs w moment is going = ap world.is_stopped is ∙ going
+-- ---- a world that runs goes on, but for a stop
 
-fail_runs : (w : World) (fate : Fate) (moment : Moment) → w.phase ≡ moment → world.is_stopped moment ≡ false → world.is_stopped (world.fail w fate moment).world.phase ≡ false
-fail_runs w fate (moments.Prepared command next) is going = refl
-fail_runs w fate moment is going = ap world.is_stopped is ∙ going
+-- no stop, and no opening
+abbrev pub goes_on : Event → Bool
+goes_on (events.Stop fate) = false
+goes_on events.Reopen = false
+goes_on event = true
 
-abbrev pub is_store : Event → Bool
-is_store events.Call = true
-is_store (events.Fail fate) = true
-is_store event = false
+abbrev Runs : Step → Type 0
+Runs s = world.is_stopped s.world.phase ≡ false
 
-store_runs : (w : World) (event : Event) → is_store event ≡ true → world.is_stopped w.phase ≡ false → world.is_stopped (step w event).world.phase ≡ false
-store_runs w events.Call is going = call_runs w w.phase refl going
-store_runs w (events.Fail fate) is going = fail_runs w fate w.phase refl going
-store_runs w event is going = absurd cc
+still : (w : World) (moment : Moment) → w.phase ≡ moment → world.is_stopped moment ≡ false → Runs (world.unmet w)
+still w moment is going = ap world.is_stopped is ∙ going
 
-store_registers : (r : RegistryState) (w : World) (event : Event) → is_store event ≡ true → Registers r w → Registers (registry_after r w event) (step w event).world
-store_registers r w events.Call is h = same_registers r w (step w events.Call).world (call_same w w.phase) h
-store_registers r w (events.Fail fate) is h = same_registers r w (step w (events.Fail fate)).world (fail_same w fate w.phase) h
-store_registers r w event is h = absurd cc
+prepare_runs : (w : World) (command : Command) (why : Option Refusal) (room : Bool) → world.is_stopped w.phase ≡ false → Runs (world.prepare w command why room)
+prepare_runs w command (Some why) room going = going
+prepare_runs w command None true going = refl
+prepare_runs w command None false going = going
 
-pub failed_store : (call : StoreCall) (fate : Fate) → Each (λ event. is_store event ≡ true) (fail_events call fate)
-failed_store calls.Begin fate = (refl, tt)
-failed_store calls.Write fate = (refl, (refl, tt))
-failed_store calls.Count fate = (refl, (refl, (refl, tt)))
-failed_store calls.Commit fate = (refl, (refl, (refl, (refl, tt))))
+submit_runs : (w : World) (command : Command) (moment : Moment) → world.is_stopped w.phase ≡ false → Runs (world.submit w command moment)
+submit_runs w command moments.Ready going = prepare_runs w command (refusal (published_version w) command) (has_room w) going
+submit_runs w command moment going = going
 
--- ---- the list
+call_runs : (w : World) (moment : Moment) → world.is_stopped w.phase ≡ false → Runs (world.call w moment)
+call_runs w (moments.Prepared command calls.Begin) going = refl
+call_runs w (moments.Prepared command calls.Write) going = refl
+call_runs w (moments.Prepared command calls.Count) going = refl
+call_runs w (moments.Prepared command calls.Commit) going = refl
+call_runs w moment going = going
 
-abbrev Passes : List Event → Type 0
-Passes all = (list : List Event) → own all ≡ list → Each (λ event. is_store event ≡ true) list → (r : RegistryState) (w : World) → world.is_stopped w.phase ≡ false → IsReached w → Registers r w → Registers (registry_through r w all) (run_from w all)
+fail_runs : (w : World) (fate : Fate) (moment : Moment) → world.is_stopped w.phase ≡ false → Runs (world.fail w fate moment)
+fail_runs w fate (moments.Prepared command next) going = refl
+fail_runs w fate moment going = going
 
-through_by : (event : Event) (all : List Event) (b : Bool) → is_lookers event ≡ b → Passes all → Passes (event ∷ all)
-through_by event all true is again list e store r w going reached h =
-    again list (sym (own_by event all true is) ∙ e) store (registry_after r w event) (step w event).world (ap world.is_stopped (moment_stays w event is reached) ∙ going) (reached_run w (event ∷ []) reached) (registers_beside r w event is going reached h)
-through_by event all false is again list e store r w going reached h =
-    let held : Each (λ event. is_store event ≡ true) (event ∷ own all) = subst (λ (xs : List Event). Each (λ event. is_store event ≡ true) xs) (sym e ∙ own_by event all false is) store in
-    again (own all) refl held.1 (registry_after r w event) (step w event).world (store_runs w event held.0 going) (reached_run w (event ∷ []) reached) (store_registers r w event held.0 h)
+publish_runs : (w : World) (moment : Moment) → world.is_stopped w.phase ≡ false → Runs (world.publish w moment)
+publish_runs w (moments.Committed command) going = refl
+publish_runs w moment going = going
 
-pub through : (all : List Event) → Passes all
-through [] list e store r w going reached h = h
-through (event ∷ all) list e store r w going reached h = through_by event all (is_lookers event) refl (through all) list e store r w going reached h
+unshown_runs : (w : World) (moment : Moment) → world.is_stopped w.phase ≡ false → Runs (world.fail_publication w moment)
+unshown_runs w (moments.Committed command) going = refl
+unshown_runs w moment going = going
+
+note_runs : (w : World) (moment : Moment) → world.is_stopped w.phase ≡ false → Runs (world.note w moment)
+note_runs w (moments.Published command) going = refl
+note_runs w moment going = going
+
+ack_runs : (w : World) (moment : Moment) → world.is_stopped w.phase ≡ false → Runs (world.acknowledge w moment)
+ack_runs w (moments.Noted command) going = refl
+ack_runs w moment going = going
+
+looker_runs : (w : World) (event : Event) → is_lookers event ≡ true → IsReached w → world.is_stopped w.phase ≡ false → Runs (step w event)
+looker_runs w event is reached going = ap world.is_stopped (moment_stays w event is reached) ∙ going
+
+runs_on : (w : World) (event : Event) → goes_on event ≡ true → IsReached w → world.is_stopped w.phase ≡ false → Runs (step w event)
+runs_on w (events.Submit command) is reached going = submit_runs w command w.phase going
+runs_on w events.Call is reached going = call_runs w w.phase going
+runs_on w (events.Fail fate) is reached going = fail_runs w fate w.phase going
+runs_on w events.Publish is reached going = publish_runs w w.phase going
+runs_on w events.PublishFail is reached going = unshown_runs w w.phase going
+runs_on w events.Note is reached going = note_runs w w.phase going
+runs_on w events.Ack is reached going = ack_runs w w.phase going
+runs_on w (events.Online looker) is reached going = looker_runs w (events.Online looker) refl reached going
+runs_on w (events.Fetch looker) is reached going = looker_runs w (events.Fetch looker) refl reached going
+runs_on w (events.Announce looker) is reached going = looker_runs w (events.Announce looker) refl reached going
+runs_on w (events.Offline looker) is reached going = looker_runs w (events.Offline looker) refl reached going
+runs_on w (events.Look looker packet) is reached going = looker_runs w (events.Look looker packet) refl reached going
+runs_on w events.Reclaim is reached going = looker_runs w events.Reclaim refl reached going
+runs_on w (events.Stop fate) is reached going = absurd cc
+runs_on w events.Reopen is reached going = absurd cc
+
+-- ---- in each reached world a command that is prepared, stored or published has its room
+
+abbrev Roomy : Step → Type 0
+Roomy s = HasRoom s.world s.world.phase
+
+prepare_room : (w : World) (command : Command) (why : Option Refusal) (room : Bool) → has_room w ≡ room → HasRoom w w.phase → Roomy (world.prepare w command why room)
+prepare_room w command (Some why) room is h = h
+prepare_room w command None true is h = is
+prepare_room w command None false is h = h
+
+submit_room : (w : World) (command : Command) (moment : Moment) → HasRoom w w.phase → Roomy (world.submit w command moment)
+submit_room w command moments.Ready h = prepare_room w command (refusal (published_version w) command) (has_room w) refl h
+submit_room w command moment h = h
+
+call_room : (w : World) (moment : Moment) → w.phase ≡ moment → HasRoom w w.phase → Roomy (world.call w moment)
+call_room w (moments.Prepared command calls.Begin) is h = subst (HasRoom w) is h
+call_room w (moments.Prepared command calls.Write) is h = subst (HasRoom w) is h
+call_room w (moments.Prepared command calls.Count) is h = subst (HasRoom w) is h
+call_room w (moments.Prepared command calls.Commit) is h = subst (HasRoom w) is h
+call_room w moment is h = h
+
+fail_room : (w : World) (fate : Fate) (moment : Moment) → HasRoom w w.phase → Roomy (world.fail w fate moment)
+fail_room w fate (moments.Prepared command next) h = tt
+fail_room w fate moment h = h
+
+publish_room : (w : World) (moment : Moment) → IsReached w → w.phase ≡ moment → HasRoom w w.phase → Roomy (world.publish w moment)
+publish_room w (moments.Committed command) reached is h = room_published w (line_at w) w.disk command (placed w (moments.Committed command) reached is (subst (HasRoom w) is h))
+publish_room w moment reached is h = h
+
+unshown_room : (w : World) (moment : Moment) → HasRoom w w.phase → Roomy (world.fail_publication w moment)
+unshown_room w (moments.Committed command) h = tt
+unshown_room w moment h = h
+
+note_room : (w : World) (moment : Moment) → HasRoom w w.phase → Roomy (world.note w moment)
+note_room w (moments.Published command) h = tt
+note_room w moment h = h
+
+ack_room : (w : World) (moment : Moment) → HasRoom w w.phase → Roomy (world.acknowledge w moment)
+ack_room w (moments.Noted command) h = tt
+ack_room w moment h = h
+
+looker_room : (w : World) (event : Event) → is_lookers event ≡ true → IsReached w → HasRoom w w.phase → Roomy (step w event)
+looker_room w event is reached h =
+    let v : World = (step w event).world in
+    subst (HasRoom v) (sym (moment_stays w event is reached)) (room_beside w v w.phase (room_stays w event is reached) h)
+
+stop_room : (w : World) (fate : Fate) (b : Bool) → HasRoom w w.phase → Roomy (cond b (world.unmet w) (world.stop w fate))
+stop_room w fate true h = h
+stop_room w fate false h = tt
+
+reopen_room : (w : World) (moment : Moment) → HasRoom w w.phase → Roomy (world.reopen w moment)
+reopen_room w moments.Closed h = tt
+reopen_room w moments.Stopped h = tt
+reopen_room w moment h = h
+
+step_room : (w : World) (event : Event) → IsReached w → HasRoom w w.phase → Roomy (step w event)
+step_room w (events.Submit command) reached h = submit_room w command w.phase h
+step_room w events.Call reached h = call_room w w.phase refl h
+step_room w (events.Fail fate) reached h = fail_room w fate w.phase h
+step_room w events.Publish reached h = publish_room w w.phase reached refl h
+step_room w events.PublishFail reached h = unshown_room w w.phase h
+step_room w events.Note reached h = note_room w w.phase h
+step_room w events.Ack reached h = ack_room w w.phase h
+step_room w (events.Online looker) reached h = looker_room w (events.Online looker) refl reached h
+step_room w (events.Fetch looker) reached h = looker_room w (events.Fetch looker) refl reached h
+step_room w (events.Announce looker) reached h = looker_room w (events.Announce looker) refl reached h
+step_room w (events.Offline looker) reached h = looker_room w (events.Offline looker) refl reached h
+step_room w (events.Look looker packet) reached h = looker_room w (events.Look looker packet) refl reached h
+step_room w events.Reclaim reached h = looker_room w events.Reclaim refl reached h
+step_room w (events.Stop fate) reached h = stop_room w fate (world.is_stopped w.phase) h
+step_room w events.Reopen reached h = reopen_room w w.phase h
+
+run_room : (list : List Event) (w : World) → IsReached w → HasRoom w w.phase → HasRoom (run_from w list) (run_from w list).phase
+run_room [] w reached h = h
+run_room (event ∷ list) w reached h = run_room list (step w event).world (reached_run w (event ∷ []) reached) (step_room w event reached h)
+
+pub room_of : (w : World) → IsReached w → HasRoom w w.phase
+room_of w reached = subst (λ (v : World). HasRoom v v.phase) (sym reached.1) (run_room reached.0 start ([], refl) tt)
+
+-- ---- one event
+
+module _ (r : RegistryState) (w : World) (reached : IsReached w) (s : Registers r w) where
+  published_there : (moment : Moment) → w.phase ≡ moment → Registers r (world.publish w moment).world
+  published_there (moments.Committed command) is =
+      let h : IsAt (spot (line_at w) w.disk (moments.Committed command)) w = placed w (moments.Committed command) reached is (subst (HasRoom w) is (room_of w reached)) in
+      let to : step w events.Publish ≡ world.publish w (moments.Committed command) = ap (world.publish w) is in
+      let there = publishes (line_at w) w.disk w command h (room_published w (line_at w) w.disk command h) in
+      let now : published_version (world.publish w (moments.Committed command)).world ≡ apply (published_version w) command = subst (λ (t : Step). published_version t.world ≡ apply (published_version w) command) to there.1.shown in
+      registers_published (line_at w) w.disk command r w s h now
+  published_there moment is = s
+
+  noted_there : (moment : Moment) → w.phase ≡ moment → Registers (noted_at r (published_version w) moment) (world.note w moment).world
+  noted_there (moments.Published command) is =
+      let h : IsAt (spot (line_at w) w.disk (moments.Published command)) w = placed w (moments.Published command) reached is (subst (HasRoom w) is (room_of w reached)) in
+      (registers_noted (line_at w) w.disk command r w s h (published_version w) refl).1
+  noted_there moment is = s
+
+  pub registers_event : (event : Event) → goes_on event ≡ true → world.is_stopped w.phase ≡ false → Registers (registry_after r w event) (step w event).world
+  registers_event (events.Submit command) is going = submits command r w s
+  registers_event events.Call is going = same_registers r w (step w events.Call).world (call_same w w.phase) s
+  registers_event (events.Fail fate) is going = same_registers r w (step w (events.Fail fate)).world (fail_same w fate w.phase) s
+  registers_event events.Publish is going = published_there w.phase refl
+  registers_event events.PublishFail is going = same_registers r w (step w events.PublishFail).world (unshown_same w w.phase) s
+  registers_event events.Note is going = noted_there w.phase refl
+  registers_event events.Ack is going = same_registers r w (step w events.Ack).world (ack_same w w.phase) s
+  registers_event (events.Online looker) is going = registers_beside r w (events.Online looker) refl going reached s
+  registers_event (events.Fetch looker) is going = registers_beside r w (events.Fetch looker) refl going reached s
+  registers_event (events.Announce looker) is going = registers_beside r w (events.Announce looker) refl going reached s
+  registers_event (events.Offline looker) is going = registers_beside r w (events.Offline looker) refl going reached s
+  registers_event (events.Look looker packet) is going = registers_beside r w (events.Look looker packet) refl going reached s
+  registers_event events.Reclaim is going = registers_beside r w events.Reclaim refl going reached s
+  registers_event (events.Stop fate) is going = absurd cc
+  registers_event events.Reopen is going = absurd cc
+
+-- ---- a list of them
+
+pub through : (all : List Event) → Each (λ event. goes_on event ≡ true) all → (r : RegistryState) (w : World) → world.is_stopped w.phase ≡ false → IsReached w → Registers r w → Registers (registry_through r w all) (run_from w all)
+through [] each r w going reached s = s
+through (event ∷ all) each r w going reached s =
+    through all each.1 (registry_after r w event) (step w event).world (runs_on w event each.0 reached going) (reached_run w (event ∷ []) reached) (registers_event r w reached s event each.0 going)
+
+lookers_go_on : (event : Event) → is_lookers event ≡ true → goes_on event ≡ true
+lookers_go_on (events.Stop fate) is = absurd cc
+lookers_go_on events.Reopen is = absurd cc
+lookers_go_on event is = refl
+
+-- where the publisher's own events go on, so do all
+pub all_go_on : (all list : List Event) → own all ≡ list → Each (λ event. goes_on event ≡ true) list → Each (λ event. goes_on event ≡ true) all
+all_go_on [] list e each = tt
+all_go_on (event ∷ all) list e each = by (is_lookers event) refl (λ rest e each. all_go_on all rest e each)
+  where
+    by : (b : Bool) → is_lookers event ≡ b → ((rest : List Event) → own all ≡ rest → Each (λ event. goes_on event ≡ true) rest → Each (λ event. goes_on event ≡ true) all) → Each (λ event. goes_on event ≡ true) (event ∷ all)
+    by true is again = (lookers_go_on event is, again list (sym (own_by event all true is) ∙ e) each)
+    by false is again =
+        let held : Each (λ event. goes_on event ≡ true) (event ∷ own all) = subst (λ (xs : List Event). Each (λ event. goes_on event ≡ true) xs) (sym e ∙ own_by event all false is) each in
+        (held.0, again (own all) refl held.1)
+
+pub failed_go_on : (call : StoreCall) (fate : Fate) → Each (λ event. goes_on event ≡ true) (fail_events call fate)
+failed_go_on calls.Begin fate = (refl, tt)
+failed_go_on calls.Write fate = (refl, (refl, tt))
+failed_go_on calls.Count fate = (refl, (refl, (refl, tt)))
+failed_go_on calls.Commit fate = (refl, (refl, (refl, (refl, tt))))

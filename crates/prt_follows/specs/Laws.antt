@@ -1,5 +1,5 @@
 -- What the exits of a publisher's calls are in the world.
-use Rattle.std.specs.Prelude.{◌≡◌, ◌⊎◌, Bool, true, false, ◌+◌, List, [], ◌∷◌, Some, Ok}
+use Rattle.std.specs.Prelude.{◌≡◌, ◌⊎◌, Bool, true, false, ◌+◌, List, [], ◌∷◌, Some, None, Ok}
 use Rattle.sqlite.specs.Held.{Held, state}
 use Rattle.sqlite.specs.Store.{Ghosts}
 use Rattle.sqlite.specs.Tree.{Trees}
@@ -11,7 +11,7 @@ use Rattle.prt_command.specs.declared.request.Command.{Command}
 use Rattle.prt_front.specs.Line.{Line, line_state}
 use Rattle.prt_grace.specs.Registry.{RegistryState, new_registry}
 use Rattle.prt_publisher.specs.Standing.{Standing, Stands}
-use Rattle.prt_publisher.specs.declared.phase.Phase.TheVariants.{Prepared}
+use Rattle.prt_publisher.specs.declared.phase.Phase.TheVariants.{Closed, Prepared}
 use Rattle.prt_store.specs.Exits.{IsKnown, MayLeave, Spells}
 use Rattle.prt_store.specs.Stops.{StoppedIn}
 use Rattle.prt_version.specs.Change.{check}
@@ -61,9 +61,9 @@ module _ {S : Type 0} (g : Ghosts S) (old new : Standing (Held S)) where
   abbrev pub FailsBy : StoreCall → Fate → State → Type 0
   FailsBy call fate left = (w : World) → StandsFor g old w → LeadsTo g w (fail_events call fate) (fail_outcomes call) new left
 
-  -- each state that a crash may leave is that of a world whose event of the failed call has the fate that fits
+  -- closed; each state that a crash may leave is that of a world whose event of the failed call has the fate that fits
   abbrev pub FailsToCommit : Refusal → Type 0
-  FailsToCommit why = (call : StoreCall) × (why ≡ StoreFailed call) × (IsKnown g new.format_1 new.tables → (left : State) → MayLeave g new.tables left → (fate : Fate) × FailsBy call fate left)
+  FailsToCommit why = (new.phase ≡ Closed) × (new.command ≡ None) × (call : StoreCall) × (why ≡ StoreFailed call) × (IsKnown g new.format_1 new.tables → (left : State) → MayLeave g new.tables left → (fate : Fate) × FailsBy call fate left)
 
   abbrev pub Shows : Type 0
   Shows = (w : World) → StandsFor g old w → Leads g w (events.Publish ∷ []) (outcomes.Published (line_state new.line).count ∷ []) new
@@ -101,7 +101,7 @@ module _ {S : Type 0} (g : Ghosts S) (old new : Standing (Held S)) where
       LeadsTo g w (events.Submit command ∷ fail_events call fate) (outcomes.Prepared ((line_state old.line).count + 1) ∷ fail_outcomes call) new left
 
   abbrev pub SubmitFails : Command → Refusal → Type 0
-  SubmitFails command why = (call : StoreCall) × (why ≡ StoreFailed call) × (IsKnown g new.format_1 new.tables → (left : State) → MayLeave g new.tables left → (fate : Fate) × SubmitFailsBy command call fate left)
+  SubmitFails command why = (new.phase ≡ Closed) × (new.command ≡ None) × (call : StoreCall) × (why ≡ StoreFailed call) × (IsKnown g new.format_1 new.tables → (left : State) → MayLeave g new.tables left → (fate : Fate) × SubmitFailsBy command call fate left)
 
   -- stored, and its publication is refused
   abbrev pub SubmitUnpublished : Command → Refusal → Type 0

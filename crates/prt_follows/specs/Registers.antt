@@ -1,12 +1,14 @@
 -- Which worlds a registry of grace periods stands for, and what an event of a looker makes of it.
 use Rattle.std.specs.Prelude.{◌≡◌, ◌<◌, ◌++◌, ◌==◌, ℕ, Bool, true, false, List, [], ◌∷◌, map, None, Some}
 use Rattle.std.specs.List.{AllByRecursion as Each}
-use Rattle.prt_grace.specs.Registry.{RegistryState, announced, reclaimed, with_place}
+use Rattle.prt_grace.specs.Registry.{RegistryState, announced, noted_by, reclaimed, with_place}
 use Rattle.prt_grace.specs.declared.place.PlaceState.TheVariants as places
 use Rattle.prt_version.specs.State.{State}
 use Rattle.prt_world.specs.World.{LookerState, World, announced_by, looker_state, offline, online, published_version, step}
 use Rattle.prt_world.specs.declared.event.Event.{Event}
 use Rattle.prt_world.specs.declared.event.Event.TheVariants as events
+use Rattle.prt_world.specs.declared.phase.Phase.{Phase as Moment}
+use Rattle.prt_world.specs.declared.phase.Phase.TheVariants as moments
 
 -- the version that is published and not noted
 abbrev pub unnoted_version : Bool → State → List State
@@ -20,7 +22,7 @@ pub record Registers (r : RegistryState) (w : World) : Type 0 where
   pub all : w.versions ≡ r.retired ++ r.noted ∷ unnoted_version (w.noted == w.published) (published_version w)
   pub told : map announced r.places ≡ map announced_by w.lookers
 
--- ---- the calls of lookers
+-- ---- what an event makes of it
 
 -- an offline looker announces the noted number
 abbrev pub brought_online : RegistryState → ℕ → LookerState → RegistryState
@@ -37,15 +39,21 @@ abbrev pub taken_offline : RegistryState → ℕ → LookerState → RegistrySta
 taken_offline r looker offline = r
 taken_offline r looker (online announced held) = with_place r looker places.Offline
 
--- what an event of a looker, or a reclaim, makes of the registry: to fetch or to look up is nothing to it
+-- the published version is noted, where that is the publisher's next step
+abbrev pub noted_at : RegistryState → State → Moment → RegistryState
+noted_at r version (moments.Published command) = noted_by r version
+noted_at r version moment = r
+
+-- what an event makes of the registry: only lookers' calls, a reclaim and the note concern it
 abbrev pub registry_after : RegistryState → World → Event → RegistryState
 registry_after r w (events.Online looker) = brought_online r looker (looker_state w looker)
 registry_after r w (events.Announce looker) = told_number r looker (looker_state w looker)
 registry_after r w (events.Offline looker) = taken_offline r looker (looker_state w looker)
 registry_after r w events.Reclaim = reclaimed r
+registry_after r w events.Note = noted_at r (published_version w) w.phase
 registry_after r w event = r
 
--- and what a list of events makes of it, the publisher's own being outside the lock
+-- and what a list of events makes of it
 abbrev pub registry_through : RegistryState → World → List Event → RegistryState
 registry_through r w [] = r
 registry_through r w (event ∷ all) = registry_through (registry_after r w event) (step w event).world all

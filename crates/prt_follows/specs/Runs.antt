@@ -1,30 +1,30 @@
 -- Lists of exits of a publisher's calls, whatever lookers do between them, beside the world's events.
-use Rattle.std.specs.Prelude.{◌≡◌, ◌⊎◌, ℕ, ◌-◌, ◌+◌, ◌≤◌, ◌++◌, Bool, true, List, [], ◌∷◌, Some, None, length, slice_get, slice_index_or}
+use Rattle.std.specs.Prelude.{◌≡◌, ◌⊎◌, ℕ, ◌-◌, ◌+◌, ◌≤◌, ◌++◌, Bool, true, false, List, [], ◌∷◌, Some, None, length, slice_get, slice_index_or}
 use Rattle.std.specs.List.{AllByRecursion as Each}
 use Rattle.sqlite.specs.Held.{Held, state}
 use Rattle.sqlite.specs.Store.{Ghosts}
 use Rattle.sqlite.specs.Tree.{Trees}
 use Rattle.prt_addr.specs.declared.refusal.Refusal.{Refusal}
-use Rattle.prt_addr.specs.declared.refusal.Refusal.TheVariants.{NoMemory, NotPublished}
+use Rattle.prt_addr.specs.declared.refusal.Refusal.TheVariants.{Busy, NoMemory, NotPublished}
 use Rattle.prt_addr.specs.declared.refusal.StoreCall.{StoreCall}
 use Rattle.prt_command.specs.declared.request.Command.{Command}
 use Rattle.prt_front.specs.Line.{Line, line_state}
 use Rattle.prt_grace.specs.Registry.{RegistryState, announced, new_registry, with_place}
 use Rattle.prt_grace.specs.declared.place.PlaceState.{PlaceState}
 use Rattle.prt_grace.specs.declared.place.PlaceState.TheVariants.{Free}
+use Rattle.prt_publisher.specs.Exits.{Takes}
 use Rattle.prt_publisher.specs.Standing.{Standing, Stands}
 use Rattle.prt_publisher.specs.declared.phase.Phase.TheVariants.{Closed, Committed, Published}
 use Rattle.prt_store.specs.Exits.{IsKnown, MayLeave, Spells}
-use Rattle.prt_version.specs.Select.{select}
 use Rattle.prt_version.specs.State.{State}
-use Rattle.prt_world.specs.Durability.{state_after}
-use Rattle.prt_world.specs.World.{Ack, World, run_from, start}
+use Rattle.prt_world.specs.Durability.{IsAcknowledged, IsAnswered, IsDurable}
+use Rattle.prt_world.specs.World.{Ack, World, has_room, run_from, start}
 use Rattle.prt_world.specs.declared.event.Event.{Event}
 use Rattle.prt_world.specs.declared.event.Event.TheVariants as events
 use Rattle.prt_world.specs.declared.event.Fate.{Fate}
 use Rattle.prt_world.specs.declared.event.Fate.TheVariants.{Lost}
-use Rattle.prt_follows.specs.Events.{commit_events, fail_events, is_lookers, note_events, own, reclaim_events, stop_events}
-use Rattle.prt_follows.specs.Laws.{Admits, AdoptsAgain, BeginsAt, Commits, Declines, DeclinesBy, FailsBy, FailsToCommit, Notes, PlansBy, PlansNot, PublishesNot, Shows, StopsBy}
+use Rattle.prt_follows.specs.Events.{commit_events, fail_events, is_lookers, note_events, own, publish_events, reclaim_events, stop_events}
+use Rattle.prt_follows.specs.Laws.{Admits, AdoptsAgain, BeginsAt, Commits, DeclinesBy, FailsBy, FailsToCommit, Notes, PlansBy, PlansNot, PublishesNot, Refuses, Shows, StopsBy, SubmitFailsBy, SubmitUnpublished, Submits}
 use Rattle.prt_follows.specs.Registers.{registry_after, registry_through}
 use Rattle.prt_follows.specs.StandsFor.{StandFor, StandsFor}
 
@@ -43,6 +43,11 @@ pub data Turn : Type 0 where
   shown : Turn
   unshown : Turn
   noted : (command : Command) → (told : Line) → Turn
+  -- the call with a domain, and the events that come after its first
+  submitted : (command : Command) → (told : Line) → (more : List Event) → Turn
+  refused : (command : Command) → (why : Refusal) → Turn
+  submit_failed : (command : Command) → (call : StoreCall) → (fate : Fate) → (left : State) → (more : List Event) → Turn
+  submit_unpublished : (command : Command) → (more : List Event) → Turn
   -- everything stops between store calls, and a file with these trees is adopted
   adopted : (trees : Trees) → Turn
   -- everything stops within this store call, and what that leaves is adopted
@@ -61,6 +66,10 @@ turn_events (failed call fate left all) = all
 turn_events shown = events.Publish ∷ []
 turn_events unshown = events.PublishFail ∷ []
 turn_events (noted command told) = note_events
+turn_events (submitted command told more) = events.Submit command ∷ more
+turn_events (refused command why) = events.Submit command ∷ []
+turn_events (submit_failed command call fate left more) = events.Submit command ∷ more
+turn_events (submit_unpublished command more) = events.Submit command ∷ more
 turn_events (adopted trees) = events.Stop Lost ∷ events.Reopen ∷ []
 turn_events (stopped call fate all) = all ++ events.Reopen ∷ []
 
@@ -71,18 +80,23 @@ events_of (turn ∷ turns) = turn_events turn ++ events_of turns
 -- the receipts that were given, with their commands
 abbrev pub turn_receipts : Turn → List Ack
 turn_receipts (noted command told) = record { number = (line_state told).count; command = command } ∷ []
+turn_receipts (submitted command told more) = record { number = (line_state told).count; command = command } ∷ []
 turn_receipts turn = []
 
 abbrev pub receipts_of : List Turn → List Ack
 receipts_of [] = []
 receipts_of (turn ∷ turns) = turn_receipts turn ++ receipts_of turns
 
--- What a crash leaves is a beginning of the accepted commands which lacks one at most. It has each command of a receipt under the receipt's number, and the version by which each answer was given.
+-- the five steps of a command that is acknowledged
+abbrev pub step_turns : Command → Line → List Turn
+step_turns command told = admitted ∷ planned command ∷ committed commit_events ∷ shown ∷ noted command told ∷ []
+
+-- What a crash leaves is on disk in a world of which all of this holds: it is a beginning of the accepted commands that lacks one at most, it has each command of a receipt under its number, and the version by which each answer was given.
 pub record HoldsAll (w : World) (receipts : List Ack) (left : State) : Type 0 where
-  pub beginning : left ≡ state_after w.accepted left.count
-  pub one_more : length w.accepted ≤ left.count + 1
-  pub acknowledged : Each (λ ack. (ack.number ≤ left.count) × (slice_get w.accepted (ack.number - 1) ≡ Some ack.command)) receipts
-  pub answered : Each (λ lookup. (lookup.answer.number ≤ left.count) × (lookup.answer.verdict ≡ select (state_after w.accepted lookup.answer.number) lookup.packet)) w.answers
+  pub is : w.disk ≡ left
+  pub durable : IsDurable w
+  pub acknowledged : Each (IsAcknowledged w) receipts
+  pub answered : Each (IsAnswered w) w.answers
 
 module _ {S : Type 0} (g : Ghosts S) where
   -- A crash may leave these trees of a file that is known. After a failed commit they spell the state that was chosen for the world.
@@ -102,6 +116,10 @@ module _ {S : Type 0} (g : Ghosts S) where
   Turns old r w shown new after = (after ≡ r) × (old.phase ≡ Committed) × Shows g old new
   Turns old r w unshown new after = (after ≡ r) × PublishesNot g old new NotPublished
   Turns old r w (noted command told) new after = (old.phase ≡ Published) × (old.command ≡ Some command) × Notes g old new r after told
+  Turns old r w (submitted command told more) new after = (own more ≡ commit_events ++ publish_events) × (has_room w ≡ true) × (after ≡ registry_through r w (events.Submit command ∷ more)) × Takes old command × Submits g old new command told
+  Turns old r w (refused command why) new after = (why ≡ Busy → has_room w ≡ false) × (after ≡ r) × Refuses g old new command why
+  Turns old r w (submit_failed command call fate left more) new after = (own more ≡ fail_events call fate) × (has_room w ≡ true) × (after ≡ registry_through r w (events.Submit command ∷ more)) × SubmitFailsBy g old new command call fate left
+  Turns old r w (submit_unpublished command more) new after = (own more ≡ commit_events ++ events.PublishFail ∷ []) × (has_room w ≡ true) × (after ≡ registry_through r w (events.Submit command ∷ more)) × SubmitUnpublished g old new command NotPublished
   Turns old r w (adopted trees) new after = (after ≡ new_registry (line_state new.line)) × LeavesFile old w trees × AdoptsAgain g trees new
   Turns old r w (stopped call fate all) new after = (own all ≡ stop_events call fate) × (after ≡ new_registry (line_state new.line)) × StopsBy g old new call fate
 
@@ -112,34 +130,15 @@ module _ {S : Type 0} (g : Ghosts S) where
 
   -- ---- a submission by its steps
 
-  -- A submission that is acknowledged: its turns, with the registries that the lock shows at the first and at the last.
-  pub record Acknowledges (old : Standing (Held S)) (command : Command) (told : Line) (new : Standing (Held S)) : Type 0 where
-    pub admitted_as : Standing (Held S)
-    pub prepared_as : Standing (Held S)
-    pub committed_as : Standing (Held S)
-    pub published_as : Standing (Held S)
-    pub before : RegistryState
-    pub after : RegistryState
-    pub noted_in : RegistryState
-    pub left : RegistryState
-    pub admits : Admits g old admitted_as before after
-    pub plans : PlansBy g admitted_as prepared_as command
-    pub commits : Commits g prepared_as committed_as
-    pub is_committed : committed_as.phase ≡ Committed
-    pub shows : Shows g committed_as published_as
-    pub is_published : (published_as.phase ≡ Published) × (published_as.command ≡ Some command)
-    pub notes : Notes g published_as new noted_in left told
+  -- One that is acknowledged is its five steps, from each world of the publisher and of the registry.
+  abbrev pub Acknowledges : Standing (Held S) → RegistryState → Command → Line → Standing (Held S) → RegistryState → Type 0
+  Acknowledges old r command told new after = (w : World) → StandFor g old r w → Ran old r w (step_turns command told) new after
 
-  -- The turns of one that is not.
-  abbrev pub AdmitsTo : Standing (Held S) → Standing (Held S) → Type 0
-  AdmitsTo old new = (before : RegistryState) × (after : RegistryState) × Admits g old new before after
-
-  abbrev pub TakesNot : Standing (Held S) → Command → Refusal → Standing (Held S) → Type 0
-  TakesNot old command why new =
-      ((before : RegistryState) × (after : RegistryState) × Declines g old new before after command why)
-      ⊎ (((a : Standing (Held S)) × AdmitsTo old a × PlansNot g a new why)
-      ⊎ (((a : Standing (Held S)) × (b : Standing (Held S)) × AdmitsTo old a × PlansBy g a b command × FailsToCommit g b new why)
-      ⊎ ((a : Standing (Held S)) × (b : Standing (Held S)) × (c : Standing (Held S)) × AdmitsTo old a × PlansBy g a b command × Commits g b c × PublishesNot g c new why)))
+  -- One that is not is some of them, without a receipt; or two, and then a commit that fails.
+  abbrev pub TakesNot : Standing (Held S) → RegistryState → Command → Refusal → Standing (Held S) → RegistryState → Type 0
+  TakesNot old r command why new after = (w : World) → StandFor g old r w →
+      ((turns : List Turn) × (receipts_of turns ≡ []) × Ran old r w turns new after)
+      ⊎ ((mid : Standing (Held S)) × Ran old r w (admitted ∷ planned command ∷ []) mid after × FailsToCommit g mid new why)
 
   -- ---- the laws of every run
 
@@ -158,10 +157,9 @@ module _ {S : Type 0} (g : Ghosts S) where
   abbrev pub EveryFailureLeaves : Type 0
   EveryFailureLeaves = (turns : List Turn) (old mid new : Standing (Held S)) (after : RegistryState) → BeginsAt g old start → Ran old (new_registry (line_state old.line)) start turns mid after
       → (why : Refusal) → FailsToCommit g mid new why → IsKnown g new.format_1 new.tables → (left : State) → MayLeave g new.tables left
-      → (v : World) × StandsFor g new v × (v.disk ≡ left) × HoldsAll v (receipts_of turns) left
+      → (list : List Event) × StandsFor g new (run_from start (events_of turns ++ list)) × HoldsAll (run_from start (events_of turns ++ list)) (receipts_of turns) left
 
   -- And whichever file it left is adopted: the run goes on by two turns, with the state that this file spells.
   abbrev pub EveryFailureGoesOn : Type 0
-  EveryFailureGoesOn = (old new last : Standing (Held S)) (r : RegistryState) (w : World) (why : Refusal) → StandFor g old r w → FailsToCommit g old new why → (new.phase ≡ Closed) × (new.command ≡ None) → Stands g new
-      → IsKnown g new.format_1 new.tables → (trees : Trees) → (state g new.tables).may_leave trees → AdoptsAgain g trees last
+  EveryFailureGoesOn = (old new last : Standing (Held S)) (r : RegistryState) (w : World) (why : Refusal) → StandFor g old r w → FailsToCommit g old new why → Stands g new → IsKnown g new.format_1 new.tables → (trees : Trees) → (state g new.tables).may_leave trees → AdoptsAgain g trees last
       → (call : StoreCall) × (fate : Fate) × (left : State) × Spells trees left × Ran old r w (failed call fate left (fail_events call fate) ∷ adopted trees ∷ []) last (new_registry (line_state last.line))

@@ -3,12 +3,15 @@ ghost use Rattle.std.specs.Prelude.{◌≡◌, Some, IfErr, IfOk, IsTrue, OnOk};
 ghost use Rattle.sqlite.specs.Held.{state};
 ghost use Rattle.sqlite.specs.State.{HasCleanDisk};
 ghost use Rattle.prt_command.specs.Storable.{IsStorable};
+ghost use Rattle.prt_front.specs.Line.{line_state};
+ghost use Rattle.prt_grace.specs.Registry.{new_registry};
 ghost use Rattle.prt_publisher.specs.Standing.{IsQuiet};
 ghost use Rattle.prt_rows.specs.Effects.{AreEmpty};
-ghost use Rattle.prt_store.specs.Exits.{IsKnown};
-ghost use Rattle.prt_world.specs.World.{start};
+ghost use Rattle.prt_store.specs.Exits.{IsKnown, MayLeave};
+ghost use Rattle.prt_version.specs.State.{State};
+ghost use Rattle.prt_world.specs.World.{run_from, start};
 ghost use Rattle.prt_follows.specs.Laws.{Admits, AdoptsAgain, AdoptsStopped, BeginsAt, Commits, Declines, FailsToCommit, Notes, Plans, PlansNot, Prepares, PreparesNot, Publishes, PublishesNot, Shows, Submits, SubmitsNot};
-ghost use Rattle.prt_follows.specs.Runs.{Acknowledges, TakesNot};
+ghost use Rattle.prt_follows.specs.Runs.{Acknowledges, HoldsAll, TakesNot, events_of, receipts_of, step_turns};
 
 use prt_command::{Command, Refusal};
 use prt_grace::{Domain, Registry};
@@ -99,30 +102,30 @@ pub fn note<S: Alter + Drop, R: Wait + Drop>(
     registry: &mut Registry,
 ) -> Receipt
     requires { publisher.old.phase ≡ Phase.Published }
-    ensures { Notes S.Store publisher.old publisher.new registry.old registry.new result }
+    ensures notes { Notes S.Store publisher.old publisher.new registry.old registry.new result }
+    ensures then { publisher.new.phase ≡ Phase.Ready }
 {
     publisher.note(registry)
 }
 
-/// Submits a command by the steps that `Publisher::submit` makes, each with its law, and the lock of the domain for the
-/// first and the last: so it is said that there was room, and that the version was noted.
+/// Submits a command by the steps that `Publisher::submit` makes, in one registry: so it is said that there was room, and
+/// that the version was noted.
 ///
 /// # Errors
 ///
 /// Those of the steps.
-pub fn submit_by_steps<S: Alter + Drop, R: Wait + Drop, W: Wait>(
+pub fn submit_by_steps<S: Alter + Drop, R: Wait + Drop>(
     publisher: &mut Publisher<S, R>,
-    rt: &W,
-    domain: &Domain,
+    registry: &mut Registry,
     command: &Command,
 ) -> Result<Receipt, Refusal>
     requires quiet { IsQuiet publisher.old.phase }
     requires storable { IsStorable command.now }
-    ensures ok { IfOk result (λ told. Acknowledges S.Store publisher.old command.now told publisher.new) }
-    ensures err { IfErr result (λ why. TakesNot S.Store publisher.old command.now why publisher.new) }
+    ensures ok { IfOk result (λ told. Acknowledges S.Store publisher.old registry.old command.now told publisher.new registry.new) }
+    ensures then { OnOk result (publisher.new.phase ≡ Phase.Ready) }
+    ensures err { IfErr result (λ why. TakesNot S.Store publisher.old registry.old command.now why publisher.new registry.new) }
 {
-    let admitted = admit(publisher, &mut domain.lock(rt), command);
-    if let Err(reason) = admitted {
+    if let Err(reason) = admit(publisher, registry, command) {
         return Err(reason);
     }
     if let Err(reason) = plan(publisher) {
@@ -134,8 +137,31 @@ pub fn submit_by_steps<S: Alter + Drop, R: Wait + Drop, W: Wait>(
     if let Err(reason) = show(publisher) {
         return Err(reason);
     }
-    let receipt = note(publisher, &mut domain.lock(rt));
+    let receipt = note(publisher, registry);
     Ok(receipt)
+}
+
+/// Submits the first command of a new file, with the registry of its domain. What a crash leaves then holds it, under the
+/// number that its receipt tells.
+///
+/// # Errors
+///
+/// Those of the steps.
+pub fn first_command<S: Alter + Drop, R: Wait + Drop>(
+    publisher: &mut Publisher<S, R>,
+    registry: &mut Registry,
+    command: &Command,
+) -> Result<Receipt, Refusal>
+    requires quiet { IsQuiet publisher.old.phase }
+    requires storable { IsStorable command.now }
+    requires registry { registry.old ≡ new_registry (line_state publisher.old.line) }
+    ensures { IfOk result (λ told. BeginsAt S.Store publisher.old start → IsKnown S.Store publisher.new.format_1 publisher.new.tables → (left : State) → MayLeave S.Store publisher.new.tables left →
+        HoldsAll (run_from start (events_of (step_turns command.now told))) (receipts_of (step_turns command.now told)) left) }
+{
+    match submit_by_steps(publisher, registry, command) {
+        Ok(receipt) => Ok(receipt),
+        Err(reason) => Err(reason),
+    }
 }
 
 /// Prepares a command, with the domain.

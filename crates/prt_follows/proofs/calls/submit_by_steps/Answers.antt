@@ -1,45 +1,44 @@
-use Rattle.std.proofs.Common.{inl, inr, ◌∙◌}
+use Rattle.std.proofs.Common.{inl, inr, [], ◌∷◌, refl, ◌∙◌, subst}
+use Rattle.prt_addr.specs.declared.refusal.Refusal.{Refusal}
+use Rattle.prt_follows.specs.Laws.{PublishesNot}
+use Rattle.prt_follows.specs.Events.{commit_events}
+use Rattle.prt_follows.specs.Runs.{admitted, committed, declined, planned, unplanned, unshown}
 use Rattle.prt_follows.proofs.Planned.{plans_it}
 use Rattle.prt_follows.proofs.calls.submit_by_steps.Goals as goal
 
 pub returns-in-Err-clause-err : goal.returns-in-Err-clause-err
-returns-in-Err-clause-err g c = inl (c.deref_mut.result.now, c.admit-admitted.new.registry, c.in-Err.ensures.err)
+returns-in-Err-clause-err g c w h = inl (declined c.args.command.now c.in-Err.reason c.in-Err.ensures.err.0 ∷ [], refl, (c.admit.new.publisher, c.admit.new.registry, c.in-Err.ensures.err.1, (refl, refl)))
 
 pub returns-in-Err-plan-clause-err : goal.returns-in-Err-plan-clause-err
-returns-in-Err-plan-clause-err g c = inr (inl (c.admit-admitted.new.publisher, (c.deref_mut.result.now, c.admit-admitted.new.registry, c.in_default.ensures.ok), c.in-Err-plan.ensures.err))
+returns-in-Err-plan-clause-err g c w h =
+    let r = c.admit.new.registry in
+    inl (admitted ∷ unplanned ∷ [], refl, (c.admit.new.publisher, r, c.in_default.ensures.ok, (c.plan.new.publisher, r, (refl, (refl, c.in-Err-plan.ensures.err.1)), (refl, refl))))
 
 pub returns-in-Err-commit-clause-err : goal.returns-in-Err-commit-clause-err
-returns-in-Err-commit-clause-err g c =
-    let a = c.admit-admitted.new.publisher in
+returns-in-Err-commit-clause-err g c w h =
+    let a = c.admit.new.publisher in
     let b = c.plan.new.publisher in
+    let r = c.admit.new.registry in
     let plans = plans_it g.S.Store a b c.args.command.now c.in_default.ensures.then.1 c.in_default-plan.ensures.ok in
-    inr (inr (inl (a, b, (c.deref_mut.result.now, c.admit-admitted.new.registry, c.in_default.ensures.ok), plans, c.in-Err-commit.ensures.err)))
+    inr (b, (a, r, c.in_default.ensures.ok, (b, r, (refl, plans), (refl, refl))), c.in-Err-commit.ensures.err)
 
 pub returns-in-Err-show-clause-err : goal.returns-in-Err-show-clause-err
-returns-in-Err-show-clause-err g c =
-    let a = c.admit-admitted.new.publisher in
+returns-in-Err-show-clause-err g c w h =
+    let a = c.admit.new.publisher in
     let b = c.plan.new.publisher in
+    let r = c.admit.new.registry in
     let plans = plans_it g.S.Store a b c.args.command.now c.in_default.ensures.then.1 c.in_default-plan.ensures.ok in
-    inr (inr (inr (a, b, c.commit.new.publisher, (c.deref_mut.result.now, c.admit-admitted.new.registry, c.in_default.ensures.ok), plans, c.in_default-commit.ensures.ok, c.in-Err-show.ensures.err)))
+    inl (
+      admitted ∷ planned c.args.command.now ∷ committed commit_events ∷ unshown ∷ [],
+      refl,
+      (a, r, c.in_default.ensures.ok, (b, r, (refl, plans), (c.commit.new.publisher, r, (refl, refl, c.in_default-commit.ensures.ok), (c.show.new.publisher, r, (refl, subst (λ (why : Refusal). PublishesNot g.S.Store c.commit.new.publisher c.show.new.publisher why) c.in-Err-show.ensures.err.0 c.in-Err-show.ensures.err), (refl, refl))))),
+    )
 
 pub returns-clause-ok : goal.returns-clause-ok
-returns-clause-ok g c =
-    let a = c.admit-admitted.new.publisher in
+returns-clause-ok g c w h =
+    let a = c.admit.new.publisher in
     let b = c.plan.new.publisher in
-    record {
-      admitted_as = a;
-      prepared_as = b;
-      committed_as = c.commit.new.publisher;
-      published_as = c.show.new.publisher;
-      before = c.deref_mut.result.now;
-      after = c.admit-admitted.new.registry;
-      noted_in = _;
-      left = c.note-receipt.new.registry;
-      admits = c.in_default.ensures.ok;
-      plans = plans_it g.S.Store a b c.args.command.now c.in_default.ensures.then.1 c.in_default-plan.ensures.ok;
-      commits = c.in_default-commit.ensures.ok;
-      is_committed = c.in_default-commit.ensures.then.0;
-      shows = c.in_default-show.ensures.ok;
-      is_published = (c.in_default-show.ensures.then.0, c.in_default-show.ensures.then.1 ∙ c.in_default-commit.ensures.then.1 ∙ c.in_default-plan.ensures.then.1 ∙ c.in_default.ensures.then.1);
-      notes = c.note-receipt.ensures;
-    }
+    let r = c.admit.new.registry in
+    let plans = plans_it g.S.Store a b c.args.command.now c.in_default.ensures.then.1 c.in_default-plan.ensures.ok in
+    let command = c.in_default-show.ensures.then.1 ∙ c.in_default-commit.ensures.then.1 ∙ c.in_default-plan.ensures.then.1 ∙ c.in_default.ensures.then.1 in
+    (a, r, c.in_default.ensures.ok, (b, r, (refl, plans), (c.commit.new.publisher, r, (refl, refl, c.in_default-commit.ensures.ok), (c.show.new.publisher, r, (refl, c.in_default-commit.ensures.then.0, c.in_default-show.ensures.ok), (c.note-receipt.new.publisher, c.note-receipt.new.registry, (c.in_default-show.ensures.then.0, command, c.note-receipt.ensures.notes), (refl, refl))))))
