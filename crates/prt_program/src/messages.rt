@@ -1,8 +1,10 @@
 //! What is told on standard error while a script is run.
-ghost use Rattle.std.specs.Prelude.{◌≡◌, ◌<◌, IfOk, map, string_bytes};
+ghost use Rattle.std.specs.Prelude.{◌≡◌, ◌≢◌, ◌<◌, IfOk, map, string_bytes};
 ghost use Rattle.prt_program.specs.Messages.{complaint, lines_text, place, progress_message, refused_message, shown, total_message};
+ghost use Rattle.prt_words.specs.Faults.{fault_status};
 
 use prt_session::{Observer, Refusal, Reply};
+use prt_words::{DONE, Fault, report};
 use std::alloc::{AllocError, Global};
 use std::fmt::Display;
 use std::io::{IsTerminal, Write};
@@ -122,7 +124,7 @@ enum Telling {
 #[derive(Drop)]
 pub(crate) struct Messages<'a, E: Write + Drop, K: Clock + Drop> {
     alloc: Global,
-    pub(crate) errors: E,
+    errors: E,
     clock: K,
     telling: Telling,
     /// The message of why a file could not be opened.
@@ -184,10 +186,20 @@ impl<'a, E: Write + Drop, K: Clock + Drop> Messages<'a, E, K> {
     }
 
     /// Tells why a file could not be opened, if that was kept.
-    pub(crate) fn tell_cause(&mut self) {
+    fn tell_cause(&mut self) {
         if let Some(cause) = &self.cause {
             let _ = self.errors.write_all(cause.as_bytes());
         }
+    }
+
+    /// Tells why nothing is run, and gives the exit status for that.
+    pub(crate) fn report<W: Write>(&mut self, fault: &Fault, output: &mut W) -> u8
+        ensures status { result ≡ fault_status fault.now }
+        ensures unwritten { result ≢ DONE → W.contents output.new ≡ W.contents output.old }
+    {
+        let status = report(fault, output, &mut self.errors);
+        self.tell_cause();
+        status
     }
 
     /// Writes a message, if there was memory for it.
