@@ -1,6 +1,6 @@
 //! What is told on standard error while a script is run.
 ghost use Rattle.std.specs.Prelude.{◌≡◌, ◌≢◌, ◌<◌, IfOk, map, string_bytes};
-ghost use Rattle.prt_program.specs.Messages.{complaint, lines_text, place, progress_message, refused_message, shown, total_message};
+ghost use Rattle.prt_program.specs.Messages.{complaint, lines_text, location, progress_message, refused_message, shown, total_message};
 ghost use Rattle.prt_words.specs.Faults.{fault_status};
 
 use prt_session::{Observer, Refusal, Reply};
@@ -38,8 +38,8 @@ fn shown_text(alloc: Global, line: &[u8]) -> Result<String, AllocError>
 }
 
 /// Makes the text of where a line stands.
-fn place(alloc: Global, file: &str, line: u64) -> Result<String, AllocError>
-    ensures { IfOk result (λ text. string_bytes text ≡ place file.now line) }
+fn location(alloc: Global, file: &str, line: u64) -> Result<String, AllocError>
+    ensures { IfOk result (λ text. string_bytes text ≡ location file.now line) }
 {
     let mut text = String::from_str(alloc, file)?;
     write!(text, ":{line}")?;
@@ -65,9 +65,9 @@ fn refused_message(
 ) -> Result<String, AllocError>
     ensures { IfOk result (λ message. string_bytes message ≡ refused_message file.now line refusal text.now) }
 {
-    let place = place(alloc, file, line)?;
+    let location = location(alloc, file, line)?;
     let complaint = complaint(alloc, refusal, text)?;
-    format!(in alloc; "{place}: {complaint}\n")
+    format!(in alloc; "{location}: {complaint}\n")
 }
 
 /// Makes the text of a number of lines.
