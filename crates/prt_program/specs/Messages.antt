@@ -8,8 +8,8 @@ abbrev pub shown : ℕ → ℕ
 shown byte = if byte == 9 || (nat_lt 31 byte && nat_lt byte 127) then byte else 63
 
 -- where a line stands: `FILE:LINE`
-abbrev pub place : List ℕ → ℕ → List ℕ
-place file line = file ++ codes ":" ++ decimal line
+abbrev pub location : List ℕ → ℕ → List ℕ
+location file line = file ++ codes ":" ++ decimal line
 
 -- what is wrong with a line: `error C NAME: TEXT`
 abbrev pub complaint : Refusal → List ℕ → List ℕ
@@ -17,7 +17,7 @@ complaint reason text = refusal_text reason ++ codes ": " ++ map shown text
 
 -- of a refused line
 abbrev pub refused_message : List ℕ → ℕ → Refusal → List ℕ → List ℕ
-refused_message file line reason text = place file line ++ codes ": " ++ complaint reason text ++ codes "\n"
+refused_message file line reason text = location file line ++ codes ": " ++ complaint reason text ++ codes "\n"
 
 -- a number of lines
 abbrev pub lines_text : ℕ → List ℕ

@@ -25,51 +25,60 @@ status_by None false = 0
 abbrev pub exit_status : ScriptEnd → ℕ
 exit_status end = status_by end.fault end.refused
 
+-- What a run had to read, and what its writer had before it and has after it.
+pub record Streams : Type 0 where
+  pub input : Option (List ℕ)
+  pub output_before : Option (List ℕ)
+  pub output_after : Option (List ℕ)
+
+abbrev pub streams_of : (input output_before output_after : Option (List ℕ)) → Streams
+streams_of input output_before output_after = record { input = input; output_before = output_before; output_after = output_after }
+
 -- A session that begins with this state was run, and this is its exit status. After it the desk stands for something, and for nothing but what the session left.
-pub record RunsOn {X : Type 0} (stands : X → DeskState → Type 0) (may : Mishap → Type 0) (mode : OnRefusal) (opened : State) (desk : X) (reader0 writer0 writer : Option (List ℕ)) (status : ℕ) : Type 0 where
+pub record RunsOn {X : Type 0} (stands : X → DeskState → Type 0) (may : Mishap → Type 0) (mode : OnRefusal) (opened : State) (desk : X) (streams : Streams) (status : ℕ) : Type 0 where
   pub reader : Option (List ℕ)
   pub end : ScriptEnd
   pub left : Stands stands desk
-  pub run : (after : DeskState) → stands desk after → RunIs request_turn (Befalls may) mode (settled opened) after reader0 reader writer0 writer end
+  pub run : (after : DeskState) → stands desk after → RunIs request_turn (Befalls may) mode (settled opened) after streams.input reader streams.output_before streams.output_after end
   pub status_is : status ≡ exit_status end
 
 -- A session was run over the database at a path. The desk that was opened stood for a state that may be there, the one that was closed stands for what the session left. Nothing else was done to databases.
 pub record RunsAt {D X : Type 0} (holds : D → Word → State → Type 0) (opens : D → D → Word → X → Type 0) (closed : D → D → X → Type 0) (stands : X → DeskState → Type 0) (keeps : X → X → Type 0) (may : Mishap → Type 0)
-    (old new : D) (path : Word) (mode : OnRefusal) (reader0 writer0 writer : Option (List ℕ)) (status : ℕ) : Type 0 where
+    (old new : D) (path : Word) (mode : OnRefusal) (streams : Streams) (status : ℕ) : Type 0 where
   pub opened : State
   pub first : X
   pub last : X
   pub is_held : holds old path opened
   pub is_open : IsOpenOn stands first opened
   pub database : OpensAndCloses opens closed old new path first last
-  pub run : RunsOn stands may mode opened last reader0 writer0 writer status
+  pub run : RunsOn stands may mode opened last streams status
   pub kept : keeps first last
 
--- a fact of a session: of its mode, the reader and the writer before it, the writer after it, and its exit status
+-- a fact of a session: of its mode, its streams and its exit status
 abbrev pub SessionFact : Type 1
-SessionFact = OnRefusal → (reader0 writer0 writer : Option (List ℕ)) → ℕ → Type 0
+SessionFact = OnRefusal → Streams → ℕ → Type 0
 
 -- a session over a new database in memory, which stays open, or over the one at this path
 abbrev pub RunsBatch : (Word → SessionFact) → Option Word → SessionFact
-RunsBatch RunAt None mode reader0 writer0 writer status = (left : State) × RunsOn (λ desk after. after ≡ settled desk) IsNoMemory mode opening_state left reader0 writer0 writer status
-RunsBatch RunAt (Some path) mode reader0 writer0 writer status = RunAt path mode reader0 writer0 writer status
+RunsBatch RunAt None mode streams status = (left : State) × RunsOn (λ desk after. after ≡ settled desk) IsNoMemory mode opening_state left streams status
+RunsBatch RunAt (Some path) mode streams status = RunAt path mode streams status
 
 -- A replay was run, and this is its exit status.
-pub record RunsReplay (reader0 writer0 writer : Option (List ℕ)) (status : ℕ) : Type 0 where
+pub record RunsReplay (streams : Streams) (status : ℕ) : Type 0 where
   pub end : ScriptEnd
-  pub run : ReplayIs reader0 writer0 writer end
+  pub run : ReplayIs streams.input streams.output_before streams.output_after end
   pub status_is : status ≡ exit_status end
 
 -- a run over a file: the input, or an open file, of which nothing is known
-abbrev pub RunsOver : {File : Type 0} → (File → Option (List ℕ)) → ((reader0 writer0 writer : Option (List ℕ)) → ℕ → Type 0) → Option Word → (input writer0 writer : Option (List ℕ)) → ℕ → Type 0
-RunsOver bytes Run None input writer0 writer status = Run input writer0 writer status
-RunsOver {File} bytes Run (Some path) input writer0 writer status = (file : File) × Run (bytes file) writer0 writer status
+abbrev pub RunsOver : {File : Type 0} → (File → Option (List ℕ)) → (Streams → ℕ → Type 0) → Option Word → Streams → ℕ → Type 0
+RunsOver bytes Run None streams status = Run streams status
+RunsOver {File} bytes Run (Some path) streams status = (file : File) × Run (record streams { input = bytes file }) status
 
 -- what the words ask for was run
-abbrev pub Runs : {File : Type 0} → (File → Option (List ℕ)) → (Word → SessionFact) → Invocation → (input writer0 writer : Option (List ℕ)) → ℕ → Type 0
-Runs bytes RunAt (batch script) input writer0 writer status = RunsOver bytes (RunsBatch RunAt script.database script.mode) script.file input writer0 writer status
-Runs bytes RunAt (replay file) input writer0 writer status = RunsOver bytes RunsReplay file input writer0 writer status
-Runs bytes RunAt asked input writer0 writer status = ⊥
+abbrev pub Runs : {File : Type 0} → (File → Option (List ℕ)) → (Word → SessionFact) → Invocation → Streams → ℕ → Type 0
+Runs bytes RunAt (batch script) streams status = RunsOver bytes (RunsBatch RunAt script.database script.mode) script.file streams status
+Runs bytes RunAt (replay file) streams status = RunsOver bytes RunsReplay file streams status
+Runs bytes RunAt asked streams status = ⊥
 
 -- Nothing was run: the words ask for none, or there was a fault of opening. What the writer had is there alone, unless help was asked for.
 abbrev pub RunsNothing : Invocation → Option (List ℕ) → Option (List ℕ) → ℕ → Type 0

@@ -2,6 +2,7 @@
 #![tactic(auto)]
 
 mod databases;
+mod host;
 mod messages;
 mod next;
 mod prt;

@@ -1,8 +1,10 @@
 //! What is told on standard error while a script is run.
-ghost use Rattle.std.specs.Prelude.{◌≡◌, ◌<◌, IfOk, map, string_bytes};
-ghost use Rattle.prt_program.specs.Messages.{complaint, lines_text, place, progress_message, refused_message, shown, total_message};
+ghost use Rattle.std.specs.Prelude.{◌≡◌, ◌≢◌, ◌<◌, IfOk, map, string_bytes};
+ghost use Rattle.prt_program.specs.Messages.{complaint, lines_text, location, progress_message, refused_message, shown, total_message};
+ghost use Rattle.prt_words.specs.Faults.{fault_status};
 
 use prt_session::{Observer, Refusal, Reply};
+use prt_words::{DONE, Fault, report};
 use std::alloc::{AllocError, Global};
 use std::fmt::Display;
 use std::io::{IsTerminal, Write};
@@ -36,8 +38,8 @@ fn shown_text(alloc: Global, line: &[u8]) -> Result<String, AllocError>
 }
 
 /// Makes the text of where a line stands.
-fn place(alloc: Global, file: &str, line: u64) -> Result<String, AllocError>
-    ensures { IfOk result (λ text. string_bytes text ≡ place file.now line) }
+fn location(alloc: Global, file: &str, line: u64) -> Result<String, AllocError>
+    ensures { IfOk result (λ text. string_bytes text ≡ location file.now line) }
 {
     let mut text = String::from_str(alloc, file)?;
     write!(text, ":{line}")?;
@@ -63,9 +65,9 @@ fn refused_message(
 ) -> Result<String, AllocError>
     ensures { IfOk result (λ message. string_bytes message ≡ refused_message file.now line refusal text.now) }
 {
-    let place = place(alloc, file, line)?;
+    let location = location(alloc, file, line)?;
     let complaint = complaint(alloc, refusal, text)?;
-    format!(in alloc; "{place}: {complaint}\n")
+    format!(in alloc; "{location}: {complaint}\n")
 }
 
 /// Makes the text of a number of lines.
@@ -122,7 +124,7 @@ enum Telling {
 #[derive(Drop)]
 pub(crate) struct Messages<'a, E: Write + Drop, K: Clock + Drop> {
     alloc: Global,
-    pub(crate) errors: E,
+    errors: E,
     clock: K,
     telling: Telling,
     /// The message of why a file could not be opened.
@@ -184,10 +186,20 @@ impl<'a, E: Write + Drop, K: Clock + Drop> Messages<'a, E, K> {
     }
 
     /// Tells why a file could not be opened, if that was kept.
-    pub(crate) fn tell_cause(&mut self) {
+    fn tell_cause(&mut self) {
         if let Some(cause) = &self.cause {
             let _ = self.errors.write_all(cause.as_bytes());
         }
+    }
+
+    /// Tells why nothing is run, and gives the exit status for that.
+    pub(crate) fn report<W: Write>(&mut self, fault: &Fault, output: &mut W) -> u8
+        ensures status { result ≡ fault_status fault.now }
+        ensures unwritten { result ≢ DONE → W.contents output.new ≡ W.contents output.old }
+    {
+        let status = report(fault, output, &mut self.errors);
+        self.tell_cause();
+        status
     }
 
     /// Writes a message, if there was memory for it.

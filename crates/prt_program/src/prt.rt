@@ -3,18 +3,19 @@ ghost use Rattle.std.specs.Prelude.{◌≡◌, ◌≢◌, ◌⊎◌, IfErr, IfOk
 ghost use Rattle.prt_addr.specs.declared.refusal.Refusal.TheVariants.{ReadFault};
 ghost use Rattle.prt_program.specs.Databases.{IsOpenOn, IsOpenRefusal};
 ghost use Rattle.prt_program.specs.Faults.{IsDatabaseFault, IsFault, IsOpening, IsScriptFault};
-ghost use Rattle.prt_program.specs.Program.{IfExit, IfServe, LeavesDatabases, LeavesInput, LeavesInputFor, Runs, RunsAt, RunsBatch, RunsNothing, RunsOn, RunsOver, RunsReplay, exit_status};
+ghost use Rattle.prt_program.specs.Program.{IfExit, IfServe, LeavesDatabases, LeavesInput, LeavesInputFor, Runs, RunsAt, RunsBatch, RunsNothing, RunsOn, RunsOver, RunsReplay, exit_status, streams_of};
 ghost use Rattle.prt_version.specs.State.{State};
 ghost use Rattle.prt_words.specs.CommandLine.{IsServing};
 ghost use Rattle.prt_words.specs.Invocation.{arguments, invocation, serve};
 ghost use Rattle.prt_words.specs.declared.fault.Fault.TheVariants.{Opening};
 
 use crate::databases::Databases;
+use crate::host::{Host, HostOf, Surroundings};
 use crate::messages::Messages;
 use crate::next::Next;
 use prt_replay::run_replay;
 use prt_session::{Desk, ListDesk, Observer, OnRefusal, Refusal, ScriptEnd, run_script};
-use prt_words::{Batch, DONE, FAULT, Fault, STANDARD_INPUT, Task, read_words, report};
+use prt_words::{Batch, DONE, FAULT, Fault, STANDARD_INPUT, Task, read_words};
 use std::alloc::Global;
 use std::fs::{self, Files};
 use std::io::{BufReader, IsTerminal, Read, Write};
@@ -44,7 +45,7 @@ fn run_over<D: Desk, R: Read, W: Write, O: Observer>(
     observer: &mut O,
 ) -> u8
     ensures run { (opened : State) → IsOpenOn D.stands desk.old opened →
-        RunsOn D.stands D.may mode opened desk.new (R.remaining reader.old) (W.contents output.old) (W.contents output.new) result }
+        RunsOn D.stands D.may mode opened desk.new (streams_of (R.remaining reader.old) (W.contents output.old) (W.contents output.new)) result }
     ensures keeps { D.keeps desk.old desk.new }
 {
     let end = run_script(alloc, desk, reader, output, mode, observer);
@@ -74,21 +75,21 @@ fn open_database<D: Databases, E: Write + Drop, K: Clock + Drop>(
 }
 
 /// Runs a script over the database that is asked for, and gives the exit status of the session.
-fn run_batch<D: Databases, R: Read + Drop, W: Write, E: Write + Drop, K: Clock + Drop>(
-    alloc: Global,
-    databases: &mut D,
+fn run_batch<H: Host, R: Read + Drop>(
+    around: &mut Surroundings<'_, '_, H>,
     database: Option<&str>,
     input: R,
-    output: &mut W,
     mode: OnRefusal,
-    messages: &mut Messages<'_, E, K>,
+    messages: &mut Messages<'_, H::Errors, H::Clock>,
 ) -> Result<u8, Fault>
-    ensures run { IfOk result (RunsBatch (RunsAt D.holds D.opens D.closed D.Opened.stands D.Opened.keeps D.Opened.may databases.old databases.new)
-        (option_map (λ path. path.now) database.entry) mode (R.remaining input) (W.contents output.old) (W.contents output.new)) }
+    ensures run { IfOk result (RunsBatch (RunsAt H.Databases.holds H.Databases.opens H.Databases.closed H.Databases.Opened.stands H.Databases.Opened.keeps H.Databases.Opened.may around.old.databases.now around.new.databases.now)
+        (option_map (λ path. path.now) database.entry) mode (streams_of (R.remaining input) (H.Output.contents around.old.output.now) (H.Output.contents around.new.output.now))) }
     ensures fault { IfErr result (IsOpening (IsDatabaseFault (option_map (λ path. path.now) database.entry))) }
-    ensures unopened { option_map (λ path. path.now) database.entry ≡ None → databases.new ≡ databases.old }
-    ensures unwritten { OnErr result (W.contents output.new ≡ W.contents output.old) }
+    ensures unopened { option_map (λ path. path.now) database.entry ≡ None → around.new.databases.now ≡ around.old.databases.now }
+    ensures unwritten { OnErr result (H.Output.contents around.new.output.now ≡ H.Output.contents around.old.output.now) }
+    ensures same { (around.new.databases.ghost_name ≡ around.old.databases.ghost_name) × (around.new.output.ghost_name ≡ around.old.output.ghost_name) }
 {
+    let alloc = around.alloc;
     // A session takes its bytes one by one; the buffer takes them from the input in blocks.
     let mut reader = match BufReader::new(alloc, input) {
         Ok(reader) => reader,
@@ -96,21 +97,21 @@ fn run_batch<D: Databases, R: Read + Drop, W: Write, E: Write + Drop, K: Clock +
     };
     match database {
         Some(path) => {
-            let mut desk = open_database(alloc, databases, path, messages)?;
-            let status = run_over(alloc, &mut desk, &mut reader, output, mode, messages);
-            databases.close(desk);
+            let mut desk = open_database(alloc, around.databases, path, messages)?;
+            let status = run_over(alloc, &mut desk, &mut reader, around.output, mode, messages);
+            around.databases.close(desk);
             Ok(status)
         }
         None => {
             let mut desk = ListDesk::opening(alloc)?;
-            Ok(run_over(alloc, &mut desk, &mut reader, output, mode, messages))
+            Ok(run_over(alloc, &mut desk, &mut reader, around.output, mode, messages))
         }
     }
 }
 
 /// Replays a list of events, and gives the exit status.
 fn replay<R: Read, W: Write>(alloc: Global, input: &mut R, output: &mut W) -> u8
-    ensures { RunsReplay (R.remaining input.old) (W.contents output.old) (W.contents output.new) result }
+    ensures { RunsReplay (streams_of (R.remaining input.old) (W.contents output.old) (W.contents output.new)) result }
 {
     exit_status(run_replay(alloc, input, output))
 }
@@ -133,105 +134,85 @@ fn open_file<F: Files, E: Write + Drop, K: Clock + Drop>(
 }
 
 /// Runs the script that is asked for, over its file or the input: a file that can't be opened leaves no new database.
-fn run_script_of<
-    'a,
-    F: Files,
-    D: Databases,
-    R: Read,
-    W: Write + IsTerminal,
-    E: Write + Drop,
-    K: Clock + Drop,
->(
-    files: &F,
-    databases: &mut D,
-    alloc: Global,
+fn run_script_of<'a, H: Host, R: Read>(
+    around: &mut Surroundings<'_, '_, H>,
     batch: Batch<'a>,
     input: &mut R,
-    output: &mut W,
-    messages: &mut Messages<'a, E, K>,
+    messages: &mut Messages<'a, H::Errors, H::Clock>,
 ) -> Result<u8, Fault>
-    ensures run { IfOk result (RunsOver F.File.remaining (RunsBatch (RunsAt D.holds D.opens D.closed D.Opened.stands D.Opened.keeps D.Opened.may databases.old databases.new)
-        (option_map (λ path. path.now) batch.entry.database) batch.entry.mode) (option_map (λ path. path.now) batch.entry.file) (R.remaining input.old) (W.contents output.old) (W.contents output.new)) }
+    ensures run { IfOk result (RunsOver H.Files.File.remaining (RunsBatch (RunsAt H.Databases.holds H.Databases.opens H.Databases.closed H.Databases.Opened.stands H.Databases.Opened.keeps H.Databases.Opened.may around.old.databases.now around.new.databases.now)
+        (option_map (λ path. path.now) batch.entry.database) batch.entry.mode) (option_map (λ path. path.now) batch.entry.file) (streams_of (R.remaining input.old) (H.Output.contents around.old.output.now) (H.Output.contents around.new.output.now))) }
     ensures unread { LeavesInputFor (option_map (λ path. path.now) batch.entry.file) (R.remaining input.old) (R.remaining input.new) }
     ensures fault { IfErr result (IsOpening (IsScriptFault (option_map (λ path. path.now) batch.entry.database))) }
-    ensures unopened { option_map (λ path. path.now) batch.entry.database ≡ None → databases.new ≡ databases.old }
-    ensures file_first { IfErr result (λ fault. fault ≡ Opening ReadFault → databases.new ≡ databases.old) }
-    ensures unwritten { OnErr result (W.contents output.new ≡ W.contents output.old) }
+    ensures unopened { option_map (λ path. path.now) batch.entry.database ≡ None → around.new.databases.now ≡ around.old.databases.now }
+    ensures file_first { IfErr result (λ fault. fault ≡ Opening ReadFault → around.new.databases.now ≡ around.old.databases.now) }
+    ensures unwritten { OnErr result (H.Output.contents around.new.output.now ≡ H.Output.contents around.old.output.now) }
+    ensures same { (around.new.databases.ghost_name ≡ around.old.databases.ghost_name) × (around.new.output.ghost_name ≡ around.old.output.ghost_name) }
 {
     let (database, mode) = (batch.database, batch.mode);
     if batch.is_verbose {
         messages.turn_on();
     }
-    messages.begin(batch.file.unwrap_or(STANDARD_INPUT), output);
+    messages.begin(batch.file.unwrap_or(STANDARD_INPUT), &*around.output);
     let status = match batch.file {
         Some(path) => {
-            let file = open_file(files, path, messages)?;
-            run_batch(alloc, databases, database, file, output, mode, messages)?
+            let file = open_file(around.files, path, messages)?;
+            run_batch(around, database, file, mode, messages)?
         }
-        None => run_batch(alloc, databases, database, input, output, mode, messages)?,
+        None => run_batch(around, database, input, mode, messages)?,
     };
     messages.finish();
     Ok(status)
 }
 
 /// Replays the events that are asked for, of a file or of the input.
-fn replay_of<F: Files, R: Read, W: Write, E: Write + Drop, K: Clock + Drop>(
-    files: &F,
-    alloc: Global,
+fn replay_of<H: Host, R: Read>(
+    around: &mut Surroundings<'_, '_, H>,
     path: Option<&str>,
     input: &mut R,
-    output: &mut W,
-    messages: &mut Messages<'_, E, K>,
+    messages: &mut Messages<'_, H::Errors, H::Clock>,
 ) -> Result<u8, Fault>
-    ensures run { IfOk result (RunsOver F.File.remaining RunsReplay (option_map (λ path. path.now) path.entry)
-        (R.remaining input.old) (W.contents output.old) (W.contents output.new)) }
+    ensures run { IfOk result (RunsOver H.Files.File.remaining RunsReplay (option_map (λ path. path.now) path.entry)
+        (streams_of (R.remaining input.old) (H.Output.contents around.old.output.now) (H.Output.contents around.new.output.now))) }
     ensures unread { LeavesInputFor (option_map (λ path. path.now) path.entry) (R.remaining input.old) (R.remaining input.new) }
     ensures fault { IfErr result (λ fault. fault ≡ Opening ReadFault) }
-    ensures unwritten { OnErr result (W.contents output.new ≡ W.contents output.old) }
+    ensures unopened { around.new.databases.now ≡ around.old.databases.now }
+    ensures unwritten { OnErr result (H.Output.contents around.new.output.now ≡ H.Output.contents around.old.output.now) }
+    ensures same { (around.new.databases.ghost_name ≡ around.old.databases.ghost_name) × (around.new.output.ghost_name ≡ around.old.output.ghost_name) }
 {
     match path {
         Some(path) => {
-            let mut file = open_file(files, path, messages)?;
-            Ok(replay(alloc, &mut file, output))
+            let mut file = open_file(around.files, path, messages)?;
+            Ok(replay(around.alloc, &mut file, around.output))
         }
-        None => Ok(replay(alloc, input, output)),
+        None => Ok(replay(around.alloc, input, around.output)),
     }
 }
 
 /// Runs what the words ask for, and gives the exit status of the run. Sessions that are to be served are handed back.
-fn run<
-    'a,
-    F: Files,
-    D: Databases,
-    R: Read,
-    W: Write + IsTerminal,
-    E: Write + Drop,
-    K: Clock + Drop,
->(
-    files: &F,
-    databases: &mut D,
-    alloc: Global,
+fn run_words<'a, H: Host, R: Read>(
+    around: &mut Surroundings<'_, '_, H>,
     words: &'a [String],
     input: &mut R,
-    output: &mut W,
-    messages: &mut Messages<'a, E, K>,
+    messages: &mut Messages<'a, H::Errors, H::Clock>,
 ) -> Result<Next<'a>, Fault>
-    ensures run { IfOk result (IfExit (Runs F.File.remaining (RunsAt D.holds D.opens D.closed D.Opened.stands D.Opened.keeps D.Opened.may databases.old databases.new)
-        (invocation (arguments words.now)) (R.remaining input.old) (W.contents output.old) (W.contents output.new))) }
-    ensures serve { IfOk result (IfServe (λ serving. (invocation (arguments words.now) ≡ serve) × IsServing serving × (W.contents output.new ≡ W.contents output.old))) }
+    ensures run { IfOk result (IfExit (Runs H.Files.File.remaining (RunsAt H.Databases.holds H.Databases.opens H.Databases.closed H.Databases.Opened.stands H.Databases.Opened.keeps H.Databases.Opened.may around.old.databases.now around.new.databases.now)
+        (invocation (arguments words.now)) (streams_of (R.remaining input.old) (H.Output.contents around.old.output.now) (H.Output.contents around.new.output.now)))) }
+    ensures serve { IfOk result (IfServe (λ serving. (invocation (arguments words.now) ≡ serve) × IsServing serving × (H.Output.contents around.new.output.now ≡ H.Output.contents around.old.output.now))) }
     ensures unread { LeavesInput (invocation (arguments words.now)) (R.remaining input.old) (R.remaining input.new) }
     ensures fault { IfErr result (IsFault (invocation (arguments words.now))) }
-    ensures unopened { LeavesDatabases (invocation (arguments words.now)) databases.old databases.new }
-    ensures file_first { IfErr result (λ fault. fault ≡ Opening ReadFault → databases.new ≡ databases.old) }
-    ensures unwritten { OnErr result (W.contents output.new ≡ W.contents output.old) }
+    ensures unopened { LeavesDatabases (invocation (arguments words.now)) around.old.databases.now around.new.databases.now }
+    ensures file_first { IfErr result (λ fault. fault ≡ Opening ReadFault → around.new.databases.now ≡ around.old.databases.now) }
+    ensures unwritten { OnErr result (H.Output.contents around.new.output.now ≡ H.Output.contents around.old.output.now) }
+    ensures same { (around.new.databases.ghost_name ≡ around.old.databases.ghost_name) × (around.new.output.ghost_name ≡ around.old.output.ghost_name) }
 {
-    match read_words(alloc, words)? {
+    match read_words(around.alloc, words)? {
         Task::Batch(batch) => {
-            let status = run_script_of(files, databases, alloc, batch, input, output, messages)?;
+            let status = run_script_of(around, batch, input, messages)?;
             Ok(Next::Exit(status))
         }
         Task::Replay(path) => {
-            let status = replay_of(files, alloc, path, input, output, messages)?;
+            let status = replay_of(around, path, input, messages)?;
             Ok(Next::Exit(status))
         }
         Task::Serve(serving) => Ok(Next::Serve(serving)),
@@ -266,7 +247,7 @@ pub fn program<
     errors: &mut E,
 ) -> Next<'a>
     ensures run { IfExit (λ status. Runs F.File.remaining (RunsAt D.holds D.opens D.closed D.Opened.stands D.Opened.keeps D.Opened.may databases.old databases.new)
-        (invocation (arguments words.now)) (R.remaining input.old) (W.contents output.old) (W.contents output.new) status
+        (invocation (arguments words.now)) (streams_of (R.remaining input.old) (W.contents output.old) (W.contents output.new)) status
         ⊎ RunsNothing (invocation (arguments words.now)) (W.contents output.old) (W.contents output.new) status) result }
     ensures serve { IfServe (λ serving. (invocation (arguments words.now) ≡ serve) × IsServing serving × (W.contents output.new ≡ W.contents output.old)) result }
     ensures unread { LeavesInput (invocation (arguments words.now)) (R.remaining input.old) (R.remaining input.new) }
@@ -277,11 +258,16 @@ pub fn program<
     if is_terminal {
         messages.turn_on();
     }
-    match run(files, databases, alloc, words, input, output, &mut messages) {
+    let mut around: Surroundings<'_, '_, HostOf<F, D, W, &mut E, &F>> = Surroundings {
+        alloc,
+        files,
+        databases: &mut *databases,
+        output: &mut *output,
+    };
+    match run_words(&mut around, words, input, &mut messages) {
         Ok(next) => next,
         Err(fault) => {
-            let status = report(&fault, output, &mut *messages.errors);
-            messages.tell_cause();
+            let status = messages.report(&fault, output);
             Next::Exit(status)
         }
     }

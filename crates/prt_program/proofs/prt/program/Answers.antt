@@ -1,4 +1,4 @@
-use Rattle.std.proofs.Common.{inr}
+use Rattle.std.proofs.Common.{inr, rules}
 use Rattle.prt_words.specs.Invocation.{invocation, arguments}
 use Rattle.prt_program.proofs.Reports.{reported}
 use Rattle.prt_program.proofs.prt.program.Goals as goal
@@ -6,5 +6,5 @@ use Rattle.prt_program.proofs.prt.program.Goals as goal
 pub returns-clause-run : goal.returns-clause-run
 returns-clause-run g c =
     let contents = g.W.Write.contents in
-    inr (reported (invocation (arguments c.args.words.now)) c.in-Err.fault c.report-status.result (contents c.args.output.now) (contents c.run.new.output) (contents c.report-status.new.output)
-    c.in-Err.ensures.fault c.report-status.ensures.status c.in-Err.ensures.unwritten c.report-status.ensures.unwritten)
+    inr (reported (invocation (arguments c.args.words.now)) c.in-Err.fault c.report-status.result (contents c.args.output.now) (contents c.run_words.new.around.output.now) (contents c.report-status.new.output)
+    c.in-Err.ensures.fault c.report-status.ensures.status c.in-Err.ensures.unwritten (search (rules, c.report-status.ensures.unwritten)))

@@ -1,0 +1,53 @@
+//! What surrounds a run.
+
+use crate::databases::Databases;
+use std::alloc::Global;
+use std::fs::Files;
+use std::io::{IsTerminal, Write};
+use std::marker::PhantomData;
+use std::rt::Clock;
+
+/// The types of what surrounds a run.
+pub(crate) trait Host {
+    /// Opens files.
+    type Files: Files;
+
+    /// Opens databases.
+    type Databases: Databases;
+
+    /// Takes what is replied.
+    type Output: Write + IsTerminal;
+
+    /// Takes what a person is told.
+    type Errors: Write + Drop;
+
+    /// Tells the time.
+    type Clock: Clock + Drop;
+}
+
+/// The host of these types.
+pub(crate) struct HostOf<F, D, W, E, K> {
+    types: PhantomData<(F, D, W, E, K)>,
+}
+
+impl<F: Files, D: Databases, W: Write + IsTerminal, E: Write + Drop, K: Clock + Drop> Host
+    for HostOf<F, D, W, E, K> {
+    type Files = F;
+
+    type Databases = D;
+
+    type Output = W;
+
+    type Errors = E;
+
+    type Clock = K;
+}
+
+/// What surrounds a run: memory, files, databases and the writer of replies.
+#[derive(Drop)]
+pub(crate) struct Surroundings<'f, 's, H: Host> {
+    pub(crate) alloc: Global,
+    pub(crate) files: &'f H::Files,
+    pub(crate) databases: &'s mut H::Databases,
+    pub(crate) output: &'s mut H::Output,
+}
