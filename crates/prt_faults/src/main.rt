@@ -41,12 +41,15 @@ fn run<H: Wait + Copy + Drop, R: Read, W: Write>(
         "slow_looker" => slow_looker::run(rt, alloc, memory()?, output),
         "grace_period" => grace_period::replay(alloc, input, output),
         "session" => session::run(rt, alloc, memory()?, input, output),
-        "quiet" => quiet::run(
-            rt,
-            alloc,
-            [memory()?, memory()?, memory()?, memory()?],
-            output,
-        ),
+        "quiet" => {
+            let databases = quiet::Databases {
+                published: memory()?,
+                stored: memory()?,
+                spare: memory()?,
+                served: memory()?,
+            };
+            quiet::run(rt, alloc, databases, output)
+        }
         _ => Err(Refusal::UnknownWord),
     }
 }

@@ -181,18 +181,33 @@ fn serve<J: Naming, S: Alter + Drop, H: Wait + Copy + Drop, W: Write>(
     Ok(is_seen && answer(&rt, versions)?)
 }
 
-/// Makes the calls before the mark and after it, over the databases of four connections.
+/// The databases of a publisher and a store that are ended after the mark, of a service that is made after it, and of
+/// one that is there before.
+#[derive(Drop)]
+pub(crate) struct Databases<S: Alter + Drop> {
+    pub(crate) published: Connection<S>,
+    pub(crate) stored: Connection<S>,
+    pub(crate) spare: Connection<S>,
+    pub(crate) served: Connection<S>,
+}
+
+/// Makes the calls before the mark and after it.
 pub(crate) fn run<S: Alter + Drop, H: Wait + Copy + Drop, W: Write>(
     rt: H,
     alloc: Global,
-    connections: [Connection<S>; 4],
+    databases: Databases<S>,
     output: &mut W,
 ) -> Result<(), Refusal> {
-    let [first, second, third, fourth] = connections;
+    let Databases {
+        published,
+        stored,
+        spare,
+        served,
+    } = databases;
     let versions = made_versions(alloc)?;
-    let ended = made_to_end(rt, alloc, first, second)?;
-    let (spare, spare_domain) = adopted(rt, alloc, third)?;
-    let (publisher, domain) = adopted(rt, alloc, fourth)?;
+    let ended = made_to_end(rt, alloc, published, stored)?;
+    let (spare, spare_domain) = adopted(rt, alloc, spare)?;
+    let (publisher, domain) = adopted(rt, alloc, served)?;
     let is_seen = serve::<Brand, S, H, W>(rt, publisher, domain, &versions, output)?;
     let is_served = is_served::<Brand, S, H>(rt, spare, spare_domain);
     tell_number(output, 1)?;
