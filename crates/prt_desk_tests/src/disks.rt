@@ -41,14 +41,17 @@ impl Faults {
     };
 }
 
+/// Files of these contents, with these faults.
+fn files_with(log: Memory, db: Memory, faults: Faults) -> Files<Faulty> {
+    Files {
+        log: FailOnce::new(Fuse::new(log, faults.log_stop), faults.log_failure),
+        db: FailOnce::new(Fuse::new(db, faults.db_stop), faults.db_failure),
+    }
+}
+
 /// New files with these faults.
 pub fn new_files(alloc: Global, faults: Faults) -> Files<Faulty> {
-    let log = Fuse::new(Memory::new(alloc), faults.log_stop);
-    let db = Fuse::new(Memory::new(alloc), faults.db_stop);
-    Files {
-        log: FailOnce::new(log, faults.log_failure),
-        db: FailOnce::new(db, faults.db_failure),
-    }
+    files_with(Memory::new(alloc), Memory::new(alloc), faults)
 }
 
 /// The files of a connection, closed as far as their disk allows it.
@@ -92,10 +95,16 @@ pub fn run_in<D: Disk + Drop, H: Wait + Copy + Drop>(
     }
 }
 
+/// Memory with the bytes of a disk.
+fn copied(alloc: Global, disk: &Faulty) -> io::Result<Memory> {
+    let mut copy = Memory::new(alloc);
+    copy.write_at(0, disk.inner().inner().bytes())?;
+    Ok(copy)
+}
+
 /// Files that hold the bytes of these, and work.
 pub fn mended(alloc: Global, files: &Files<Faulty>) -> io::Result<Files<Faulty>> {
-    let mut mended = new_files(alloc, Faults::NONE);
-    mended.log.write_at(0, files.log.inner().inner().bytes())?;
-    mended.db.write_at(0, files.db.inner().inner().bytes())?;
-    Ok(mended)
+    let log = copied(alloc, &files.log)?;
+    let db = copied(alloc, &files.db)?;
+    Ok(files_with(log, db, Faults::NONE))
 }
