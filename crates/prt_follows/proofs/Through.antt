@@ -5,11 +5,8 @@ use Rattle.prt_addr.specs.declared.refusal.Refusal.{Refusal}
 use Rattle.prt_addr.specs.declared.refusal.StoreCall.{StoreCall}
 use Rattle.prt_addr.specs.declared.refusal.StoreCall.TheVariants as calls
 use Rattle.prt_command.specs.declared.request.Command.{Command}
-use Rattle.prt_front.specs.Line.{Line, grown, line_state}
-use Rattle.prt_grace.specs.Registry.{RegistryState, noted_by}
-use Rattle.prt_version.proofs.Folds.{fold_push}
+use Rattle.prt_grace.specs.Registry.{RegistryState}
 use Rattle.prt_version.specs.Change.{apply, refusal}
-use Rattle.prt_version.specs.State.{State}
 use Rattle.prt_world.specs.World as world
 use Rattle.prt_world.specs.World.{Step, World, has_room, published_version, run_from, start, step}
 use Rattle.prt_world.specs.declared.event.Event.{Event}
