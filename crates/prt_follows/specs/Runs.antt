@@ -106,7 +106,7 @@ answers_of (turn ∷ turns) = turn_answers turn ++ answers_of turns
 abbrev pub step_turns : Command → Line → List Turn
 step_turns command told = admitted ∷ planned command ∷ committed commit_events ∷ shown ∷ noted command told ∷ []
 
--- What a crash leaves is on disk in a world of which all of this holds: it is a beginning of the accepted commands that lacks one at most, it has each command of a receipt under its number, and the version by which each answer was given.
+-- What a crash leaves is on disk in this world. It is a beginning of the accepted commands that lacks one at most. It has each command of a receipt under its number, and the version by which each answer was given.
 pub record HoldsAll (w : World) (receipts : List Ack) (answers : List Lookup) (left : State) : Type 0 where
   pub is : w.disk ≡ left
   pub durable : IsDurable w
