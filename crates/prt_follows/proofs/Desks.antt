@@ -14,7 +14,6 @@ use Rattle.prt_session.specs.declared.reply.Reply.TheVariants.{Accepted, Refused
 use Rattle.prt_version.proofs.Folds.{apply_count, fold_push}
 use Rattle.prt_version.specs.Change.{apply, refusal}
 use Rattle.prt_version.specs.State.{State}
-use Rattle.prt_world.specs.Durability.{state_after}
 use Rattle.prt_world.specs.World.{World, has_room, published_version, run_from, step}
 use Rattle.prt_world.specs.declared.event.Event.{Event}
 use Rattle.prt_world.specs.declared.event.Event.TheVariants as events
@@ -23,15 +22,14 @@ use Rattle.prt_world.specs.declared.outcome.Outcome.{Outcome}
 use Rattle.prt_world.specs.declared.outcome.Outcome.TheVariants as outcomes
 use Rattle.prt_world.specs.declared.phase.Phase.{Phase as Moment}
 use Rattle.prt_world.specs.declared.phase.Phase.TheVariants as moments
-use Rattle.prt_world.proofs.Phases.{shown_version}
-use Rattle.prt_follows.specs.Desks.{DeskHoldsAll, HasRoomFor, IsDeskOf, TurnIsSteps, Weaves, events_by, moment_between, reply_acks, reply_after, reply_by, shown_reply, submitted_events}
+use Rattle.prt_follows.specs.Desks.{DeskHoldsAll, HasRoomFor, IsDeskOf, TurnIsSteps, Weaves, events_by, moment_between, reply_acks, shown_reply, submitted_events}
 use Rattle.prt_follows.specs.Events.{commit_events, commit_outcomes, fail_events, fail_outcomes, own, own_outcomes, publish_events, submit_outcomes}
-use Rattle.prt_follows.specs.Spots.{HasRoom, IsAt, IsReached, IsTold, Spot}
+use Rattle.prt_follows.specs.Spots.{IsAt, Spot}
 use Rattle.prt_follows.proofs.Acks.{failed_none, is_ack, woven_acks, woven_keeps}
 use Rattle.prt_follows.proofs.Exits.{commit_goes, goes_on, kept_goes, lost_goes, publish_fails, publish_goes, spot}
 use Rattle.prt_follows.proofs.Headline.{holds_all}
 use Rattle.prt_follows.proofs.Joined.{shown_more, split}
-use Rattle.prt_follows.proofs.Steps.{Moves, acknowledges, busy, holds_of, line_at, notes, placed, refuses, run_more, shown_number, shut as closed, takes, told_opened}
+use Rattle.prt_follows.proofs.Steps.{Moves, acknowledges, busy, holds_of, line_at, notes, placed, refuses, run_more, shut as closed, takes}
 use Rattle.prt_follows.proofs.Woven.{Goes, woven}
 
 -- ---- where a desk's world is
@@ -182,4 +180,4 @@ pub turn_is_steps : TurnIsSteps
 turn_is_steps desk w command mishap h room all weaves = by_reason w command desk h desk.closed (refusal desk.published command) mishap refl refl room all weaves
 
 pub desk_holds_all : DeskHoldsAll
-desk_holds_all desk w h = holds_all w [] w.acks desk.stored (holds_of w h.reached) (sym h.stored) refl
+desk_holds_all desk w h = holds_all w [] w.acks w.answers desk.stored (holds_of w h.reached) (sym h.stored) refl (λ all. all)

@@ -10,6 +10,7 @@ pub mod Planned
 pub mod Submitted
 pub mod Acks
 pub mod Through
+pub mod Answered
 pub mod Ran
 pub mod Desks
 pub mod Scripts

@@ -1,5 +1,7 @@
 -- A run of a publisher's calls leads to a world that it stands for, which has acknowledged each receipt.
-use Rattle.std.proofs.Common.{◌≡◌, ℕ, true, false, List, [], ◌∷◌, ◌++◌, Option, Some, None, refl, sym, ap, ◌∙◌, subst}
+use Rattle.std.proofs.Common.{◌≡◌, ℕ, Bool, true, false, List, [], ◌∷◌, ◌++◌, Option, Some, None, refl, sym, ap, ◌∙◌, subst, cond}
+use Rattle.std.specs.List.{AllByRecursion as Each}
+use Rattle.prt_addr.proofs.Each.{each_append}
 use Rattle.std.proofs.lemmas.List.{append-nil, append_assoc}
 use Rattle.sqlite.specs.Held.{Held}
 use Rattle.sqlite.specs.Store.{Ghosts}
@@ -9,34 +11,33 @@ use Rattle.prt_publisher.specs.Standing.{Agrees, IsLeft, Standing}
 use Rattle.prt_publisher.specs.declared.phase.Phase.{Phase}
 use Rattle.prt_publisher.specs.declared.phase.Phase.TheVariants.{Ready, Admitted, Prepared, Committed, Published, Closed}
 use Rattle.prt_version.specs.State.{State}
+use Rattle.prt_rule.specs.declared.packet.Packet.{Packet}
+use Rattle.prt_version.specs.declared.answer.Answer.{Answer}
+use Rattle.prt_world.specs.Durability.{IsAnswered}
+use Rattle.prt_world.specs.declared.outcome.Outcome.TheVariants as outcomes
 use Rattle.prt_world.specs.World as world
-use Rattle.prt_world.specs.World.{Ack, LookerState, Step, World, has_room, looker_state, offline, online, outcomes_from, published_version, run_from, start, step}
+use Rattle.prt_world.specs.World.{Ack, LookerState, Lookup, World, looker_state, offline, online, run_from, start, step}
 use Rattle.prt_world.specs.declared.event.Event.{Event}
 use Rattle.prt_world.specs.declared.event.Event.TheVariants as events
 use Rattle.prt_world.specs.declared.event.Fate.TheVariants.{Lost}
-use Rattle.prt_world.specs.declared.phase.Phase.{Phase as Moment}
 use Rattle.prt_world.specs.declared.phase.Phase.TheVariants as moments
-use Rattle.prt_front.specs.Line.{Line, grown, line_state}
-use Rattle.prt_version.proofs.Folds.{fold_push}
+use Rattle.prt_front.specs.Line.{grown, line_state}
 use Rattle.prt_grace.specs.Registry.{RegistryState, new_registry}
 use Rattle.prt_grace.specs.declared.place.PlaceState.TheVariants.{Free}
 use Rattle.sqlite.specs.Held.{state}
 use Rattle.sqlite.specs.Tree.{Trees}
-use Rattle.prt_version.specs.Change.{apply}
-use Rattle.prt_follows.specs.Spots.{IsAt}
 use Rattle.prt_follows.specs.Registers.{Registers, registry_through}
-use Rattle.prt_follows.proofs.Between.{room_published}
 use Rattle.prt_follows.proofs.Exits.{place_in, submits}
-use Rattle.prt_follows.proofs.Registering.{joins, registers_beside, registers_published}
-use Rattle.prt_follows.proofs.Steps.{publishes}
+use Rattle.prt_follows.proofs.Registering.{joins, registers_beside}
 use Rattle.prt_follows.specs.Events.{commit_events, fail_events, own, publish_events, stop_events, submit_events, submit_outcomes, unpublished_events}
-use Rattle.prt_follows.specs.Runs.{EveryFailureGoesOn, EveryFailureLeaves, EveryRunLeaves, EveryRunStands, Turn, Turns, adopted, admitted, beside, committed, declined, events_of, failed, noted, planned, receipts_of, refused, seated, shown, stopped, submit_failed, submit_unpublished, submitted, turn_events, turn_receipts, unplanned, unshown}
+use Rattle.prt_follows.specs.Runs.{EveryFailureGoesOn, EveryFailureLeaves, EveryRunLeaves, EveryRunStands, Ran, Turn, Turns, adopted, admitted, answers_of, beside, committed, declined, events_of, failed, looked, noted, planned, receipts_of, refused, seated, shown, stopped, submit_failed, submit_unpublished, submitted, turn_answers, turn_events, turn_receipts, unplanned, unshown}
 use Rattle.prt_follows.specs.StandsFor.{HasDisk, StandFor, StandsFor, moment_of}
 use Rattle.prt_follows.proofs.Exits.{published_command}
 use Rattle.prt_follows.proofs.Acks.{acknowledged, event_keeps, failed_none, failed_own, list_keeps, lookers_none, stopped_none, woven_keeps}
 use Rattle.prt_follows.proofs.Desks.{accepted_there}
 use Rattle.prt_follows.proofs.Through.{all_go_on, failed_go_on, registers_event, through}
-use Rattle.prt_follows.proofs.Headline.{holds_all}
+use Rattle.prt_follows.proofs.Answered.{list_had}
+use Rattle.prt_follows.proofs.Headline.{each_last, holds_all}
 use Rattle.prt_follows.proofs.Joined.{stands_beside}
 use Rattle.prt_follows.proofs.Opening.{left_is, open_moment}
 use Rattle.prt_follows.proofs.Steps.{holds_of, run_more}
@@ -56,6 +57,9 @@ module _ {S : Type 0} (g : Ghosts S) where
   turned : (old new : Standing (Held S)) (r after : RegistryState) (w : World) (turn : Turn) → StandsFor g old w → Registers r w → Turns g old r w turn new after → Reaches new after w (turn_events turn) (turn_receipts turn)
   turned old new r after w (beside event) s h t =
       (subst (λ (p : Standing (Held S)). StandsFor g p (step w event).world) (sym t.1) (stands_beside g old w event t.0 s), kept t.2 (registers_beside r w event t.0 (runs old w s) s.place.reached h), list_keeps (event ∷ []) (lookers_none event t.0, tt) w)
+  turned old new r after w (looked i packet answer) s h t =
+      let event = events.Look i packet in
+      (subst (λ (p : Standing (Held S)). StandsFor g p (step w event).world) (sym t.0) (stands_beside g old w event refl s), kept t.1 (registers_event r w s.place.reached h event refl (runs old w s)), list_keeps (event ∷ []) (refl, tt) w)
   turned old new r after w (seated i place) s h t = (subst (λ (p : Standing (Held S)). StandsFor g p w) (sym t.2) s, kept t.3 (joins r w h i place Free (t.1 ∙ sym t.0)), sym (append-nil w.acks))
   turned old new r after w admitted s h t = ((t w (s, h)).0, (t w (s, h)).1, list_keeps (events.Reclaim ∷ []) (refl, tt) w)
   turned old new r after w (declined command why true) s h t = ((t w (s, h)).1.0, (t w (s, h)).1.1, list_keeps (events.Reclaim ∷ events.Submit command ∷ []) (refl, (refl, tt)) w)
@@ -144,6 +148,31 @@ module _ {S : Type 0} (g : Ghosts S) where
         ap (λ (u : World). u.acks) more ∙ rest.1 ∙ ap (λ acks. acks ++ receipts_of turns) first.2 ∙ append_assoc w.acks (turn_receipts turn) (receipts_of turns),
       )
 
+  -- ---- the answers that its lookers gave are the world's
+
+  module _ (P : Lookup → Type 0) where
+    look_shows : (w : World) (packet : Packet) (state : LookerState) (answer : Answer) → (world.look w packet state).outcome ≡ outcomes.Answered answer → Each P (world.look w packet state).world.answers → P (record { packet = packet; answer = answer })
+    look_shows w packet offline answer is all = absurd cc
+    look_shows w packet (online announced None) answer is all = absurd cc
+    look_shows w packet (online announced (Some held)) answer is all =
+        let given : world.answer_by (world.version w held) packet ≡ answer = cc in
+        subst (λ (a : Answer). P (record { packet = packet; answer = a })) given (each_last P w.answers (record { packet = packet; answer = world.answer_by (world.version w held) packet } ∷ []) all).0
+
+    unless_shows : (w : World) (packet : Packet) (state : LookerState) (answer : Answer) (b : Bool) → (cond b (world.unmet w) (world.look w packet state)).outcome ≡ outcomes.Answered answer → Each P (cond b (world.unmet w) (world.look w packet state)).world.answers → P (record { packet = packet; answer = answer })
+    unless_shows w packet state answer true is all = absurd cc
+    unless_shows w packet state answer false is all = look_shows w packet state answer is all
+
+    turn_gave : (old new : Standing (Held S)) (r after : RegistryState) (w : World) (turn : Turn) → Turns g old r w turn new after → Each P (run_from w (turn_events turn)).answers → Each P (turn_answers turn)
+    turn_gave old new r after w (looked i packet answer) t all = (unless_shows w packet (looker_state w i) answer (world.is_stopped w.phase) t.2 all, tt)
+    turn_gave old new r after w turn t all = tt
+
+    run_gave : (turns : List Turn) (old new : Standing (Held S)) (r after : RegistryState) (w : World) → Ran g old r w turns new after → Each P (run_from w (events_of turns)).answers → Each P (answers_of turns)
+    run_gave [] old new r after w t all = tt
+    run_gave (turn ∷ turns) old new r after w t all =
+        let v : World = run_from w (turn_events turn) in
+        let there : Each P (run_from v (events_of turns)).answers = subst (λ (u : World). Each P u.answers) (run_more w (turn_events turn) (events_of turns)) all in
+        each_append P (turn_answers turn) (answers_of turns) (turn_gave old t.0 r t.1 w turn t.2 (list_had P (events_of turns) v there)) (run_gave turns t.0 new t.1 after v t.3 there)
+
   -- ---- what a crash leaves after a run
 
   left_in : (phase : Phase) (command : Option Command) (tables : Held S) (disk left : State) → HasDisk g phase command tables disk → (phase ≡ Closed → command ≡ None → left ≡ disk) → (IsStored g tables disk → left ≡ disk) → left ≡ disk
@@ -162,7 +191,7 @@ module _ {S : Type 0} (g : Ghosts S) where
       let v : World = run_from start (events_of turns) in
       let there : StandsFor g new v = reached.0.0 in
       let is : left ≡ v.disk = left_in new.phase new.command new.tables v.disk left (there.stored known) shut (λ stored. left_is g new v there known left may (λ held. stored)) in
-      holds_all v [] (receipts_of turns) left (holds_of v there.place.reached) is reached.1
+      holds_all v [] (receipts_of turns) (answers_of turns) left (holds_of v there.place.reached) is reached.1 (run_gave (IsAnswered v) turns old new (new_registry (line_state old.line)) after start t)
 
   -- after a run whose last commit failed, for each state that may be left
   pub leaves_failed : EveryFailureLeaves g
@@ -177,8 +206,9 @@ module _ {S : Type 0} (g : Ghosts S) where
       let is : v ≡ run_from u list = run_more start (events_of turns) list in
       let acks : v.acks ≡ receipts_of turns = ap (λ (x : World). x.acks) is ∙ list_keeps list (failed_none call by.0) u ∙ append-nil u.acks ∙ reached.1 in
       let there : StandsFor g new v = subst (StandsFor g new) (sym is) last.1 in
+      let given : Each (IsAnswered v) v.answers → Each (IsAnswered v) (answers_of turns) = λ all. run_gave (IsAnswered v) turns old mid (new_registry (line_state old.line)) after start t (list_had (IsAnswered v) list u (subst (λ (x : World). Each (IsAnswered v) x.answers) is all)) in
       let disk : v.disk ≡ left = ap (λ (x : World). x.disk) is ∙ last.2 in
-      (list, there, holds_all v [] (receipts_of turns) left (holds_of v there.place.reached) (sym disk) acks)
+      (list, there, holds_all v [] (receipts_of turns) (answers_of turns) left (holds_of v there.place.reached) (sym disk) acks given)
 
   -- after a failed commit whichever file is left is adopted
   pub goes_on_after : EveryFailureGoesOn g

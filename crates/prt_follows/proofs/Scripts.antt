@@ -284,4 +284,4 @@ sessions_from (xs ∷ sessions) stored left w h all s =
 pub sessions_hold : SessionsHold
 sessions_hold sessions left s =
     let there = sessions_from sessions opening_state left start (record { reached = ([], refl); between = refl; published = refl; stored = refl }) (each_replicate (λ looker. looker ≡ offline) PLACES offline refl) s in
-    (there.0, there.1, there.2, there.3, holds_all there.0 [] (accepted_by sessions) left (holds_of there.0 there.1) (sym there.2) there.3)
+    (there.0, there.1, there.2, there.3, holds_all there.0 [] (accepted_by sessions) (there.0).answers left (holds_of there.0 there.1) (sym there.2) there.3 (λ all. all))

@@ -5,11 +5,8 @@ use Rattle.prt_addr.specs.declared.refusal.Refusal.{Refusal}
 use Rattle.prt_addr.specs.declared.refusal.StoreCall.{StoreCall}
 use Rattle.prt_addr.specs.declared.refusal.StoreCall.TheVariants as calls
 use Rattle.prt_command.specs.declared.request.Command.{Command}
-use Rattle.prt_front.specs.Line.{Line, grown, line_state}
-use Rattle.prt_grace.specs.Registry.{RegistryState, noted_by}
-use Rattle.prt_version.proofs.Folds.{fold_push}
+use Rattle.prt_grace.specs.Registry.{RegistryState}
 use Rattle.prt_version.specs.Change.{apply, refusal}
-use Rattle.prt_version.specs.State.{State}
 use Rattle.prt_world.specs.World as world
 use Rattle.prt_world.specs.World.{Step, World, has_room, published_version, run_from, start, step}
 use Rattle.prt_world.specs.declared.event.Event.{Event}
@@ -17,12 +14,12 @@ use Rattle.prt_world.specs.declared.event.Event.TheVariants as events
 use Rattle.prt_world.specs.declared.event.Fate.{Fate}
 use Rattle.prt_world.specs.declared.phase.Phase.{Phase as Moment}
 use Rattle.prt_world.specs.declared.phase.Phase.TheVariants as moments
-use Rattle.prt_follows.specs.Events.{fail_events, is_lookers, own}
-use Rattle.prt_follows.specs.Registers.{Registers, noted_at, registry_after, registry_through}
+use Rattle.prt_follows.specs.Events.{fail_events, is_going, is_lookers, own}
+use Rattle.prt_follows.specs.Registers.{EveryEventRegisters, RoomIsRoom, Registers, noted_at, registry_after, registry_through}
 use Rattle.prt_follows.specs.Spots.{HasRoom, IsAt, IsReached}
 use Rattle.prt_follows.proofs.Between.{moment_stays, room_beside, room_published, room_stays}
 use Rattle.prt_follows.proofs.Exits.{SameVersions, ack_same, same_registers, spot, submits}
-use Rattle.prt_follows.proofs.Registering.{registers_beside, registers_noted, registers_published}
+use Rattle.prt_follows.proofs.Registering.{registers_beside, registers_noted, registers_published, room_is}
 use Rattle.prt_follows.proofs.Steps.{line_at, placed, publishes, reached_run}
 use Rattle.prt_follows.proofs.Woven.{own_by}
 
@@ -44,12 +41,6 @@ unshown_same w (moments.Committed command) = record { noted = refl; published = 
 unshown_same w moment = record { noted = refl; published = refl; versions = refl; lookers = refl }
 
 -- ---- a world that runs goes on, but for a stop
-
--- no stop, and no opening
-abbrev pub goes_on : Event → Bool
-goes_on (events.Stop fate) = false
-goes_on events.Reopen = false
-goes_on event = true
 
 abbrev Runs : Step → Type 0
 Runs s = world.is_stopped s.world.phase ≡ false
@@ -96,7 +87,7 @@ ack_runs w moment going = going
 looker_runs : (w : World) (event : Event) → is_lookers event ≡ true → IsReached w → world.is_stopped w.phase ≡ false → Runs (step w event)
 looker_runs w event is reached going = ap world.is_stopped (moment_stays w event is reached) ∙ going
 
-runs_on : (w : World) (event : Event) → goes_on event ≡ true → IsReached w → world.is_stopped w.phase ≡ false → Runs (step w event)
+runs_on : (w : World) (event : Event) → is_going event ≡ true → IsReached w → world.is_stopped w.phase ≡ false → Runs (step w event)
 runs_on w (events.Submit command) is reached going = submit_runs w command w.phase going
 runs_on w events.Call is reached going = call_runs w w.phase going
 runs_on w (events.Fail fate) is reached going = fail_runs w fate w.phase going
@@ -210,7 +201,7 @@ module _ (r : RegistryState) (w : World) (reached : IsReached w) (s : Registers 
       (registers_noted (line_at w) w.disk command r w s h (published_version w) refl).1
   noted_there moment is = s
 
-  pub registers_event : (event : Event) → goes_on event ≡ true → world.is_stopped w.phase ≡ false → Registers (registry_after r w event) (step w event).world
+  pub registers_event : (event : Event) → is_going event ≡ true → world.is_stopped w.phase ≡ false → Registers (registry_after r w event) (step w event).world
   registers_event (events.Submit command) is going = submits command r w s
   registers_event events.Call is going = same_registers r w (step w events.Call).world (call_same w w.phase) s
   registers_event (events.Fail fate) is going = same_registers r w (step w (events.Fail fate)).world (fail_same w fate w.phase) s
@@ -229,29 +220,37 @@ module _ (r : RegistryState) (w : World) (reached : IsReached w) (s : Registers 
 
 -- ---- a list of them
 
-pub through : (all : List Event) → Each (λ event. goes_on event ≡ true) all → (r : RegistryState) (w : World) → world.is_stopped w.phase ≡ false → IsReached w → Registers r w → Registers (registry_through r w all) (run_from w all)
+pub through : (all : List Event) → Each (λ event. is_going event ≡ true) all → (r : RegistryState) (w : World) → world.is_stopped w.phase ≡ false → IsReached w → Registers r w → Registers (registry_through r w all) (run_from w all)
 through [] each r w going reached s = s
 through (event ∷ all) each r w going reached s =
     through all each.1 (registry_after r w event) (step w event).world (runs_on w event each.0 reached going) (reached_run w (event ∷ []) reached) (registers_event r w reached s event each.0 going)
 
-lookers_go_on : (event : Event) → is_lookers event ≡ true → goes_on event ≡ true
+lookers_go_on : (event : Event) → is_lookers event ≡ true → is_going event ≡ true
 lookers_go_on (events.Stop fate) is = absurd cc
 lookers_go_on events.Reopen is = absurd cc
 lookers_go_on event is = refl
 
 -- where the publisher's own events go on, so do all
-pub all_go_on : (all list : List Event) → own all ≡ list → Each (λ event. goes_on event ≡ true) list → Each (λ event. goes_on event ≡ true) all
+pub all_go_on : (all list : List Event) → own all ≡ list → Each (λ event. is_going event ≡ true) list → Each (λ event. is_going event ≡ true) all
 all_go_on [] list e each = tt
 all_go_on (event ∷ all) list e each = by (is_lookers event) refl (λ rest e each. all_go_on all rest e each)
   where
-    by : (b : Bool) → is_lookers event ≡ b → ((rest : List Event) → own all ≡ rest → Each (λ event. goes_on event ≡ true) rest → Each (λ event. goes_on event ≡ true) all) → Each (λ event. goes_on event ≡ true) (event ∷ all)
+    by : (b : Bool) → is_lookers event ≡ b → ((rest : List Event) → own all ≡ rest → Each (λ event. is_going event ≡ true) rest → Each (λ event. is_going event ≡ true) all) → Each (λ event. is_going event ≡ true) (event ∷ all)
     by true is again = (lookers_go_on event is, again list (sym (own_by event all true is) ∙ e) each)
     by false is again =
-        let held : Each (λ event. goes_on event ≡ true) (event ∷ own all) = subst (λ (xs : List Event). Each (λ event. goes_on event ≡ true) xs) (sym e ∙ own_by event all false is) each in
+        let held : Each (λ event. is_going event ≡ true) (event ∷ own all) = subst (λ (xs : List Event). Each (λ event. is_going event ≡ true) xs) (sym e ∙ own_by event all false is) each in
         (held.0, again (own all) refl held.1)
 
-pub failed_go_on : (call : StoreCall) (fate : Fate) → Each (λ event. goes_on event ≡ true) (fail_events call fate)
+pub failed_go_on : (call : StoreCall) (fate : Fate) → Each (λ event. is_going event ≡ true) (fail_events call fate)
 failed_go_on calls.Begin fate = (refl, tt)
 failed_go_on calls.Write fate = (refl, (refl, tt))
 failed_go_on calls.Count fate = (refl, (refl, (refl, tt)))
 failed_go_on calls.Commit fate = (refl, (refl, (refl, (refl, tt))))
+
+-- ---- the registry beside the world
+
+pub room_is_room : RoomIsRoom
+room_is_room r w reached s = room_is r w reached s
+
+pub every_event_registers : EveryEventRegisters
+every_event_registers r w event is going reached s = registers_event r w reached s event is going

@@ -128,7 +128,7 @@ ReopenedDesk = (desk : DeskState) (w : World) → IsDeskOf desk w → IsDeskOf (
 
 -- In each world of a desk, what is stored holds every command that was acknowledged.
 abbrev pub DeskHoldsAll : Type 0
-DeskHoldsAll = (desk : DeskState) (w : World) → IsDeskOf desk w → HoldsAll w w.acks desk.stored
+DeskHoldsAll = (desk : DeskState) (w : World) → IsDeskOf desk w → HoldsAll w w.acks w.answers desk.stored
 
 -- ---- scripts on one file
 
@@ -144,4 +144,4 @@ accepted_by (xs ∷ sessions) = accepted_in xs ++ accepted_by sessions
 
 -- What any number of scripts on a new file leave is on disk in a world that acknowledged what their replies do: it holds all of that.
 abbrev pub SessionsHold : Type 0
-SessionsHold = (sessions : List (List (Exchange Mishap))) (left : State) → Sessions opening_state sessions left → (v : World) × IsReached v × (v.disk ≡ left) × (v.acks ≡ accepted_by sessions) × HoldsAll v (accepted_by sessions) left
+SessionsHold = (sessions : List (List (Exchange Mishap))) (left : State) → Sessions opening_state sessions left → (v : World) × IsReached v × (v.disk ≡ left) × (v.acks ≡ accepted_by sessions) × HoldsAll v (accepted_by sessions) v.answers left

@@ -32,7 +32,13 @@ is_lookers events.Reclaim = true
 is_lookers (events.Stop fate) = false
 is_lookers events.Reopen = false
 
--- the others, in order
+-- no stop, and no opening
+abbrev pub is_going : Event → Bool
+is_going (events.Stop fate) = false
+is_going events.Reopen = false
+is_going event = true
+
+-- the publisher's own, in order
 abbrev pub own : List Event → List Event
 own list = filter (λ event. not (is_lookers event)) list
 

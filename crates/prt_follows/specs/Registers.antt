@@ -1,12 +1,15 @@
 -- Which worlds a registry of grace periods stands for, and what an event of a looker makes of it.
-use Rattle.std.specs.Prelude.{◌≡◌, ◌<◌, ◌++◌, ◌==◌, ℕ, Bool, true, false, List, [], ◌∷◌, map, None, Some}
+use Rattle.std.specs.Prelude.{◌≡◌, ◌<◌, ◌++◌, ◌==◌, ℕ, nat_lt, length, Bool, true, false, List, [], ◌∷◌, map, None, Some}
 use Rattle.std.specs.List.{AllByRecursion as Each}
 use Rattle.prt_grace.specs.Registry.{RegistryState, announced, noted_by, reclaimed, with_place}
+use Rattle.prt_grace.specs.declared.limits.TheConstants.{MOST_RETIRED}
 use Rattle.prt_grace.specs.declared.place.PlaceState.TheVariants as places
 use Rattle.prt_version.specs.State.{State}
-use Rattle.prt_world.specs.World.{LookerState, World, announced_by, looker_state, offline, online, published_version, step}
+use Rattle.prt_world.specs.World.{LookerState, World, announced_by, has_room, is_stopped, looker_state, offline, online, published_version, step}
 use Rattle.prt_world.specs.declared.event.Event.{Event}
 use Rattle.prt_world.specs.declared.event.Event.TheVariants as events
+use Rattle.prt_follows.specs.Events.{is_going}
+use Rattle.prt_follows.specs.Spots.{IsReached}
 use Rattle.prt_world.specs.declared.phase.Phase.{Phase as Moment}
 use Rattle.prt_world.specs.declared.phase.Phase.TheVariants as moments
 
@@ -57,3 +60,13 @@ registry_after r w event = r
 abbrev pub registry_through : RegistryState → World → List Event → RegistryState
 registry_through r w [] = r
 registry_through r w (event ∷ all) = registry_through (registry_after r w event) (step w event).world all
+
+-- ---- laws
+
+-- The registry's room is the world's.
+abbrev pub RoomIsRoom : Type 0
+RoomIsRoom = (r : RegistryState) (w : World) → IsReached w → Registers r w → has_room w ≡ nat_lt (length r.retired) MOST_RETIRED
+
+-- After each event, while the service runs, the registry stands for the world.
+abbrev pub EveryEventRegisters : Type 0
+EveryEventRegisters = (r : RegistryState) (w : World) (event : Event) → is_going event ≡ true → is_stopped w.phase ≡ false → IsReached w → Registers r w → Registers (registry_after r w event) (step w event).world

@@ -1,5 +1,5 @@
 -- Lists of exits of a publisher's calls, whatever lookers do between them, beside the world's events.
-use Rattle.std.specs.Prelude.{◌≡◌, ◌⊎◌, ℕ, ◌-◌, ◌+◌, ◌≤◌, ◌++◌, Bool, true, false, List, [], ◌∷◌, Some, None, length, slice_get, slice_index_or}
+use Rattle.std.specs.Prelude.{◌≡◌, ◌⊎◌, ℕ, ◌++◌, Bool, true, false, List, [], ◌∷◌, Some, None, slice_index_or}
 use Rattle.std.specs.List.{AllByRecursion as Each}
 use Rattle.sqlite.specs.Held.{Held, state}
 use Rattle.sqlite.specs.Store.{Ghosts}
@@ -18,9 +18,12 @@ use Rattle.prt_publisher.specs.declared.phase.Phase.TheVariants.{Closed, Committ
 use Rattle.prt_store.specs.Exits.{IsKnown, MayLeave, Spells}
 use Rattle.prt_version.specs.State.{State}
 use Rattle.prt_world.specs.Durability.{IsAcknowledged, IsAnswered, IsDurable}
-use Rattle.prt_world.specs.World.{Ack, World, has_room, run_from, start}
+use Rattle.prt_world.specs.World.{Ack, Lookup, World, has_room, run_from, start, step}
 use Rattle.prt_world.specs.declared.event.Event.{Event}
 use Rattle.prt_world.specs.declared.event.Event.TheVariants as events
+use Rattle.prt_world.specs.declared.outcome.Outcome.TheVariants as outcomes
+use Rattle.prt_rule.specs.declared.packet.Packet.{Packet}
+use Rattle.prt_version.specs.declared.answer.Answer.{Answer}
 use Rattle.prt_world.specs.declared.event.Fate.{Fate}
 use Rattle.prt_world.specs.declared.event.Fate.TheVariants.{Lost}
 use Rattle.prt_follows.specs.Events.{commit_events, fail_events, is_lookers, note_events, own, publish_events, reclaim_events, stop_events}
@@ -32,6 +35,8 @@ use Rattle.prt_follows.specs.StandsFor.{StandFor, StandsFor}
 pub data Turn : Type 0 where
   -- an event of a looker, or a reclaim
   beside : (event : Event) → Turn
+  -- a looker's answer
+  looked : (looker : ℕ) → (packet : Packet) → (answer : Answer) → Turn
   -- a place that announces nothing is taken or given up
   seated : (looker : ℕ) → (place : PlaceState) → Turn
   admitted : Turn
@@ -56,6 +61,7 @@ pub data Turn : Type 0 where
 -- what the world does
 abbrev pub turn_events : Turn → List Event
 turn_events (beside event) = event ∷ []
+turn_events (looked looker packet answer) = events.Look looker packet ∷ []
 turn_events (seated looker place) = []
 turn_events admitted = events.Reclaim ∷ []
 turn_events (declined command why reclaims) = reclaim_events reclaims ++ events.Submit command ∷ []
@@ -87,16 +93,25 @@ abbrev pub receipts_of : List Turn → List Ack
 receipts_of [] = []
 receipts_of (turn ∷ turns) = turn_receipts turn ++ receipts_of turns
 
+-- the answers that lookers gave
+abbrev pub turn_answers : Turn → List Lookup
+turn_answers (looked looker packet answer) = record { packet = packet; answer = answer } ∷ []
+turn_answers turn = []
+
+abbrev pub answers_of : List Turn → List Lookup
+answers_of [] = []
+answers_of (turn ∷ turns) = turn_answers turn ++ answers_of turns
+
 -- the five steps of a command that is acknowledged
 abbrev pub step_turns : Command → Line → List Turn
 step_turns command told = admitted ∷ planned command ∷ committed commit_events ∷ shown ∷ noted command told ∷ []
 
--- What a crash leaves is on disk in a world of which all of this holds: it is a beginning of the accepted commands that lacks one at most, it has each command of a receipt under its number, and the version by which each answer was given.
-pub record HoldsAll (w : World) (receipts : List Ack) (left : State) : Type 0 where
+-- What a crash leaves is on disk in this world. It is a beginning of the accepted commands that lacks one at most. It has each command of a receipt under its number, and the version by which each answer was given.
+pub record HoldsAll (w : World) (receipts : List Ack) (answers : List Lookup) (left : State) : Type 0 where
   pub is : w.disk ≡ left
   pub durable : IsDurable w
   pub acknowledged : Each (IsAcknowledged w) receipts
-  pub answered : Each (IsAnswered w) w.answers
+  pub answered : Each (IsAnswered w) answers
 
 module _ {S : Type 0} (g : Ghosts S) where
   -- A crash may leave these trees of a file that is known. After a failed commit they spell the state that was chosen for the world.
@@ -106,6 +121,7 @@ module _ {S : Type 0} (g : Ghosts S) where
   -- The law of the call that has this exit. The registry changes under its lock alone: by a step that is handed it, by a looker's call, or where a place is taken or given up.
   abbrev pub Turns : Standing (Held S) → RegistryState → World → Turn → Standing (Held S) → RegistryState → Type 0
   Turns old r w (beside event) new after = (is_lookers event ≡ true) × (new ≡ old) × (after ≡ registry_after r w event)
+  Turns old r w (looked looker packet answer) new after = (new ≡ old) × (after ≡ r) × ((step w (events.Look looker packet)).outcome ≡ outcomes.Answered answer)
   Turns old r w (seated looker place) new after = (announced (slice_index_or r.places looker Free) ≡ None) × (announced place ≡ None) × (new ≡ old) × (after ≡ with_place r looker place)
   Turns old r w admitted new after = Admits g old new r after
   Turns old r w (declined command why reclaims) new after = DeclinesBy g old new reclaims r after command why
@@ -151,13 +167,13 @@ module _ {S : Type 0} (g : Ghosts S) where
   abbrev pub EveryRunLeaves : Type 0
   EveryRunLeaves = (turns : List Turn) (old new : Standing (Held S)) (after : RegistryState) → BeginsAt g old start → Ran old (new_registry (line_state old.line)) start turns new after
       → IsKnown g new.format_1 new.tables → (left : State) → MayLeave g new.tables left → (new.phase ≡ Closed → new.command ≡ None → left ≡ (run_from start (events_of turns)).disk)
-      → HoldsAll (run_from start (events_of turns)) (receipts_of turns) left
+      → HoldsAll (run_from start (events_of turns)) (receipts_of turns) (answers_of turns) left
 
   -- Where a commit fails after a run, each state that may be left has a world of its own.
   abbrev pub EveryFailureLeaves : Type 0
   EveryFailureLeaves = (turns : List Turn) (old mid new : Standing (Held S)) (after : RegistryState) → BeginsAt g old start → Ran old (new_registry (line_state old.line)) start turns mid after
       → (why : Refusal) → FailsToCommit g mid new why → IsKnown g new.format_1 new.tables → (left : State) → MayLeave g new.tables left
-      → (list : List Event) × StandsFor g new (run_from start (events_of turns ++ list)) × HoldsAll (run_from start (events_of turns ++ list)) (receipts_of turns) left
+      → (list : List Event) × StandsFor g new (run_from start (events_of turns ++ list)) × HoldsAll (run_from start (events_of turns ++ list)) (receipts_of turns) (answers_of turns) left
 
   -- And whichever file it left is adopted: the run goes on by two turns, with the state that this file spells.
   abbrev pub EveryFailureGoesOn : Type 0

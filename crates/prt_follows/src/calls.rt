@@ -1,5 +1,5 @@
 //! The publisher's calls, with what they are in the world.
-ghost use Rattle.std.specs.Prelude.{◌≡◌, Some, IfErr, IfOk, IsTrue, OnOk};
+ghost use Rattle.std.specs.Prelude.{◌≡◌, [], Some, IfErr, IfOk, IsTrue, OnOk};
 ghost use Rattle.sqlite.specs.Held.{state};
 ghost use Rattle.sqlite.specs.State.{HasCleanDisk};
 ghost use Rattle.prt_command.specs.Storable.{IsStorable};
@@ -156,7 +156,7 @@ pub fn first_command<S: Alter + Drop, R: Wait + Drop>(
     requires storable { IsStorable command.now }
     requires registry { registry.old ≡ new_registry (line_state publisher.old.line) }
     ensures { IfOk result (λ told. BeginsAt S.Store publisher.old start → IsKnown S.Store publisher.new.format_1 publisher.new.tables → (left : State) → MayLeave S.Store publisher.new.tables left →
-        HoldsAll (run_from start (events_of (step_turns command.now told))) (receipts_of (step_turns command.now told)) left) }
+        HoldsAll (run_from start (events_of (step_turns command.now told))) (receipts_of (step_turns command.now told)) [] left) }
 {
     match submit_by_steps(publisher, registry, command) {
         Ok(receipt) => Ok(receipt),

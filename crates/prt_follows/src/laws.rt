@@ -1,6 +1,7 @@
 //! Laws of the definitions, which no program calls.
 ghost use Rattle.prt_follows.specs.Desks.{DeskHoldsAll, ReopenedDesk, ScriptIsRun, SessionsHold, TurnIsSteps};
 ghost use Rattle.prt_follows.specs.Lookers.{EveryLookersEvent};
+ghost use Rattle.prt_follows.specs.Registers.{EveryEventRegisters, RoomIsRoom};
 ghost use Rattle.prt_follows.specs.Runs.{EveryFailureGoesOn, EveryFailureLeaves, EveryRunLeaves, EveryRunStands};
 
 use sqlite::Alter;
@@ -42,4 +43,10 @@ pub fn script_is_run()
 /// Whatever a looker does, or a reclaim: a publisher and its registry stand for the world after it.
 pub fn lookers_events<S: Alter>()
     ensures { EveryLookersEvent S.Store }
+{}
+
+/// A registry of grace periods has room exactly where the world has, and stands for the world after each event.
+pub fn registry_follows()
+    ensures room { RoomIsRoom }
+    ensures events { EveryEventRegisters }
 {}
