@@ -7,8 +7,10 @@ use prt_world::{read_events, run, trace_text};
 use std::alloc::Global;
 use std::io::{Read, Write};
 
-/// The longest list of events that is read, in bytes.
-const LONGEST: usize = 4096;
+/// How many bytes are asked for by one call of the reader, and how many calls there are at most.
+const BLOCK: usize = 4096;
+
+const MOST_BLOCKS: usize = 16;
 
 /// Reads the events, plays them, and makes the text of what they show.
 fn replayed(alloc: Global, bytes: &[u8]) -> Result<Vec<u8>, Refusal> {
@@ -26,21 +28,21 @@ fn replayed(alloc: Global, bytes: &[u8]) -> Result<Vec<u8>, Refusal> {
     }
 }
 
-/// Replays the events of the input.
+/// Replays the events of the input, which is no longer than some blocks.
 pub(crate) fn replay<R: Read, W: Write>(
     alloc: Global,
     input: &mut R,
     output: &mut W,
 ) -> Result<(), Refusal> {
-    let mut bytes = [0u8; LONGEST];
-    let mut len = 0;
-    while len < LONGEST {
-        match input.read(&mut bytes[len..]) {
+    let mut bytes = Vec::new(alloc);
+    let mut block = [0u8; BLOCK];
+    for _ in 0..MOST_BLOCKS {
+        match input.read(&mut block) {
             Ok(0) => break,
-            Ok(count) => len += count,
+            Ok(count) => bytes.extend_from_slice(&block[..count])?,
             Err(_) => return Err(Refusal::ReadFault),
         }
     }
-    let text = replayed(alloc, &bytes[..len])?;
+    let text = replayed(alloc, bytes.as_slice())?;
     tell(output, &Reply::Answered(Text::new(text)))
 }

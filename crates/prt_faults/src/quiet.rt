@@ -6,9 +6,9 @@ ghost use Rattle.prt_publisher.specs.Standing.{IsQuiet};
 use crate::output::{tell, tell_number};
 use crate::registries::{domain_keeps, registry_keeps};
 use crate::service::{adopted, command_of, look, submit};
-use crate::versions::has_route;
+use crate::versions::{finds_route, selects_route};
 use crate::words::{are_lines_read, are_read};
-use prt_command::{Command, Refusal, RouteChoice};
+use prt_command::{Command, Refusal};
 use prt_grace::Domain;
 use prt_publisher::{Phase, Publisher, Receipt};
 use prt_service::{Looker, Naming, Service};
@@ -25,57 +25,55 @@ use std::sync::{Arc, Wait};
 /// After this text no memory is given.
 const MARK: &[u8; 20] = b"no memory from here\n";
 
-/// The opening version and the one after a command that adds a route, that command, and what chooses the route.
+/// The line that adds a route, and the one that removes it.
+const LINES: [&str; 2] = ["route add 10/8 dev eth0", "route del 10/8"];
+
+/// The opening version, and the one after a command that adds a route.
 #[derive(Drop)]
 struct Versions {
     first: Arc<Version>,
     second: Arc<Version>,
-    add: Command,
-    choice: RouteChoice,
-}
-
-/// Makes the versions before and after a command.
-fn made_versions(alloc: Global) -> Result<Versions, Refusal> {
-    let add = command_of("route add 10/8 dev eth0")?;
-    let Command::RouteDel(choice) = command_of("route del 10/8")? else {
-        return Err(Refusal::UnknownVerb);
-    };
-    let first = Version::opening(alloc)?;
-    let change = first.check(&add)?;
-    let second = first.next(&change)?;
-    Ok(Versions {
-        first: first_owner(alloc, first)?,
-        second: first_owner(alloc, second)?,
-        add,
-        choice,
-    })
 }
 
 /// Tells whether words, lines, versions, tables, registries and domains answer.
-fn answer<H: Wait>(rt: &H, versions: &Versions) -> Result<bool, Refusal> {
-    Ok(
-        are_read()
-            && are_lines_read()
-            && has_route(&versions.second, &versions.add, &versions.choice)
-            && registry_keeps(&versions.first, &versions.second)?
-            && domain_keeps(rt, &versions.first, &versions.second)?,
-    )
+fn answer<H: Wait>(rt: &H, versions: &Versions, remove: &Command) -> Result<bool, Refusal> {
+    let (first, second) = (&versions.first, &versions.second);
+    let are_made = are_read() && are_lines_read() && selects_route(second);
+    let are_found = finds_route(second, remove);
+    let are_kept = registry_keeps(first, second)? && domain_keeps(rt, first, second)?;
+    Ok(are_made && are_found && are_kept)
 }
 
-/// A store that has committed a command, and the stamp of that.
+/// Commits a command to a store whose tables spell this version.
+fn commit_one<S: Alter + Drop>(
+    store: &mut Store<S>,
+    version: &Version,
+    command: &Command,
+) -> Result<Stamp, Refusal>
+    requires { IsStorable command.now }
+{
+    let number = version.number() + 1;
+    let change = version.check(command)?;
+    store.commit(&change, number)
+}
+
+/// A store that has committed a command, the stamp of that, and the versions before and after.
 fn committed<S: Alter + Drop>(
     alloc: Global,
     connection: Connection<S>,
-) -> Result<(Store<S>, Stamp), Refusal> {
+) -> Result<(Store<S>, Stamp, Versions), Refusal> {
     let mut store = match Store::adopt(connection) {
         Ok(store) => store,
         Err((reason, _)) => return Err(reason),
     };
-    let version = store.load(alloc)?;
-    let number = version.number() + 1;
-    let change = version.check(&command_of("route add 10/8 dev eth0")?)?;
-    let stamp = store.commit(&change, number)?;
-    Ok((store, stamp))
+    let first = store.load(alloc)?;
+    let stamp = commit_one(&mut store, &first, &command_of(LINES[0])?)?;
+    let second = store.load(alloc)?;
+    let versions = Versions {
+        first: first_owner(alloc, first)?,
+        second: first_owner(alloc, second)?,
+    };
+    Ok((store, stamp, versions))
 }
 
 /// Tells whether a looker that learns a receipt sees its command, holds the version, and goes.
@@ -128,20 +126,21 @@ struct Ended<S: Alter + Drop, H: Wait + Drop> {
     stamp: Stamp,
 }
 
-/// Makes what is to be ended.
+/// Makes what is to be ended, and the versions before and after the command of its store.
 fn made_to_end<S: Alter + Drop, H: Wait + Drop>(
     rt: H,
     alloc: Global,
     first: Connection<S>,
     second: Connection<S>,
-) -> Result<Ended<S, H>, Refusal> {
+) -> Result<(Ended<S, H>, Versions), Refusal> {
     let (publisher, _domain) = adopted(rt, alloc, first)?;
-    let (store, stamp) = committed(alloc, second)?;
-    Ok(Ended {
+    let (store, stamp, versions) = committed(alloc, second)?;
+    let ended = Ended {
         publisher,
         store,
         stamp,
-    })
+    };
+    Ok((ended, versions))
 }
 
 /// Tells whether a publisher and a store show what they have, and give their connections back.
@@ -170,15 +169,20 @@ fn serve<J: Naming, S: Alter + Drop, H: Wait + Copy + Drop, W: Write>(
 {
     let service: Service<S, H, J> = Service::new(publisher, domain);
     let looker = service.looker(&rt)?;
-    let receipt = submit(&rt, &service, &command_of("route add 10/8 dev eth0")?)?;
-    if !answer(&rt, versions)? {
+    let (add, remove) = (command_of(LINES[0])?, command_of(LINES[1])?);
+    let receipt = submit(&rt, &service, &add)?;
+    if !answer(&rt, versions, &remove)? {
         return Ok(false);
     }
     if output.write_all(MARK).is_err() || output.flush().is_err() {
         return Err(Refusal::WriteFault);
     }
     let is_seen = sees_command(&rt, &service, looker, receipt);
-    Ok(is_seen && answer(&rt, versions)?)
+    let is_refused = match submit(&rt, &service, &add) {
+        Ok(_) => false,
+        Err(reason) => reason == Refusal::Exists,
+    };
+    Ok(is_seen && is_refused && answer(&rt, versions, &remove)?)
 }
 
 /// The databases of a publisher and a store that are ended after the mark, of a service that is made after it, and of
@@ -204,15 +208,14 @@ pub(crate) fn run<S: Alter + Drop, H: Wait + Copy + Drop, W: Write>(
         spare,
         served,
     } = databases;
-    let versions = made_versions(alloc)?;
-    let ended = made_to_end(rt, alloc, published, stored)?;
+    let (ended, versions) = made_to_end(rt, alloc, published, stored)?;
     let (spare, spare_domain) = adopted(rt, alloc, spare)?;
     let (publisher, domain) = adopted(rt, alloc, served)?;
     let is_seen = serve::<Brand, S, H, W>(rt, publisher, domain, &versions, output)?;
-    let is_served = is_served::<Brand, S, H>(rt, spare, spare_domain);
+    let is_made = is_served::<Brand, S, H>(rt, spare, spare_domain);
     tell_number(output, 1)?;
     tell(output, &Reply::Refused(Refusal::Exists))?;
-    if is_seen && is_served && are_ended(ended) {
+    if is_seen && is_made && are_ended(ended) {
         Ok(())
     } else {
         Err(Refusal::NoMemory)

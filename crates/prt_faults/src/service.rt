@@ -1,6 +1,6 @@
 //! Publishers and services, for connections and handles of any kind. A call that refuses for memory has changed
 //! nothing, and is made again.
-ghost use Rattle.std.specs.Prelude.{◌≡◌, IfOk};
+ghost use Rattle.std.specs.Prelude.{◌≡◌, IfOk, IsSome};
 ghost use Rattle.prt_command.specs.Storable.{IsStorable};
 
 use prt_command::{Addr, Command, Dev, Packet, Refusal, Request, read_line};
@@ -55,7 +55,10 @@ pub(crate) fn look<S: Alter + Drop, R: Wait + Drop, J: Naming, H: Wait>(
     rt: &H,
     service: &Service<S, R, J>,
     looker: &mut Looker,
-) -> Result<u64, Refusal> {
+) -> Result<u64, Refusal>
+    ensures same { (looker.new.known.book ≡ looker.old.known.book) × (looker.new.known.base ≡ looker.old.known.base) }
+    ensures online { IfOk result (λ number. IsSome looker.new.held) }
+{
     let refreshed = match looker.refresh(rt, service) {
         Err(Refusal::NotFetched) => looker.refresh(rt, service),
         other => other,

@@ -81,7 +81,9 @@ fn submit_beside<S: Alter + Drop, R: Wait + Drop, J: Naming, H: Wait, W: Write>(
     service: &Service<S, R, J>,
     looker: &mut Looker,
     output: &mut W,
-) -> Result<(), Refusal> {
+) -> Result<(), Refusal>
+    ensures { (looker.new.known.book ≡ looker.old.known.book) × (looker.new.known.base ≡ looker.old.known.base) }
+{
     tell_number(output, look(rt, service, looker)?)?;
     let missed = submit_until(rt, service, 0, 100, output)?;
     if looker.is_online() {
