@@ -70,8 +70,8 @@ ssize_t write(int file, const void *bytes, size_t len) {
   return written;
 }
 
-/* Tells what was met, at the end of the process. */
-__attribute__((destructor)) static void tell(void) {
+/* Tells what was met. */
+static void tell(void) {
   const char *path = getenv("TOLD");
   char text[80];
   int file, len;
@@ -79,6 +79,16 @@ __attribute__((destructor)) static void tell(void) {
     return;
   len = snprintf(text, sizeof text, "%ld %ld %ld\n", made, before_input, refused);
   if (write(file, text, len) != len)
-    _exit(70);
+    abort();
   close(file);
 }
+
+/* A program that may start threads ends by this call, and runs no destructors. */
+void _exit(int status) {
+  void (*call)(int) = real("_exit");
+  tell();
+  call(status);
+  abort();
+}
+
+__attribute__((destructor)) static void end(void) { tell(); }

@@ -28,13 +28,19 @@ static void tell(void) {
     return;
   len = snprintf(text, sizeof text, "%ld\n", made);
   if (write(file, text, len) != len)
-    _exit(70);
+    abort();
   close(file);
 }
 
-static void stop(void) {
+/* The call of this name that would be made without the library. */
+static void *real(const char *name) { return dlsym(RTLD_NEXT, name); }
+
+/* A program that may start threads ends by this call, and runs no destructors. */
+void _exit(int status) {
+  void (*call)(int) = real("_exit");
   tell();
-  _exit(STOPPED);
+  call(status);
+  abort();
 }
 
 /* Tells whether this variable names the call that is being made. */
@@ -47,15 +53,12 @@ static int names_this(const char *variable) {
 static int fails(void) {
   made++;
   if (names_this("STOP"))
-    stop();
+    _exit(STOPPED);
   if (!names_this("FAIL"))
     return 0;
   errno = EIO;
   return 1;
 }
-
-/* The call of this name that would be made without the library. */
-static void *real(const char *name) { return dlsym(RTLD_NEXT, name); }
 
 ssize_t pread(int file, void *bytes, size_t len, off_t at) {
   ssize_t (*call)(int, void *, size_t, off_t) = real("pread");
@@ -69,7 +72,7 @@ ssize_t pwrite(int file, const void *bytes, size_t len, off_t at) {
   if (!names_this("TEAR"))
     return call(file, bytes, len, at);
   call(file, bytes, len / 2, at);
-  stop();
+  _exit(STOPPED);
   return -1;
 }
 
