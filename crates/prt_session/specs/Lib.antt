@@ -1,6 +1,7 @@
 pub mod Reply
 pub mod Session
 pub mod Desk
+pub mod Open
 pub mod Stands
 pub mod Preorder
 pub mod Run

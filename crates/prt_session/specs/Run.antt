@@ -8,7 +8,7 @@ use Rattle.prt_session.specs.Session.{TurnsOf, Mishaps, Path, Input, end_of_inpu
 use Rattle.prt_session.specs.declared.reply.Reply.{Reply}
 use Rattle.prt_session.specs.declared.reply.Reply.TheVariants.{Silent, Refused}
 use Rattle.prt_addr.specs.declared.on_refusal.OnRefusal.{OnRefusal}
-use Rattle.prt_session.specs.declared.script.ScriptEnd.{ScriptEnd}
+use Rattle.prt_session.specs.declared.script_end.ScriptEnd.{ScriptEnd}
 
 -- a failed commit or publication, or a fault of the reader or the writer
 abbrev pub is_fault_refusal : Refusal → Bool
@@ -35,7 +35,7 @@ unfoldable pub fault_in : Option Refusal → List Reply → Option Refusal
 fault_in last replies = fold fault_after last replies
 
 -- The writer got all replies of the session on all that the reader had, up to its fault if one came; what the session leaves unread is still to be read.
-pub record Ran {D M : Type 0} (input : Input) (session : Session D M) (reader0 reader writer0 writer : Option (List ℕ)) (fault : Option Refusal) : Type 0 where
+pub record RanWhole {D M : Type 0} (input : Input) (session : Session D M) (reader0 reader writer0 writer : Option (List ℕ)) (fault : Option Refusal) : Type 0 where
   pub beyond : List ℕ
   pub bytes_before : IfSome reader0 (λ bytes. bytes ≡ input.bytes ++ beyond)
   pub whole : input.ending ≡ end_of_input → beyond ≡ []
@@ -67,5 +67,5 @@ pub record RunIs {D M : Type 0} (turn : TurnsOf D M) (may : Mishaps D M) (mode :
   pub leaves : desk ≡ (session turn desk0 input mode mishaps).desk
   pub path : Path turn may desk0 (session turn desk0 input mode mishaps).exchanges desk
   pub refused_is : end.refused ≡ refused_in false (replies (session turn desk0 input mode mishaps))
-  pub ended : Ran input (session turn desk0 input mode mishaps) reader0 reader writer0 writer end.fault
+  pub ended : RanWhole input (session turn desk0 input mode mishaps) reader0 reader writer0 writer end.fault
       ⊎ Cut input (session turn desk0 input mode mishaps) (session turn desk0 (record input { ending = read_fault }) mode mishaps) reader0 reader writer0 writer end.fault
