@@ -109,7 +109,7 @@ impl<'a, 'b, 'c, H: Wait + Drop, S: Alter + Drop, B: Wait + Drop, J: Naming> Wor
     B,
     J,
 > {
-    fn run(self) -> bool {
+    fn serve(self) -> bool {
         work(self.rt, self.alloc, self.service, &self.jobs, self.gate).is_ok()
     }
 }
@@ -142,7 +142,7 @@ fn serve_both<
                 gate,
                 jobs,
             };
-            if scope.spawn(move || worker.run()).is_err() {
+            if scope.spawn(move || worker.serve()).is_err() {
                 break;
             }
         }
