@@ -16,7 +16,7 @@ use Rattle.clap.specs.declared.error.Error.{Error}
 use Rattle.clap.specs.declared.error.kind.ErrorKind.{ErrorKind}
 use Rattle.clap.specs.declared.error.kind.ErrorKind.TheVariants.{DisplayHelp, DisplayVersion, InvalidSubcommand}
 use Rattle.prt_words.specs.Faults.{FaultOf, IsStatusOf, IsWordsFault, words_status}
-use Rattle.prt_words.specs.Invocation.{Invocation, Word, batch, replay, serve, help, help_on, invocation, usage_error, file_of}
+use Rattle.prt_words.specs.Invocation.{Invocation, Word, batch, replay, serve, help, help_on, version, invocation, usage_error, file_of}
 use Rattle.prt_addr.specs.declared.on_refusal.OnRefusal.{OnRefusal}
 use Rattle.prt_addr.specs.declared.on_refusal.OnRefusal.TheVariants.{Stop, GoOn}
 use Rattle.prt_words.specs.declared.fault.Fault.{Fault}
@@ -63,6 +63,7 @@ serve_is (batch script) kinds found agrees none is = absurd (no_batch (sym agree
 serve_is (replay file) kinds found agrees none is = absurd (no_replay (sym agrees.1 ∙ is))
 serve_is serve kinds found agrees none is = refl
 serve_is help kinds found agrees none is = absurd (not_empty _ _ (sym agrees ∙ none))
+serve_is version kinds found agrees none is = absurd (not_empty _ _ (sym agrees ∙ none))
 serve_is help_on kinds found agrees none is = absurd (not_empty _ _ (sym agrees ∙ none))
 serve_is usage_error kinds found agrees none is = absurd (subst IsMistake none agrees)
 
@@ -77,6 +78,7 @@ task_is (replay file) kinds found (Batch task) agrees none other is = absurd (is
 task_is (replay file) kinds found (Replay path) agrees none other is = ap replay (sym (is.1 ∙ agrees.2))
 task_is serve kinds found task agrees none other is = absurd (other agrees)
 task_is help kinds found task agrees none other is = absurd (not_empty _ _ (sym agrees ∙ none))
+task_is version kinds found task agrees none other is = absurd (not_empty _ _ (sym agrees ∙ none))
 task_is help_on kinds found task agrees none other is = absurd (not_empty _ _ (sym agrees ∙ none))
 task_is usage_error kinds found task agrees none other is = absurd (subst IsMistake none agrees)
 
@@ -107,6 +109,11 @@ status_of_kind serve kinds found k agrees among = either_status k
 status_of_kind help kinds found k agrees among = shown (subst (IsAmong k) agrees among)
   where
     shown : IsAmong k (DisplayHelp ∷ []) → words_status k ≡ 0
+    shown (inl is) = ap words_status is
+    shown (inr none) = absurd none
+status_of_kind version kinds found k agrees among = shown (subst (IsAmong k) agrees among)
+  where
+    shown : IsAmong k (DisplayVersion ∷ []) → words_status k ≡ 0
     shown (inl is) = ap words_status is
     shown (inr none) = absurd none
 status_of_kind help_on kinds found k agrees among = shown (subst (IsAmong k) agrees among)

@@ -40,7 +40,7 @@ abbrev pub serve_line : App
 serve_line = with_rule (with_rule (with_rule (with_rule (with_rule (new_app (codes "serve")) (needed_rule (codes "db"))) (needed_rule (codes "listen"))) (number_rule (codes "workers") (codes "4"))) (number_rule (codes "sessions") (codes "0"))) (number_rule (codes "idle") (codes "0"))
 
 abbrev pub opening_line : App
-opening_line = on_top (λ top. record top { subcommand_required = true; arg_required_else_help = true }) (new_app (codes "prt"))
+opening_line = on_top (λ top. record top { subcommand_required = true; arg_required_else_help = true; has_version = true }) (new_app (codes "prt"))
 
 abbrev pub command_line : App
 command_line = with_subcommand (with_subcommand (with_subcommand opening_line batch_line.top) replay_line.top) serve_line.top

@@ -1,4 +1,4 @@
--- What the words after the program's name ask for: `batch [--force] [--db PATH] [--verbose] [FILE]`, `replay [FILE]`, `serve` with its options, or help.
+-- What the words after the program's name ask for: `batch [--force] [--db PATH] [--verbose] [FILE]`, `replay [FILE]`, `serve` with its options, the version, or help.
 -- Options and operands are told apart as POSIX.1 does (Base Definitions, section 12.2, guidelines 4, 10 and 13), but options may follow operands, and `--db=PATH` is `--db PATH`.
 use Rattle.std.specs.Prelude.{ℕ, ◌==◌, ◌||◌, Bool, true, false, List, [], ◌∷◌, Option, Some, None, is_some, if◌then◌else◌, map, drop, codes, option_and_then, slice_get, chars, bytes_eq, String, string_bytes}
 use Rattle.std.specs.List.{before_first, after_first}
@@ -26,6 +26,8 @@ pub data Invocation : Type 0 where
   -- the word `serve`: sessions over TCP, help on that, or bad words
   serve : Invocation
   help : Invocation
+  -- the version, and the formats of database file that are read
+  version : Invocation
   -- the word `help`, and what help is asked on, if there is such a thing
   help_on : Invocation
   usage_error : Invocation
@@ -48,6 +50,10 @@ is_delimiter word = bytes_eq word (codes "--")
 -- `--help`, or `-h` and what begins so
 abbrev pub is_help : Word → Bool
 is_help word = bytes_eq word (codes "--help") || option_map_or (λ letter. letter == 104) (option_letter word) false
+
+-- `--version`, or `-V` and what begins so
+abbrev pub is_version : Word → Bool
+is_version word = bytes_eq word (codes "--version") || option_map_or (λ letter. letter == 86) (option_letter word) false
 
 -- `-` is the input
 abbrev pub file_of : Word → Option Word
@@ -184,4 +190,5 @@ invocation (word ∷ words) =
     else (if bytes_eq word (codes "replay") then asked_by Replay words anywhere nothing_given
     else (if bytes_eq word (codes "serve") then serve
     else (if bytes_eq word (codes "help") then help_on
-    else (if is_help word then help else usage_error))))
+    else (if is_help word then help
+    else (if is_version word then version else usage_error)))))

@@ -118,7 +118,7 @@ fn task_of<'a>(matches: &ArgMatches<'a>) -> Task<'a>
 ///
 /// # Errors
 ///
-/// `Words` where they ask for help or for nothing that there is, or where a value of `serve` is none that it may have; `Opening` with `NoMemory` where memory is refused.
+/// `Words` where they ask for help, for the version or for nothing that there is, or where a value of `serve` is none that it may have; `Opening` with `NoMemory` where memory is refused.
 pub fn read_words<'a>(alloc: Global, words: &'a [String]) -> Result<Task<'a>, Fault>
     ensures task { IfOk result (λ task. invocation (arguments words.entry.now) ≡ invocation_of task) }
     ensures limits { IfOk result IsWithinLimits }
