@@ -25,5 +25,6 @@ returns c =
     ∙ ap needs_subcommand c.version.ensures ∙ ap tells_version c.about.ensures ∙ ap tells_version c.in_ok-bin_name.ensures.0
     ∙ ap (on_top (λ (top : Shape). record top { subcommand_required = true; arg_required_else_help = true; has_version = true })) c.new.ensures.app in
     let with_batch = c.in_ok-subcommand.ensures.shape c.in_ok-batch.ensures.own ∙ ap₂ with_subcommand opening_is (ap top_of c.in_ok-batch.ensures.line) in
-    let with_replay = c.in_ok-subcommand-2.ensures.shape c.in_ok-replay.ensures.own ∙ ap₂ with_subcommand with_batch (ap top_of c.in_ok-replay.ensures.line) in
-    IfOk-weaker c.subcommand-3.result _ _ (λ command added. added.shape c.in_ok-serve.ensures.own ∙ ap₂ with_subcommand with_replay (ap top_of c.in_ok-serve.ensures.line)) c.subcommand-3.ensures
+    let with_check = c.in_ok-subcommand-2.ensures.shape c.in_ok-check.ensures.own ∙ ap₂ with_subcommand with_batch (ap top_of c.in_ok-check.ensures.line) in
+    let with_replay = c.in_ok-subcommand-3.ensures.shape c.in_ok-replay.ensures.own ∙ ap₂ with_subcommand with_check (ap top_of c.in_ok-replay.ensures.line) in
+    IfOk-weaker c.subcommand-4.result _ _ (λ command added. added.shape c.in_ok-serve.ensures.own ∙ ap₂ with_subcommand with_replay (ap top_of c.in_ok-serve.ensures.line)) c.subcommand-4.ensures
