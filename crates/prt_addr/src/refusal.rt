@@ -58,6 +58,8 @@ pub enum Refusal {
     NextHopNotAllowed,
     /// The command would take everything and has to name something.
     TooBroad,
+    /// Only a rule that looks up a table suppresses short prefixes.
+    SuppressNotAllowed,
     /// The publisher is closed since a commit or a publication failed.
     Closed,
     /// The route's key, or an equal rule, is there already.
@@ -113,6 +115,7 @@ impl Refusal {
             Refusal::NoNextHop => (15, "NoNextHop"),
             Refusal::NextHopNotAllowed => (16, "NextHopNotAllowed"),
             Refusal::TooBroad => (17, "TooBroad"),
+            Refusal::SuppressNotAllowed => (18, "SuppressNotAllowed"),
             Refusal::Closed => (20, "Closed"),
             Refusal::Exists => (21, "Exists"),
             Refusal::NoSuch => (22, "NoSuch"),

@@ -1,7 +1,8 @@
 -- What a line asks for is storable.
-use Rattle.std.proofs.Common.{◌≡◌, ◌≤◌, ◌<◌, ◌^◌, ℕ, zero, List, [], ◌∷◌, Bool, true, false, Option, Some, None, is_some, drop, IfSome, IfOk, IfErr, rules, Result, Ok, Err, refl, sym, ap, subst, arith}
-use Rattle.std.proofs.lemmas.Bool.{leb-true}
-use Rattle.std.specs.Prelude.{◌&&◌, ◌||◌, ◌==◌, not, nat_le, is_none, if◌then◌else◌, bytes_eq, codes, unwrap_or}
+use Rattle.std.proofs.Common.{◌≡◌, ◌≤◌, ◌<◌, ◌^◌, ℕ, zero, List, [], ◌∷◌, Bool, true, false, Option, Some, None, is_some, drop, IfSome, IfOk, IfErr, IsTrue, rules, Result, Ok, Err, refl, sym, ap, subst, arith}
+use Rattle.std.proofs.lemmas.Bool.{and_from, leb-true}
+use Rattle.std.proofs.lemmas.Bool.Decides.{nat_tests}
+use Rattle.std.specs.Prelude.{◌&&◌, ◌||◌, ◌==◌, not, nat_le, nat_lt, is_none, if◌then◌else◌, bytes_eq, codes, unwrap_or}
 use Rattle.std.specs.Option.{ok_or, option_or}
 use Rattle.prt_addr.specs.Block.{Block}
 use Rattle.prt_addr.specs.Decimal.{decimal_value}
@@ -12,7 +13,7 @@ use Rattle.prt_addr.specs.declared.addr.Addr.{Addr}
 use Rattle.prt_addr.specs.declared.refusal.Refusal.{Refusal}
 use Rattle.prt_addr.specs.declared.refusal.Refusal.TheVariants.{UnknownObject, UnknownVerb, MissingDestination, NoNextHop, NextHopNotAllowed, TooBroad, BadTable}
 use Rattle.prt_route.specs.Names.{default_table, local_table, main_table, number_in, spelled_number, table, tables}
-use Rattle.prt_route.specs.Storable.{IsStorableRoute, suits}
+use Rattle.prt_route.specs.Storable.{is_storable_route, suits}
 use Rattle.prt_route.specs.declared.kind.Kind.{Kind}
 use Rattle.prt_route.specs.declared.kind.Kind.TheVariants.{Unicast, Blackhole, Unreachable, Prohibit, Throw}
 use Rattle.prt_route.specs.declared.route.Route.{Route}
@@ -24,7 +25,7 @@ use Rattle.prt_command.specs.Items.{no_items, put, is_empty}
 use Rattle.prt_command.specs.Reading.{items_request, lone_verb, meaning_of, object_of, object_request, skip_word, verb_of, verb_request, words_request}
 use Rattle.prt_command.specs.Requests.{has_next_hop, is_unicast, new_route, refuse_if, route_by, route_of, route_request, selector_of, rule_choice, unless_empty}
 use Rattle.prt_command.specs.Scan.{items_of}
-use Rattle.prt_rule.specs.Storable.{IsStorableAction}
+use Rattle.prt_rule.specs.Storable.{is_storable_action}
 use Rattle.prt_command.specs.Storable.{IsStorable, IsStorableRequest, IsStorableLine}
 use Rattle.prt_command.specs.Then.{◌>>=◌, map_ok}
 use Rattle.prt_command.specs.Values.{value}
@@ -90,11 +91,20 @@ table_is w n h = record {
   fits = spelled_fits (number_in tables w) w n (λ m e. named_table (bytes_eq (codes "local") w) (bytes_eq (codes "main") w) (bytes_eq (codes "default") w) m e) (keep_from (λ n. nat_le 1 n) (spelled_number tables w) n h);
 }
 
+storable_table : (n : ℕ) → IsTable n → (nat_le 1 n && nat_lt n (2 ^ 32)) ≡ true
+storable_table n is = and_from (nat_le 1 n) (nat_lt n (2 ^ 32)) (grind (arith, nat_tests, is.from)) (grind (arith, nat_tests, is.fits))
+
 ok_or_some : {X : Type 0} (o : Option X) (e : Refusal) (x : X) → ok_or o e ≡ Ok x → o ≡ Some x
 ok_or_some None e x h = absurd cc
 ok_or_some (Some y) e x h = ap (λ z. Some z) (ok_inj y x h)
 
 -- ---- the items of a line
+
+abbrev IsStorableRoute : Route → Type 0
+IsStorableRoute route = IsTrue (is_storable_route route)
+
+abbrev IsStorableAction : rule.Action → Type 0
+IsStorableAction action = IsTrue (is_storable_action action)
 
 -- what an item says of a table and an action is storable
 abbrev pub IsSoundItem : Item → Type 0
@@ -128,7 +138,7 @@ word_sound [] w i are h = absurd cc
 word_sound (entry ∷ entries) w i are h = word_by (is_one_of w entry.0) entry.1 i (word_in entries w) are.0 (word_sound entries w i are.1) h
 
 lookup_sound : (w : Word) (action : rule.Action) → map_ok Lookup (ok_or (table w) BadTable) ≡ Ok action → IsStorableAction action
-lookup_sound w action h = map_ok_all IsStorableAction Lookup _ action h (λ n e. (table_is w n (ok_or_some _ _ n e)).from)
+lookup_sound w action h = map_ok_all IsStorableAction Lookup _ action h (λ n e. keep_passes (λ n. nat_le 1 n) (spelled_number tables w) n (ok_or_some _ _ n e))
 
 value_sound : (slot : Slot) (b : Option PrefixWord) (w : Word) (x : Item) → value slot b w ≡ Ok x → IsSoundItem x
 value_sound Destination b w x h = map_ok_all IsSoundItem item.Destination _ x h (λ y e. tt)
@@ -211,7 +221,7 @@ table_for None is = record { from = omega arith; fits = omega arith }
 table_for (Some n) is = is
 
 action_for : (o : Option rule.Action) → IfSome o IsStorableAction → IsStorableAction (unwrap_or o (Lookup main_table))
-action_for None is = omega arith
+action_for None is = refl
 action_for (Some action) is = is
 
 not_false : (b : Bool) → not b ≡ false → b ≡ true
@@ -227,10 +237,9 @@ suits_for items Throw prefix a b = bare_by items.via items.dev items.src b
 
 route_for : (items : Items) (kind : Kind) (prefix : Block) → IsSound items → IsFineFor IsStorableRoute (route_by items kind prefix)
 route_for items kind prefix sound =
-    let t = table_for items.table sound.0 in
     fine_for_then _ IsStorableRoute _ _ (refuse_for (is_unicast kind && not (has_next_hop items)) NoNextHop (omega arith)) (λ _ a.
     fine_for_then _ IsStorableRoute _ _ (refuse_for (not (is_unicast kind) && (has_next_hop items || is_some items.src)) NextHopNotAllowed (omega arith)) (λ _ b.
-    fine_for_ok IsStorableRoute (route_of items kind prefix) (record { table = t.from; fits = t.fits; suits = suits_for items kind prefix a b })))
+    fine_for_ok IsStorableRoute (route_of items kind prefix) (and_from _ _ (storable_table _ (table_for items.table sound.0)) (suits_for items kind prefix a b))))
 
 route_request_for : (command : Route → Command) → ((route : Route) → IsStorableRoute route → IsStorable (command route)) → (items : Items) → IsSound items → IsFineFor IsStorableRequest (route_request command items)
 route_request_for command storable items sound =
@@ -249,7 +258,7 @@ asks_for RouteDel items sound = fine_for_then _ IsStorableRequest _ _ (some_for 
 asks_for RouteFlush items sound = command_for items (commands.RouteFlush (selector_of items)) tt
 asks_for RouteShow items sound = fine_for_ok IsStorableRequest _ tt
 asks_for RouteGet items sound = fine_for_then _ IsStorableRequest _ _ (some_for items.address MissingDestination (omega arith)) (λ dst _. fine_for_ok IsStorableRequest _ tt)
-asks_for RuleAdd items sound = fine_for_ok IsStorableRequest _ (action_for items.action sound.1)
+asks_for RuleAdd items sound = fine_for_ok IsStorableRequest _ (and_from _ _ (action_for items.action sound.1) refl)
 asks_for RuleDel items sound = command_for items (commands.RuleDel (rule_choice items)) tt
 asks_for RuleFlush items sound = fine_for_ok IsStorableRequest _ tt
 asks_for RuleShow items sound = fine_for_ok IsStorableRequest _ tt

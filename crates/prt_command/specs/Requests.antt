@@ -151,6 +151,7 @@ rule_of items = record {
   iif = items.iif;
   mark = items.fwmark;
   action = unwrap_or items.action (Lookup main_table);
+  suppress = None;
 }
 
 abbrev pub rule_add_request : Asks
@@ -165,6 +166,7 @@ rule_choice items = record {
   iif = items.iif;
   mark = items.fwmark;
   action = items.action;
+  suppress = None;
 }
 
 abbrev pub rule_del_request : Asks

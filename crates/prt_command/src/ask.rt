@@ -204,6 +204,7 @@ fn rule_of(items: &Items) -> NewRule
         iif: items.iif,
         mark: items.fwmark,
         action: items.action.unwrap_or(Action::Lookup(MAIN_TABLE)),
+        suppress: None,
     }
 }
 
@@ -219,6 +220,7 @@ fn rule_choice(items: &Items) -> RuleChoice
         iif: items.iif,
         mark: items.fwmark,
         action: items.action,
+        suppress: None,
     }
 }
 

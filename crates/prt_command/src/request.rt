@@ -17,6 +17,8 @@ pub struct NewRule {
     /// The mark, where it matters.
     pub mark: Option<Mark>,
     pub action: Action,
+    /// The length up to which prefixes are suppressed, 0 to 32, where some are.
+    pub suppress: Option<u8>,
 }
 
 /// A change that a line asks for.

@@ -15,7 +15,7 @@ ghost use Rattle.prt_rows.specs.Effects.{passes};
 ghost use Rattle.prt_rows.specs.Kept.{id_values, kept_route, kept_rule, key_values};
 ghost use Rattle.prt_rows.specs.Meanings.{has_id, has_key, has_priority, is_flushed};
 ghost use Rattle.prt_rows.specs.MetaRow.{IsCount, meta_rows};
-ghost use Rattle.prt_rows.specs.RouteRow.{IsRoute, route_row};
+ghost use Rattle.prt_rows.specs.RouteRow.{IsInRange, route_row};
 ghost use Rattle.prt_rows.specs.RuleRow.{IsRule, rule_row};
 ghost use Rattle.prt_rows.specs.Selecting.{IsSelector, selector_row};
 ghost use Rattle.prt_rows.specs.Statements.{delete_route, delete_rule, flush_routes, flush_rules, insert_rule, put_route, set_count};
@@ -25,7 +25,7 @@ use sqlite::Alter;
 
 /// The row that is written for a value is read back as that value.
 pub fn rows_read_back()
-    ensures route { ReadsBack route_row IsRoute }
+    ensures route { ReadsBack route_row IsInRange }
     ensures rule { (last : ℕ) → ReadsBack rule_row (IsRule last) }
     ensures count { ReadsBack meta_rows IsCount }
 {}

@@ -3,7 +3,7 @@
 ghost use Rattle.std.specs.Prelude.{◌≡◌, IsTrue, drop, map, All, IfOk, IfErr, Some};
 ghost use Rattle.sqlite_value.specs.Order.{Row as Values};
 ghost use Rattle.prt_rows.specs.Decodes.{Decodes};
-ghost use Rattle.prt_rows.specs.RouteRow.{IsRoute, route_row};
+ghost use Rattle.prt_rows.specs.RouteRow.{IsInRange, route_row};
 ghost use Rattle.prt_rows.specs.Rowids.{FailsToRead, is_above, rowids_rise};
 ghost use Rattle.prt_rows.specs.RuleRow.{IsRule, rule_row};
 
@@ -67,7 +67,7 @@ impl RowReader for RouteReader {
 
     ghost row_of = { route_row };
 
-    ghost Fits = { λ _. IsRoute };
+    ghost Fits = { λ _. IsInRange };
 
     ghost part = { drop 1 };
 
@@ -127,8 +127,8 @@ fn values_of_rows<R: RowReader>(
 /// memory is refused.
 pub fn routes_of_rows(alloc: Global, rows: &[Row]) -> Result<Vec<Route>, Refusal>
     ensures rise { IfOk result (λ _. IsTrue (rowids_rise rows.now)) }
-    ensures ok { IfOk result (λ routes. Decodes (map route_row) (All IsRoute) (map (drop 1) rows.now) (Some routes.items)) }
-    ensures err { IfErr result (FailsToRead route_row IsRoute (drop 1) rows.now) }
+    ensures ok { IfOk result (λ routes. Decodes (map route_row) (All IsInRange) (map (drop 1) rows.now) (Some routes.items)) }
+    ensures err { IfErr result (FailsToRead route_row IsInRange (drop 1) rows.now) }
 {
     values_of_rows(alloc, rows, &RouteReader)
 }

@@ -1,3 +1,6 @@
+ghost use Rattle.std.specs.Prelude.{◌≡◌};
+ghost use Rattle.prt_rule.specs.Storable.{is_storable_rule};
+
 use crate::{Dev, Prefix};
 
 /// A firewall mark and the bits of it that count (`ip-rule(8)`, `fwmark`).
@@ -41,4 +44,21 @@ pub struct Rule {
     pub mark: Option<Mark>,
     /// What becomes of the packets that it matches.
     pub action: Action,
+    /// The length, 0 to 32, up to which prefixes are suppressed (`suppress_prefixlength`); with None none are. Where the
+    /// lookup finds a unicast route of that length or less, the rule says nothing.
+    pub suppress: Option<u8>,
+}
+
+impl Rule {
+    /// Tells whether a database may hold the rule: a table that it looks up is one from 1 on, and it suppresses no
+    /// prefixes (`ip-rule(8)`).
+    pub fn is_storable(&self) -> bool
+        ensures { result ≡ is_storable_rule self.now.action self.now.suppress }
+    {
+        let is_storable_action = match self.action {
+            Action::Lookup(table) => table > 0,
+            Action::Blackhole | Action::Unreachable | Action::Prohibit => true,
+        };
+        is_storable_action && self.suppress.is_none()
+    }
 }

@@ -44,6 +44,7 @@ pub fn rule(id: u64, priority: u32) -> Rule
         iif: None,
         mark: None,
         action: Action::Lookup(MAIN_TABLE),
+        suppress: None,
     }
 }
 

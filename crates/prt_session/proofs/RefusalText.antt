@@ -14,7 +14,7 @@ code_below _ = lit< tt
 pub code_short : (reason : Refusal) → length (decimal (code_of reason)) ≤ 2
 code_short reason = let h = code_below reason in length-decimal-le 2 (code_of reason) (lit< tt) h (omega arith)
 
--- the longest name is that of a missing destination
+-- no name is longer than that of a missing destination
 pub name_short : (reason : Refusal) → length (name_of reason) ≤ 18
 name_short LineTooLong = lit≤ tt
 name_short _ = lit≤ tt

@@ -175,7 +175,7 @@ module _ (old mid : Conn) (state : State) (held : Stores old.now state) (count :
       routes_changed (put state (change.Route (Flush selector))) refl made.only made.keyed
       (covers_left IsRouteRow (old.now.trees 1) (mid.now.trees 1) state.routes (routes_covered old.now state held) (passes is_flushed (selector_row selector)) (λ other. not (is_selected selector other))
       (λ other row there same.
-      ap (passes is_flushed (selector_row selector)) (split row other same) ∙ passes_selector (rowid row) other selector (held.fits.routes other there).in_range.prefix is ∙ not_not _)
+      ap (passes is_flushed (selector_row selector)) (split row other same) ∙ passes_selector (rowid row) other selector (held.fits.routes other there).prefix is ∙ not_not _)
       made.complete made.sound)
 
   inserts : (rule : Rule) → Executes insert_rule (rule_row rule) old mid (Ok count) → IsChanged old.now mid.now (put state (change.RulePut rule))

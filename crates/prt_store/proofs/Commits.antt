@@ -61,7 +61,7 @@ routes_spell db tables sound keyed state storable covers = same_if_covers route_
     let one : row ≡ other = route_alone db tables sound keyed route.0 row other there also route.2 (sym same ∙ route.2) in
     ap (λ x. has_same_rowid row x) (sym one) ∙ ap is_eq (tied_itself value_cmp_total (rowid row))))
     (once_mapped route_row same_key state.routes (rising_keys state.routes storable.sound.routes_rise) (λ route other there also same.
-    let one : route ≡ other = same_route route other (storable.routes route there).in_range (storable.routes other also).in_range same in
+    let one : route ≡ other = same_route route other (storable.routes route there) (storable.routes other also) same in
     ap (λ x. same_key route x) (sym one) ∙ same_itself route))
 
 rules_spell : (rows : List Row) → IsKeyed rows → (state : State) → FitsTables state → Covers IsRuleRow rows state.rules → IsPermutation rows (map kept_rule state.rules)

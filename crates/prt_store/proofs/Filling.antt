@@ -44,24 +44,25 @@ use Rattle.prt_store.specs.Stored.{FitsTables, Stores}
 range : (low high n : ℕ) → low ≤ n → n ≤ high → IsWithin low high n
 range low high n least most = record { least = least; most = most }
 
-fits_rule : (id priority table : ℕ) → 1 ≤ id → id ≤ 3 → priority ≤ 4294967295 → 1 ≤ table → table ≤ 4294967295 → IsRule 3 (table_rule id priority table)
-fits_rule id priority table least most fits some few = record {
+fits_rule : (id priority table : ℕ) → 1 ≤ id → id ≤ 3 → priority ≤ 4294967295 → table ≤ 4294967295 → IsRule 3 (table_rule id priority table)
+fits_rule id priority table least most fits few = record {
   id = range 1 3 id least most;
   priority = range 0 4294967295 priority (omega arith) fits;
   from = record { short = omega arith; fits = omega arith; clear = refl };
   to = record { short = omega arith; fits = omega arith; clear = refl };
   iif = tt;
   mark = (tt, tt);
-  action = record { table = range 0 4294967295 table (omega arith) few; storable = some };
+  action = range 0 4294967295 table (omega arith) few;
+  plain = refl;
 }
 
 fits_opening : (rule : Rule) → Has opening_rules rule → IsRule 3 rule
 fits_opening rule there = elim there [
-  | inl is ↦ subst (IsRule 3) (sym is) (fits_rule 1 0 local_table (omega arith) (omega arith) (omega arith) (omega arith) (omega arith))
+  | inl is ↦ subst (IsRule 3) (sym is) (fits_rule 1 0 local_table (omega arith) (omega arith) (omega arith) (omega arith))
   | inr more ↦ elim more [
-    | inl is ↦ subst (IsRule 3) (sym is) (fits_rule 2 32766 main_table (omega arith) (omega arith) (omega arith) (omega arith) (omega arith))
+    | inl is ↦ subst (IsRule 3) (sym is) (fits_rule 2 32766 main_table (omega arith) (omega arith) (omega arith) (omega arith))
     | inr last ↦ elim last [
-      | inl is ↦ subst (IsRule 3) (sym is) (fits_rule 3 32767 default_table (omega arith) (omega arith) (omega arith) (omega arith) (omega arith))
+      | inl is ↦ subst (IsRule 3) (sym is) (fits_rule 3 32767 default_table (omega arith) (omega arith) (omega arith) (omega arith))
       | inr none ↦ absurd none
     ]
   ]
@@ -72,6 +73,7 @@ opening_fits = record {
   sound = opens_sound (table_rule 1 0 local_table) (table_rule 2 32766 main_table) (table_rule 3 32767 default_table) opening_rules [] refl refl refl refl refl;
   rules = fits_opening;
   routes = λ route none. absurd none;
+  storable = record { rules = (refl, (refl, (refl, tt))); routes = tt };
 }
 
 distinct_ids : IsDistinct (λ (rule other : Rule). rule.id == other.id) opening_rules

@@ -21,7 +21,6 @@ use Rattle.prt_addr.specs.Word.{Word}
 use Rattle.prt_addr.specs.declared.refusal.Refusal.{Refusal}
 use Rattle.prt_addr.specs.declared.refusal.Refusal.TheVariants.{Damaged, NoMemory, OpenFailed}
 use Rattle.prt_route.specs.declared.route.Route.{Route}
-use Rattle.prt_route.specs.Storable.{IsStorableRoute}
 use Rattle.prt_rows.proofs.Found.{has_permuted}
 use Rattle.prt_rows.proofs.Reading.{Lists, keyed_if_read_rising, read_rising_if_keyed, reads_meta, reads_routes, reads_rules}
 use Rattle.prt_rows.proofs.RouteRows.{same_route}
@@ -32,11 +31,10 @@ use Rattle.prt_rows.specs.Decodes.{Decodes}
 use Rattle.prt_rows.specs.Kept.{kept_count, kept_rule, with_key_column}
 use Rattle.prt_rows.specs.Meanings.{read_route_terms, read_rule_terms}
 use Rattle.prt_rows.specs.MetaRow.{IsCount, meta_row, meta_rows}
-use Rattle.prt_rows.specs.RouteRow.{IsRoute, route_row}
+use Rattle.prt_rows.specs.RouteRow.{IsInRange, route_row}
 use Rattle.prt_rows.specs.Rowids.{FailsToRead, rowids_rise}
 use Rattle.prt_rows.specs.RuleRow.{IsRule, rule_row}
 use Rattle.prt_rows.specs.Statements.{read_meta, read_routes, read_rules}
-use Rattle.prt_rule.specs.Storable.{IsStorableAction}
 use Rattle.prt_rule.specs.declared.rule.Rule.{Rule}
 use Rattle.prt_version.specs.RowsSpell.{RowsSpell, RowsSpellNone}
 use Rattle.prt_version.specs.State.{State}
@@ -215,17 +213,17 @@ module _ (old new : Conn) (readable : IsReadable old) (rows : List Row) where
     route_rows_are : IsPermutation (map (drop 1) (old.now.trees 1)) (map (drop 1) rows)
     route_rows_are = IsPermutation-map (drop 1) _ rows (routes_are_read tables.tables tables.indexes tables.views old.now tables.is (readable.live (routes_unchanged old new tables rows shown).0.was_open).0 rows routes_list)
 
-    pub routes_read : (routes : List Route) → rowids_rise rows ≡ true → Decodes (map route_row) (All IsRoute) (map (drop 1) rows) (Some routes) → SpellsRoutes old.now routes
+    pub routes_read : (routes : List Route) → rowids_rise rows ≡ true → Decodes (map route_row) (All IsInRange) (map (drop 1) rows) (Some routes) → SpellsRoutes old.now routes
     routes_read routes rise read = record {
       keyed = keyed_if_read_rising 1 read_route_terms (old.now.trees 1) rows routes_list rise;
       rows = subst (IsPermutation (map (drop 1) (old.now.trees 1))) read.1 route_rows_are;
       fit = read.0;
     }
 
-    pub routes_damaged : (reason : Refusal) → FailsToRead route_row IsRoute (drop 1) rows reason → reason ≡ Damaged → (routes : List Route) → SpellsRoutes old.now routes → ⊥
+    pub routes_damaged : (reason : Refusal) → FailsToRead route_row IsInRange (drop 1) rows reason → reason ≡ Damaged → (routes : List Route) → SpellsRoutes old.now routes → ⊥
     routes_damaged reason fails is routes spells =
         let same = IsPermutation-trans (map route_row routes) (map (drop 1) (old.now.trees 1)) (map (drop 1) rows) (IsPermutation-sym _ _ spells.rows) route_rows_are in
-        no_failure route_row IsRoute (drop 1) rows routes reason (read_rising_if_keyed 1 read_route_terms (old.now.trees 1) rows routes_list spells.keyed)
+        no_failure route_row IsInRange (drop 1) rows routes reason (read_rising_if_keyed 1 read_route_terms (old.now.trees 1) rows routes_list spells.keyed)
         (λ row there. has_mapped route_row routes row (has_permuted (map route_row routes) (map (drop 1) rows) row same there))
         spells.fit fails is
 
@@ -338,7 +336,8 @@ stores_read db count rules routes stored tables one some more spells = record {
   fits = record {
     sound = spells.sound;
     rules = λ rule there. subst (λ n. IsRule (n + 3) rule) (sym spells.count) (all_has (IsRule (count + 3)) rules rule (recursion_from_All (IsRule (count + 3)) rules some.fit) (has_permuted rules stored.rules rule spells.rules_are there));
-    routes = λ route there. all_has IsRoute routes route (recursion_from_All IsRoute routes more.fit) (has_permuted routes stored.routes route spells.routes_are there);
+    routes = λ route there. all_has IsInRange routes route (recursion_from_All IsInRange routes more.fit) (has_permuted routes stored.routes route spells.routes_are there);
+    storable = spells.storable;
   };
 }
 
@@ -356,7 +355,7 @@ module _ (db : Database) (stored : State) (held : Stores db stored) where
   rules_spelled = record { keyed = rules_keyed db stored held; rows = held.rules; fit = all_of (IsRule (stored.count + 3)) stored.rules held.fits.rules }
 
   pub routes_spelled : SpellsRoutes db stored.routes
-  routes_spelled = record { keyed = held.keyed; rows = held.routes; fit = all_of IsRoute stored.routes held.fits.routes }
+  routes_spelled = record { keyed = held.keyed; rows = held.routes; fit = all_of IsInRange stored.routes held.fits.routes }
 
   pub count_stored : (count : ℕ) → SpellsCount db count → stored.count ≡ count
   count_stored count one = same_count stored.count count (sym held.count ∙ one.row)
@@ -366,18 +365,15 @@ module _ (db : Database) (stored : State) (held : Stores db stored) where
   rows_spell count rules routes one some more =
       let number = count_stored count one in
       let rule_of = λ (rule : Rule) (there : Has rules rule). all_has (IsRule (count + 3)) rules rule (recursion_from_All (IsRule (count + 3)) rules some.fit) there in
-      let route_of = λ (route : Route) (there : Has routes route). all_has IsRoute routes route (recursion_from_All IsRoute routes more.fit) there in
+      let route_of = λ (route : Route) (there : Has routes route). all_has IsInRange routes route (recursion_from_All IsInRange routes more.fit) there in
       record {
         count = number;
         rules_are = unmapped kept_rule rules stored.rules (IsPermutation-trans (map kept_rule rules) (db.trees 0) (map kept_rule stored.rules) (IsPermutation-sym _ _ some.rows) held.rules)
             (λ rule other there also same. same_rule (count + 3) rule other (rule_of rule there) (subst (λ n. IsRule (n + 3) other) number (held.fits.rules other also)) (same_written rule other same));
         routes_are = unmapped route_row routes stored.routes (IsPermutation-trans (map route_row routes) (map (drop 1) (db.trees 1)) (map route_row stored.routes) (IsPermutation-sym _ _ more.rows) held.routes)
-            (λ route other there also same. same_route route other (route_of route there).in_range (held.fits.routes other also).in_range same);
+            (λ route other there also same. same_route route other (route_of route there) (held.fits.routes other also) same);
         sound = held.fits.sound;
-        storable = record {
-          rules = all_from (λ rule. IsStorableAction rule.action) stored.rules (λ rule there. (held.fits.rules rule there).action.storable);
-          routes = all_from IsStorableRoute stored.routes (λ route there. (held.fits.routes route there).storable);
-        };
+        storable = held.fits.storable;
       }
     where
       same_written : (rule other : Rule) → kept_rule rule ≡ kept_rule other → rule_row rule ≡ rule_row other

@@ -10,7 +10,7 @@ use Rattle.prt_route.specs.declared.route.Route.{Route}
 use Rattle.prt_rows.specs.Effects.{IsKeyed}
 use Rattle.prt_rows.specs.Kept.{kept_count, kept_rule}
 use Rattle.prt_rows.specs.MetaRow.{IsCount}
-use Rattle.prt_rows.specs.RouteRow.{IsRoute, route_row}
+use Rattle.prt_rows.specs.RouteRow.{IsInRange, route_row}
 use Rattle.prt_rows.specs.RuleRow.{IsRule}
 use Rattle.prt_rows.specs.Tables.{meta_table, route_table, rule_table}
 use Rattle.prt_rule.specs.declared.rule.Rule.{Rule}
@@ -32,7 +32,7 @@ pub record SpellsRules (last : ℕ) (db : Database) (rules : List Rule) : Type 0
 pub record SpellsRoutes (db : Database) (routes : List Route) : Type 0 where
   pub keyed : IsKeyed (db.trees route_table.tree)
   pub rows : IsPermutation (map (drop 1) (db.trees route_table.tree)) (map route_row routes)
-  pub fit : All IsRoute routes
+  pub fit : All IsInRange routes
 
 -- the connection has our tables, and its rows are as their schema says
 pub record IsReadable (conn : Conn) : Type 0 where

@@ -1,5 +1,5 @@
 -- What the statements of a commit do.
-use Rattle.std.specs.Prelude.{◌≤◌, ◌<◌, ◌^◌, ℕ, [], Result, IsTrue}
+use Rattle.std.specs.Prelude.{◌≡◌, ◌≤◌, ◌<◌, ◌^◌, ℕ, [], None, Result, IsTrue}
 use Rattle.sqlite.specs.Held.{Held, state}
 use Rattle.sqlite.specs.State.{ExecutesInside, HasCleanDisk, Survives}
 use Rattle.sqlite.specs.Store.{Ghosts}
@@ -12,7 +12,6 @@ use Rattle.prt_rows.specs.RouteRow.{IsInRange, route_row}
 use Rattle.prt_rows.specs.RuleRow.{IsRule, rule_row}
 use Rattle.prt_rows.specs.Selecting.{IsSelector, selector_row}
 use Rattle.prt_rows.specs.Statements.{delete_route, delete_rule, flush_routes, flush_rules, insert_rule, put_route}
-use Rattle.prt_rule.specs.Storable.{IsStorableAction}
 use Rattle.prt_version.specs.declared.change.Change.{Change}
 use Rattle.prt_version.specs.declared.change.Change.TheVariants as change
 
@@ -52,5 +51,5 @@ HasStorableIds _ = Unit {0}
 abbrev pub IsTyped : Change → Type 0
 IsTyped (change.Route (Put route)) = IsInRange route
 IsTyped (change.Route (Flush selector)) = IsSelector selector
-IsTyped (change.RulePut rule) = 1 ≤ rule.id → IsStorableAction rule.action → IsRule rule.id rule
+IsTyped (change.RulePut rule) = 1 ≤ rule.id → rule.suppress ≡ None → IsRule rule.id rule
 IsTyped _ = Unit {0}

@@ -1,11 +1,10 @@
 //! The ranges that a route and a rule have by their types.
 
-ghost use Rattle.std.specs.Prelude.{◌≡◌, ◌≤◌, IfSome, true};
+ghost use Rattle.std.specs.Prelude.{◌≡◌, ◌≤◌, IfSome, None, true};
 ghost use Rattle.prt_route.specs.Name.{is_name};
 ghost use Rattle.prt_rows.specs.Cell.{IsByte, IsNumber, IsOptionalAddr, IsOptionalName};
 ghost use Rattle.prt_rows.specs.RouteRow.{IsInRange};
-ghost use Rattle.prt_rows.specs.RuleRow.{IsAction, IsOptionalMark, IsRule, action_table};
-ghost use Rattle.prt_rule.specs.Storable.{IsStorableAction};
+ghost use Rattle.prt_rows.specs.RuleRow.{IsAction, IsOptionalMark, IsRule};
 
 use prt_addr::Addr;
 use prt_route::{Dev, Route};
@@ -76,16 +75,16 @@ fn mark_range(mark: &Option<Mark>)
 
 /// The table that an action looks up has 32 bits.
 fn action_range(action: &Action)
-    ensures { IsNumber (action_table action.now) }
+    ensures { IsAction action.now }
 {
     if let Action::Lookup(table) = action {
         number_range(*table);
     }
 }
 
-/// Each value of a rule but its id is in the range of its column, if its action may be stored.
+/// Each value of a rule but its id is in the range of its column, if it suppresses nothing.
 pub(crate) fn rule_range(rule: &Rule)
-    ensures { 1 ≤ rule.now.id → IsStorableAction rule.now.action → IsRule rule.now.id rule.now }
+    ensures { 1 ≤ rule.now.id → rule.now.suppress ≡ None → IsRule rule.now.id rule.now }
 {
     number_range(rule.priority);
     let _prefixes = (rule.from.bits(), rule.to.bits());

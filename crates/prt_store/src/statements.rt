@@ -1,13 +1,12 @@
 //! The statements that write, each with its parameters.
 
-ghost use Rattle.std.specs.Prelude.{◌≡◌, ◌≤◌, ◌<◌, ◌^◌, []};
+ghost use Rattle.std.specs.Prelude.{◌≡◌, ◌≤◌, ◌<◌, ◌^◌, [], None};
 ghost use Rattle.sqlite.specs.Held.{state};
 ghost use Rattle.prt_rows.specs.Kept.{count_values, id_values, key_values};
 ghost use Rattle.prt_rows.specs.RouteRow.{IsInRange, route_row};
 ghost use Rattle.prt_rows.specs.RuleRow.{IsRule, rule_row};
 ghost use Rattle.prt_rows.specs.Selecting.{IsSelector, selector_row};
 ghost use Rattle.prt_rows.specs.Statements.{delete_route, delete_rule, flush_routes, flush_rules, insert_rule, put_route, set_count};
-ghost use Rattle.prt_rule.specs.Storable.{IsStorableAction};
 ghost use Rattle.prt_store.specs.Written.{CommitsNothing, RunsInside};
 
 use crate::ranges::{route_range, rule_range};
@@ -79,7 +78,7 @@ pub(crate) fn insert_rule<S: Alter>(
     ensures same_reference { tx.new.conn.ghost_name ≡ tx.old.conn.ghost_name }
     ensures runs { RunsInside S.Store insert_rule (rule_row rule.now) tx.old.conn.now tx.new.conn.now result }
     ensures survives { CommitsNothing S.Store tx.old.conn.now tx.new.conn.now }
-    ensures typed { 1 ≤ rule.now.id → IsStorableAction rule.now.action → IsRule rule.now.id rule.now }
+    ensures typed { 1 ≤ rule.now.id → rule.now.suppress ≡ None → IsRule rule.now.id rule.now }
 {
     rule_range(rule);
     tx.execute(

@@ -1,4 +1,4 @@
-//! Rows of the three tables: what is written is read back, and what no table holds is refused.
+//! Rows of the three tables: what is written is read back, and values out of range are refused.
 
 use prt_command::{Action, Addr, Dev, Kind, Mark, Prefix, Range, Refusal, Route, Rule, Selector};
 use prt_rows::{
@@ -72,6 +72,7 @@ fn reads_back_what_it_writes(rt: HostRuntime) -> Result<(), Fail> {
             mask: 0xffff_ffff,
         }),
         action: Action::Lookup(51820),
+        suppress: None,
     };
     let alloc = rt.alloc();
     let route_row = kept(alloc, -7, &route_values(&route))?;
@@ -85,19 +86,18 @@ fn reads_back_what_it_writes(rt: HostRuntime) -> Result<(), Fail> {
 }
 
 #[test]
-fn refuses_routes_that_no_table_holds(rt: HostRuntime) -> Result<(), Fail> {
+fn refuses_routes_out_of_range(rt: HostRuntime) -> Result<(), Fail> {
     let alloc = rt.alloc();
     for (at, value) in [
-        (0, ValueRef::Int(0)),
+        (0, ValueRef::Int(-1)),
         (1, ValueRef::Int(0x0a00_0001)),
         (2, ValueRef::Int(33)),
         (3, ValueRef::Int(4_294_967_296)),
-        (4, ValueRef::Int(1)),
         (4, ValueRef::Int(2)),
         (6, ValueRef::Text(b"a/b")),
         (7, ValueRef::Int(-2)),
         (8, ValueRef::Text(b"3")),
-        (9, ValueRef::Int(253)),
+        (9, ValueRef::Int(256)),
     ] {
         let mut values = BLACKHOLE;
         values[at] = value;
@@ -136,7 +136,6 @@ fn refuses_rules_out_of_range(rt: HostRuntime) -> Result<(), Fail> {
         (7, ValueRef::Text(b"sixteen-bytes-xy")),
         (8, ValueRef::Int(-1)),
         (10, ValueRef::Int(6)),
-        (11, ValueRef::Int(0)),
     ] {
         let mut values = LOOKUP;
         values[at] = value;

@@ -1,6 +1,6 @@
 ghost use Rattle.std.specs.Prelude.{◌≡◌, option_map};
 ghost use Rattle.prt_rule.specs.Sound.{IsInOrder};
-ghost use Rattle.prt_version.specs.Select.{decision, table_lookup, verdict_of};
+ghost use Rattle.prt_version.specs.Select.{decision, suppresses, table_lookup, verdict_of};
 ghost use Rattle.prt_version.specs.Steps.{first_verdict};
 
 use crate::tables::Tables;
@@ -22,6 +22,17 @@ fn table_lookup<'a>(routes: &'a Tables, table: u32, packet: &Packet) -> Option<&
     }
 }
 
+/// Tells whether a rule says nothing where it finds this route: it suppresses unicast routes whose prefixes have this
+/// length or less (`ip-rule(8)`, `suppress_prefixlength`).
+fn suppresses(suppress: Option<u8>, route: &Route) -> bool
+    ensures { result ≡ suppresses suppress route.now }
+{
+    match suppress {
+        Some(len) => route.kind == Kind::Unicast && route.prefix.len() <= len,
+        None => false,
+    }
+}
+
 /// What one rule says of a packet, if it decides (`ip-rule(8)`).
 fn decision(rule: &Rule, routes: &Tables, packet: &Packet) -> Option<Verdict>
     ensures { result ≡ decision rule.now routes.now packet.now }
@@ -33,6 +44,9 @@ fn decision(rule: &Rule, routes: &Tables, packet: &Packet) -> Option<Verdict>
         return Some(Verdict::RuleSays(rule.priority, rule.action));
     };
     let route = table_lookup(routes, table, packet)?;
+    if suppresses(rule.suppress, route) {
+        return None;
+    }
     Some(Verdict::Route(rule.priority, *route))
 }
 

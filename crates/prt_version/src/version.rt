@@ -57,6 +57,7 @@ pub fn table_rule(id: u64, priority: u32, table: u32) -> Rule
         iif: None,
         mark: None,
         action: Action::Lookup(table),
+        suppress: None,
     }
 }
 
@@ -185,6 +186,7 @@ impl Version {
             iif: new.iif,
             mark: new.mark,
             action: new.action,
+            suppress: new.suppress,
         }
     }
 

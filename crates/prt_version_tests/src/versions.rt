@@ -1,5 +1,5 @@
 use crate::script::{answer, next_version, version_after};
-use prt_command::Refusal;
+use prt_command::{Action, Command, NewRule, Prefix, Refusal};
 use prt_listing::refusal_text;
 use prt_version::Version;
 use std::alloc::Global;
@@ -71,6 +71,72 @@ blackhole 10.0.0.0/8
 #[test]
 fn answers_queries(rt: HostRuntime) -> Result<(), Fail> {
     assert_eq!(rt; misanswered_query(rt.alloc())?, None);
+    Ok(())
+}
+
+/// Adds a rule of priority 5 that looks up main and suppresses prefixes of up to 8 bits.
+fn suppressing() -> Command {
+    Command::RuleAdd(NewRule {
+        priority: Some(5),
+        inverted: false,
+        from: Prefix::masked(0, 0),
+        to: Prefix::masked(0, 0),
+        iif: None,
+        mark: None,
+        action: Action::Lookup(254),
+        suppress: Some(8),
+    })
+}
+
+const LENGTHS: &str = "route add 10/8 dev a1
+route add blackhole 11/8
+route add 10.1/16 dev a2";
+
+/// A version with that rule and these routes.
+fn suppressing_version(alloc: Global) -> Result<Version, Refusal> {
+    let version = version_after(alloc, LENGTHS)?;
+    let change = version.check(&suppressing())?;
+    version.next(&change)
+}
+
+/// The first of these queries that is not answered by this text where short prefixes are suppressed.
+fn misanswered_suppression(alloc: Global) -> Result<Option<&'static str>, Fail> {
+    let version = suppressing_version(alloc)?;
+    for (query, text) in [
+        (
+            "route get 10.2",
+            "answer 4 rule 32766 table main 10.0.0.0/8 dev a1 scope link",
+        ),
+        (
+            "route get 10.1",
+            "answer 4 rule 5 table main 10.1.0.0/16 dev a2 scope link",
+        ),
+        (
+            "route get 11",
+            "answer 4 rule 5 table main blackhole 11.0.0.0/8",
+        ),
+        (
+            "rule show",
+            "0:\tfrom all lookup local
+5:\tfrom all lookup main suppress_prefixlength 8
+32766:\tfrom all lookup main
+32767:\tfrom all lookup default
+",
+        ),
+    ] {
+        if answer(alloc, &version, query)?.as_slice() != text.as_bytes() {
+            return Ok(Some(query));
+        }
+    }
+    Ok(None)
+}
+
+#[test]
+fn suppresses_short_prefixes(rt: HostRuntime) -> Result<(), Fail> {
+    assert_eq!(rt; misanswered_suppression(rt.alloc())?, None);
+    let version = suppressing_version(rt.alloc())?;
+    assert!(rt; version.check(&suppressing()).err() == Some(Refusal::Exists));
+    assert!(rt; next_version(&version, "rule add priority 5").is_ok());
     Ok(())
 }
 

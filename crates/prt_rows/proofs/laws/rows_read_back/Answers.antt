@@ -1,5 +1,5 @@
 use Rattle.prt_rows.specs.MetaRow.{IsCount, meta_rows}
-use Rattle.prt_rows.specs.RouteRow.{IsRoute, route_row}
+use Rattle.prt_rows.specs.RouteRow.{IsInRange, route_row}
 use Rattle.prt_rows.specs.RuleRow.{IsRule, rule_row}
 use Rattle.prt_rows.proofs.Decodes.{reads_back}
 use Rattle.prt_rows.proofs.RouteRows.{same_route}
@@ -8,7 +8,7 @@ use Rattle.prt_rows.proofs.laws.rows_read_back.Goals as goal
 
 pub returns : goal.returns
 returns c = record {
-  route = reads_back route_row IsRoute (λ route other left right is. same_route route other left.in_range right.in_range is);
+  route = reads_back route_row IsInRange same_route;
   rule = λ last. reads_back rule_row (IsRule last) (same_rule last);
   count = reads_back meta_rows IsCount (λ count other left right is. cc);
 }

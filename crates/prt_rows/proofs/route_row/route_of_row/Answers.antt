@@ -2,7 +2,7 @@ use Rattle.std.proofs.Common.{◌≡◌, length, ap, sym, ◌∙◌}
 use Rattle.sqlite_value.specs.Order.{Row, column}
 use Rattle.prt_rows.specs.RouteRow.{route_columns}
 use Rattle.prt_rows.proofs.Columns.{row_after_first}
-use Rattle.prt_rows.proofs.route_row.route_of_cells.Goals as goal
+use Rattle.prt_rows.proofs.route_row.route_of_row.Goals as goal
 
 pub returns : goal.returns
 returns c =
