@@ -5,10 +5,10 @@ use Rattle.prt_rows.proofs.Counting.{sets_count}
 use Rattle.prt_rows.proofs.Insertion.{adds_rule}
 use Rattle.prt_rows.proofs.Putting.{puts_route}
 use Rattle.prt_rows.proofs.Statements.{deletes_route, deletes_routes, deletes_rule, flushes_rules}
-use Rattle.prt_rows.specs.Changing.{AddsRule, DeletesRows, PutsRoute, SetsCount}
+use Rattle.prt_rows.specs.Changing.{AddsRule, DeletesRows, DeletesTheRules, PutsRoute, SetsCount}
 use Rattle.prt_rows.specs.Meanings.{has_id, has_key, has_priority, is_flushed}
 use Rattle.prt_rows.specs.Statements.{delete_route, delete_rule, flush_routes, flush_rules, insert_rule, put_route, set_count}
-use Rattle.prt_rows.specs.Tables.{route_table, rule_table}
+use Rattle.prt_rows.specs.Tables.{route_table}
 
 module _ {S : Type 0} (g : Ghosts S) where
   pub route_deleted : DeletesRows g delete_route route_table has_key
@@ -17,11 +17,11 @@ module _ {S : Type 0} (g : Ghosts S) where
   pub routes_deleted : DeletesRows g flush_routes route_table is_flushed
   routes_deleted old new params ran keyed = let t = ran.0 in deletes_routes t.tables t.indexes t.views t.others (state g old) (state g new) t.is params ran.1.0 keyed ran.1.1
 
-  pub rule_deleted : DeletesRows g delete_rule rule_table has_id
-  rule_deleted old new params ran keyed = let t = ran.0 in deletes_rule t.tables t.indexes t.views t.others (state g old) (state g new) t.is params ran.1.0 keyed ran.1.1
+  pub rule_deleted : DeletesTheRules g delete_rule has_id
+  rule_deleted old new params ran keyed lengths = let t = ran.0 in deletes_rule t.tables t.indexes t.views t.others (state g old) (state g new) t.is params ran.1.0 keyed lengths ran.1.1
 
-  pub rules_deleted : DeletesRows g flush_rules rule_table has_priority
-  rules_deleted old new params ran keyed = let t = ran.0 in flushes_rules t.tables t.indexes t.views t.others (state g old) (state g new) t.is params ran.1.0 keyed ran.1.1
+  pub rules_deleted : DeletesTheRules g flush_rules has_priority
+  rules_deleted old new params ran keyed lengths = let t = ran.0 in flushes_rules t.tables t.indexes t.views t.others (state g old) (state g new) t.is params ran.1.0 keyed lengths ran.1.1
 
   pub route_put : PutsRoute g put_route
   route_put old new route ran routes keyed = let t = ran.0 in puts_route t.tables t.indexes t.views t.others t.free (state g old) (state g new) route ran.1.0 t.is routes keyed ran.1.1

@@ -29,3 +29,7 @@ pub mod Formats
 pub mod Opening
 pub mod Quiet
 mod Changing
+pub mod Cascade
+pub mod Children
+pub mod RuleDeletions
+pub mod Migrating

@@ -10,13 +10,15 @@ use Rattle.sqlite.specs.Term.{Term, holds}
 use Rattle.sqlite.specs.Tree.{rowid}
 use Rattle.sqlite.specs.View.{is_int}
 use Rattle.sqlite_rules.specs.Lists.{Has}
-use Rattle.sqlite_value.specs.Order.{Row, value_cmp}
+use Rattle.sqlite_value.specs.Order.{Row, column, value_cmp}
+use Rattle.sqlite_value.specs.declared.value.Value.TheVariants.{Null}
 use Rattle.prt_route.specs.Route.{key_of}
 use Rattle.prt_route.specs.declared.route.Route.{Route}
+use Rattle.prt_rows.specs.Cell.{number}
 use Rattle.prt_rows.specs.Kept.{key_values}
-use Rattle.prt_rows.specs.Meanings.{has_key}
+use Rattle.prt_rows.specs.Meanings.{has_key, is_of_format_1}
 use Rattle.prt_rows.specs.RouteRow.{route_row}
-use Rattle.prt_rows.specs.Tables.{our_tables, route_table}
+use Rattle.prt_rows.specs.Tables.{meta_table, our_tables, route_table, rule_table, suppress_table}
 
 abbrev pub has_same_rowid : Row → Row → Bool
 has_same_rowid a b = is_eq (value_cmp (rowid a) (rowid b))
@@ -42,6 +44,25 @@ pub record Deletes (table : Table) (tests : List Term) (params : Row) (old new :
   pub complete : (row : Row) → Has (old.trees table.tree) row → passes tests params row ≡ false → Has (new.trees table.tree) row
   pub keyed : IsKeyed (new.trees table.tree)
 
+-- all but these two tables stay as they were
+pub record ChangesTwo (one two : Table) (old new : Database) : Type 0 where
+  pub schema : new.schema ≡ old.schema
+  pub others : (other : Table) → Has old.schema.tables other → other.tree ≢ one.tree → other.tree ≢ two.tree → new.trees other.tree ≡ old.trees other.tree
+
+-- no rule that passes has this length
+abbrev pub IsOfNone : List Term → Row → List Row → Row → Type 0
+IsOfNone tests params rules length = (rule : Row) → Has rules rule → has_same_rowid length rule ≡ true → passes tests params rule ≡ false
+
+-- exactly the rules that pass are gone, and exactly their lengths
+pub record DeletesRules (tests : List Term) (params : Row) (old new : Database) : Type 0 where
+  pub only : ChangesTwo rule_table suppress_table old new
+  pub sound : (row : Row) → Has (new.trees rule_table.tree) row → Has (old.trees rule_table.tree) row × (passes tests params row ≡ false)
+  pub complete : (row : Row) → Has (old.trees rule_table.tree) row → passes tests params row ≡ false → Has (new.trees rule_table.tree) row
+  pub keyed : IsKeyed (new.trees rule_table.tree)
+  pub lengths_sound : (row : Row) → Has (new.trees suppress_table.tree) row → Has (old.trees suppress_table.tree) row × IsOfNone tests params (old.trees rule_table.tree) row
+  pub lengths_complete : (row : Row) → Has (old.trees suppress_table.tree) row → IsOfNone tests params (old.trees rule_table.tree) row → Has (new.trees suppress_table.tree) row
+  pub lengths_keyed : IsKeyed (new.trees suppress_table.tree)
+
 -- this row is there beside the others
 pub record Adds (table : Table) (row : Row) (old new : Database) : Type 0 where
   pub only : ChangesOnly table old new
@@ -55,6 +76,22 @@ pub record Sets (table : Table) (row : Row) (old new : Database) : Type 0 where
   pub only : ChangesOnly table old new
   pub alone : new.trees table.tree ≡ row ∷ []
 
+-- a row of `meta` says format 1
+abbrev pub says_format_1 : Row → Bool
+says_format_1 row = passes is_of_format_1 [] row
+
+-- the same row with format 2
+abbrev pub with_format_2 : Row → Row
+with_format_2 row = rowid row ∷ Null ∷ number 2 ∷ column row 3 ∷ []
+
+-- each row of `meta` that said format 1 says 2, and nothing else has changed
+pub record Migrates (old new : Database) : Type 0 where
+  pub only : ChangesOnly meta_table old new
+  pub sound : (row : Row) → Has (new.trees meta_table.tree) row → (Has (old.trees meta_table.tree) row × (says_format_1 row ≡ false)) ⊎ ((was : Row) × Has (old.trees meta_table.tree) was × (says_format_1 was ≡ true) × (row ≡ with_format_2 was))
+  pub kept : (row : Row) → Has (old.trees meta_table.tree) row → says_format_1 row ≡ false → Has (new.trees meta_table.tree) row
+  pub changed : (row : Row) → Has (old.trees meta_table.tree) row → says_format_1 row ≡ true → Has (new.trees meta_table.tree) (with_format_2 row)
+  pub keyed : IsKeyed (new.trees meta_table.tree)
+
 -- a table was made: the schema is this one, its tree is empty, and each table that was there keeps its rows
 pub record Makes (after : Schema) (tree : ℕ) (old new : Database) : Type 0 where
   pub sound : IsDatabase new
@@ -67,7 +104,7 @@ pub record KeepsTables (old new : Database) : Type 0 where
   pub kept : (table : Table) → Has old.schema.tables table → Has new.schema.tables table × (new.trees table.tree ≡ old.trees table.tree)
   pub made : (table : Table) → Has new.schema.tables table → Has old.schema.tables table ⊎ (Has our_tables table × (new.trees table.tree ≡ []))
 
--- the three tables, as far as they are there, have no rows
+-- the four tables, as far as they are there, have no rows
 abbrev pub AreEmpty : Database → Type 0
 AreEmpty db = (table : Table) → Has our_tables table → Has db.schema.tables table → db.trees table.tree ≡ []
 

@@ -10,6 +10,7 @@ use Rattle.prt_rows.specs.Cell.{number}
 use Rattle.prt_rows.specs.MetaRow.{meta_row}
 use Rattle.prt_rows.specs.RouteRow.{route_row}
 use Rattle.prt_rows.specs.RuleRow.{rule_row}
+use Rattle.prt_rows.specs.SuppressRow.{Length, suppress_row}
 
 -- a row whose first value is its rowid and its id, as it is kept
 abbrev pub with_key_column : Row → Row
@@ -33,6 +34,10 @@ id_values id = number id ∷ []
 -- the rowid of the row of `meta` is its id
 abbrev pub kept_count : ℕ → Row
 kept_count count = number 1 ∷ Null ∷ drop 1 (meta_row count)
+
+-- the rowid of a length is the id of its rule
+abbrev pub kept_length : Length → Row
+kept_length length = number length.rule ∷ Null ∷ drop 1 (suppress_row length)
 
 abbrev pub count_values : ℕ → Row
 count_values count = number count ∷ []

@@ -8,7 +8,7 @@ use Rattle.prt_rows.specs.Columns.{Column, row_of}
 abbrev pub meta_columns : List (Column ℕ)
 meta_columns =
     (codes "id", Integer, λ count. number 1)
-    ∷ (codes "format", Integer, λ count. number 1)
+    ∷ (codes "format", Integer, λ count. number 2)
     ∷ (codes "count", Integer, λ count. number count)
     ∷ []
 

@@ -9,7 +9,7 @@ ghost use Rattle.prt_route.specs.declared.choice.Selector.{Selector};
 ghost use Rattle.prt_route.specs.declared.route.Route.{Route};
 ghost use Rattle.prt_route.specs.declared.route.RouteKey.{RouteKey};
 ghost use Rattle.prt_rule.specs.declared.rule.Rule.{Rule};
-ghost use Rattle.prt_rows.specs.Changing.{AddsRule, DeletesRows, PutsRoute, SetsCount};
+ghost use Rattle.prt_rows.specs.Changing.{AddsRule, DeletesRows, DeletesTheRules, PutsRoute, SetsCount};
 ghost use Rattle.prt_rows.specs.Decodes.{ReadsBack};
 ghost use Rattle.prt_rows.specs.Effects.{passes};
 ghost use Rattle.prt_rows.specs.Kept.{id_values, kept_route, kept_rule, key_values};
@@ -19,7 +19,7 @@ ghost use Rattle.prt_rows.specs.RouteRow.{IsInRange, route_row};
 ghost use Rattle.prt_rows.specs.RuleRow.{IsRule, rule_row};
 ghost use Rattle.prt_rows.specs.Selecting.{IsSelector, selector_row};
 ghost use Rattle.prt_rows.specs.Statements.{delete_route, delete_rule, flush_routes, flush_rules, insert_rule, put_route, set_count};
-ghost use Rattle.prt_rows.specs.Tables.{route_table, rule_table};
+ghost use Rattle.prt_rows.specs.Tables.{route_table};
 
 use sqlite::Alter;
 
@@ -47,8 +47,8 @@ pub fn rows_named()
 pub fn statements_write<S: Alter>()
     ensures delete_route { DeletesRows S.Store delete_route route_table has_key }
     ensures flush_routes { DeletesRows S.Store flush_routes route_table is_flushed }
-    ensures delete_rule { DeletesRows S.Store delete_rule rule_table has_id }
-    ensures flush_rules { DeletesRows S.Store flush_rules rule_table has_priority }
+    ensures delete_rule { DeletesTheRules S.Store delete_rule has_id }
+    ensures flush_rules { DeletesTheRules S.Store flush_rules has_priority }
     ensures put_route { PutsRoute S.Store put_route }
     ensures insert_rule { AddsRule S.Store insert_rule }
     ensures set_count { SetsCount S.Store set_count }

@@ -14,7 +14,7 @@ mod rule_row;
 mod selector;
 mod value;
 
-pub use format::{begins_format_1, has_format_1, has_table, is_format_1, suits_format_1};
+pub use format::{begins_format_2, has_format_2, has_table, is_format_2, suits_format_2};
 pub use laws::{rows_named, rows_read_back, rows_selected, statements_write};
 pub use meta_row::{count_of_rows, meta_values};
 pub use route_row::{route_of_row, route_values};

@@ -14,7 +14,7 @@ use sqlite::types::ValueRef;
 const ID: u32 = 1;
 
 /// The format of the file.
-const FORMAT: u32 = 1;
+const FORMAT: u32 = 2;
 
 /// The most commands that a database accepts.
 const LARGEST_COUNT: u64 = 1_000_000_000_000_000;
@@ -38,7 +38,7 @@ fn count_of_row(row: &Row) -> Option<u64>
 
 /// The count of accepted commands, 0 to 10^15, that the rows of the table `meta` spell, if they spell one.
 ///
-/// There is one row, with id 1 and format 1 (`docs/STORE.md`).
+/// There is one row, with id 1 and format 2 (`docs/STORE.md`).
 pub fn count_of_rows(rows: &[Row]) -> Option<u64>
     ensures { Decodes meta_rows IsCount rows.now result }
 {
