@@ -50,15 +50,16 @@ pub struct Rule {
 }
 
 impl Rule {
-    /// Tells whether a database may hold the rule: a table that it looks up is one from 1 on, and it suppresses no
-    /// prefixes (`ip-rule(8)`).
+    /// Tells whether a database may hold the rule (`ip-rule(8)`).
+    ///
+    /// A table that it looks up is one from 1 on. Only a rule that looks up a table suppresses prefixes, of up to 32 bits.
     pub fn is_storable(&self) -> bool
         ensures { result ≡ is_storable_rule self.now.action self.now.suppress }
     {
-        let is_storable_action = match self.action {
-            Action::Lookup(table) => table > 0,
-            Action::Blackhole | Action::Unreachable | Action::Prohibit => true,
-        };
-        is_storable_action && self.suppress.is_none()
+        match (self.action, self.suppress) {
+            (Action::Lookup(table), Some(len)) => table > 0 && len <= 32,
+            (Action::Lookup(table), None) => table > 0,
+            (_, suppress) => suppress.is_none(),
+        }
     }
 }
