@@ -3,15 +3,15 @@ ghost use Rattle.std.specs.Prelude.{◌≡◌};
 ghost use Rattle.prt_publisher.specs.Standing.{IsQuiet};
 
 use crate::caller::adopted;
-use crossbeam_channel::{Receiver, Sender, bounded};
 use prt_grace::Domain;
 use prt_publisher::Publisher;
-use prt_serve::{Gate, Job, work};
+use prt_serve::{Accepting, Gate, Limits, serve_all};
 use prt_service::{Naming, Service};
 use sqlite::{Alter, Connection};
-use std::alloc::{AllocError, Global};
-use std::io::{self, Write};
+use std::alloc::Global;
+use std::io::{self, ErrorKind, Read, Write};
 use std::marker::Brand;
+use std::net::{Ipv4Addr, OpenListener, OpenStream, SocketAddr};
 use std::sync::atomic::{AtomicU64, Ordering};
 use std::sync::{Arc, Mutex, Wait};
 use std::test::Fail;
@@ -70,13 +70,22 @@ impl Gate for Meeting {
 /// A text that a worker writes and the test reads.
 type Text = Arc<Mutex<Vec<u8>>, Global>;
 
+/// An end of a connection whose client asks once.
 #[derive(Drop)]
-struct Slate<H: Wait + Drop> {
+struct Asking<H: Wait + Copy + Drop> {
     rt: H,
+    /// What is still to be read.
+    question: &'static [u8],
     text: Text,
 }
 
-impl<H: Wait + Drop> Write for Slate<H> {
+impl<H: Wait + Copy + Drop> Read for Asking<H> {
+    fn read(&mut self, bytes: &mut [u8]) -> io::Result<usize> {
+        self.question.read(bytes)
+    }
+}
+
+impl<H: Wait + Copy + Drop> Write for Asking<H> {
     fn write(&mut self, bytes: &[u8]) -> io::Result<usize> {
         self.text.lock(&self.rt).extend_from_slice(bytes)?;
         Ok(bytes.len())
@@ -87,81 +96,44 @@ impl<H: Wait + Drop> Write for Slate<H> {
     }
 }
 
-/// A session that asks once.
-type Asking<H> = Job<&'static [u8], Slate<H>>;
-
-/// A worker whose thread is still to be started.
-#[derive(Drop)]
-struct Worker<'a, 'b, 'c, H: Wait + Drop, S: Alter + Drop, B: Wait + Drop, J: Naming> {
-    rt: &'a H,
-    alloc: Global,
-    service: &'b Service<S, B, J>,
-    gate: &'c Meeting,
-    jobs: Receiver<Asking<H>>,
-}
-
-impl<'a, 'b, 'c, H: Wait + Drop, S: Alter + Drop, B: Wait + Drop, J: Naming> Worker<
-    'a,
-    'b,
-    'c,
-    H,
-    S,
-    B,
-    J,
-> {
-    fn run(self) -> bool {
-        work(self.rt, self.alloc, self.service, &self.jobs, self.gate).is_ok()
+impl<H: Wait + Copy + Drop> OpenStream for Asking<H> {
+    fn try_clone(&self) -> io::Result<Asking<H>> {
+        Ok(Asking {
+            rt: self.rt,
+            question: b"".as_slice(),
+            text: Arc::try_clone(&self.text)?,
+        })
     }
 }
 
-/// Hands two sessions to two workers, and waits for both.
-fn serve_both<
-    H: Threads + Wait + Copy + Drop + Send + Sync + 'static,
-    S: Alter + Drop + Send,
-    B: Wait + Drop + Send,
-    J: Naming + Send,
->(
-    rt: &H,
-    alloc: Global,
-    service: &Service<S, B, J>,
-    gate: &Meeting,
-    ends: (Sender<Asking<H>>, Receiver<Asking<H>>),
+/// A listener that has two connections.
+#[derive(Drop)]
+struct Two<H: Wait + Copy + Drop> {
+    rt: H,
+    accepted: AtomicU64,
     first: Text,
     second: Text,
-) {
-    let (to, from) = ends;
-    thread::scope(thread::scope_env(), rt, |scope| {
-        for _ in 0..2 {
-            let Ok(jobs) = from.clone() else {
-                break;
-            };
-            let worker = Worker {
-                rt,
-                alloc,
-                service,
-                gate,
-                jobs,
-            };
-            if scope.spawn(move || worker.run()).is_err() {
-                break;
-            }
-        }
-        for (session, text) in [(1, first), (2, second)] {
-            let job = Job {
-                session,
-                reader: b"route get 10.0.0.1\n".as_slice(),
-                writer: Slate { rt: *rt, text },
-            };
-            if to.send(rt, job).is_err() {
-                break;
-            }
-        }
-        drop(from);
-        drop(to);
-    });
 }
 
-/// Serves the two sessions over a service of the publisher.
+impl<H: Wait + Copy + Drop> OpenListener for Two<H> {
+    type Stream = Asking<H>;
+
+    fn accept(&self) -> io::Result<(Asking<H>, SocketAddr)> {
+        let text = match self.accepted.fetch_add(1, Ordering::SeqCst) {
+            0 => Arc::try_clone(&self.first)?,
+            1 => Arc::try_clone(&self.second)?,
+            _ => return Err(io::Error::from(ErrorKind::Other)),
+        };
+        let stream = Asking {
+            rt: self.rt,
+            question: b"route get 10.0.0.1\n".as_slice(),
+            text,
+        };
+        Ok((stream, SocketAddr::from((Ipv4Addr::LOCALHOST, 0))))
+    }
+}
+
+/// Serves both over a service of the publisher, by two workers. Tells whether accepting ended with the second.
 fn meet<
     H: Threads + Wait + Copy + Drop + Send + Sync + 'static,
     S: Alter + Drop + Send,
@@ -173,16 +145,19 @@ fn meet<
     publisher: Publisher<S, B>,
     domain: Domain,
     gate: &Meeting,
-    first: Text,
-    second: Text,
-) -> Result<(), AllocError>
+    listener: &Two<H>,
+) -> bool
     requires quiet { IsQuiet publisher.phase }
     requires of { (publisher.line.book ≡ J.book) × (publisher.line.base ≡ J.base) }
 {
     let service: Service<S, B, J> = Service::new(publisher, domain);
-    let ends = bounded(alloc, 64)?;
-    serve_both(rt, alloc, &service, gate, ends, first, second);
-    Ok(())
+    let limits = Limits {
+        workers: 2,
+        sessions: 2,
+        idle: None,
+    };
+    let end = serve_all(rt, alloc, &service, gate, listener, limits);
+    matches!(end.accepting, Accepting::Ended) && end.refused.is_none()
 }
 
 #[test]
@@ -191,12 +166,21 @@ fn overlapping_sessions(rt: HostRuntime) -> Result<(), Fail> {
     let connection = Connection::open_in_memory(alloc)?;
     let (publisher, domain) = adopted(rt, alloc, connection)?;
     let gate = Meeting::new();
-    let first = Arc::new(alloc, Mutex::new(Vec::new(alloc)))?;
-    let second = Arc::new(alloc, Mutex::new(Vec::new(alloc)))?;
-    let texts = (Arc::try_clone(&first)?, Arc::try_clone(&second)?);
-    meet::<_, _, _, Brand>(&rt, alloc, publisher, domain, &gate, texts.0, texts.1)?;
-    assert_eq!(rt; first.lock(&rt).as_slice(), b"answer 0 none\n".as_slice());
-    assert_eq!(rt; second.lock(&rt).as_slice(), b"answer 0 none\n".as_slice());
+    let listener = Two {
+        rt,
+        accepted: AtomicU64::new(0),
+        first: Arc::new(alloc, Mutex::new(Vec::new(alloc)))?,
+        second: Arc::new(alloc, Mutex::new(Vec::new(alloc)))?,
+    };
+    assert!(rt; meet::<_, _, _, Brand>(&rt, alloc, publisher, domain, &gate, &listener));
+    assert_eq!(rt;
+        listener.first.lock(&rt).as_slice(),
+        b"answer 0 none\n".as_slice()
+    );
+    assert_eq!(rt;
+        listener.second.lock(&rt).as_slice(),
+        b"answer 0 none\n".as_slice()
+    );
     assert_eq!(rt; gate.first_came.load(Ordering::SeqCst), 1);
     assert_eq!(rt; gate.second_came.load(Ordering::SeqCst), 1);
     assert_eq!(rt; gate.gave_up.load(Ordering::SeqCst), 0);
