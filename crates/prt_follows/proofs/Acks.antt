@@ -2,25 +2,24 @@
 use Rattle.std.proofs.Common.{◌≡◌, ℕ, Bool, true, false, List, [], ◌∷◌, ◌++◌, Option, Some, None, refl, sym, ap, ◌∙◌, subst, cond}
 use Rattle.std.specs.List.{AllByRecursion as Each}
 use Rattle.std.proofs.lemmas.List.{append-nil}
-use Rattle.prt_addr.specs.declared.refusal.Refusal.{Refusal}
 use Rattle.prt_addr.specs.declared.refusal.StoreCall.{StoreCall}
 use Rattle.prt_addr.specs.declared.refusal.StoreCall.TheVariants as calls
 use Rattle.prt_command.specs.declared.request.Command.{Command}
 use Rattle.prt_front.specs.Line.{Line, line_state}
-use Rattle.prt_version.specs.Change.{refusal}
 use Rattle.prt_version.specs.State.{State}
 use Rattle.prt_world.specs.World as world
-use Rattle.prt_world.specs.World.{LookerState, Step, World, has_room, looker_state, offline, online, outcomes_from, published_version, run_from, step}
+use Rattle.prt_world.specs.World.{LookerState, World, looker_state, offline, online, run_from, step}
 use Rattle.prt_world.specs.declared.event.Event.{Event}
 use Rattle.prt_world.specs.declared.event.Event.TheVariants as events
 use Rattle.prt_world.specs.declared.event.Fate.{Fate}
 use Rattle.prt_world.specs.declared.outcome.Outcome.TheVariants as outcomes
 use Rattle.prt_world.specs.declared.phase.Phase.{Phase as Moment}
 use Rattle.prt_world.specs.declared.phase.Phase.TheVariants as moments
-use Rattle.prt_follows.specs.Events.{fail_events, is_lookers, note_events, own, stop_events}
+use Rattle.prt_follows.specs.Events.{fail_events, is_lookers, own, stop_events}
 use Rattle.prt_follows.specs.Spots.{IsAt}
 use Rattle.prt_follows.proofs.Between.{stays_there}
 use Rattle.prt_follows.proofs.Exits.{spot}
+use Rattle.prt_follows.proofs.Keeping.{Keeps, is_record, most_keep, unless_keeps}
 use Rattle.prt_follows.proofs.Steps.{number_of}
 use Rattle.prt_follows.proofs.Woven.{heads, own_by, tails}
 
@@ -28,88 +27,15 @@ abbrev pub is_ack : Event → Bool
 is_ack events.Ack = true
 is_ack event = false
 
-abbrev Keeps : World → Step → Type 0
-Keeps w s = s.world.acks ≡ w.acks
-
-prepare_keeps : (w : World) (command : Command) (why : Option Refusal) (room : Bool) → Keeps w (world.prepare w command why room)
-prepare_keeps w command (Some why) room = refl
-prepare_keeps w command None true = refl
-prepare_keeps w command None false = refl
-
-submit_keeps : (w : World) (command : Command) (moment : Moment) → Keeps w (world.submit w command moment)
-submit_keeps w command moments.Ready = prepare_keeps w command (refusal (published_version w) command) (has_room w)
-submit_keeps w command moment = refl
-
-call_keeps : (w : World) (moment : Moment) → Keeps w (world.call w moment)
-call_keeps w (moments.Prepared command calls.Begin) = refl
-call_keeps w (moments.Prepared command calls.Write) = refl
-call_keeps w (moments.Prepared command calls.Count) = refl
-call_keeps w (moments.Prepared command calls.Commit) = refl
-call_keeps w moment = refl
-
-fail_keeps : (w : World) (fate : Fate) (moment : Moment) → Keeps w (world.fail w fate moment)
-fail_keeps w fate (moments.Prepared command next) = refl
-fail_keeps w fate moment = refl
-
-publish_keeps : (w : World) (moment : Moment) → Keeps w (world.publish w moment)
-publish_keeps w (moments.Committed command) = refl
-publish_keeps w moment = refl
-
-publish_fail_keeps : (w : World) (moment : Moment) → Keeps w (world.fail_publication w moment)
-publish_fail_keeps w (moments.Committed command) = refl
-publish_fail_keeps w moment = refl
-
-note_keeps : (w : World) (moment : Moment) → Keeps w (world.note w moment)
-note_keeps w (moments.Published command) = refl
-note_keeps w moment = refl
-
-reopen_keeps : (w : World) (moment : Moment) → Keeps w (world.reopen w moment)
-reopen_keeps w moments.Closed = refl
-reopen_keeps w moments.Stopped = refl
-reopen_keeps w moment = refl
-
-online_keeps : (w : World) (at : ℕ) (state : LookerState) → Keeps w (world.go_online w at state)
-online_keeps w at offline = refl
-online_keeps w at (online announced held) = refl
-
-fetch_keeps : (w : World) (at : ℕ) (state : LookerState) → Keeps w (world.fetch w at state)
-fetch_keeps w at offline = refl
-fetch_keeps w at (online announced held) = refl
-
-announce_keeps : (w : World) (at : ℕ) (state : LookerState) → Keeps w (world.announce w at state)
-announce_keeps w at offline = refl
-announce_keeps w at (online announced None) = refl
-announce_keeps w at (online announced (Some held)) = refl
-
-offline_keeps : (w : World) (at : ℕ) (state : LookerState) → Keeps w (world.go_offline w at state)
-offline_keeps w at offline = refl
-offline_keeps w at (online announced held) = refl
-
-look_keeps : (w : World) (packet : _) (state : LookerState) → Keeps w (world.look w packet state)
+look_keeps : (w : World) (packet : _) (state : LookerState) → Keeps (λ v. v.acks) w (world.look w packet state)
 look_keeps w packet offline = refl
 look_keeps w packet (online announced None) = refl
 look_keeps w packet (online announced (Some held)) = refl
 
-unless : (w : World) (s : Step) (b : Bool) → Keeps w s → Keeps w (cond b (world.unmet w) s)
-unless w s true h = refl
-unless w s false h = h
-
-pub event_keeps : (w : World) (event : Event) → is_ack event ≡ false → Keeps w (step w event)
-event_keeps w (events.Submit command) is = submit_keeps w command w.phase
-event_keeps w events.Call is = call_keeps w w.phase
-event_keeps w (events.Fail fate) is = fail_keeps w fate w.phase
-event_keeps w events.Publish is = publish_keeps w w.phase
-event_keeps w events.PublishFail is = publish_fail_keeps w w.phase
-event_keeps w events.Note is = note_keeps w w.phase
+pub event_keeps : (w : World) (event : Event) → is_ack event ≡ false → Keeps (λ v. v.acks) w (step w event)
 event_keeps w events.Ack is = absurd cc
-event_keeps w (events.Online at) is = unless w (world.go_online w at (looker_state w at)) (world.is_stopped w.phase) (online_keeps w at (looker_state w at))
-event_keeps w (events.Fetch at) is = unless w (world.fetch w at (looker_state w at)) (world.is_stopped w.phase) (fetch_keeps w at (looker_state w at))
-event_keeps w (events.Announce at) is = unless w (world.announce w at (looker_state w at)) (world.is_stopped w.phase) (announce_keeps w at (looker_state w at))
-event_keeps w (events.Offline at) is = unless w (world.go_offline w at (looker_state w at)) (world.is_stopped w.phase) (offline_keeps w at (looker_state w at))
-event_keeps w (events.Look at packet) is = unless w (world.look w packet (looker_state w at)) (world.is_stopped w.phase) (look_keeps w packet (looker_state w at))
-event_keeps w events.Reclaim is = unless w (world.reclaim w) (world.is_stopped w.phase) refl
-event_keeps w (events.Stop fate) is = unless w (world.stop w fate) (world.is_stopped w.phase) refl
-event_keeps w events.Reopen is = reopen_keeps w w.phase
+event_keeps w (events.Look at packet) is = unless_keeps (λ v. v.acks) w (world.look w packet (looker_state w at)) (world.is_stopped w.phase) (look_keeps w packet (looker_state w at))
+event_keeps w event is = most_keep (λ v. v.acks) (λ w accepted disk pending moment published noted versions lookers. refl) w event refl
 
 pub lookers_none : (event : Event) → is_lookers event ≡ true → is_ack event ≡ false
 lookers_none events.Ack is = absurd cc
@@ -130,23 +56,6 @@ stopped_none calls.Begin fate = (refl, tt)
 stopped_none calls.Write fate = (refl, (refl, tt))
 stopped_none calls.Count fate = (refl, (refl, (refl, tt)))
 stopped_none calls.Commit fate = (refl, (refl, (refl, (refl, tt))))
-
-pub failed_own : (call : StoreCall) (fate : Fate) → own (fail_events call fate) ≡ fail_events call fate
-failed_own calls.Begin fate = refl
-failed_own calls.Write fate = refl
-failed_own calls.Count fate = refl
-failed_own calls.Commit fate = refl
-
-same_number : (a b n m : ℕ) → outcomes.Noted a ∷ outcomes.Acknowledged b ∷ [] ≡ outcomes.Noted n ∷ outcomes.Acknowledged m ∷ [] → b ≡ m
-same_number a b n m is = cc
-
-pub acknowledged : (w : World) (command : Command) (n : ℕ) → w.phase ≡ moments.Published command → outcomes_from w note_events ≡ outcomes.Noted n ∷ outcomes.Acknowledged n ∷ []
-    → (run_from w note_events).acks ≡ w.acks ++ record { number = n; command = command } ∷ []
-acknowledged w command n is =
-    let to : step w events.Note ≡ world.note w (moments.Published command) = ap (world.note w) is in
-    subst (λ (t : Step). t.outcome ∷ (step t.world events.Ack).outcome ∷ [] ≡ outcomes.Noted n ∷ outcomes.Acknowledged n ∷ [] → (step t.world events.Ack).world.acks ≡ w.acks ++ record { number = n; command = command } ∷ [])
-    (sym to)
-    (λ e. ap (λ (k : ℕ). w.acks ++ record { number = k; command = command } ∷ []) (same_number w.published w.published n n e))
 
 -- ---- whatever lookers do between
 

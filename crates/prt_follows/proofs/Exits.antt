@@ -15,7 +15,7 @@ use Rattle.prt_publisher.specs.declared.phase.Phase.{Phase}
 use Rattle.prt_publisher.specs.declared.phase.Phase.TheVariants.{Ready, Admitted, Prepared, Committed, Published, Closed}
 use Rattle.prt_version.specs.Change.{apply, refusal}
 use Rattle.prt_version.specs.State.{State}
-use Rattle.prt_world.specs.World.{LookerState, Step, World, acknowledge, has_room, is_stopped, note, outcomes_from, prepare, published_version, reclaim, run_from, step, submit, unmet}
+use Rattle.prt_world.specs.World.{LookerState, Step, World, acknowledge, has_room, is_stopped, published_version, reclaim, run_from, step, unmet}
 use Rattle.prt_world.specs.declared.event.Event.{Event}
 use Rattle.prt_world.specs.declared.event.Event.TheVariants as events
 use Rattle.prt_world.specs.declared.event.Fate.{Fate}
@@ -27,12 +27,13 @@ use Rattle.prt_world.specs.declared.phase.Phase.TheVariants as moments
 use Rattle.prt_follows.specs.Laws.{Declines, FailsBy}
 use Rattle.prt_follows.specs.Spots.{IsAt, Spot}
 use Rattle.prt_follows.specs.Events.{commit_events, commit_outcomes, fail_events, fail_outcomes, own, note_events, note_outcomes}
-use Rattle.prt_follows.specs.StandsFor.{HasDisk, Leads, SawRoom, StandFor, StandsFor, moment_of}
-use Rattle.prt_follows.specs.Registers.{Registers}
+use Rattle.prt_follows.specs.Publishers.{HasDisk, Leads, SawRoom, AreBothOf, IsPublisherOf, moment_of}
+use Rattle.prt_follows.specs.Registries.{IsRegistryOf, noted_at, registry_after}
 use Rattle.prt_grace.specs.Registry.{RegistryState, noted_by, reclaimed}
 use Rattle.prt_grace.specs.declared.limits.TheConstants.{MOST_RETIRED}
 use Rattle.prt_follows.proofs.Between.{room_published, stays_there}
-use Rattle.prt_follows.proofs.Registering.{registers_noted, registers_reclaimed, room_is}
+use Rattle.prt_follows.proofs.Keeping.{is_storing, storing_keeps}
+use Rattle.prt_follows.proofs.Registering.{registers_reclaimed, room_is}
 use Rattle.std.specs.Prelude.{nat_lt, length}
 use Rattle.std.proofs.lemmas.Bool.Decides.{nat_tests}
 use Rattle.prt_follows.proofs.Steps.{acknowledges, begins, busy, commits, counts, disk_before, keeps, loses, notes, publishes, publishes_not, refuses, shut, takes, writes}
@@ -106,44 +107,33 @@ is_less n m less = grind (arith, nat_tests)
 is_not_less : (n m : ℕ) → m ≤ n → nat_lt n m ≡ false
 is_not_less n m more = grind (arith, nat_tests)
 
--- these events leave versions and lookers as they are
-pub record SameVersions (w v : World) : Type 0 where
-  pub noted : v.noted ≡ w.noted
-  pub published : v.published ≡ w.published
-  pub versions : v.versions ≡ w.versions
-  pub lookers : v.lookers ≡ w.lookers
+-- what a registry stands for of a world: its numbers, its versions and its lookers
+abbrev pub seen : World → ℕ × (ℕ × (List State × List LookerState))
+seen w = (w.noted, (w.published, (w.versions, w.lookers)))
 
-pub same_registers : (r : RegistryState) (w v : World) → SameVersions w v → Registers r w → Registers r v
+abbrev of_seen : ℕ × (ℕ × (List State × List LookerState)) → World → World
+of_seen s v = record v { noted = s.0; published = s.1.0; versions = s.1.1.0; lookers = s.1.1.1 }
+
+pub same_registers : (r : RegistryState) (w v : World) → seen v ≡ seen w → IsRegistryOf r w → IsRegistryOf r v
 same_registers r w v same s =
-    let w' : World = record v { noted = w.noted; published = w.published; versions = w.versions; lookers = w.lookers } in
-    let is : w' ≡ v = ap (λ (n : ℕ). record v { noted = n; published = w.published; versions = w.versions; lookers = w.lookers }) (sym same.noted)
-    ∙ ap (λ (n : ℕ). record v { published = n; versions = w.versions; lookers = w.lookers }) (sym same.published)
-    ∙ ap (λ (xs : List State). record v { versions = xs; lookers = w.lookers }) (sym same.versions)
-    ∙ ap (λ (xs : List LookerState). record v { lookers = xs }) (sym same.lookers) in
-    let there : Registers r w' = record { noted = s.noted; below = s.below; all = s.all; told = s.told } in
-    subst (Registers r) is there
+    let there : IsRegistryOf r (of_seen (seen w) v) = record { noted = s.noted; below = s.below; all = s.all; told = s.told } in
+    subst (λ t. IsRegistryOf r (of_seen t v)) (sym same) there
 
-prepare_same : (w : World) (command : Command) (why : Option Refusal) (room : Bool) → SameVersions w (prepare w command why room).world
-prepare_same w command (Some why) room = record { noted = refl; published = refl; versions = refl; lookers = refl }
-prepare_same w command None true = record { noted = refl; published = refl; versions = refl; lookers = refl }
-prepare_same w command None false = record { noted = refl; published = refl; versions = refl; lookers = refl }
+pub storing_registers : (r : RegistryState) (w : World) (event : Event) → is_storing event ≡ true → IsRegistryOf r w → IsRegistryOf r (step w event).world
+storing_registers r w event is s = same_registers r w (step w event).world (storing_keeps seen (λ w accepted disk pending moment. refl) w event is) s
 
-submit_same : (w : World) (command : Command) (moment : Moment) → SameVersions w (submit w command moment).world
-submit_same w command moments.Ready = prepare_same w command (refusal (published_version w) command) (has_room w)
-submit_same w command moment = record { noted = refl; published = refl; versions = refl; lookers = refl }
+pub submits : (command : Command) (r : RegistryState) (w : World) → IsRegistryOf r w → IsRegistryOf r (step w (events.Submit command)).world
+submits command r w s = storing_registers r w (events.Submit command) refl s
 
-pub submits : (command : Command) (r : RegistryState) (w : World) → Registers r w → Registers r (step w (events.Submit command)).world
-submits command r w s = same_registers r w (step w (events.Submit command)).world (submit_same w command w.phase) s
+ack_same : (w : World) (moment : Moment) → seen (acknowledge w moment).world ≡ seen w
+ack_same w (moments.Noted command) = refl
+ack_same w moment = refl
 
-pub ack_same : (w : World) (moment : Moment) → SameVersions w (acknowledge w moment).world
-ack_same w (moments.Noted command) = record { noted = refl; published = refl; versions = refl; lookers = refl }
-ack_same w moment = record { noted = refl; published = refl; versions = refl; lookers = refl }
-
-acks : (r : RegistryState) (w : World) → Registers r w → Registers r (step w events.Ack).world
-acks r w s = same_registers r w (step w events.Ack).world (ack_same w w.phase) s
+pub acknowledges_registers : (r : RegistryState) (w : World) → IsRegistryOf r w → IsRegistryOf r (step w events.Ack).world
+acknowledges_registers r w s = same_registers r w (step w events.Ack).world (ack_same w w.phase) s
 
 module _ {S : Type 0} (g : Ghosts S) where
-  pub stands : (p : Standing (Held S)) (v : World) (disk : State) (moment : Moment) → Some moment ≡ moment_of p.phase p.command → IsAt (spot p.line disk moment) v → (IsKnown g p.format_1 p.tables → HasDisk g p.phase p.command p.tables disk) → SawRoom p.phase v → StandsFor g p v
+  pub stands : (p : Standing (Held S)) (v : World) (disk : State) (moment : Moment) → Some moment ≡ moment_of p.phase p.command → IsAt (spot p.line disk moment) v → (IsKnown g p.format_1 p.tables → HasDisk g p.phase p.command p.tables disk) → SawRoom p.phase v → IsPublisherOf g p v
   stands p v disk moment is place stored room = record {
     moment = moment;
     is = is;
@@ -152,7 +142,7 @@ module _ {S : Type 0} (g : Ghosts S) where
     room = room;
   }
 
-  module _ (old new : Standing (Held S)) (w : World) (s : StandsFor g old w) where
+  module _ (old new : Standing (Held S)) (w : World) (s : IsPublisherOf g old w) where
     -- the place of its world, by its phase
     pub place_in : (phase : Phase) (moment : Moment) → old.phase ≡ phase → Some moment ≡ moment_of phase old.command → IsAt (spot old.line w.disk moment) w
     place_in phase moment is at = subst (λ (m : Moment). IsAt (spot old.line w.disk m) w) (one_moment s.moment moment (s.is ∙ ap (λ (p : Phase). moment_of p old.command) is ∙ sym at)) s.place
@@ -163,20 +153,20 @@ module _ {S : Type 0} (g : Ghosts S) where
     -- ---- plan
 
     pub planned : (command : Command) → old.phase ≡ Admitted → old.command ≡ Some command → new ≡ record old { phase = Prepared } → refusal (line_state old.line) command ≡ None
-        → ((step w (events.Submit command)).outcome ≡ outcomes.Prepared ((line_state old.line).count + 1)) × StandsFor g new (step w (events.Submit command)).world
+        → ((step w (events.Submit command)).outcome ≡ outcomes.Prepared ((line_state old.line).count + 1)) × IsPublisherOf g new (step w (events.Submit command)).world
     planned command phase under is allowed =
         let room : has_room w ≡ true = subst (λ (p : Phase). SawRoom p w) phase s.room in
         let m = takes old.line w.disk w command allowed room (place_in Admitted moments.Ready phase refl) in
         let v : World = (step w (events.Submit command)).world in
-        (m.0, subst (λ (p : Standing (Held S)). StandsFor g p v) (sym is) (stands (record old { phase = Prepared }) v w.disk (moments.Prepared command calls.Begin) (ap (moment_of Prepared) (sym under)) m.1 (stored_in Admitted phase) tt))
+        (m.0, subst (λ (p : Standing (Held S)). IsPublisherOf g p v) (sym is) (stands (record old { phase = Prepared }) v w.disk (moments.Prepared command calls.Begin) (ap (moment_of Prepared) (sym under)) m.1 (stored_in Admitted phase) tt))
 
-    pub not_planned : old.phase ≡ Admitted → new ≡ record old { phase = Ready; command = None } → StandsFor g new w
+    pub not_planned : old.phase ≡ Admitted → new ≡ record old { phase = Ready; command = None } → IsPublisherOf g new w
     not_planned phase is =
         let place = place_in Admitted moments.Ready phase refl in
-        subst (λ (p : Standing (Held S)). StandsFor g p w) (sym is) (stands (record old { phase = Ready; command = None }) w w.disk moments.Ready refl place (stored_in Admitted phase) tt)
+        subst (λ (p : Standing (Held S)). IsPublisherOf g p w) (sym is) (stands (record old { phase = Ready; command = None }) w w.disk moments.Ready refl place (stored_in Admitted phase) tt)
 
-    pub still : (v : World) (moment : Moment) → new ≡ old → Some moment ≡ moment_of old.phase old.command → IsAt (spot old.line w.disk moment) v → SawRoom old.phase v → StandsFor g new v
-    still v moment is at place room = subst (λ (p : Standing (Held S)). StandsFor g p v) (sym is) (stands old v w.disk moment at place s.stored room)
+    pub still : (v : World) (moment : Moment) → new ≡ old → Some moment ≡ moment_of old.phase old.command → IsAt (spot old.line w.disk moment) v → SawRoom old.phase v → IsPublisherOf g new v
+    still v moment is at place room = subst (λ (p : Standing (Held S)). IsPublisherOf g p v) (sym is) (stands old v w.disk moment at place s.stored room)
 
     -- ---- commit
 
@@ -188,7 +178,7 @@ module _ {S : Type 0} (g : Ghosts S) where
         let r = woven all commit_events commit_outcomes (spot old.line w.disk (moments.Prepared c.0 calls.Begin)) (spot old.line next (moments.Committed c.0)) w e (commit_goes old.line w.disk c.0) place in
         let held : IsKnown g old.format_1 new.tables → Agrees g Committed old.command (line_state old.line) new.tables = subst (Stands g) is kept in
         let stored : IsKnown g old.format_1 new.tables → IsStored g new.tables next = λ known. subst (λ (o : Option Command). Agrees g Committed o (line_state old.line) new.tables) c.1 (held known) in
-        (r.0, subst (λ (p : Standing (Held S)). StandsFor g p (run_from w all)) (sym is) (stands (record old { phase = Committed; tables = new.tables }) (run_from w all) next (moments.Committed c.0) (ap (moment_of Committed) (sym c.1)) r.1 stored tt))
+        (r.0, subst (λ (p : Standing (Held S)). IsPublisherOf g p (run_from w all)) (sym is) (stands (record old { phase = Committed; tables = new.tables }) (run_from w all) next (moments.Committed c.0) (ap (moment_of Committed) (sym c.1)) r.1 stored tt))
 
     -- ---- publish
 
@@ -199,7 +189,7 @@ module _ {S : Type 0} (g : Ghosts S) where
         let place : IsAt (spot old.line w.disk (moments.Committed c.0)) w = subst (λ (m : Moment). IsAt (spot old.line w.disk m) w) c.2 s.place in
         let r = woven all (events.Publish ∷ []) (outcomes.Published (line_state (grown old.line c.0)).count ∷ []) (spot old.line w.disk (moments.Committed c.0)) (spot (grown old.line c.0) w.disk (moments.Published c.0)) w e (publish_goes old.line w.disk c.0) place in
         let there : IsAt (spot new.line w.disk (moments.Published c.0)) (run_from w all) = subst (λ (l : Line). IsAt (spot l w.disk (moments.Published c.0)) (run_from w all)) (sym line) r.1 in
-        (r.0 ∙ ap (λ (l : Line). outcomes.Published (line_state l).count ∷ []) (sym line), subst (λ (p : Standing (Held S)). StandsFor g p (run_from w all)) (sym ok.0) (stands (record old { phase = Published; line = new.line }) (run_from w all) w.disk (moments.Published c.0) (ap (moment_of Published) (sym c.1)) there (stored_in Committed phase) tt))
+        (r.0 ∙ ap (λ (l : Line). outcomes.Published (line_state l).count ∷ []) (sym line), subst (λ (p : Standing (Held S)). IsPublisherOf g p (run_from w all)) (sym ok.0) (stands (record old { phase = Published; line = new.line }) (run_from w all) w.disk (moments.Published c.0) (ap (moment_of Published) (sym c.1)) there (stored_in Committed phase) tt))
 
     pub not_published : old.phase ≡ Committed → new ≡ record old { phase = Closed } → Leads g w (events.PublishFail ∷ []) (outcomes.Refused refusals.NotPublished ∷ []) new
     not_published phase is all e =
@@ -207,7 +197,7 @@ module _ {S : Type 0} (g : Ghosts S) where
         let place : IsAt (spot old.line w.disk (moments.Committed c.0)) w = subst (λ (m : Moment). IsAt (spot old.line w.disk m) w) c.2 s.place in
         let r = woven all (events.PublishFail ∷ []) (outcomes.Refused refusals.NotPublished ∷ []) (spot old.line w.disk (moments.Committed c.0)) (spot old.line w.disk moments.Closed) w e (publish_fails old.line w.disk c.0) place in
         let stored : IsKnown g old.format_1 old.tables → HasDisk g Closed old.command old.tables w.disk = λ known. subst (λ (o : Option Command). HasDisk g Closed o old.tables w.disk) (sym c.1) (stored_in Committed phase known) in
-        (r.0, subst (λ (p : Standing (Held S)). StandsFor g p (run_from w all)) (sym is) (stands (record old { phase = Closed }) (run_from w all) w.disk moments.Closed refl r.1 stored tt))
+        (r.0, subst (λ (p : Standing (Held S)). IsPublisherOf g p (run_from w all)) (sym is) (stands (record old { phase = Closed }) (run_from w all) w.disk moments.Closed refl r.1 stored tt))
 
     -- ---- note, whatever the registry is
 
@@ -216,7 +206,14 @@ module _ {S : Type 0} (g : Ghosts S) where
         let c = published_command old.command s.moment (s.is ∙ ap (λ (p : Phase). moment_of p old.command) phase) in
         let place : IsAt (spot old.line w.disk (moments.Published c.0)) w = subst (λ (m : Moment). IsAt (spot old.line w.disk m) w) c.2 s.place in
         let r = woven all note_events (note_outcomes old.line) (spot old.line w.disk (moments.Published c.0)) (spot old.line w.disk moments.Ready) w e (note_goes old.line w.disk c.0) place in
-        (r.0, subst (λ (p : Standing (Held S)). StandsFor g p (run_from w all)) (sym is) (stands (record old { phase = Ready; command = None }) (run_from w all) w.disk moments.Ready refl r.1 (stored_in Published phase) tt))
+        (r.0, subst (λ (p : Standing (Held S)). IsPublisherOf g p (run_from w all)) (sym is) (stands (record old { phase = Ready; command = None }) (run_from w all) w.disk moments.Ready refl r.1 (stored_in Published phase) tt))
+
+    -- and under the registry's lock
+    pub noted : (before r : RegistryState) → old.phase ≡ Published → new ≡ record old { phase = Ready; command = None } → r ≡ noted_by before (line_state old.line)
+        → (r ≡ registry_after before w events.Note) × Leads g w note_events (note_outcomes old.line) new
+    noted before r phase is registry =
+        let c = published_command old.command s.moment (s.is ∙ ap (λ (p : Phase). moment_of p old.command) phase) in
+        (registry ∙ ap (noted_by before) (sym s.place.shown) ∙ ap (noted_at before (published_version w)) (sym (s.place.moment ∙ c.2)), noted_on phase is)
 
   -- ---- a commit that failed
 
@@ -237,7 +234,7 @@ module _ {S : Type 0} (g : Ghosts S) where
             let r = woven all (fail_events call Lost) (fail_outcomes call) first (spot old.line w.disk moments.Closed) w e (lost_goes old.line w.disk c.0 call) place in
             let is_left : w.disk ≡ left = disk_before old.line w.disk w c.0 place ∙ sym same in (
               r.0,
-              subst (λ (p : Standing (Held S)). StandsFor g p (run_from w all)) (sym is) (stands (record old { phase = Closed; command = None; tables = new.tables }) (run_from w all) w.disk moments.Closed refl r.1 (λ known. subst (MayLeave g new.tables) (sym is_left) may) tt),
+              subst (λ (p : Standing (Held S)). IsPublisherOf g p (run_from w all)) (sym is) (stands (record old { phase = Closed; command = None; tables = new.tables }) (run_from w all) w.disk moments.Closed refl r.1 (λ known. subst (MayLeave g new.tables) (sym is_left) may) tt),
               r.1.disk ∙ is_left,
             ),
       )
@@ -253,7 +250,7 @@ module _ {S : Type 0} (g : Ghosts S) where
             let r = woven all (fail_events calls.Commit Kept) (fail_outcomes calls.Commit) first (spot old.line next moments.Closed) w e' (kept_goes old.line w.disk c.0) place in
             let is_left : next ≡ left = sym (one_state left next (more.1 ∙ ap (after_command (line_state old.line)) c.1)) in (
               r.0 ∙ ap fail_outcomes (sym at),
-              subst (λ (p : Standing (Held S)). StandsFor g p (run_from w all)) (sym is) (stands (record old { phase = Closed; command = None; tables = new.tables }) (run_from w all) next moments.Closed refl r.1 (λ known. subst (MayLeave g new.tables) (sym is_left) may) tt),
+              subst (λ (p : Standing (Held S)). IsPublisherOf g p (run_from w all)) (sym is) (stands (record old { phase = Closed; command = None; tables = new.tables }) (run_from w all) next moments.Closed refl r.1 (λ known. subst (MayLeave g new.tables) (sym is_left) may) tt),
               r.1.disk ∙ is_left,
             ),
       )
@@ -261,36 +258,22 @@ module _ {S : Type 0} (g : Ghosts S) where
 
   -- ---- under the registry's lock
 
-  module _ (old new : Standing (Held S)) (before r : RegistryState) (w : World) (s : StandsFor g old w) (held : Registers before w) where
+  module _ (old new : Standing (Held S)) (before r : RegistryState) (w : World) (s : IsPublisherOf g old w) (held : IsRegistryOf before w) where
     -- a reclaim, before anything
-    reclaimed_at : (moment : Moment) → is_stopped moment ≡ false → IsAt (spot old.line w.disk moment) w → (IsAt (spot old.line w.disk moment) (step w events.Reclaim).world) × Registers (reclaimed before) (step w events.Reclaim).world
+    reclaimed_at : (moment : Moment) → is_stopped moment ≡ false → IsAt (spot old.line w.disk moment) w → (IsAt (spot old.line w.disk moment) (step w events.Reclaim).world) × IsRegistryOf (reclaimed before) (step w events.Reclaim).world
     reclaimed_at moment going place =
         let is : step w events.Reclaim ≡ reclaim w =
         ap (λ m. cond (is_stopped m) (unmet w) (reclaim w)) place.moment ∙ ap (λ b. cond b (unmet w) (reclaim w)) going in
-        (stays_there (spot old.line w.disk moment) w events.Reclaim refl place, subst (λ (t : Step). Registers (reclaimed before) t.world) (sym is) (registers_reclaimed before w place.reached held))
+        (stays_there (spot old.line w.disk moment) w events.Reclaim refl place, subst (λ (t : Step). IsRegistryOf (reclaimed before) t.world) (sym is) (registers_reclaimed before w place.reached held))
 
-    pub admits : (command : Command) → new ≡ record old { phase = Admitted; command = Some command } → old.phase ≡ Ready → (r ≡ reclaimed before) × (length r.retired < MOST_RETIRED) → StandFor g new r (step w events.Reclaim).world
+    pub admits : (command : Command) → new ≡ record old { phase = Admitted; command = Some command } → old.phase ≡ Ready → (r ≡ reclaimed before) × (length r.retired < MOST_RETIRED) → AreBothOf g new r (step w events.Reclaim).world
     admits command is ready room =
         let place = place_in old new w s Ready moments.Ready ready refl in
         let there = reclaimed_at moments.Ready refl place in
         let v : World = (step w events.Reclaim).world in
-        let registers : Registers r v = subst (λ (q : RegistryState). Registers q v) (sym room.0) there.1 in
+        let registers : IsRegistryOf r v = subst (λ (q : RegistryState). IsRegistryOf q v) (sym room.0) there.1 in
         let has : has_room v ≡ true = room_is r v there.0.reached registers ∙ is_less (length r.retired) MOST_RETIRED room.1 in
-        (subst (λ (p : Standing (Held S)). StandsFor g p v) (sym is) (stands (record old { phase = Admitted; command = Some command }) v w.disk moments.Ready refl there.0 (stored_in old new w s Ready ready) has), registers)
-
-    pub noted : old.phase ≡ Published → new ≡ record old { phase = Ready; command = None } → r ≡ noted_by before (line_state old.line) → (outcomes_from w note_events ≡ note_outcomes old.line) × StandFor g new r (run_from w note_events)
-    noted phase is registry =
-        let c = published_command old.command s.moment (s.is ∙ ap (λ (p : Phase). moment_of p old.command) phase) in
-        let place : IsAt (spot old.line w.disk (moments.Published c.0)) w = subst (λ (m : Moment). IsAt (spot old.line w.disk m) w) c.2 s.place in
-        let v : World = (step w events.Note).world in
-        let u : World = (step v events.Ack).world in
-        let a = notes old.line w.disk w c.0 place in
-        let b = acknowledges old.line w.disk v c.0 a.1 in
-        let kept = registers_noted old.line w.disk c.0 before w held place (line_state old.line) refl in
-        let first : Registers r v = subst (λ (q : RegistryState). Registers q v) (sym registry) (subst (λ (t : Step). Registers (noted_by before (line_state old.line)) t.world) (ap (note w) (sym place.moment)) kept.1) in (
-          ap (λ o. o ∷ outcomes_from v (events.Ack ∷ [])) a.0 ∙ ap (λ o. outcomes.Noted (line_state old.line).count ∷ o ∷ []) b.0,
-          (subst (λ (p : Standing (Held S)). StandsFor g p u) (sym is) (stands (record old { phase = Ready; command = None }) u w.disk moments.Ready refl b.1 (stored_in old new w s Published phase) tt), acks r v first),
-        )
+        (subst (λ (p : Standing (Held S)). IsPublisherOf g p v) (sym is) (stands (record old { phase = Admitted; command = Some command }) v w.disk moments.Ready refl there.0 (stored_in old new w s Ready ready) has), registers)
 
   module _ (old new : Standing (Held S)) (before r : RegistryState) where
     pub declines : IsQuiet old.phase → (command : Command) (why : Refusal) → (new ≡ old) × IsNotAdmitted old.phase (line_state old.line) command before r why → Declines g old new before r command why
@@ -302,21 +285,27 @@ module _ {S : Type 0} (g : Ghosts S) where
             elim refused [
               | inl reason ↦ (
                 false,
-                λ w h.
-                    let u : World = (step w (events.Submit command)).world in
-                    let m = refuses old.line w.disk w command why reason.0 (place_in old new w h.0 Ready moments.Ready ready refl) in
-                    (m.0, (still old new w h.0 u moments.Ready clause.0 at m.1 (subst (λ (p : Phase). SawRoom p u) (sym ready) tt), submits command r w (subst (λ (q : RegistryState). Registers q w) (sym reason.1) h.1))),
+                (
+                  clause.0,
+                  λ w h.
+                      let u : World = (step w (events.Submit command)).world in
+                      let m = refuses old.line w.disk w command why reason.0 (place_in old new w h.0 Ready moments.Ready ready refl) in
+                      (m.0, (still old new w h.0 u moments.Ready clause.0 at m.1 (subst (λ (p : Phase). SawRoom p u) (sym ready) tt), submits command r w (subst (λ (q : RegistryState). IsRegistryOf q w) (sym reason.1) h.1))),
+                ),
               )
               | inr full ↦ (
                 true,
-                λ w h.
-                    let v : World = (step w events.Reclaim).world in
-                    let u : World = (step v (events.Submit command)).world in
-                    let there = reclaimed_at old new before r w h.0 h.1 moments.Ready refl (place_in old new w h.0 Ready moments.Ready ready refl) in
-                    let registers : Registers r v = subst (λ (q : RegistryState). Registers q v) (sym full.1) there.1 in
-                    let has : has_room v ≡ false = room_is r v there.0.reached registers ∙ is_not_less (length r.retired) MOST_RETIRED full.3 in
-                    let m = busy old.line w.disk v command full.0 has there.0 in
-                    (m.0 ∙ ap outcomes.Refused (sym full.2), (still old new w h.0 u moments.Ready clause.0 at m.1 (subst (λ (p : Phase). SawRoom p u) (sym ready) tt), submits command r v registers)),
+                (
+                  clause.0,
+                  λ w h.
+                      let v : World = (step w events.Reclaim).world in
+                      let u : World = (step v (events.Submit command)).world in
+                      let there = reclaimed_at old new before r w h.0 h.1 moments.Ready refl (place_in old new w h.0 Ready moments.Ready ready refl) in
+                      let registers : IsRegistryOf r v = subst (λ (q : RegistryState). IsRegistryOf q v) (sym full.1) there.1 in
+                      let has : has_room v ≡ false = room_is r v there.0.reached registers ∙ is_not_less (length r.retired) MOST_RETIRED full.3 in
+                      let m = busy old.line w.disk v command full.0 has there.0 in
+                      (m.0 ∙ ap outcomes.Refused (sym full.2), (still old new w h.0 u moments.Ready clause.0 at m.1 (subst (λ (p : Phase). SawRoom p u) (sym ready) tt), submits command r v registers)),
+                ),
               )
             ]
         by Admitted is quiet refused = absurd quiet
@@ -326,8 +315,11 @@ module _ {S : Type 0} (g : Ghosts S) where
         by Closed closed quiet refused =
             let at : Some moments.Closed ≡ moment_of old.phase old.command = sym (ap (λ (p : Phase). moment_of p old.command) closed) in (
               false,
-              λ w h.
-                  let u : World = (step w (events.Submit command)).world in
-                  let m = shut old.line w.disk w command (place_in old new w h.0 Closed moments.Closed closed refl) in
-                  (m.0 ∙ ap outcomes.Refused (sym refused.0), (still old new w h.0 u moments.Closed clause.0 at m.1 (subst (λ (p : Phase). SawRoom p u) (sym closed) tt), submits command r w (subst (λ (q : RegistryState). Registers q w) (sym refused.1) h.1))),
+              (
+                clause.0,
+                λ w h.
+                    let u : World = (step w (events.Submit command)).world in
+                    let m = shut old.line w.disk w command (place_in old new w h.0 Closed moments.Closed closed refl) in
+                    (m.0 ∙ ap outcomes.Refused (sym refused.0), (still old new w h.0 u moments.Closed clause.0 at m.1 (subst (λ (p : Phase). SawRoom p u) (sym closed) tt), submits command r w (subst (λ (q : RegistryState). IsRegistryOf q w) (sym refused.1) h.1))),
+              ),
             )

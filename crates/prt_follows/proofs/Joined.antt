@@ -9,7 +9,7 @@ use Rattle.prt_world.specs.World.{World, has_room, run_from, step}
 use Rattle.prt_world.specs.declared.event.Event.{Event}
 use Rattle.prt_world.specs.declared.outcome.Outcome.{Outcome}
 use Rattle.prt_follows.specs.Events.{is_lookers, own, own_outcomes}
-use Rattle.prt_follows.specs.StandsFor.{Leads, LeadsTo, SawRoom, StandsFor}
+use Rattle.prt_follows.specs.Publishers.{Leads, LeadsTo, SawRoom, IsPublisherOf}
 use Rattle.prt_version.specs.State.{State}
 use Rattle.prt_follows.proofs.Between.{room_stays, stays_there}
 use Rattle.prt_follows.proofs.Exits.{spot, stands}
@@ -59,17 +59,17 @@ shown_by w event all b is = ap (λ b. cond b (own_outcomes (step w event).world 
 
 module _ {S : Type 0} (g : Ghosts S) where
   -- a publisher stands for a world after an event of a looker, too
-  pub stands_beside : (p : Standing (Held S)) (w : World) (event : Event) → is_lookers event ≡ true → StandsFor g p w → StandsFor g p (step w event).world
+  pub stands_beside : (p : Standing (Held S)) (w : World) (event : Event) → is_lookers event ≡ true → IsPublisherOf g p w → IsPublisherOf g p (step w event).world
   stands_beside p w event is s =
       stands g p (step w event).world w.disk s.moment s.is (stays_there (spot p.line w.disk s.moment) w event is s.place) s.stored
       (saw_stays p.phase w (step w event).world (room_stays w event is s.place.reached) s.room)
 
   -- no event of its own
-  pub idle : (p : Standing (Held S)) (w : World) → StandsFor g p w → Leads g w [] [] p
+  pub idle : (p : Standing (Held S)) (w : World) → IsPublisherOf g p w → Leads g w [] [] p
   idle p w s [] e = (refl, s)
   idle p w s (event ∷ all) e = by (is_lookers event) refl (λ t. idle p (step w event).world t all)
     where
-      by : (b : Bool) → is_lookers event ≡ b → (StandsFor g p (step w event).world → own all ≡ [] → (own_outcomes (step w event).world all ≡ []) × StandsFor g p (run_from (step w event).world all)) → (own_outcomes w (event ∷ all) ≡ []) × StandsFor g p (run_from w (event ∷ all))
+      by : (b : Bool) → is_lookers event ≡ b → (IsPublisherOf g p (step w event).world → own all ≡ [] → (own_outcomes (step w event).world all ≡ []) × IsPublisherOf g p (run_from (step w event).world all)) → (own_outcomes w (event ∷ all) ≡ []) × IsPublisherOf g p (run_from w (event ∷ all))
       by true is again =
           let r = again (stands_beside p w event is s) (sym (own_by event all true is) ∙ e) in
           (shown_by w event all true is ∙ r.0, r.1)
@@ -78,23 +78,23 @@ module _ {S : Type 0} (g : Ghosts S) where
           absurd cc
 
   -- one event
-  pub leads_by : (old new : Standing (Held S)) (event : Event) (shown : Outcome) → ((v : World) → StandsFor g old v → ((step v event).outcome ≡ shown) × StandsFor g new (step v event).world)
-      → (w : World) → StandsFor g old w → Leads g w (event ∷ []) (shown ∷ []) new
+  pub leads_by : (old new : Standing (Held S)) (event : Event) (shown : Outcome) → ((v : World) → IsPublisherOf g old v → ((step v event).outcome ≡ shown) × IsPublisherOf g new (step v event).world)
+      → (w : World) → IsPublisherOf g old w → Leads g w (event ∷ []) (shown ∷ []) new
   leads_by old new event shown law w s [] e = absurd cc
   leads_by old new event shown law w s (first ∷ all) e = by (is_lookers first) refl (λ t. leads_by old new event shown law (step w first).world t all)
     where
-      by : (b : Bool) → is_lookers first ≡ b → (StandsFor g old (step w first).world → own all ≡ event ∷ [] → (own_outcomes (step w first).world all ≡ shown ∷ []) × StandsFor g new (run_from (step w first).world all)) → (own_outcomes w (first ∷ all) ≡ shown ∷ []) × StandsFor g new (run_from w (first ∷ all))
+      by : (b : Bool) → is_lookers first ≡ b → (IsPublisherOf g old (step w first).world → own all ≡ event ∷ [] → (own_outcomes (step w first).world all ≡ shown ∷ []) × IsPublisherOf g new (run_from (step w first).world all)) → (own_outcomes w (first ∷ all) ≡ shown ∷ []) × IsPublisherOf g new (run_from w (first ∷ all))
       by true is again =
           let r = again (stands_beside old w first is s) (sym (own_by first all true is) ∙ e) in
           (shown_by w first all true is ∙ r.0, r.1)
       by false is again =
           let e' : first ∷ own all ≡ event ∷ [] = sym (own_by first all false is) ∙ e in
-          let m : ((step w first).outcome ≡ shown) × StandsFor g new (step w first).world = subst (λ (ev : Event). ((step w ev).outcome ≡ shown) × StandsFor g new (step w ev).world) (heads first event (own all) [] e') (law w s) in
+          let m : ((step w first).outcome ≡ shown) × IsPublisherOf g new (step w first).world = subst (λ (ev : Event). ((step w ev).outcome ≡ shown) × IsPublisherOf g new (step w ev).world) (heads first event (own all) [] e') (law w s) in
           let r = idle new (step w first).world m.1 all (tails first event (own all) [] e') in
           (shown_by w first all false is ∙ ap (λ o. o ∷ own_outcomes (step w first).world all) m.0 ∙ ap (λ os. shown ∷ os) r.0, r.1)
 
   -- one list of events after another
-  pub leads_then : (w : World) (mid last : Standing (Held S)) (first rest : List Event) (shown others : List Outcome) → Leads g w first shown mid → ((v : World) → StandsFor g mid v → Leads g v rest others last)
+  pub leads_then : (w : World) (mid last : Standing (Held S)) (first rest : List Event) (shown others : List Outcome) → Leads g w first shown mid → ((v : World) → IsPublisherOf g mid v → Leads g v rest others last)
       → Leads g w (first ++ rest) (shown ++ others) last
   leads_then w mid last first rest shown others leads law all e =
       let p = split all first rest e in
@@ -102,11 +102,11 @@ module _ {S : Type 0} (g : Ghosts S) where
       let v : World = run_from w p.0 in
       let t = law v r.1 p.1 p.4 in
       let out : own_outcomes w (p.0 ++ p.1) ≡ shown ++ others = shown_more w p.0 p.1 ∙ ap (λ os. os ++ own_outcomes v p.1) r.0 ∙ ap (λ os. shown ++ os) t.0 in
-      let there : StandsFor g last (run_from w (p.0 ++ p.1)) = subst (StandsFor g last) (sym (run_more w p.0 p.1)) t.1 in
-      subst (λ (es : List Event). (own_outcomes w es ≡ shown ++ others) × StandsFor g last (run_from w es)) (sym p.2) (out, there)
+      let there : IsPublisherOf g last (run_from w (p.0 ++ p.1)) = subst (IsPublisherOf g last) (sym (run_more w p.0 p.1)) t.1 in
+      subst (λ (es : List Event). (own_outcomes w es ≡ shown ++ others) × IsPublisherOf g last (run_from w es)) (sym p.2) (out, there)
 
   -- and to one whose disk is that state
-  pub leads_then_to : (w : World) (mid last : Standing (Held S)) (left : State) (first rest : List Event) (shown others : List Outcome) → Leads g w first shown mid → ((v : World) → StandsFor g mid v → LeadsTo g v rest others last left)
+  pub leads_then_to : (w : World) (mid last : Standing (Held S)) (left : State) (first rest : List Event) (shown others : List Outcome) → Leads g w first shown mid → ((v : World) → IsPublisherOf g mid v → LeadsTo g v rest others last left)
       → LeadsTo g w (first ++ rest) (shown ++ others) last left
   leads_then_to w mid last left first rest shown others leads law all e =
       let p = split all first rest e in
@@ -114,6 +114,6 @@ module _ {S : Type 0} (g : Ghosts S) where
       let v : World = run_from w p.0 in
       let t = law v r.1 p.1 p.4 in
       let out : own_outcomes w (p.0 ++ p.1) ≡ shown ++ others = shown_more w p.0 p.1 ∙ ap (λ os. os ++ own_outcomes v p.1) r.0 ∙ ap (λ os. shown ++ os) t.0 in
-      let there : StandsFor g last (run_from w (p.0 ++ p.1)) = subst (StandsFor g last) (sym (run_more w p.0 p.1)) t.1 in
+      let there : IsPublisherOf g last (run_from w (p.0 ++ p.1)) = subst (IsPublisherOf g last) (sym (run_more w p.0 p.1)) t.1 in
       let disk : (run_from w (p.0 ++ p.1)).disk ≡ left = ap (λ (u : World). u.disk) (run_more w p.0 p.1) ∙ t.2 in
-      subst (λ (es : List Event). (own_outcomes w es ≡ shown ++ others) × StandsFor g last (run_from w es) × ((run_from w es).disk ≡ left)) (sym p.2) (out, there, disk)
+      subst (λ (es : List Event). (own_outcomes w es ≡ shown ++ others) × IsPublisherOf g last (run_from w es) × ((run_from w es).disk ≡ left)) (sym p.2) (out, there, disk)

@@ -1,6 +1,7 @@
 pub mod Steps
 pub mod Between
 pub mod Woven
+pub mod Keeping
 pub mod Registering
 pub mod Exits
 pub mod Opening
@@ -11,7 +12,9 @@ pub mod Submitted
 pub mod Acks
 pub mod Through
 pub mod Answered
-pub mod Ran
+pub mod Runs
+pub mod Fates
+pub mod Fitting
 pub mod Desks
 pub mod Scripts
 pub mod Looking

@@ -13,19 +13,19 @@ use Rattle.prt_world.specs.World as world
 use Rattle.prt_world.specs.World.{LookerState, Step, World, announced_by, looker_state, offline, online, step}
 use Rattle.prt_world.specs.declared.event.Event.TheVariants as events
 use Rattle.prt_follows.specs.Lookers.{EveryLookersEvent, IsAnnounce, IsJoin, IsOffline, IsOnline, IsPart, held_online, seat}
-use Rattle.prt_follows.specs.Registers.{Registers, brought_online, taken_offline, told_number}
-use Rattle.prt_follows.specs.StandsFor.{StandsFor}
+use Rattle.prt_follows.specs.Registries.{IsRegistryOf, brought_online, taken_offline, told_number}
+use Rattle.prt_follows.specs.Publishers.{IsPublisherOf}
 use Rattle.prt_follows.proofs.Joined.{stands_beside}
 use Rattle.prt_follows.proofs.Opening.{open_moment}
 use Rattle.prt_follows.proofs.Registering.{joins, registers_beside, sits}
 
 -- ---- places and lookers
 
-seats_long : (r : RegistryState) (w : World) → Registers r w → length r.places ≡ length w.lookers
+seats_long : (r : RegistryState) (w : World) → IsRegistryOf r w → length r.places ≡ length w.lookers
 seats_long r w s = sym (length-map r.places announced) ∙ ap length s.told ∙ length-map w.lookers announced_by
 
 -- the world has a looker for the place
-has_looker : (r : RegistryState) (w : World) (place : Place) → Registers r w → HasPlace r place → place.index < length w.lookers
+has_looker : (r : RegistryState) (w : World) (place : Place) → IsRegistryOf r w → HasPlace r place → place.index < length w.lookers
 has_looker r w place s has =
     let within : place.index < length r.places = slice_get_within r.places place.index (announcing place.announced) has.1 in
     let long = seats_long r w s in
@@ -127,7 +127,7 @@ joined r new place found none registry w s =
     ∙ ap (λ xs. get_or xs place.index None) (sym s.told)
     ∙ get_or-map announced r.places place.index places.Free None free.0
     ∙ told in (
-      subst (λ (q : RegistryState). Registers q w) (sym registry) (joins r w s place.index places.Offline places.Free (sym told)),
+      subst (λ (q : RegistryState). IsRegistryOf q w) (sym registry) (joins r w s place.index places.Offline places.Free (sym told)),
       offline_by (looker_state w place.index) same ∙ sym (ap (λ a. seat a None) none),
     )
 
@@ -136,15 +136,15 @@ parted r new place has None is registry held w going s sat =
     let was : looker_state w place.index ≡ offline = sat ∙ ap (λ a. seat a held) is in
     let to : step w (events.Offline place.index) ≡ world.go_offline w place.index offline = runs w (world.go_offline w place.index (looker_state w place.index)) going ∙ ap (world.go_offline w place.index) was in
     let told : announced (get_or r.places place.index places.Free) ≡ None = ap announced (get_or_from_slice_get r.places place.index (announcing place.announced) places.Free has.1) ∙ ap (λ a. announced (announcing a)) is in (
-      subst (λ (q : RegistryState). Registers q (step w (events.Offline place.index)).world) (sym registry)
-          (subst (λ (t : Step). Registers (with_place r place.index places.Free) t.world) (sym to) (joins r w s place.index places.Free places.Free (sym told))),
+      subst (λ (q : RegistryState). IsRegistryOf q (step w (events.Offline place.index)).world) (sym registry)
+          (subst (λ (t : Step). IsRegistryOf (with_place r place.index places.Free) t.world) (sym to) (joins r w s place.index places.Free places.Free (sym told))),
       ap (λ (t : Step). looker_state t.world place.index) to ∙ was,
     )
 parted r new place has (Some told) is registry held w going s sat =
     let was : looker_state w place.index ≡ online told held = sat ∙ ap (λ a. seat a held) is in
     let to : step w (events.Offline place.index) ≡ world.go_offline w place.index (online told held) = runs w (world.go_offline w place.index (looker_state w place.index)) going ∙ ap (world.go_offline w place.index) was in (
-      subst (λ (q : RegistryState). Registers q (step w (events.Offline place.index)).world) (sym registry)
-          (subst (λ (t : Step). Registers (with_place r place.index places.Free) t.world) (sym to) (sits r w s place.index places.Free offline refl)),
+      subst (λ (q : RegistryState). IsRegistryOf q (step w (events.Offline place.index)).world) (sym registry)
+          (subst (λ (t : Step). IsRegistryOf (with_place r place.index places.Free) t.world) (sym to) (sits r w s place.index places.Free offline refl)),
       ap (λ (t : Step). looker_state t.world place.index) to ∙ sits_there w place.index offline (has_looker r w place s has),
     )
 
@@ -152,6 +152,6 @@ parted r new place has (Some told) is registry held w going s sat =
 
 pub lookers_event : {S : Type 0} (g : Ghosts S) → EveryLookersEvent g
 lookers_event g p r w event is h =
-    let s : StandsFor g p w = h.0 in
+    let s : IsPublisherOf g p w = h.0 in
     let going : world.is_stopped w.phase ≡ false = ap world.is_stopped s.place.moment ∙ open_moment p.phase p.command s.moment s.is in
     (stands_beside g p w event is s, registers_beside r w event is going s.place.reached h.1)

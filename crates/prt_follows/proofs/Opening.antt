@@ -1,5 +1,5 @@
 -- A database that is opened, first or again.
-use Rattle.std.proofs.Common.{◌≡◌, ◌⊎◌, inl, inr, false, [], ◌∷◌, Option, Some, None, refl, sym, ap, ◌∙◌, subst, cond, arith}
+use Rattle.std.proofs.Common.{◌≡◌, ◌⊎◌, inl, inr, false, List, [], ◌∷◌, Option, Some, None, refl, sym, ap, ◌∙◌, subst, cond, arith}
 use Rattle.sqlite.specs.Held.{Held, state}
 use Rattle.sqlite.specs.Store.{Ghosts}
 use Rattle.prt_addr.specs.declared.refusal.StoreCall.{StoreCall}
@@ -24,6 +24,7 @@ use Rattle.prt_version.specs.Change.{apply, fold}
 use Rattle.prt_version.specs.State.{State, opening_state}
 use Rattle.prt_world.specs.World as world
 use Rattle.prt_world.specs.World.{Step, World, published_version, run_from, outcomes_from, start, step}
+use Rattle.prt_world.specs.declared.event.Event.{Event}
 use Rattle.prt_world.specs.declared.event.Event.TheVariants as events
 use Rattle.prt_world.specs.declared.event.Fate.TheVariants.{Kept, Lost}
 use Rattle.prt_world.specs.declared.outcome.Outcome.TheVariants as outcomes
@@ -31,8 +32,8 @@ use Rattle.prt_world.specs.declared.phase.Phase.{Phase as Moment}
 use Rattle.prt_world.specs.declared.phase.Phase.TheVariants as moments
 use Rattle.prt_world.proofs.KeptVersions.{kept_alone}
 use Rattle.prt_world.proofs.Phases.{version_kept}
-use Rattle.prt_follows.specs.Laws.{AdoptsStopped, BeginsAt, OpensAgain, StopsBy}
-use Rattle.prt_follows.specs.Registers.{Registers}
+use Rattle.prt_follows.specs.Laws.{AdoptsStopped, BeginsAt, IsCutShort, OpensAgain}
+use Rattle.prt_follows.specs.Registries.{IsRegistryOf}
 use Rattle.prt_follows.proofs.Registering.{registers_opened, registers_started}
 use Rattle.prt_store.proofs.StoppedCommits.{stopped_leaves}
 use Rattle.prt_grace.specs.Registry.{new_registry}
@@ -40,11 +41,11 @@ use Rattle.prt_store.proofs.Adoptions.{opening_stored}
 use Rattle.prt_world.specs.declared.event.Fate.{Fate}
 use Rattle.sqlite.specs.Tree.{Trees}
 use Rattle.prt_follows.specs.Spots.{IsAt, Spot}
-use Rattle.prt_follows.specs.Events.{own, stop_events, stop_outcomes}
-use Rattle.prt_follows.specs.StandsFor.{HasDisk, SawRoom, StandsFor, moment_of}
+use Rattle.prt_follows.specs.Events.{own, own_outcomes, stop_events, stop_outcomes}
+use Rattle.prt_follows.specs.Publishers.{HasDisk, SawRoom, IsPublisherOf, moment_of}
 use Rattle.prt_follows.proofs.Steps.{Moves, begins, counts, disk_before, moved, pending, writes}
 use Rattle.prt_follows.proofs.Woven.{Goes, woven}
-use Rattle.prt_follows.proofs.Exits.{one_state, prepared_command, spot, stands}
+use Rattle.prt_follows.proofs.Exits.{one_state, place_in, prepared_command, spot, stands}
 
 -- ---- one event
 
@@ -93,7 +94,7 @@ module _ {S : Type 0} (g : Ghosts S) where
       let place : IsAt (spot new.line opening_state moments.Ready) start = record { reached = ([], refl); moment = refl; disk = refl; shown = sym fresh; told = told_opened new.line [] opening_state (ap (fold new.line.base) (sym none) ∙ fresh) none refl; room = tt } in (
         stands g new start opening_state moments.Ready (sym (ap (λ (p : Phase). moment_of p new.command) ready)) place
             (λ known. subst (λ (s : State). HasDisk g new.phase new.command new.tables s) fresh (ready_stored new ready kept known)) (subst (λ (p : Phase). SawRoom p start) (sym ready) tt),
-        subst (λ (s : State). Registers (new_registry s) start) (sym fresh) registers_started,
+        subst (λ (s : State). IsRegistryOf (new_registry s) start) (sym fresh) registers_started,
       )
 
   -- three tables without rows, or none, are a new database
@@ -102,7 +103,7 @@ module _ {S : Type 0} (g : Ghosts S) where
       stored_once (state g made).now.schema (state g made).now.schema (state g made).now.trees opened opening_state stores (opening_stored (state g was).now (state g made).now adopts empty)
 
   -- what a crash leaves is the world's disk, unless a commit failed
-  pub left_is : (old : Standing (Held S)) (w : World) → StandsFor g old w → IsKnown g old.format_1 old.tables → (left : State) → MayLeave g old.tables left → (HasDisk g old.phase old.command old.tables w.disk → IsStored g old.tables w.disk) → left ≡ w.disk
+  pub left_is : (old : Standing (Held S)) (w : World) → IsPublisherOf g old w → IsKnown g old.format_1 old.tables → (left : State) → MayLeave g old.tables left → (HasDisk g old.phase old.command old.tables w.disk → IsStored g old.tables w.disk) → left ≡ w.disk
   left_is old w s known left may stored = spelled_once may.0 left w.disk may.2 ((stored (s.stored known)).durable may.0 may.1)
 
   -- opened again in a world that is stopped
@@ -116,12 +117,12 @@ module _ {S : Type 0} (g : Ghosts S) where
         (
           stands g new (step v events.Reopen).world left moments.Ready (sym (ap (λ (p : Phase). moment_of p new.command) ready)) m.1
               (λ known. subst (λ (s : State). HasDisk g new.phase new.command new.tables s) found (ready_stored new ready kept known)) (subst (λ (p : Phase). SawRoom p (step v events.Reopen).world) (sym ready) tt),
-          subst (λ (t : Step). Registers (new_registry (line_state new.line)) t.world) (sym is) (registers_opened v (line_state new.line) (found ∙ sym h.disk)),
+          subst (λ (t : Step). IsRegistryOf (new_registry (line_state new.line)) t.world) (sym is) (registers_opened v (line_state new.line) (found ∙ sym h.disk)),
         ),
       )
 
   -- stopped between calls, and opened again
-  pub opened_again : (old new : Standing (Held S)) (w : World) → StandsFor g old w → (new.phase ≡ Ready) × (new.line.list ≡ []) → Stands g new → line_state new.line ≡ w.disk
+  pub opened_again : (old new : Standing (Held S)) (w : World) → IsPublisherOf g old w → (new.phase ≡ Ready) × (new.line.list ≡ []) → Stands g new → line_state new.line ≡ w.disk
       → OpensAgain g w new
   opened_again old new w s first kept found =
       let a = stops old.line w.disk s.moment w (open_moment old.phase old.command s.moment s.is) s.place in
@@ -153,39 +154,51 @@ module _ (line : Line) (disk : State) (command : Command) where
   cut_kept_goes = (at calls.Write, λ w h. begins line disk w command h, (at calls.Count, λ w h. writes line disk w command h, (at calls.Commit, λ w h. counts line disk w command h, (spot line (apply (line_state line) command) moments.Stopped, λ w h. stops_kept line disk command w h, refl))))
 
 module _ {S : Type 0} (g : Ghosts S) where
-  -- Stopped within a store call of a commit: what is left is the published state or, within the commit call alone, the one after the command.
-  pub stopped_in : (old new : Standing (Held S)) → old.phase ≡ Prepared → (call : StoreCall) (left : State) → (left ≡ line_state old.line) ⊎ ((call ≡ calls.Commit) × (Some left ≡ after_command (line_state old.line) old.command))
-      → (new.phase ≡ Ready) × (new.line.list ≡ []) → Stands g new → line_state new.line ≡ left → (fate : Fate) × StopsBy g old new call fate
-  stopped_in old new phase call left may opened kept found = elim may [
+  -- Stopped within a store call of a commit: what is left is the published state or, within the commit call alone, the one after the command. It is on disk in a world that is stopped there.
+  pub stopped_at : (old : Standing (Held S)) → old.phase ≡ Prepared → (call : StoreCall) (left : State) → (left ≡ line_state old.line) ⊎ ((call ≡ calls.Commit) × (Some left ≡ after_command (line_state old.line) old.command))
+      → (fate : Fate) × ((w : World) → IsPublisherOf g old w → (all : List Event) → own all ≡ stop_events call fate → (own_outcomes w all ≡ stop_outcomes call) × IsAt (spot old.line left moments.Stopped) (run_from w all))
+  stopped_at old phase call left may = elim may [
     | inl same ↦ (
       Lost,
       λ w s all e.
           let c = prepared_command old.command s.moment (s.is ∙ ap (λ (p : Phase). moment_of p old.command) phase) in
-          let first = spot old.line w.disk (moments.Prepared c.0 calls.Begin) in
-          let place : IsAt first w = subst (λ (m : Moment). IsAt (spot old.line w.disk m) w) c.2 s.place in
-          let r = woven all (stop_events call Lost) (stop_outcomes call) first (spot old.line w.disk moments.Stopped) w e (cut_goes old.line w.disk c.0 call) place in
-          let is_left : w.disk ≡ left = disk_before old.line w.disk w c.0 place ∙ sym same in
-          let o = opened_after g old.line w.disk new (run_from w all) r.1 opened kept (found ∙ sym is_left) in
-          (r.0, o.0, o.1),
+          let place = place_in g old old w s Prepared (moments.Prepared c.0 calls.Begin) phase (sym (ap (moment_of Prepared) c.1)) in
+          let r = woven all (stop_events call Lost) (stop_outcomes call) (spot old.line w.disk (moments.Prepared c.0 calls.Begin)) (spot old.line w.disk moments.Stopped) w e (cut_goes old.line w.disk c.0 call) place in
+          (r.0, subst (λ (d : State). IsAt (spot old.line d moments.Stopped) (run_from w all)) (disk_before old.line w.disk w c.0 place ∙ sym same) r.1),
     )
     | inr more ↦ (
       Kept,
       λ w s all e.
           let c = prepared_command old.command s.moment (s.is ∙ ap (λ (p : Phase). moment_of p old.command) phase) in
           let next : State = apply (line_state old.line) c.0 in
-          let first = spot old.line w.disk (moments.Prepared c.0 calls.Begin) in
-          let place : IsAt first w = subst (λ (m : Moment). IsAt (spot old.line w.disk m) w) c.2 s.place in
+          let place = place_in g old old w s Prepared (moments.Prepared c.0 calls.Begin) phase (sym (ap (moment_of Prepared) c.1)) in
           let e' : own all ≡ stop_events calls.Commit Kept = e ∙ ap (λ (k : StoreCall). stop_events k Kept) more.0 in
-          let r = woven all (stop_events calls.Commit Kept) (stop_outcomes calls.Commit) first (spot old.line next moments.Stopped) w e' (cut_kept_goes old.line w.disk c.0) place in
+          let r = woven all (stop_events calls.Commit Kept) (stop_outcomes calls.Commit) (spot old.line w.disk (moments.Prepared c.0 calls.Begin)) (spot old.line next moments.Stopped) w e' (cut_kept_goes old.line w.disk c.0) place in
           let is_left : next ≡ left = sym (one_state left next (more.1 ∙ ap (after_command (line_state old.line)) c.1)) in
-          let o = opened_after g old.line next new (run_from w all) r.1 opened kept (found ∙ sym is_left) in
-          (r.0 ∙ ap stop_outcomes (sym more.0), o.0, o.1),
+          (r.0 ∙ ap stop_outcomes (sym more.0), subst (λ (d : State). IsAt (spot old.line d moments.Stopped) (run_from w all)) is_left r.1),
     )
   ]
 
-  -- in terms of the connection that the stop left
+  -- what a connection holds whose commit was stopped there
+  pub cut_left : (old : Standing (Held S)) (call : StoreCall) (now : Held S) (left : State) → Stands g old → IsCutShort g old call now → IsKnown g old.format_1 now → MayLeave g now left
+      → (left ≡ line_state old.line) ⊎ ((call ≡ calls.Commit) × (Some left ≡ after_command (line_state old.line) old.command))
+  cut_left old call now left stood was known may =
+      let keeps : IsKnown g old.format_1 old.tables → IsStored g old.tables (line_state old.line) = λ known. subst (λ (p : Phase). Agrees g p old.command (line_state old.line) old.tables) was.prepared (stood known) in
+      elim (stopped_leaves g (line_state old.line) old.format_1 old.tables now was.command call was.change was.storable keeps was.makes was.stops known left may) [
+        | inl same ↦ inl same
+        | inr more ↦ inr (more.0, ap Some more.1 ∙ sym (ap (after_command (line_state old.line)) was.under_way))
+      ]
+
+  -- and it is opened again
   pub stopped_there : (new : Standing (Held S)) (trees : Trees) → (new.phase ≡ Ready) × (new.line.list ≡ []) → Stands g new → ((stored : State) → Spells trees stored → line_state new.line ≡ stored) → AdoptsStopped g trees new
   stopped_there new trees opened kept found old call now left stood was known may spelled =
-      let keeps : IsKnown g old.format_1 old.tables → IsStored g old.tables (line_state old.line) = λ known. subst (λ (p : Phase). Agrees g p old.command (line_state old.line) old.tables) was.prepared (stood known) in
-      let left_is = stopped_leaves g (line_state old.line) old.format_1 old.tables now was.command call was.change was.storable keeps was.makes was.stops known left (trees, may, spelled) in
-      stopped_in old new was.prepared call left (elim left_is [ inl same ↦ inl same | inr more ↦ inr (more.0, ap Some more.1 ∙ sym (ap (after_command (line_state old.line)) was.under_way)) ]) opened kept (found left spelled)
+      let at = stopped_at old was.prepared call left (cut_left old call now left stood was known (trees, may, spelled)) in (
+        at.0,
+        (
+          opened.0,
+          λ w s all e.
+              let there = at.1 w s all e in
+              let o = opened_after g old.line left new (run_from w all) there.1 opened kept (found left spelled) in
+              (there.0, o.0, o.1),
+        ),
+      )

@@ -1,5 +1,5 @@
 -- The version of an admitted command is made, or there is no memory for it.
-use Rattle.std.proofs.Common.{◌≡◌, ◌+◌, ◌∙◌, [], Option, Some, None, refl, subst, sym}
+use Rattle.std.proofs.Common.{◌≡◌, ◌+◌, ◌∙◌, [], Option, Some, None, ap, refl, subst, sym}
 use Rattle.sqlite.specs.Held.{Held}
 use Rattle.sqlite.specs.Store.{Ghosts}
 use Rattle.prt_command.specs.declared.request.Command.{Command}
@@ -12,7 +12,7 @@ use Rattle.prt_world.specs.World.{World}
 use Rattle.prt_world.specs.declared.event.Event.TheVariants as events
 use Rattle.prt_world.specs.declared.outcome.Outcome.TheVariants as outcomes
 use Rattle.prt_follows.specs.Laws.{Plans, PlansBy}
-use Rattle.prt_follows.specs.StandsFor.{Leads, StandsFor}
+use Rattle.prt_follows.specs.Publishers.{Leads, IsPublisherOf}
 use Rattle.prt_follows.proofs.Exits.{not_planned, planned}
 use Rattle.prt_follows.proofs.Joined.{idle, leads_by}
 use Rattle.prt_front.specs.Line.{line_state}
@@ -25,9 +25,9 @@ module _ {S : Type 0} (g : Ghosts S) (old new : Standing (Held S)) where
   pub plans : old.phase ≡ Admitted → new ≡ record old { phase = Prepared } → IsAllowed (line_state old.line) old.command → Plans g old new
   plans phase is allowed =
       let c = allowed_one (line_state old.line) old.command allowed in
-      (c.0, c.1, leads_by g old new (events.Submit c.0) (outcomes.Prepared ((line_state old.line).count + 1)) (λ v s. planned g old new v s c.0 phase c.1 is c.2))
+      (c.0, c.1, (ap (λ (p : Standing (Held S)). p.phase) is, leads_by g old new (events.Submit c.0) (outcomes.Prepared ((line_state old.line).count + 1)) (λ v s. planned g old new v s c.0 phase c.1 is c.2)))
 
-  pub plans_not : old.phase ≡ Admitted → new ≡ record old { phase = Ready; command = None } → (w : World) → StandsFor g old w → Leads g w [] [] new
+  pub plans_not : old.phase ≡ Admitted → new ≡ record old { phase = Ready; command = None } → (w : World) → IsPublisherOf g old w → Leads g w [] [] new
   plans_not phase is w s = idle g new w (not_planned g old new w s phase is)
 
   one_command : (a b : Command) → Some a ≡ Some b → a ≡ b

@@ -26,8 +26,12 @@ use Rattle.prt_world.proofs.Phases.{Holds, Phased, version_kept}
 use Rattle.prt_world.proofs.SideBySide.{all_pass, map_set_same, none_pass}
 use Rattle.prt_follows.specs.Spots.{IsAt, IsReached, Spot}
 use Rattle.prt_follows.specs.Events.{is_lookers}
-use Rattle.prt_follows.specs.Registers.{Registers, brought_online, registry_after, taken_offline, told_number, unnoted_version}
+use Rattle.prt_follows.specs.Registries.{IsRegistryOf, brought_online, registry_after, taken_offline, told_number}
 use Rattle.prt_follows.proofs.Steps.{holds_of, number_of, phased_of, shown_number}
+
+-- the version that is published and not noted
+abbrev unnoted_version : Bool → State → List State
+unnoted_version noted state = cond noted [] (state ∷ [])
 
 each_unnoted_version : (P : State → Type 0) (b : Bool) (state : State) → P state → Each P (unnoted_version b state)
 each_unnoted_version P true state here = tt
@@ -43,12 +47,12 @@ is_high : (noted count : ℕ) → noted ≤ count → nat_lt count noted ≡ fal
 is_high noted count high = grind (arith, nat_tests)
 
 -- the versions that are not retired have the noted number or a later one
-tops_high : (r : RegistryState) (w : World) → w.noted ≤ w.published → (published_version w).count ≡ w.published → Registers r w → Each (λ state. w.noted ≤ state.count) (tops r w)
+tops_high : (r : RegistryState) (w : World) → w.noted ≤ w.published → (published_version w).count ≡ w.published → IsRegistryOf r w → Each (λ state. w.noted ≤ state.count) (tops r w)
 tops_high r w low number s =
     let noted : r.noted.count ≡ w.noted = s.noted in
     (omega arith, each_unnoted_version (λ state. w.noted ≤ state.count) (w.noted == w.published) (published_version w) (omega arith))
 
-module _ (r : RegistryState) (w : World) (reached : IsReached w) (s : Registers r w) where
+module _ (r : RegistryState) (w : World) (reached : IsReached w) (s : IsRegistryOf r w) where
   highs : Each (λ state. w.noted ≤ state.count) (tops r w)
   highs = tops_high r w (holds_of w reached).counts.noted_low (shown_number w reached) s
 
@@ -67,7 +71,7 @@ module _ (r : RegistryState) (w : World) (reached : IsReached w) (s : Registers 
 
   -- ---- reclaim
 
-  pub registers_reclaimed : Registers (reclaimed r) (world.reclaim w).world
+  pub registers_reclaimed : IsRegistryOf (reclaimed r) (world.reclaim w).world
   registers_reclaimed =
       let told = map announced_by w.lookers in
       let q = λ (state : State). stays w.noted told state.count in
@@ -89,9 +93,9 @@ module _ (r : RegistryState) (w : World) (reached : IsReached w) (s : Registers 
 
 -- ---- publish and note
 
-module _ (line : Line) (disk : State) (command : Command) (r : RegistryState) (w : World) (s : Registers r w) where
+module _ (line : Line) (disk : State) (command : Command) (r : RegistryState) (w : World) (s : IsRegistryOf r w) where
   -- one more version, which is not noted
-  pub registers_published : (h : IsAt (record { line = line; disk = disk; moment = moments.Committed command }) w) → published_version (world.publish w (moments.Committed command)).world ≡ apply (published_version w) command → Registers r (world.publish w (moments.Committed command)).world
+  pub registers_published : (h : IsAt (record { line = line; disk = disk; moment = moments.Committed command }) w) → published_version (world.publish w (moments.Committed command)).world ≡ apply (published_version w) command → IsRegistryOf r (world.publish w (moments.Committed command)).world
   registers_published h shown =
       let holds : Holds w = holds_of w h.reached in
       let phased : Phased w (moments.Committed command) = phased_of w (moments.Committed command) h.reached h.moment in
@@ -110,7 +114,7 @@ module _ (line : Line) (disk : State) (command : Command) (r : RegistryState) (w
       }
 
   -- the note takes place, and retires the version that was noted
-  pub registers_noted : (h : IsAt (record { line = line; disk = disk; moment = moments.Published command }) w) → (version : State) → version ≡ line_state line → (noted_by r version ≡ with_noted r version) × Registers (noted_by r version) (world.note w (moments.Published command)).world
+  pub registers_noted : (h : IsAt (record { line = line; disk = disk; moment = moments.Published command }) w) → (version : State) → version ≡ line_state line → (noted_by r version ≡ with_noted r version) × IsRegistryOf (noted_by r version) (world.note w (moments.Published command)).world
   registers_noted h version is =
       let spot : Spot = record { line = line; disk = disk; moment = moments.Published command } in
       let phased : Phased w (moments.Published command) = phased_of w (moments.Published command) h.reached h.moment in
@@ -128,13 +132,13 @@ module _ (line : Line) (disk : State) (command : Command) (r : RegistryState) (w
       ∙ ap (λ (state : State). r.retired ++ r.noted ∷ (state ∷ [])) shown
       ∙ sym (append_assoc r.retired (r.noted ∷ []) (version ∷ []))
       ∙ ap (λ b. (r.retired ++ r.noted ∷ []) ++ version ∷ unnoted_version b (published_version w)) (sym (same_number w.published w.published refl)) in
-      let after : Registers (with_noted r version) (world.note w (moments.Published command)).world = record {
+      let after : IsRegistryOf (with_noted r version) (world.note w (moments.Published command)).world = record {
         noted = count;
         below = each_append (λ state. state.count < w.published) r.retired (r.noted ∷ []) (each_implies (λ state. state.count < w.noted) (λ state. state.count < w.published) (λ state low. omega arith) r.retired s.below) (omega arith, tt);
         all = all;
         told = s.told;
       } in
-      (notes, subst (λ (q : RegistryState). Registers q (world.note w (moments.Published command)).world) (sym notes) after)
+      (notes, subst (λ (q : RegistryState). IsRegistryOf q (world.note w (moments.Published command)).world) (sym notes) after)
 
 -- ---- a registry that is opened
 
@@ -143,7 +147,7 @@ none_told zero = refl
 none_told (suc n) = ap (λ xs. None ∷ xs) (none_told n)
 
 -- a new registry stands for a world that was just opened
-pub registers_opened : (w : World) (opened : State) → opened ≡ w.disk → Registers (new_registry opened) (world.reopened w)
+pub registers_opened : (w : World) (opened : State) → opened ≡ w.disk → IsRegistryOf (new_registry opened) (world.reopened w)
 registers_opened w opened is =
     let shown : published_version (world.reopened w) ≡ w.disk = version_kept (world.reopened w) w.disk.count w.disk (kept_alone w.disk) in
     record {
@@ -153,14 +157,14 @@ registers_opened w opened is =
       told = none_told PLACES;
     }
 
-pub registers_started : Registers (new_registry opening_state) start
+pub registers_started : IsRegistryOf (new_registry opening_state) start
 registers_started = record { noted = refl; below = tt; all = refl; told = none_told PLACES }
 
 -- ---- lookers
 
-module _ (r : RegistryState) (w : World) (s : Registers r w) where
+module _ (r : RegistryState) (w : World) (s : IsRegistryOf r w) where
   -- a looker and its place announce the same
-  pub sits : (i : ℕ) (place : PlaceState) (state : LookerState) → announced place ≡ announced_by state → Registers (with_place r i place) (world.with_looker w i state)
+  pub sits : (i : ℕ) (place : PlaceState) (state : LookerState) → announced place ≡ announced_by state → IsRegistryOf (with_place r i place) (world.with_looker w i state)
   sits i place state same = record {
     noted = s.noted;
     below = s.below;
@@ -172,17 +176,17 @@ module _ (r : RegistryState) (w : World) (s : Registers r w) where
         ∙ sym (map-set announced_by w.lookers i state);
   }
 
-  pub goes_online : (i : ℕ) → Registers (with_place r i (places.Online r.noted.count)) (world.go_online w i offline).world
+  pub goes_online : (i : ℕ) → IsRegistryOf (with_place r i (places.Online r.noted.count)) (world.go_online w i offline).world
   goes_online i = sits i (places.Online r.noted.count) (online w.noted None) (ap Some s.noted)
 
-  pub announces_held : (i before held : ℕ) → Registers (with_place r i (places.Online held)) (world.announce w i (online before (Some held))).world
+  pub announces_held : (i before held : ℕ) → IsRegistryOf (with_place r i (places.Online held)) (world.announce w i (online before (Some held))).world
   announces_held i before held = sits i (places.Online held) (online held (Some held)) refl
 
-  pub goes_offline : (i before : ℕ) (held : Option ℕ) → Registers (with_place r i places.Offline) (world.go_offline w i (online before held)).world
+  pub goes_offline : (i before : ℕ) (held : Option ℕ) → IsRegistryOf (with_place r i places.Offline) (world.go_offline w i (online before held)).world
   goes_offline i before held = sits i places.Offline offline refl
 
   -- what a looker fetches or looks up is nothing to the registry
-  pub fetches_one : (i before : ℕ) (held : Option ℕ) → looker_state w i ≡ online before held → Registers r (world.fetch w i (online before held)).world
+  pub fetches_one : (i before : ℕ) (held : Option ℕ) → looker_state w i ≡ online before held → IsRegistryOf r (world.fetch w i (online before held)).world
   fetches_one i before held is = record {
     noted = s.noted;
     below = s.below;
@@ -191,38 +195,38 @@ module _ (r : RegistryState) (w : World) (s : Registers r w) where
   }
 
   -- a place is taken or freed, of a looker that is offline
-  pub joins : (i : ℕ) (place past : PlaceState) → announced place ≡ announced (get_or r.places i past) → Registers (with_place r i place) w
+  pub joins : (i : ℕ) (place past : PlaceState) → announced place ≡ announced (get_or r.places i past) → IsRegistryOf (with_place r i place) w
   joins i place past same = record { noted = s.noted; below = s.below; all = s.all; told = map_set_same announced r.places i place past same ∙ s.told }
 
   -- an event of a looker, by the state that the looker is in
 
-  onlines : (i : ℕ) (state : LookerState) → Registers (brought_online r i state) (world.go_online w i state).world
+  onlines : (i : ℕ) (state : LookerState) → IsRegistryOf (brought_online r i state) (world.go_online w i state).world
   onlines i offline = goes_online i
   onlines i (online announced held) = s
 
-  fetches : (i : ℕ) (state : LookerState) → looker_state w i ≡ state → Registers r (world.fetch w i state).world
+  fetches : (i : ℕ) (state : LookerState) → looker_state w i ≡ state → IsRegistryOf r (world.fetch w i state).world
   fetches i offline is = s
   fetches i (online announced held) is = fetches_one i announced held is
 
-  announces : (i : ℕ) (state : LookerState) → Registers (told_number r i state) (world.announce w i state).world
+  announces : (i : ℕ) (state : LookerState) → IsRegistryOf (told_number r i state) (world.announce w i state).world
   announces i offline = s
   announces i (online announced None) = s
   announces i (online announced (Some held)) = announces_held i announced held
 
-  offlines : (i : ℕ) (state : LookerState) → Registers (taken_offline r i state) (world.go_offline w i state).world
+  offlines : (i : ℕ) (state : LookerState) → IsRegistryOf (taken_offline r i state) (world.go_offline w i state).world
   offlines i offline = s
   offlines i (online announced held) = goes_offline i announced held
 
-  looks : (packet : _) (state : LookerState) → Registers r (world.look w packet state).world
+  looks : (packet : _) (state : LookerState) → IsRegistryOf r (world.look w packet state).world
   looks packet offline = s
   looks packet (online announced None) = s
   looks packet (online announced (Some held)) = record { noted = s.noted; below = s.below; all = s.all; told = s.told }
 
-going : (r : RegistryState) (w : World) (step : Step) → world.is_stopped w.phase ≡ false → Registers r step.world → Registers r (cond (world.is_stopped w.phase) (world.unmet w) step).world
-going r w step is h = subst (λ b. Registers r (cond b (world.unmet w) step).world) (sym is) h
+going : (r : RegistryState) (w : World) (step : Step) → world.is_stopped w.phase ≡ false → IsRegistryOf r step.world → IsRegistryOf r (cond (world.is_stopped w.phase) (world.unmet w) step).world
+going r w step is h = subst (λ b. IsRegistryOf r (cond b (world.unmet w) step).world) (sym is) h
 
 -- an event of a looker, while the service runs
-pub registers_beside : (r : RegistryState) (w : World) (event : Event) → is_lookers event ≡ true → world.is_stopped w.phase ≡ false → IsReached w → Registers r w → Registers (registry_after r w event) (step w event).world
+pub registers_beside : (r : RegistryState) (w : World) (event : Event) → is_lookers event ≡ true → world.is_stopped w.phase ≡ false → IsReached w → IsRegistryOf r w → IsRegistryOf (registry_after r w event) (step w event).world
 registers_beside r w (events.Online i) is runs reached s = going (brought_online r i (looker_state w i)) w (world.go_online w i (looker_state w i)) runs (onlines r w s i (looker_state w i))
 registers_beside r w (events.Fetch i) is runs reached s = going r w (world.fetch w i (looker_state w i)) runs (fetches r w s i (looker_state w i) refl)
 registers_beside r w (events.Announce i) is runs reached s = going (told_number r i (looker_state w i)) w (world.announce w i (looker_state w i)) runs (announces r w s i (looker_state w i))

@@ -1,9 +1,10 @@
 -- The lines of a script are a list of the world's events.
-use Rattle.std.proofs.Common.{◌≡◌, ℕ, Bool, true, false, not, ◌&&◌, List, [], ◌∷◌, ◌++◌, Option, Some, None, Result, Ok, Err, length, map, refl, sym, ap, ◌∙◌, subst, cond}
+use Rattle.std.proofs.Common.{◌≡◌, ◌⊎◌, inl, inr, ℕ, Bool, true, false, not, ◌&&◌, List, [], ◌∷◌, ◌++◌, Option, Some, None, Result, Ok, Err, length, map, refl, sym, ap, ◌∙◌, subst, cond}
 use Rattle.std.specs.Prelude.{filter, nat_lt}
 use Rattle.std.specs.List.{AllByRecursion as Each, list_any}
 use Rattle.std.proofs.lemmas.List.{append-nil, append_assoc}
 use Rattle.prt_addr.specs.declared.refusal.Refusal.{Refusal}
+use Rattle.prt_addr.specs.declared.refusal.Refusal.TheVariants.{Busy}
 use Rattle.prt_addr.specs.declared.refusal.StoreCall.{StoreCall}
 use Rattle.prt_addr.specs.declared.refusal.StoreCall.TheVariants as calls
 use Rattle.prt_command.specs.Reading.{reading}
@@ -16,7 +17,9 @@ use Rattle.prt_grace.specs.GracePeriod.{is_retired, may_hold}
 use Rattle.prt_grace.specs.declared.limits.TheConstants.{MOST_RETIRED, PLACES}
 use Rattle.prt_session.specs.Desk.{DeskState, Mishap, command_or_refusal, command_turn, commit_kept, no_memory, no_room, publication_fails, query_turn, request_turn, settled, store_fails}
 use Rattle.prt_session.specs.Session as session
-use Rattle.prt_session.specs.Session.{Exchange, turn_on}
+use Rattle.prt_session.specs.Session.{Exchange, Turn, turn_on}
+use Rattle.prt_session.specs.declared.reply.Reply.{Reply}
+use Rattle.prt_session.specs.declared.reply.Reply.TheVariants.{Refused}
 use Rattle.prt_version.specs.Change.{refusal}
 use Rattle.prt_version.specs.State.{State, opening_state}
 use Rattle.prt_world.specs.World as world
@@ -29,49 +32,26 @@ use Rattle.prt_world.specs.declared.phase.Phase.{Phase as Moment}
 use Rattle.prt_world.specs.declared.phase.Phase.TheVariants as moments
 use Rattle.prt_world.proofs.History.{stays}
 use Rattle.prt_world.proofs.KeptVersions.{each_replicate}
-use Rattle.prt_follows.specs.Desks.{AreOffline, HasRoomFor, IsDeskOf, ReopenedDesk, ScriptIsRun, Sessions, SessionsHold, Weaves, accepted_by, accepted_in, desk_events, events_by, moment_between, reply_acks, request_acks, submitted_events}
-use Rattle.prt_follows.specs.Events.{commit_events, fail_events, publish_events}
-use Rattle.prt_follows.specs.Spots.{HasRoom, IsReached}
+use Rattle.prt_follows.specs.Desks.{AreOffline, DeskHasRoom, HasRoomFor, IsDeskOf, Lines, ReopenedDesk, ScriptIsRun, Sessions, SessionsHold, ShowsReply, Weaves, accepted_by, accepted_in, desk_events, events_by, joined, moment_between, reply_acks, request_acks, shown_reply, submitted_events}
+use Rattle.prt_follows.specs.Events.{commit_events, fail_events, own_outcomes, publish_events}
+use Rattle.prt_follows.specs.Spots.{HasRoom, IsAt, IsReached}
 use Rattle.prt_follows.proofs.Acks.{event_keeps}
 use Rattle.prt_follows.proofs.Between.{stays_there}
 use Rattle.prt_follows.proofs.Desks.{desk_of, turn_is_steps}
 use Rattle.prt_follows.proofs.Exits.{spot}
 use Rattle.prt_follows.proofs.Headline.{holds_all}
+use Rattle.prt_follows.proofs.Keeping.{Keeps, is_storing, storing_keeps}
 use Rattle.prt_follows.proofs.Opening.{reopens, stops}
 use Rattle.prt_follows.proofs.Steps.{holds_of, line_at, placed, run_more}
 
 -- ---- a desk's events leave lookers as they are
 
 abbrev Seats : World → Step → Type 0
-Seats w s = s.world.lookers ≡ w.lookers
-
-prepare_seats : (w : World) (command : Command) (why : Option Refusal) (room : Bool) → Seats w (world.prepare w command why room)
-prepare_seats w command (Some why) room = refl
-prepare_seats w command None true = refl
-prepare_seats w command None false = refl
-
-submit_seats : (w : World) (command : Command) (moment : Moment) → Seats w (world.submit w command moment)
-submit_seats w command moments.Ready = prepare_seats w command (refusal (published_version w) command) (has_room w)
-submit_seats w command moment = refl
-
-call_seats : (w : World) (moment : Moment) → Seats w (world.call w moment)
-call_seats w (moments.Prepared command calls.Begin) = refl
-call_seats w (moments.Prepared command calls.Write) = refl
-call_seats w (moments.Prepared command calls.Count) = refl
-call_seats w (moments.Prepared command calls.Commit) = refl
-call_seats w moment = refl
-
-fail_seats : (w : World) (fate : Fate) (moment : Moment) → Seats w (world.fail w fate moment)
-fail_seats w fate (moments.Prepared command next) = refl
-fail_seats w fate moment = refl
+Seats = Keeps (λ w. w.lookers)
 
 publish_seats : (w : World) (moment : Moment) → Seats w (world.publish w moment)
 publish_seats w (moments.Committed command) = refl
 publish_seats w moment = refl
-
-publish_fail_seats : (w : World) (moment : Moment) → Seats w (world.fail_publication w moment)
-publish_fail_seats w (moments.Committed command) = refl
-publish_fail_seats w moment = refl
 
 note_seats : (w : World) (moment : Moment) → Seats w (world.note w moment)
 note_seats w (moments.Published command) = refl
@@ -80,6 +60,9 @@ note_seats w moment = refl
 ack_seats : (w : World) (moment : Moment) → Seats w (world.acknowledge w moment)
 ack_seats w (moments.Noted command) = refl
 ack_seats w moment = refl
+
+storing_seats : (w : World) (event : Event) → is_storing event ≡ true → Seats w (step w event)
+storing_seats = storing_keeps (λ w. w.lookers) (λ w accepted disk pending moment. refl)
 
 abbrev pub is_command : Event → Bool
 is_command (events.Submit command) = true
@@ -92,11 +75,11 @@ is_command events.Ack = true
 is_command event = false
 
 pub event_seats : (w : World) (event : Event) → is_command event ≡ true → Seats w (step w event)
-event_seats w (events.Submit command) is = submit_seats w command w.phase
-event_seats w events.Call is = call_seats w w.phase
-event_seats w (events.Fail fate) is = fail_seats w fate w.phase
+event_seats w (events.Submit command) is = storing_seats w (events.Submit command) refl
+event_seats w events.Call is = storing_seats w events.Call refl
+event_seats w (events.Fail fate) is = storing_seats w (events.Fail fate) refl
 event_seats w events.Publish is = publish_seats w w.phase
-event_seats w events.PublishFail is = publish_fail_seats w w.phase
+event_seats w events.PublishFail is = storing_seats w events.PublishFail refl
 event_seats w events.Note is = note_seats w w.phase
 event_seats w events.Ack is = ack_seats w w.phase
 event_seats w event is = absurd cc
@@ -158,13 +141,29 @@ room_then w all =
 
 -- ---- one line
 
--- some events lead to a world of that desk, without lookers, and acknowledge these
-abbrev Reaches : World → DeskState → List Ack → Type 0
-Reaches w desk acks = (list : List Event) × IsDeskOf desk (run_from w list) × AreOffline (run_from w list) × ((run_from w list).acks ≡ w.acks ++ acks)
+-- a desk's world is between commands, and not stopped
+going : (b : Bool) → world.is_stopped (moment_between b) ≡ false
+going true = refl
+going false = refl
+
+between_there : (w : World) (desk : DeskState) → IsDeskOf desk w → IsAt (spot (line_at w) w.disk (moment_between desk.closed)) w
+between_there w desk h = placed w (moment_between desk.closed) h.reached h.between (asked desk.closed)
+  where
+    asked : (b : Bool) → HasRoom w (moment_between b)
+    asked true = tt
+    asked false = tt
+
+-- some events that show this lead to a world of that desk, without lookers, and acknowledge these
+abbrev Reaches : World → (List Event → Type 0) → DeskState → List Ack → Type 0
+Reaches w Part desk acks = (list : List Event) × Part list × IsDeskOf desk (run_from w list) × AreOffline (run_from w list) × ((run_from w list).acks ≡ w.acks ++ acks)
+
+-- those of a command's turn
+abbrev Turned : World → Command → Turn DeskState → Type 0
+Turned w command turn = Reaches w (λ list. (shown_reply (own_outcomes w list) ≡ turn.reply) ⊎ ((turn.reply ≡ Refused Busy) × (list ≡ []))) turn.desk (reply_acks command turn.reply)
 
 module _ (w : World) (desk : DeskState) (h : IsDeskOf desk w) (all : AreOffline w) where
-  nothing_done : Reaches w desk []
-  nothing_done = ([], h, all, sym (append-nil w.acks))
+  nothing_done : Reaches w (λ list. list ≡ []) desk []
+  nothing_done = ([], refl, h, all, sym (append-nil w.acks))
 
   -- a reclaim leaves the desk's world as it is, with room
   reclaimed : IsDeskOf desk (step w events.Reclaim).world × AreOffline (step w events.Reclaim).world × (has_room (step w events.Reclaim).world ≡ true)
@@ -172,48 +171,44 @@ module _ (w : World) (desk : DeskState) (h : IsDeskOf desk w) (all : AreOffline 
       let moment = moment_between desk.closed in
       let runs : world.is_stopped w.phase ≡ false = ap world.is_stopped h.between ∙ going desk.closed in
       let is : step w events.Reclaim ≡ world.reclaim w = ap (λ b. cond b (world.unmet w) (world.reclaim w)) runs in
-      let there = stays_there (spot (line_at w) w.disk moment) w events.Reclaim refl (placed w moment h.reached h.between (no_room_asked desk.closed)) in (
+      let there = stays_there (spot (line_at w) w.disk moment) w events.Reclaim refl (between_there w desk h) in (
         desk_of desk (line_at w) w.disk moment (step w events.Reclaim).world there refl h.published h.stored,
         subst (λ (s : Step). AreOffline s.world) (sym is) all,
         ap (λ (s : Step). has_room s.world) is ∙ room_then w all,
       )
-    where
-      going : (b : Bool) → world.is_stopped (moment_between b) ≡ false
-      going true = refl
-      going false = refl
 
-      no_room_asked : (b : Bool) → HasRoom w (moment_between b)
-      no_room_asked true = tt
-      no_room_asked false = tt
-
-  turned : (command : Command) (mishap : Option Mishap) → HasRoomFor (step w events.Reclaim).world mishap → Reaches w (command_turn desk command mishap).desk (reply_acks command (command_turn desk command mishap).reply)
-  turned command mishap room =
+  acted : (command : Command) (mishap : Option Mishap) → (desk.closed ≡ false → refusal desk.published command ≡ None → HasRoomFor (step w events.Reclaim).world mishap) → Turned w command (command_turn desk command mishap)
+  acted command mishap room =
       let v : World = (step w events.Reclaim).world in
       let list = desk_events desk command mishap in
       let is = plain command desk.closed (refusal desk.published command) mishap in
-      let t = turn_is_steps desk v command mishap reclaimed.0 (λ _ _. room) list is.1 in
+      let t = turn_is_steps desk v command mishap reclaimed.0 room list is.1 in
       let kept : v.acks ≡ w.acks = event_keeps w events.Reclaim refl in (
         events.Reclaim ∷ list,
+        inl t.0,
         t.1,
         subst (λ (ls : List LookerState). Each (λ looker. looker ≡ offline) ls) (sym (list_seats list is.0 v)) reclaimed.1,
         t.2 ∙ ap (λ acks. acks ++ reply_acks command (command_turn desk command mishap).reply) kept,
       )
 
-  -- refused for want of room, or for lack of memory: nothing is done
-  left_out : (command : Command) (shuts : Bool) (reason : Option Refusal) → Reaches w (command_or_refusal desk command shuts reason (Some no_room)).desk (reply_acks command (command_or_refusal desk command shuts reason (Some no_room)).reply)
-  left_out command true reason = nothing_done
-  left_out command false (Some why) = nothing_done
-  left_out command false None = nothing_done
+  -- refused for want of room, unless for another reason
+  without_room : (command : Command) (shuts : Bool) (reason : Option Refusal) → desk.closed ≡ shuts → refusal desk.published command ≡ reason → Turned w command (command_turn desk command (Some no_room))
+  without_room command true reason is asked = acted command (Some no_room) (λ closed _. absurd (let both : true ≡ false = sym is ∙ closed in cc))
+  without_room command false (Some why) is asked = acted command (Some no_room) (λ _ allowed. absurd (let both : Some why ≡ None = sym asked ∙ allowed in cc))
+  without_room command false None is asked =
+      let turn : command_turn desk command (Some no_room) ≡ record { reply = Refused Busy; desk = desk } =
+      ap (λ b. command_or_refusal desk command b (refusal desk.published command) (Some no_room)) is ∙ ap (λ r. command_or_refusal desk command false r (Some no_room)) asked in
+      subst (Turned w command) (sym turn) ([], inr (refl, refl), h, all, sym (append-nil w.acks))
 
-  commanded : (command : Command) (mishap : Option Mishap) → Reaches w (command_turn desk command mishap).desk (reply_acks command (command_turn desk command mishap).reply)
-  commanded command None = turned command None reclaimed.2
-  commanded command (Some no_room) = left_out command desk.closed (refusal desk.published command)
-  commanded command (Some no_memory) = turned command (Some no_memory) tt
-  commanded command (Some (store_fails call)) = turned command (Some (store_fails call)) reclaimed.2
-  commanded command (Some commit_kept) = turned command (Some commit_kept) reclaimed.2
-  commanded command (Some publication_fails) = turned command (Some publication_fails) reclaimed.2
+  commanded : (command : Command) (mishap : Option Mishap) → Turned w command (command_turn desk command mishap)
+  commanded command None = acted command None (λ _ _. reclaimed.2)
+  commanded command (Some no_room) = without_room command desk.closed (refusal desk.published command) refl refl
+  commanded command (Some no_memory) = acted command (Some no_memory) (λ _ _. tt)
+  commanded command (Some (store_fails call)) = acted command (Some (store_fails call)) (λ _ _. reclaimed.2)
+  commanded command (Some commit_kept) = acted command (Some commit_kept) (λ _ _. reclaimed.2)
+  commanded command (Some publication_fails) = acted command (Some publication_fails) (λ _ _. reclaimed.2)
 
-  queried : (query : Query) (mishap : Option Mishap) → Reaches w (query_turn desk query mishap).desk []
+  queried : (query : Query) (mishap : Option Mishap) → Reaches w (λ list. list ≡ []) (query_turn desk query mishap).desk []
   queried query None = nothing_done
   queried query (Some no_room) = nothing_done
   queried query (Some no_memory) = nothing_done
@@ -221,7 +216,8 @@ module _ (w : World) (desk : DeskState) (h : IsDeskOf desk w) (all : AreOffline 
   queried query (Some commit_kept) = nothing_done
   queried query (Some publication_fails) = nothing_done
 
-  lined : (asked : Result (Option Request) Refusal) (mishap : Option Mishap) → Reaches w (turn_on request_turn desk asked mishap).desk (request_acks asked (turn_on request_turn desk asked mishap).reply)
+  lined : (asked : Result (Option Request) Refusal) (mishap : Option Mishap)
+      → Reaches w (λ list. ShowsReply w list asked (turn_on request_turn desk asked mishap).reply) (turn_on request_turn desk asked mishap).desk (request_acks asked (turn_on request_turn desk asked mishap).reply)
   lined (Err reason) mishap = nothing_done
   lined (Ok None) mishap = nothing_done
   lined (Ok (Some (requests.Command command))) mishap = commanded command mishap
@@ -231,26 +227,29 @@ module _ (w : World) (desk : DeskState) (h : IsDeskOf desk w) (all : AreOffline 
 
 pub script_is_run : ScriptIsRun
 unfolding session.line_turn
-script_is_run [] before after w h all path = subst (λ (d : DeskState). Reaches w d []) (sym path) (nothing_done w before h all)
+script_is_run [] before after w h all path = subst (λ (d : DeskState). (parts : List (List Event)) × Lines w [] parts × IsDeskOf d (run_from w (joined parts)) × AreOffline (run_from w (joined parts)) × ((run_from w (joined parts)).acks ≡ w.acks ++ [])) (sym path) ([], refl, h, all, sym (append-nil w.acks))
 script_is_run (x ∷ xs) before after w h all path =
     let first = lined w before h all (reading x.line) x.mishap in
     let v : World = run_from w first.0 in
-    let rest = script_is_run xs (turn_on request_turn before (reading x.line) x.mishap).desk after v first.1 first.2 path.2 in
-    let ran : run_from w (first.0 ++ rest.0) ≡ run_from v rest.0 = run_more w first.0 rest.0 in
-    let told : (run_from w first.0).acks ≡ w.acks ++ request_acks (reading x.line) x.reply = first.3 ∙ ap (λ reply. w.acks ++ request_acks (reading x.line) reply) (sym path.1) in (
-      first.0 ++ rest.0,
-      subst (IsDeskOf after) (sym ran) rest.1,
-      subst AreOffline (sym ran) rest.2,
-      ap (λ (u : World). u.acks) ran ∙ rest.3 ∙ ap (λ acks. acks ++ accepted_in xs) told ∙ append_assoc w.acks (request_acks (reading x.line) x.reply) (accepted_in xs),
+    let rest = script_is_run xs (turn_on request_turn before (reading x.line) x.mishap).desk after v first.2 first.3 path.2 in
+    let ran : run_from w (first.0 ++ joined rest.0) ≡ run_from v (joined rest.0) = run_more w first.0 (joined rest.0) in
+    let told : (run_from w first.0).acks ≡ w.acks ++ request_acks (reading x.line) x.reply = first.4 ∙ ap (λ reply. w.acks ++ request_acks (reading x.line) reply) (sym path.1) in (
+      first.0 ∷ rest.0,
+      (subst (λ (reply : Reply). ShowsReply w first.0 (reading x.line) reply) (sym path.1) first.1, rest.1),
+      subst (IsDeskOf after) (sym ran) rest.2,
+      subst AreOffline (sym ran) rest.3,
+      ap (λ (u : World). u.acks) ran ∙ rest.4 ∙ ap (λ acks. acks ++ accepted_in xs) told ∙ append_assoc w.acks (request_acks (reading x.line) x.reply) (accepted_in xs),
     )
+
+pub desk_has_room : DeskHasRoom
+desk_has_room desk w h all = (reclaimed w desk h all).2
 
 -- ---- opened again
 
 pub reopened_desk : ReopenedDesk
 reopened_desk desk w h =
     let moment = moment_between desk.closed in
-    let at = placed w moment h.reached h.between (asked desk.closed) in
-    let a = stops (line_at w) w.disk moment w (going desk.closed) at in
+    let a = stops (line_at w) w.disk moment w (going desk.closed) (between_there w desk h) in
     let v : World = (step w (events.Stop Lost)).world in
     let opened : Line = record { book = (line_at w).book; base = w.disk; list = [] } in
     let b = reopens (line_at w) opened w.disk v refl refl a.1 in
@@ -259,14 +258,6 @@ reopened_desk desk w h =
       subst (λ (s : Step). AreOffline s.world) (sym is) (each_replicate (λ looker. looker ≡ offline) PLACES offline refl),
       event_keeps v events.Reopen refl ∙ event_keeps w (events.Stop Lost) refl,
     )
-  where
-    going : (b : Bool) → world.is_stopped (moment_between b) ≡ false
-    going true = refl
-    going false = refl
-
-    asked : (b : Bool) → HasRoom w (moment_between b)
-    asked true = tt
-    asked false = tt
 
 -- ---- scripts on one file
 
@@ -276,10 +267,10 @@ sessions_from [] stored left w h all is = (w, h.reached, h.stored ∙ sym is, sy
 sessions_from (xs ∷ sessions) stored left w h all s =
     let desk : DeskState = s.0 in
     let run = script_is_run xs (settled stored) desk w h all s.1 in
-    let v : World = run_from w run.0 in
-    let again = reopened_desk desk v run.1 in
+    let v : World = run_from w (joined run.0) in
+    let again = reopened_desk desk v run.2 in
     let rest = sessions_from sessions desk.stored left (run_from v (events.Stop Lost ∷ events.Reopen ∷ [])) again.0 again.1 s.2 in
-    (rest.0, rest.1, rest.2, rest.3 ∙ ap (λ acks. acks ++ accepted_by sessions) (again.2 ∙ run.3) ∙ append_assoc w.acks (accepted_in xs) (accepted_by sessions))
+    (rest.0, rest.1, rest.2, rest.3 ∙ ap (λ acks. acks ++ accepted_by sessions) (again.2 ∙ run.4) ∙ append_assoc w.acks (accepted_in xs) (accepted_by sessions))
 
 pub sessions_hold : SessionsHold
 sessions_hold sessions left s =

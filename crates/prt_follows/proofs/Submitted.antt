@@ -1,5 +1,5 @@
 -- A command that is prepared, published or submitted with a domain: its steps, one after the other.
-use Rattle.std.proofs.Common.{◌≡◌, inl, inr, ℕ, ◌+◌, true, [], ◌∷◌, ◌++◌, Some, None, refl, sym, ap, ◌∙◌, subst}
+use Rattle.std.proofs.Common.{◌≡◌, inl, inr, ℕ, ◌+◌, true, false, [], ◌∷◌, ◌++◌, Some, None, refl, sym, ap, ◌∙◌, subst}
 use Rattle.sqlite.specs.Held.{Held}
 use Rattle.sqlite.specs.Store.{Ghosts}
 use Rattle.prt_addr.specs.declared.refusal.Refusal.{Refusal}
@@ -18,13 +18,15 @@ use Rattle.prt_version.specs.State.{State}
 use Rattle.prt_world.specs.World.{World, has_room, step}
 use Rattle.prt_world.specs.declared.event.Event.TheVariants as events
 use Rattle.prt_world.specs.declared.outcome.Outcome.TheVariants as outcomes
+use Rattle.prt_world.specs.declared.phase.Phase.{Phase as Moment}
 use Rattle.prt_world.specs.declared.phase.Phase.TheVariants as moments
 use Rattle.prt_follows.specs.Events.{commit_events, commit_outcomes, fail_events, fail_outcomes, note_events, note_outcomes, publish_events, publish_outcomes, submit_events, submit_outcomes}
 use Rattle.prt_follows.specs.Laws.{Prepares, PreparesNot, Publishes, Refuses, SubmitFails, SubmitUnpublished, Submits, SubmitsNot}
-use Rattle.prt_follows.specs.StandsFor.{Leads, SawRoom, StandsFor, moment_of}
-use Rattle.prt_follows.proofs.Exits.{committed, failed, not_published, noted_on, place_in, planned, published, stands, still, stored_in}
+use Rattle.prt_follows.specs.Publishers.{Leads, SawRoom, IsPublisherOf, moment_of}
+use Rattle.prt_follows.specs.Spots.{IsAt}
+use Rattle.prt_follows.proofs.Exits.{committed, failed, not_published, noted_on, place_in, planned, published, spot, stands, still, stored_in}
 use Rattle.prt_follows.proofs.Joined.{idle, leads_by, leads_then, leads_then_to}
-use Rattle.prt_follows.proofs.Steps.{busy, refuses, shut}
+use Rattle.prt_follows.proofs.Steps.{Moves, busy, refuses, shut}
 
 module _ {S : Type 0} (g : Ghosts S) where
   -- ---- the phases between
@@ -42,10 +44,10 @@ module _ {S : Type 0} (g : Ghosts S) where
   published_as old command tables = record old { phase = Published; line = grown old.line command; command = Some command; tables = tables }
 
   -- a ready publisher whose world has room stands there with an admitted command, too
-  admitted_there : (old : Standing (Held S)) (command : Command) (w : World) → old.phase ≡ Ready → StandsFor g old w → has_room w ≡ true → StandsFor g (admitted_as old command) w
+  admitted_there : (old : Standing (Held S)) (command : Command) (w : World) → old.phase ≡ Ready → IsPublisherOf g old w → has_room w ≡ true → IsPublisherOf g (admitted_as old command) w
   admitted_there old command w ready s room = stands g (admitted_as old command) w w.disk moments.Ready refl (place_in g old old w s Ready moments.Ready ready refl) (stored_in g old old w s Ready ready) room
 
-  prepared_there : (old : Standing (Held S)) (command : Command) → Takes old command → (w : World) → StandsFor g old w → has_room w ≡ true
+  prepared_there : (old : Standing (Held S)) (command : Command) → Takes old command → (w : World) → IsPublisherOf g old w → has_room w ≡ true
       → Leads g w (events.Submit command ∷ []) (outcomes.Prepared ((line_state old.line).count + 1) ∷ []) (prepared_as old command)
   prepared_there old command takes w s room =
       leads_by g (admitted_as old command) (prepared_as old command) (events.Submit command) (outcomes.Prepared ((line_state old.line).count + 1))
@@ -58,45 +60,38 @@ module _ {S : Type 0} (g : Ghosts S) where
   -- ---- refused
 
   module _ (old new : Standing (Held S)) (is : new ≡ old) (command : Command) where
-    refused_ready : (why : Refusal) → old.phase ≡ Ready → refusal (line_state old.line) command ≡ Some why → Refuses g old new command why
-    refused_ready why ready reason w s room =
-        let u : World = (step w (events.Submit command)).world in
-        let m = refuses old.line w.disk w command why reason (place_in g old new w s Ready moments.Ready ready refl) in
-        (m.0, still g old new w s u moments.Ready is (sym (ap (λ (p : Phase). moment_of p old.command) ready)) m.1 (subst (λ (p : Phase). SawRoom p u) (sym ready) tt))
-
-    refused_busy : old.phase ≡ Ready → refusal (line_state old.line) command ≡ None → Refuses g old new command refusals.Busy
-    refused_busy ready allowed w s room =
-        let u : World = (step w (events.Submit command)).world in
-        let m = busy old.line w.disk w command allowed (room refl) (place_in g old new w s Ready moments.Ready ready refl) in
-        (m.0, still g old new w s u moments.Ready is (sym (ap (λ (p : Phase). moment_of p old.command) ready)) m.1 (subst (λ (p : Phase). SawRoom p u) (sym ready) tt))
-
-    refused_closed : old.phase ≡ Closed → Refuses g old new command refusals.Closed
-    refused_closed closed w s room =
-        let u : World = (step w (events.Submit command)).world in
-        let m = shut old.line w.disk w command (place_in g old new w s Closed moments.Closed closed refl) in
-        (m.0, still g old new w s u moments.Closed is (sym (ap (λ (p : Phase). moment_of p old.command) closed)) m.1 (subst (λ (p : Phase). SawRoom p u) (sym closed) tt))
+    -- by the world's refusal, in the phase that the publisher is in
+    refused_by : (why : Refusal) (phase : Phase) (moment : Moment) → old.phase ≡ phase → Some moment ≡ moment_of phase old.command → ((u : World) → SawRoom phase u)
+        → ((w : World) → (why ≡ refusals.Busy → has_room w ≡ false) → IsAt (spot old.line w.disk moment) w → Moves w (events.Submit command) (outcomes.Refused why) (spot old.line w.disk moment)) → Refuses g old new command why
+    refused_by why phase moment at there saw moves = (
+      is,
+      λ w s room.
+          let u : World = (step w (events.Submit command)).world in
+          let m = moves w room (place_in g old new w s phase moment at there) in
+          (m.0, still g old new w s u moment is (there ∙ sym (ap (λ (p : Phase). moment_of p old.command) at)) m.1 (subst (λ (p : Phase). SawRoom p u) (sym at) (saw u))),
+    )
 
     pub prepares_not : (why : Refusal) → IsQuiet old.phase → IsNotPrepared old.phase (line_state old.line) command why → PreparesNot g old new command why
     prepares_not why quiet refused = by old.phase refl quiet refused
       where
         by : (phase : Phase) → old.phase ≡ phase → IsQuiet phase → IsNotPrepared phase (line_state old.line) command why → PreparesNot g old new command why
         by Ready ready quiet refused = elim refused [
-          | inl reason ↦ inr (refused_ready why ready reason)
+          | inl reason ↦ inr (refused_by why Ready moments.Ready ready refl (λ u. tt) (λ w room h. refuses old.line w.disk w command why reason h))
           | inr allowed ↦ elim allowed.1 [
-            | inl full ↦ inr (subst (λ (r : Refusal). Refuses g old new command r) (sym full) (refused_busy ready allowed.0))
-            | inr memory ↦ inl (memory, λ w s. idle g new w (subst (λ (p : Standing (Held S)). StandsFor g p w) (sym is) s))
+            | inl full ↦ inr (subst (λ (r : Refusal). Refuses g old new command r) (sym full) (refused_by refusals.Busy Ready moments.Ready ready refl (λ u. tt) (λ w room h. busy old.line w.disk w command allowed.0 (room refl) h)))
+            | inr memory ↦ inl (memory, ap (λ (p : Standing (Held S)). p.phase) is ∙ ready, λ w s. idle g new w (subst (λ (p : Standing (Held S)). IsPublisherOf g p w) (sym is) s))
           ]
         ]
         by Admitted at quiet refused = absurd quiet
         by Prepared at quiet refused = absurd quiet
         by Committed at quiet refused = absurd quiet
         by Published at quiet refused = absurd quiet
-        by Closed closed quiet refused = inr (subst (λ (r : Refusal). Refuses g old new command r) (sym refused) (refused_closed closed))
+        by Closed closed quiet refused = inr (subst (λ (r : Refusal). Refuses g old new command r) (sym refused) (refused_by refusals.Closed Closed moments.Closed closed refl (λ u. tt) (λ w room h. shut old.line w.disk w command h)))
 
   -- ---- published
 
   published_then : (old mid new : Standing (Held S)) → old.phase ≡ Committed → (mid ≡ record old { phase = Published; line = mid.line }) × (Some mid.line ≡ line_after old.line old.command) → new ≡ record mid { phase = Ready; command = None }
-      → (w : World) → StandsFor g old w → Leads g w publish_events (publish_outcomes (line_state mid.line).count) new
+      → (w : World) → IsPublisherOf g old w → Leads g w publish_events (publish_outcomes (line_state mid.line).count) new
   published_then old mid new phase shown is w s =
       let at : mid.phase ≡ Published = ap (λ (p : Standing (Held S)). p.phase) shown.0 in
       leads_then g w mid new (events.Publish ∷ []) note_events (outcomes.Published (line_state mid.line).count ∷ []) (note_outcomes mid.line) (published g old mid w s phase shown) (λ v t. noted_on g mid new v t at is)
@@ -113,23 +108,26 @@ module _ {S : Type 0} (g : Ghosts S) where
     committed_stands : (IsKnown g old.format_1 new.tables → IsStored g new.tables (apply (line_state old.line) command)) → Stands g (committed_as old command new.tables)
     committed_stands stored = stored
 
-    committed_there : (IsKnown g old.format_1 new.tables → IsStored g new.tables (apply (line_state old.line) command)) → (w : World) → StandsFor g old w → has_room w ≡ true
+    committed_there : (IsKnown g old.format_1 new.tables → IsStored g new.tables (apply (line_state old.line) command)) → (w : World) → IsPublisherOf g old w → has_room w ≡ true
         → Leads g w (events.Submit command ∷ commit_events) (outcomes.Prepared ((line_state old.line).count + 1) ∷ commit_outcomes) (committed_as old command new.tables)
     committed_there stored w s room =
         leads_then g w (prepared_as old command) (committed_as old command new.tables) (events.Submit command ∷ []) commit_events (outcomes.Prepared ((line_state old.line).count + 1) ∷ []) commit_outcomes
         (prepared_there old command takes w s room) (λ v t. committed g (prepared_as old command) (committed_as old command new.tables) v t refl refl (committed_stands stored))
 
     pub submits_it : (told : Line) → told ≡ grown old.line command → new ≡ record old { phase = Ready; line = grown old.line command; command = None; tables = new.tables } → Stands g new → Submits g old new command told
-    submits_it told receipt is kept w s room =
-        let mid = committed_as old command new.tables in
-        let line : Line = grown old.line command in
-        let held : IsKnown g old.format_1 new.tables → IsStored g new.tables (line_state line) = subst (λ (p : Standing (Held S)). IsKnown g p.format_1 new.tables → Agrees g p.phase p.command (line_state p.line) new.tables) is kept in
-        let stored : IsKnown g old.format_1 new.tables → IsStored g new.tables (apply (line_state old.line) command) = λ known. subst (λ (state : State). IsStored g new.tables state) (state_grown old.line line command refl) (held known) in
-        let count : (line_state line).count ≡ (line_state old.line).count + 1 = ap (λ (state : State). state.count) (state_grown old.line line command refl) ∙ apply_count (line_state old.line) command takes.1 in
-        let all = leads_then g w mid new (events.Submit command ∷ commit_events) publish_events (outcomes.Prepared ((line_state old.line).count + 1) ∷ commit_outcomes) (publish_outcomes (line_state line).count)
-        (committed_there stored w s room) (λ v t. published_then mid (published_as old command new.tables) new refl (refl, refl) is v t) in
-        subst (λ (n : ℕ). Leads g w (submit_events command) (submit_outcomes n) new) (ap (λ (l : Line). (line_state l).count) (sym receipt))
-        (subst (λ (n : ℕ). Leads g w (submit_events command) (outcomes.Prepared n ∷ (commit_outcomes ++ publish_outcomes (line_state line).count)) new) (sym count) all)
+    submits_it told receipt is kept = (
+      ap (λ (p : Standing (Held S)). p.phase) is,
+      λ w s room.
+          let mid = committed_as old command new.tables in
+          let line : Line = grown old.line command in
+          let held : IsKnown g old.format_1 new.tables → IsStored g new.tables (line_state line) = subst (λ (p : Standing (Held S)). IsKnown g p.format_1 new.tables → Agrees g p.phase p.command (line_state p.line) new.tables) is kept in
+          let stored : IsKnown g old.format_1 new.tables → IsStored g new.tables (apply (line_state old.line) command) = λ known. subst (λ (state : State). IsStored g new.tables state) (state_grown old.line line command refl) (held known) in
+          let count : (line_state line).count ≡ (line_state old.line).count + 1 = ap (λ (state : State). state.count) (state_grown old.line line command refl) ∙ apply_count (line_state old.line) command takes.1 in
+          let all = leads_then g w mid new (events.Submit command ∷ commit_events) publish_events (outcomes.Prepared ((line_state old.line).count + 1) ∷ commit_outcomes) (publish_outcomes (line_state line).count)
+          (committed_there stored w s room) (λ v t. published_then mid (published_as old command new.tables) new refl (refl, refl) is v t) in
+          subst (λ (n : ℕ). Leads g w (submit_events command) (submit_outcomes n) new) (ap (λ (l : Line). (line_state l).count) (sym receipt))
+          (subst (λ (n : ℕ). Leads g w (submit_events command) (outcomes.Prepared n ∷ (commit_outcomes ++ publish_outcomes (line_state line).count)) new) (sym count) all),
+    )
 
     pub submit_fails : (why : Refusal) → IsNotStored g old command why new → SubmitFails g old new command why
     submit_fails why fails = (
@@ -149,6 +147,7 @@ module _ {S : Type 0} (g : Ghosts S) where
     pub submit_unpublished : (why : Refusal) → IsNotPublished g old command why new → Stands g new → SubmitUnpublished g old new command why
     submit_unpublished why fails kept = (
       fails.why_is,
+      ap (λ (p : Standing (Held S)). p.command) fails.left,
       λ w s room.
           let mid = committed_as old command new.tables in
           let stored : IsKnown g old.format_1 new.tables → IsStored g new.tables (apply (line_state old.line) command) = subst (λ (p : Standing (Held S)). IsKnown g p.format_1 new.tables → Agrees g p.phase p.command (line_state p.line) new.tables) fails.left kept in

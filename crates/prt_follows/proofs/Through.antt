@@ -15,30 +15,13 @@ use Rattle.prt_world.specs.declared.event.Fate.{Fate}
 use Rattle.prt_world.specs.declared.phase.Phase.{Phase as Moment}
 use Rattle.prt_world.specs.declared.phase.Phase.TheVariants as moments
 use Rattle.prt_follows.specs.Events.{fail_events, is_going, is_lookers, own}
-use Rattle.prt_follows.specs.Registers.{EveryEventRegisters, RoomIsRoom, Registers, noted_at, registry_after, registry_through}
+use Rattle.prt_follows.specs.Registries.{EveryEventKeepsRegistry, RoomIsRoom, IsRegistryOf, noted_at, registry_after, registry_through}
 use Rattle.prt_follows.specs.Spots.{HasRoom, IsAt, IsReached}
 use Rattle.prt_follows.proofs.Between.{moment_stays, room_beside, room_published, room_stays}
-use Rattle.prt_follows.proofs.Exits.{SameVersions, ack_same, same_registers, spot, submits}
+use Rattle.prt_follows.proofs.Exits.{acknowledges_registers, spot, storing_registers}
 use Rattle.prt_follows.proofs.Registering.{registers_beside, registers_noted, registers_published, room_is}
 use Rattle.prt_follows.proofs.Steps.{line_at, placed, publishes, reached_run}
 use Rattle.prt_follows.proofs.Woven.{own_by}
-
--- ---- events that leave versions and lookers as they are
-
-call_same : (w : World) (moment : Moment) → SameVersions w (world.call w moment).world
-call_same w (moments.Prepared command calls.Begin) = record { noted = refl; published = refl; versions = refl; lookers = refl }
-call_same w (moments.Prepared command calls.Write) = record { noted = refl; published = refl; versions = refl; lookers = refl }
-call_same w (moments.Prepared command calls.Count) = record { noted = refl; published = refl; versions = refl; lookers = refl }
-call_same w (moments.Prepared command calls.Commit) = record { noted = refl; published = refl; versions = refl; lookers = refl }
-call_same w moment = record { noted = refl; published = refl; versions = refl; lookers = refl }
-
-fail_same : (w : World) (fate : Fate) (moment : Moment) → SameVersions w (world.fail w fate moment).world
-fail_same w fate (moments.Prepared command next) = record { noted = refl; published = refl; versions = refl; lookers = refl }
-fail_same w fate moment = record { noted = refl; published = refl; versions = refl; lookers = refl }
-
-unshown_same : (w : World) (moment : Moment) → SameVersions w (world.fail_publication w moment).world
-unshown_same w (moments.Committed command) = record { noted = refl; published = refl; versions = refl; lookers = refl }
-unshown_same w moment = record { noted = refl; published = refl; versions = refl; lookers = refl }
 
 -- ---- a world that runs goes on, but for a stop
 
@@ -185,8 +168,8 @@ room_of w reached = subst (λ (v : World). HasRoom v v.phase) (sym reached.1) (r
 
 -- ---- one event
 
-module _ (r : RegistryState) (w : World) (reached : IsReached w) (s : Registers r w) where
-  published_there : (moment : Moment) → w.phase ≡ moment → Registers r (world.publish w moment).world
+module _ (r : RegistryState) (w : World) (reached : IsReached w) (s : IsRegistryOf r w) where
+  published_there : (moment : Moment) → w.phase ≡ moment → IsRegistryOf r (world.publish w moment).world
   published_there (moments.Committed command) is =
       let h : IsAt (spot (line_at w) w.disk (moments.Committed command)) w = placed w (moments.Committed command) reached is (subst (HasRoom w) is (room_of w reached)) in
       let to : step w events.Publish ≡ world.publish w (moments.Committed command) = ap (world.publish w) is in
@@ -195,20 +178,20 @@ module _ (r : RegistryState) (w : World) (reached : IsReached w) (s : Registers 
       registers_published (line_at w) w.disk command r w s h now
   published_there moment is = s
 
-  noted_there : (moment : Moment) → w.phase ≡ moment → Registers (noted_at r (published_version w) moment) (world.note w moment).world
+  noted_there : (moment : Moment) → w.phase ≡ moment → IsRegistryOf (noted_at r (published_version w) moment) (world.note w moment).world
   noted_there (moments.Published command) is =
       let h : IsAt (spot (line_at w) w.disk (moments.Published command)) w = placed w (moments.Published command) reached is (subst (HasRoom w) is (room_of w reached)) in
       (registers_noted (line_at w) w.disk command r w s h (published_version w) refl).1
   noted_there moment is = s
 
-  pub registers_event : (event : Event) → is_going event ≡ true → world.is_stopped w.phase ≡ false → Registers (registry_after r w event) (step w event).world
-  registers_event (events.Submit command) is going = submits command r w s
-  registers_event events.Call is going = same_registers r w (step w events.Call).world (call_same w w.phase) s
-  registers_event (events.Fail fate) is going = same_registers r w (step w (events.Fail fate)).world (fail_same w fate w.phase) s
+  pub registers_event : (event : Event) → is_going event ≡ true → world.is_stopped w.phase ≡ false → IsRegistryOf (registry_after r w event) (step w event).world
+  registers_event (events.Submit command) is going = storing_registers r w (events.Submit command) refl s
+  registers_event events.Call is going = storing_registers r w events.Call refl s
+  registers_event (events.Fail fate) is going = storing_registers r w (events.Fail fate) refl s
   registers_event events.Publish is going = published_there w.phase refl
-  registers_event events.PublishFail is going = same_registers r w (step w events.PublishFail).world (unshown_same w w.phase) s
+  registers_event events.PublishFail is going = storing_registers r w events.PublishFail refl s
   registers_event events.Note is going = noted_there w.phase refl
-  registers_event events.Ack is going = same_registers r w (step w events.Ack).world (ack_same w w.phase) s
+  registers_event events.Ack is going = acknowledges_registers r w s
   registers_event (events.Online looker) is going = registers_beside r w (events.Online looker) refl going reached s
   registers_event (events.Fetch looker) is going = registers_beside r w (events.Fetch looker) refl going reached s
   registers_event (events.Announce looker) is going = registers_beside r w (events.Announce looker) refl going reached s
@@ -220,7 +203,7 @@ module _ (r : RegistryState) (w : World) (reached : IsReached w) (s : Registers 
 
 -- ---- a list of them
 
-pub through : (all : List Event) → Each (λ event. is_going event ≡ true) all → (r : RegistryState) (w : World) → world.is_stopped w.phase ≡ false → IsReached w → Registers r w → Registers (registry_through r w all) (run_from w all)
+pub through : (all : List Event) → Each (λ event. is_going event ≡ true) all → (r : RegistryState) (w : World) → world.is_stopped w.phase ≡ false → IsReached w → IsRegistryOf r w → IsRegistryOf (registry_through r w all) (run_from w all)
 through [] each r w going reached s = s
 through (event ∷ all) each r w going reached s =
     through all each.1 (registry_after r w event) (step w event).world (runs_on w event each.0 reached going) (reached_run w (event ∷ []) reached) (registers_event r w reached s event each.0 going)
@@ -252,5 +235,5 @@ failed_go_on calls.Commit fate = (refl, (refl, (refl, (refl, tt))))
 pub room_is_room : RoomIsRoom
 room_is_room r w reached s = room_is r w reached s
 
-pub every_event_registers : EveryEventRegisters
+pub every_event_registers : EveryEventKeepsRegistry
 every_event_registers r w event is going reached s = registers_event r w reached s event is going

@@ -31,8 +31,8 @@ ahead w event all first shown last is shows rest = (
   rest.1,
 )
 
-abbrev Weaves : List Event → Type 0
-Weaves all = (list : List Event) (shown : List Outcome) (spot last : Spot) (w : World) → own all ≡ list → Goes spot list shown last → IsAt spot w → Woven w all shown last
+abbrev IsWoven : List Event → Type 0
+IsWoven all = (list : List Event) (shown : List Outcome) (spot last : Spot) (w : World) → own all ≡ list → Goes spot list shown last → IsAt spot w → Woven w all shown last
 
 pub own_by : (event : Event) (all : List Event) (b : Bool) → is_lookers event ≡ b → own (event ∷ all) ≡ cond (not b) (event ∷ own all) (own all)
 own_by event all b is = ap (λ b. cond (not b) (event ∷ own all) (own all)) is
@@ -43,18 +43,18 @@ heads event first all list is = cc
 pub tails : (event first : Event) (all list : List Event) → event ∷ all ≡ first ∷ list → all ≡ list
 tails event first all list is = cc
 
-woven_own : (event : Event) (all : List Event) (list : List Event) (shown : List Outcome) (spot last : Spot) (w : World) → is_lookers event ≡ false → event ∷ own all ≡ list → Goes spot list shown last → IsAt spot w → Weaves all → Woven w (event ∷ all) shown last
+woven_own : (event : Event) (all : List Event) (list : List Event) (shown : List Outcome) (spot last : Spot) (w : World) → is_lookers event ≡ false → event ∷ own all ≡ list → Goes spot list shown last → IsAt spot w → IsWoven all → Woven w (event ∷ all) shown last
 woven_own event all [] shown spot last w is e goes h rest = absurd cc
 woven_own event all (first ∷ list) [] spot last w is e goes h rest = absurd goes
 woven_own event all (first ∷ list) (o ∷ shown) spot last w is e goes h rest =
     let moves : Moves w event o goes.0 = subst (λ (ev : Event). Moves w ev o goes.0) (heads event first (own all) list e) (goes.1 w h) in
     ahead w event all o shown last is moves.0 (rest list shown goes.0 last (step w event).world (tails event first (own all) list e) goes.2 moves.1)
 
-woven_by : (event : Event) (all : List Event) (b : Bool) → is_lookers event ≡ b → Weaves all → Weaves (event ∷ all)
+woven_by : (event : Event) (all : List Event) (b : Bool) → is_lookers event ≡ b → IsWoven all → IsWoven (event ∷ all)
 woven_by event all true is rest list shown spot last w e goes h = aside w event all shown last is (rest list shown spot last (step w event).world (sym (own_by event all true is) ∙ e) goes (stays_there spot w event is h))
 woven_by event all false is rest list shown spot last w e goes h = woven_own event all list shown spot last w is (sym (own_by event all false is) ∙ e) goes h rest
 
-pub woven : (all : List Event) → Weaves all
+pub woven : (all : List Event) → IsWoven all
 woven [] [] [] spot last w e goes h = (refl, subst (λ (s : Spot). IsAt s w) goes h)
 woven [] [] (o ∷ shown) spot last w e goes h = absurd goes
 woven [] (event ∷ list) shown spot last w e goes h = absurd cc

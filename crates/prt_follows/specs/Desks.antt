@@ -1,8 +1,8 @@
 -- The turns of a desk's definition, beside the world's events.
-use Rattle.std.specs.Prelude.{◌≡◌, ◌++◌, Bool, true, false, List, [], ◌∷◌, Option, Some, None, Result, Ok, ⊤}
+use Rattle.std.specs.Prelude.{◌≡◌, ◌⊎◌, ◌++◌, Bool, true, false, List, [], ◌∷◌, Option, Some, None, Result, Ok, ⊤}
 use Rattle.std.specs.List.{AllByRecursion as Each}
 use Rattle.prt_addr.specs.declared.refusal.Refusal.{Refusal}
-use Rattle.prt_addr.specs.declared.refusal.Refusal.TheVariants.{NoMemory}
+use Rattle.prt_addr.specs.declared.refusal.Refusal.TheVariants.{Busy, NoMemory}
 use Rattle.prt_addr.specs.declared.refusal.StoreCall.TheVariants.{Commit}
 use Rattle.prt_command.specs.Reading.{reading}
 use Rattle.prt_command.specs.declared.request.Command.{Command}
@@ -14,7 +14,7 @@ use Rattle.prt_session.specs.declared.reply.Reply.{Reply}
 use Rattle.prt_session.specs.declared.reply.Reply.TheVariants.{Accepted, Refused}
 use Rattle.prt_version.specs.Change.{refusal}
 use Rattle.prt_version.specs.State.{State, opening_state}
-use Rattle.prt_world.specs.World.{Ack, World, has_room, offline, published_version, run_from}
+use Rattle.prt_world.specs.World.{Ack, World, has_room, offline, published_version, run_from, step}
 use Rattle.prt_world.specs.declared.event.Event.{Event}
 use Rattle.prt_world.specs.declared.event.Event.TheVariants as events
 use Rattle.prt_world.specs.declared.event.Fate.TheVariants.{Kept, Lost}
@@ -112,14 +112,34 @@ abbrev pub accepted_in : {M : Type 0} → List (Exchange M) → List Ack
 accepted_in {M} [] = []
 accepted_in {M} (x ∷ xs) = request_acks (reading x.line) x.reply ++ accepted_in xs
 
+-- The events of a command's line show its reply. Only a refusal as busy is none, for lack of a looker: then nothing is done.
+abbrev pub ShowsReply : World → List Event → Result (Option Request) Refusal → Reply → Type 0
+ShowsReply w part (Ok (Some (requests.Command command))) reply = (shown_reply (own_outcomes w part) ≡ reply) ⊎ ((reply ≡ Refused Busy) × (part ≡ []))
+ShowsReply w part request reply = part ≡ []
+
+-- each line has its part of the events
+abbrev pub Lines : World → List (Exchange Mishap) → List (List Event) → Type 0
+Lines w [] parts = parts ≡ []
+Lines w (x ∷ xs) [] = ⊥
+Lines w (x ∷ xs) (part ∷ parts) = ShowsReply w part (reading x.line) x.reply × Lines (run_from w part) xs parts
+
+abbrev pub joined : List (List Event) → List Event
+joined [] = []
+joined (part ∷ parts) = part ++ joined parts
+
 -- any mishap may befall a line
 abbrev pub Exchanges : DeskState → List (Exchange Mishap) → DeskState → Type 0
 Exchanges before xs after = Path request_turn (Befalls (λ mishap. ⊤)) before xs after
 
--- The lines of a script are some list of events of a world without lookers: it leads to a world of the desk after them, and acknowledges what the replies do.
+-- The lines of a script are lists of events of a world without lookers, which show their replies: they lead to a world of the desk after them, and acknowledge what the replies do.
 abbrev pub ScriptIsRun : Type 0
 ScriptIsRun = (xs : List (Exchange Mishap)) (before after : DeskState) (w : World) → IsDeskOf before w → AreOffline w → Exchanges before xs after
-    → (list : List Event) × IsDeskOf after (run_from w list) × AreOffline (run_from w list) × ((run_from w list).acks ≡ w.acks ++ accepted_in xs)
+    → (parts : List (List Event)) × Lines w xs parts
+    × IsDeskOf after (run_from w (joined parts)) × AreOffline (run_from w (joined parts)) × ((run_from w (joined parts)).acks ≡ w.acks ++ accepted_in xs)
+
+-- Such a world has room once it has reclaimed: it refuses no command as busy.
+abbrev pub DeskHasRoom : Type 0
+DeskHasRoom = (desk : DeskState) (w : World) → IsDeskOf desk w → AreOffline w → has_room (step w events.Reclaim).world ≡ true
 
 -- A desk whose stored state is opened again is a world that was stopped and reopened.
 abbrev pub ReopenedDesk : Type 0

@@ -9,6 +9,7 @@ use Rattle.prt_world.specs.World.{World, step}
 use Rattle.prt_world.specs.declared.event.Event.{Event}
 use Rattle.prt_world.specs.declared.event.Event.TheVariants as events
 use Rattle.prt_world.specs.declared.event.Fate.{Fate}
+use Rattle.prt_world.specs.declared.event.Fate.TheVariants.{Lost}
 use Rattle.prt_world.specs.declared.outcome.Outcome.{Outcome}
 use Rattle.prt_world.specs.declared.outcome.Outcome.TheVariants as outcomes
 
@@ -37,6 +38,11 @@ abbrev pub is_going : Event → Bool
 is_going (events.Stop fate) = false
 is_going events.Reopen = false
 is_going event = true
+
+-- the same event, whichever fate a failure has
+abbrev pub without_fate : Event → Event
+without_fate (events.Fail fate) = events.Fail Lost
+without_fate event = event
 
 -- the publisher's own, in order
 abbrev pub own : List Event → List Event

@@ -11,7 +11,7 @@ use Rattle.prt_command.specs.declared.request.Command.{Command}
 use Rattle.prt_front.specs.Line.{Line, line_state}
 use Rattle.prt_grace.specs.Registry.{RegistryState, new_registry}
 use Rattle.prt_publisher.specs.Standing.{Standing, Stands}
-use Rattle.prt_publisher.specs.declared.phase.Phase.TheVariants.{Closed, Prepared}
+use Rattle.prt_publisher.specs.declared.phase.Phase.TheVariants.{Ready, Admitted, Prepared, Committed, Published, Closed}
 use Rattle.prt_store.specs.Exits.{IsKnown, MayLeave, Spells}
 use Rattle.prt_store.specs.Stops.{StoppedIn}
 use Rattle.prt_version.specs.Change.{check}
@@ -24,80 +24,81 @@ use Rattle.prt_world.specs.declared.event.Fate.{Fate}
 use Rattle.prt_world.specs.declared.event.Fate.TheVariants.{Lost}
 use Rattle.prt_world.specs.declared.outcome.Outcome.TheVariants as outcomes
 use Rattle.prt_follows.specs.Events.{commit_events, commit_outcomes, fail_events, fail_outcomes, note_events, note_outcomes, own, own_outcomes, publish_events, publish_outcomes, reclaim_events, stop_events, stop_outcomes, submit_events, submit_outcomes, unpublished_events, unpublished_outcomes}
-use Rattle.prt_follows.specs.StandsFor.{Leads, LeadsTo, StandFor, StandsFor}
+use Rattle.prt_follows.specs.Registries.{registry_after}
+use Rattle.prt_follows.specs.Publishers.{Leads, LeadsTo, AreBothOf, IsPublisherOf}
 
 module _ {S : Type 0} (g : Ghosts S) (old new : Standing (Held S)) where
   -- ---- the steps
 
   -- under the registry's lock: a reclaim, and the command is admitted
   abbrev pub Admits : RegistryState → RegistryState → Type 0
-  Admits before r = (w : World) → StandFor g old before w → StandFor g new r (step w events.Reclaim).world
+  Admits before r = (new.phase ≡ Admitted) × ((w : World) → AreBothOf g old before w → AreBothOf g new r (step w events.Reclaim).world)
 
   -- the world refuses it for that reason
   abbrev pub Refused : RegistryState → World → Command → Refusal → Type 0
-  Refused r w command why = ((step w (events.Submit command)).outcome ≡ outcomes.Refused why) × StandFor g new r (step w (events.Submit command)).world
+  Refused r w command why = ((step w (events.Submit command)).outcome ≡ outcomes.Refused why) × AreBothOf g new r (step w (events.Submit command)).world
 
-  -- refused at once, or after a reclaim
+  -- refused at once, or after a reclaim; the publisher is as it was
   abbrev pub DeclinesBy : Bool → RegistryState → RegistryState → Command → Refusal → Type 0
-  DeclinesBy reclaims before r command why = (w : World) → StandFor g old before w → Refused r (run_from w (reclaim_events reclaims)) command why
+  DeclinesBy reclaims before r command why = (new ≡ old) × ((w : World) → AreBothOf g old before w → Refused r (run_from w (reclaim_events reclaims)) command why)
 
   abbrev pub Declines : RegistryState → RegistryState → Command → Refusal → Type 0
   Declines before r command why = (reclaims : Bool) × DeclinesBy reclaims before r command why
 
   -- the admitted command is under way
   abbrev pub PlansBy : Command → Type 0
-  PlansBy command = (w : World) → StandsFor g old w → Leads g w (events.Submit command ∷ []) (outcomes.Prepared ((line_state old.line).count + 1) ∷ []) new
+  PlansBy command = (new.phase ≡ Prepared) × ((w : World) → IsPublisherOf g old w → Leads g w (events.Submit command ∷ []) (outcomes.Prepared ((line_state old.line).count + 1) ∷ []) new)
 
   abbrev pub Plans : Type 0
   Plans = (command : Command) × (old.command ≡ Some command) × PlansBy command
 
   -- it is given up for lack of memory, of which the world has no event
   abbrev pub PlansNot : Refusal → Type 0
-  PlansNot why = (why ≡ NoMemory) × ((w : World) → StandsFor g old w → Leads g w [] [] new)
+  PlansNot why = (why ≡ NoMemory) × (new.phase ≡ Ready) × ((w : World) → IsPublisherOf g old w → Leads g w [] [] new)
 
   abbrev pub Commits : Type 0
-  Commits = (w : World) → StandsFor g old w → Leads g w commit_events commit_outcomes new
+  Commits = (new.phase ≡ Committed) × ((w : World) → IsPublisherOf g old w → Leads g w commit_events commit_outcomes new)
 
   abbrev pub FailsBy : StoreCall → Fate → State → Type 0
-  FailsBy call fate left = (w : World) → StandsFor g old w → LeadsTo g w (fail_events call fate) (fail_outcomes call) new left
+  FailsBy call fate left = (w : World) → IsPublisherOf g old w → LeadsTo g w (fail_events call fate) (fail_outcomes call) new left
 
   -- closed; each state that a crash may leave is that of a world whose event of the failed call has the fate that fits
   abbrev pub FailsToCommit : Refusal → Type 0
   FailsToCommit why = (new.phase ≡ Closed) × (new.command ≡ None) × (call : StoreCall) × (why ≡ StoreFailed call) × (IsKnown g new.format_1 new.tables → (left : State) → MayLeave g new.tables left → (fate : Fate) × FailsBy call fate left)
 
   abbrev pub Shows : Type 0
-  Shows = (w : World) → StandsFor g old w → Leads g w (events.Publish ∷ []) (outcomes.Published (line_state new.line).count ∷ []) new
+  Shows = (new.phase ≡ Published) × ((w : World) → IsPublisherOf g old w → Leads g w (events.Publish ∷ []) (outcomes.Published (line_state new.line).count ∷ []) new)
 
   abbrev pub PublishesNot : Refusal → Type 0
-  PublishesNot why = (why ≡ NotPublished) × ((w : World) → StandsFor g old w → Leads g w (events.PublishFail ∷ []) (outcomes.Refused why ∷ []) new)
+  PublishesNot why = (why ≡ NotPublished) × (new ≡ record old { phase = Closed }) × ((w : World) → IsPublisherOf g old w → Leads g w (events.PublishFail ∷ []) (outcomes.Refused why ∷ []) new)
 
-  -- under the registry's lock
+  -- under the registry's lock it notes the version there; the lock is given back, and the command acknowledged
   abbrev pub Notes : RegistryState → RegistryState → Line → Type 0
-  Notes before r told = (w : World) → StandFor g old before w → (outcomes_from w note_events ≡ note_outcomes told) × StandFor g new r (run_from w note_events)
+  Notes before r told = (new.phase ≡ Ready) × ((w : World) → IsPublisherOf g old w → (r ≡ registry_after before w events.Note) × Leads g w note_events (note_outcomes told) new)
 
   -- ---- the calls with a domain: what they see under its lock is said of the world
 
   -- where the world has room
   abbrev pub Prepares : Command → Type 0
-  Prepares command = (w : World) → StandsFor g old w → has_room w ≡ true → Leads g w (events.Submit command ∷ []) (outcomes.Prepared ((line_state old.line).count + 1) ∷ []) new
+  Prepares command = (w : World) → IsPublisherOf g old w → has_room w ≡ true → Leads g w (events.Submit command ∷ []) (outcomes.Prepared ((line_state old.line).count + 1) ∷ []) new
 
-  -- the world refuses it: for want of room where it has none
+  -- the world refuses it: for want of room where it has none; the publisher is as it was
   abbrev pub Refuses : Command → Refusal → Type 0
-  Refuses command why = (w : World) → StandsFor g old w → (why ≡ Busy → has_room w ≡ false) →
-      ((step w (events.Submit command)).outcome ≡ outcomes.Refused why) × StandsFor g new (step w (events.Submit command)).world
+  Refuses command why = (new ≡ old) × ((w : World) → IsPublisherOf g old w → (why ≡ Busy → has_room w ≡ false) →
+      ((step w (events.Submit command)).outcome ≡ outcomes.Refused why) × IsPublisherOf g new (step w (events.Submit command)).world)
 
   abbrev pub PreparesNot : Command → Refusal → Type 0
   PreparesNot command why = PlansNot why ⊎ Refuses command why
 
   abbrev pub Publishes : Line → Type 0
-  Publishes told = (w : World) → StandsFor g old w → Leads g w publish_events (publish_outcomes (line_state told).count) new
+  Publishes told = (w : World) → IsPublisherOf g old w → Leads g w publish_events (publish_outcomes (line_state told).count) new
 
   -- where the world has room, all of a command's events
   abbrev pub Submits : Command → Line → Type 0
-  Submits command told = (w : World) → StandsFor g old w → has_room w ≡ true → Leads g w (submit_events command) (submit_outcomes (line_state told).count) new
+  Submits command told = (new.phase ≡ Ready) × ((w : World) → IsPublisherOf g old w → has_room w ≡ true → Leads g w (submit_events command) (submit_outcomes (line_state told).count) new)
 
   abbrev pub SubmitFailsBy : Command → StoreCall → Fate → State → Type 0
-  SubmitFailsBy command call fate left = (w : World) → StandsFor g old w → has_room w ≡ true →
+  SubmitFailsBy command call fate left = (w : World) → IsPublisherOf g old w → has_room w ≡ true →
       LeadsTo g w (events.Submit command ∷ fail_events call fate) (outcomes.Prepared ((line_state old.line).count + 1) ∷ fail_outcomes call) new left
 
   abbrev pub SubmitFails : Command → Refusal → Type 0
@@ -105,7 +106,7 @@ module _ {S : Type 0} (g : Ghosts S) (old new : Standing (Held S)) where
 
   -- stored, and its publication is refused
   abbrev pub SubmitUnpublished : Command → Refusal → Type 0
-  SubmitUnpublished command why = (why ≡ NotPublished) × ((w : World) → StandsFor g old w → has_room w ≡ true → Leads g w (unpublished_events command) (unpublished_outcomes ((line_state old.line).count + 1)) new)
+  SubmitUnpublished command why = (why ≡ NotPublished) × (new.command ≡ Some command) × ((w : World) → IsPublisherOf g old w → has_room w ≡ true → Leads g w (unpublished_events command) (unpublished_outcomes ((line_state old.line).count + 1)) new)
 
   abbrev pub SubmitsNot : Command → Refusal → Type 0
   SubmitsNot command why = PreparesNot command why ⊎ (SubmitFails command why ⊎ SubmitUnpublished command why)
@@ -115,7 +116,7 @@ module _ {S : Type 0} (g : Ghosts S) (old new : Standing (Held S)) where
 module _ {S : Type 0} (g : Ghosts S) where
   -- a publisher and its new registry
   abbrev pub BeginsAt : Standing (Held S) → World → Type 0
-  BeginsAt new w = StandFor g new (new_registry (line_state new.line)) w
+  BeginsAt new w = AreBothOf g new (new_registry (line_state new.line)) w
 
   -- stopped between store calls and opened again
   abbrev pub OpensAgain : World → Standing (Held S) → Type 0
@@ -125,15 +126,15 @@ module _ {S : Type 0} (g : Ghosts S) where
 
   -- in each world whose disk these trees spell, whatever the publisher before stood at
   abbrev pub AdoptsAgain : Trees → Standing (Held S) → Type 0
-  AdoptsAgain trees new = (old : Standing (Held S)) (w : World) → StandsFor g old w → Spells trees w.disk → OpensAgain w new
+  AdoptsAgain trees new = (new.phase ≡ Ready) × ((old : Standing (Held S)) (w : World) → IsPublisherOf g old w → Spells trees w.disk → OpensAgain w new)
 
   -- stopped within this store call, whatever lookers did before it, and opened again
   abbrev pub StopsBy : Standing (Held S) → Standing (Held S) → StoreCall → Fate → Type 0
-  StopsBy old new call fate = (w : World) → StandsFor g old w → (all : List Event) → own all ≡ stop_events call fate →
-      (own_outcomes w all ≡ stop_outcomes call) × ((step (run_from w all) events.Reopen).outcome ≡ outcomes.Reopened (line_state new.line).count) × BeginsAt new (step (run_from w all) events.Reopen).world
+  StopsBy old new call fate = (new.phase ≡ Ready) × ((w : World) → IsPublisherOf g old w → (all : List Event) → own all ≡ stop_events call fate →
+      (own_outcomes w all ≡ stop_outcomes call) × ((step (run_from w all) events.Reopen).outcome ≡ outcomes.Reopened (line_state new.line).count) × BeginsAt new (step (run_from w all) events.Reopen).world)
 
   -- The commit of a prepared command was stopped in this store call, which left this connection.
-  pub record WasStopped (old : Standing (Held S)) (call : StoreCall) (now : Held S) : Type 0 where
+  pub record IsCutShort (old : Standing (Held S)) (call : StoreCall) (now : Held S) : Type 0 where
     pub prepared : old.phase ≡ Prepared
     pub command : Command
     pub under_way : old.command ≡ Some command
@@ -144,5 +145,5 @@ module _ {S : Type 0} (g : Ghosts S) where
 
   -- in each world of a publisher whose commit was stopped there, and whose file is one that this may leave
   abbrev pub AdoptsStopped : Trees → Standing (Held S) → Type 0
-  AdoptsStopped trees new = (old : Standing (Held S)) (call : StoreCall) (now : Held S) (left : State) → Stands g old → WasStopped old call now → IsKnown g old.format_1 now
+  AdoptsStopped trees new = (old : Standing (Held S)) (call : StoreCall) (now : Held S) (left : State) → Stands g old → IsCutShort old call now → IsKnown g old.format_1 now
       → (state g now).may_leave trees → Spells trees left → (fate : Fate) × StopsBy old new call fate

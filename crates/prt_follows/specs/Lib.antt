@@ -1,7 +1,7 @@
 pub mod Spots
 pub mod Events
-pub mod StandsFor
-pub mod Registers
+pub mod Publishers
+pub mod Registries
 pub mod Laws
 pub mod Runs
 pub mod Desks

@@ -9,8 +9,8 @@ use Rattle.prt_world.specs.World.{LookerState, World, is_stopped, looker_state, 
 use Rattle.prt_world.specs.declared.event.Event.{Event}
 use Rattle.prt_world.specs.declared.event.Event.TheVariants as events
 use Rattle.prt_follows.specs.Events.{is_lookers}
-use Rattle.prt_follows.specs.Registers.{Registers, registry_after}
-use Rattle.prt_follows.specs.StandsFor.{StandFor}
+use Rattle.prt_follows.specs.Registries.{IsRegistryOf, registry_after}
+use Rattle.prt_follows.specs.Publishers.{AreBothOf}
 
 -- a looker that has announced this, and holds the version of that number
 abbrev pub seat : Option ℕ → Option ℕ → LookerState
@@ -29,7 +29,7 @@ held_online (Some announced) held = held
 module _ (r new : RegistryState) (before place : Place) where
   -- A call for a place is this event of its looker: the registry changes by it, and the looker is then where its place says.
   abbrev pub IsCall : Option ℕ → Option ℕ → (ℕ → Event) → Type 0
-  IsCall held holds event = (w : World) → is_stopped w.phase ≡ false → Registers r w → Sits before held w →
+  IsCall held holds event = (w : World) → is_stopped w.phase ≡ false → IsRegistryOf r w → Sits before held w →
       (new ≡ registry_after r w (event before.index)) × Sits place holds (step w (event before.index)).world
 
   abbrev pub IsOnline : Type 0
@@ -44,13 +44,13 @@ module _ (r new : RegistryState) (before place : Place) where
 
 -- a looker that joins is offline, and the registry stands for the same worlds
 abbrev pub IsJoin : RegistryState → RegistryState → Place → Type 0
-IsJoin r new place = (w : World) → Registers r w → Registers new w × Sits place None w
+IsJoin r new place = (w : World) → IsRegistryOf r w → IsRegistryOf new w × Sits place None w
 
 -- one that parts goes offline
 abbrev pub IsPart : RegistryState → RegistryState → Place → Type 0
-IsPart r new place = (held : Option ℕ) (w : World) → is_stopped w.phase ≡ false → Registers r w → Sits place held w →
-    Registers new (step w (events.Offline place.index)).world × (looker_state (step w (events.Offline place.index)).world place.index ≡ offline)
+IsPart r new place = (held : Option ℕ) (w : World) → is_stopped w.phase ≡ false → IsRegistryOf r w → Sits place held w →
+    IsRegistryOf new (step w (events.Offline place.index)).world × (looker_state (step w (events.Offline place.index)).world place.index ≡ offline)
 
 -- Whatever a looker does, or a reclaim, a publisher and its registry stand for the world after it.
 abbrev pub EveryLookersEvent : {S : Type 0} → Ghosts S → Type 0
-EveryLookersEvent {S} g = (p : Standing (Held S)) (r : RegistryState) (w : World) (event : Event) → is_lookers event ≡ true → StandFor g p r w → StandFor g p (registry_after r w event) (step w event).world
+EveryLookersEvent {S} g = (p : Standing (Held S)) (r : RegistryState) (w : World) (event : Event) → is_lookers event ≡ true → AreBothOf g p r w → AreBothOf g p (registry_after r w event) (step w event).world

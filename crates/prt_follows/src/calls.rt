@@ -11,7 +11,7 @@ ghost use Rattle.prt_store.specs.Exits.{IsKnown, MayLeave};
 ghost use Rattle.prt_version.specs.State.{State};
 ghost use Rattle.prt_world.specs.World.{run_from, start};
 ghost use Rattle.prt_follows.specs.Laws.{Admits, AdoptsAgain, AdoptsStopped, BeginsAt, Commits, Declines, FailsToCommit, Notes, Plans, PlansNot, Prepares, PreparesNot, Publishes, PublishesNot, Shows, Submits, SubmitsNot};
-ghost use Rattle.prt_follows.specs.Runs.{Acknowledges, HoldsAll, TakesNot, events_of, receipts_of, step_turns};
+ghost use Rattle.prt_follows.specs.Runs.{Acknowledges, HoldsAll, TakesNot, events_of, receipts_of, step_acts};
 
 use prt_command::{Command, Refusal};
 use prt_grace::{Domain, Registry};
@@ -102,8 +102,7 @@ pub fn note<S: Alter + Drop, R: Wait + Drop>(
     registry: &mut Registry,
 ) -> Receipt
     requires { publisher.old.phase ≡ Phase.Published }
-    ensures notes { Notes S.Store publisher.old publisher.new registry.old registry.new result }
-    ensures then { publisher.new.phase ≡ Phase.Ready }
+    ensures { Notes S.Store publisher.old publisher.new registry.old registry.new result }
 {
     publisher.note(registry)
 }
@@ -122,7 +121,6 @@ pub fn submit_by_steps<S: Alter + Drop, R: Wait + Drop>(
     requires quiet { IsQuiet publisher.old.phase }
     requires storable { IsStorable command.now }
     ensures ok { IfOk result (λ told. Acknowledges S.Store publisher.old registry.old command.now told publisher.new registry.new) }
-    ensures then { OnOk result (publisher.new.phase ≡ Phase.Ready) }
     ensures err { IfErr result (λ why. TakesNot S.Store publisher.old registry.old command.now why publisher.new registry.new) }
 {
     if let Err(reason) = admit(publisher, registry, command) {
@@ -156,7 +154,7 @@ pub fn first_command<S: Alter + Drop, R: Wait + Drop>(
     requires storable { IsStorable command.now }
     requires registry { registry.old ≡ new_registry (line_state publisher.old.line) }
     ensures { IfOk result (λ told. BeginsAt S.Store publisher.old start → IsKnown S.Store publisher.new.format_1 publisher.new.tables → (left : State) → MayLeave S.Store publisher.new.tables left →
-        HoldsAll (run_from start (events_of (step_turns command.now told))) (receipts_of (step_turns command.now told)) [] left) }
+        HoldsAll (run_from start (events_of (step_acts command.now told))) (receipts_of (step_acts command.now told)) [] left) }
 {
     match submit_by_steps(publisher, registry, command) {
         Ok(receipt) => Ok(receipt),

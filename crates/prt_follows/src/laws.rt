@@ -1,8 +1,8 @@
 //! Laws of the definitions, which no program calls.
-ghost use Rattle.prt_follows.specs.Desks.{DeskHoldsAll, ReopenedDesk, ScriptIsRun, SessionsHold, TurnIsSteps};
+ghost use Rattle.prt_follows.specs.Desks.{DeskHasRoom, DeskHoldsAll, ReopenedDesk, ScriptIsRun, SessionsHold, TurnIsSteps};
 ghost use Rattle.prt_follows.specs.Lookers.{EveryLookersEvent};
-ghost use Rattle.prt_follows.specs.Registers.{EveryEventRegisters, RoomIsRoom};
-ghost use Rattle.prt_follows.specs.Runs.{EveryFailureGoesOn, EveryFailureLeaves, EveryRunLeaves, EveryRunStands};
+ghost use Rattle.prt_follows.specs.Registries.{EveryEventKeepsRegistry, RoomIsRoom};
+ghost use Rattle.prt_follows.specs.Runs.{EveryRunGoesOn, EveryRunLeaves, EveryRunStands, EveryStopLeaves};
 
 use sqlite::Alter;
 
@@ -13,13 +13,15 @@ use sqlite::Alter;
 ///   nothing else (`stands`);
 /// * on a new file, what a crash leaves is a beginning of the accepted commands that lacks one at most; it has each
 ///   command of a receipt under its number, and the version by which each answer was given (`leaves`);
-/// * that holds too where the next commit fails, of each state that may be left then (`failed`);
-/// * whichever file it left is adopted, the list goes on (`goes_on`).
+/// * that holds of what a stop within a store call leaves, too (`stopped`);
+/// * whichever file is left and adopted, the list goes on (`goes_on`).
+///
+/// A failed commit leaves open whether its command is durable: what is found later shows which fate it had.
 pub fn every_run_of_calls<S: Alter>()
     ensures stands { EveryRunStands S.Store }
     ensures leaves { EveryRunLeaves S.Store }
-    ensures failed { EveryFailureLeaves S.Store }
-    ensures goes_on { EveryFailureGoesOn S.Store }
+    ensures stopped { EveryStopLeaves S.Store }
+    ensures goes_on { EveryRunGoesOn S.Store }
 {}
 
 /// Each turn of a command at a desk, whatever befalls it, is the world's events: they show its reply, lead to a world of
@@ -30,12 +32,14 @@ pub fn turn_is_steps()
     ensures holds { DeskHoldsAll }
 {}
 
-/// The lines of a script, whatever befalls each, are some list of events of a world without lookers: it leads to a world
-/// of the desk that the script leaves, and acknowledges what the replies do. A desk whose stored state is opened again
-/// is such a world too, stopped and reopened. So what any number of scripts on one file leave holds each command that a
-/// reply acknowledged, under the number that the reply tells.
+/// The lines of a script, whatever befalls each, are lists of events of a world without lookers, which show their
+/// replies: they lead to a world of the desk that the script leaves, and acknowledge what the replies do. Such a world
+/// has room for each command, so a refusal as busy is no event of it. A desk whose stored state is opened again is such a
+/// world too, stopped and reopened. So what any number of scripts on one file leave holds each command that a reply
+/// acknowledged, under the number that the reply tells.
 pub fn script_is_run()
     ensures run { ScriptIsRun }
+    ensures room { DeskHasRoom }
     ensures reopened { ReopenedDesk }
     ensures sessions { SessionsHold }
 {}
@@ -48,5 +52,5 @@ pub fn lookers_events<S: Alter>()
 /// A registry of grace periods has room exactly where the world has, and stands for the world after each event.
 pub fn registry_follows()
     ensures room { RoomIsRoom }
-    ensures events { EveryEventRegisters }
+    ensures events { EveryEventKeepsRegistry }
 {}

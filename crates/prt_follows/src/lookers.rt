@@ -4,7 +4,7 @@ ghost use Rattle.prt_grace.specs.Registry.{HasPlace};
 ghost use Rattle.prt_world.specs.World.{World};
 ghost use Rattle.prt_world.specs.declared.event.Event.TheVariants.{Reclaim};
 ghost use Rattle.prt_follows.specs.Lookers.{IsAnnounce, IsJoin, IsOffline, IsOnline, IsPart};
-ghost use Rattle.prt_follows.specs.Registers.{registry_after};
+ghost use Rattle.prt_follows.specs.Registries.{registry_after};
 
 use prt_grace::{Place, Registry};
 

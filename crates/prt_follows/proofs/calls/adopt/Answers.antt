@@ -10,7 +10,10 @@ returns-in-Ok-clause-fresh g c empty known =
     started g.S.Store made (c.in-Ok.ensures.ready.0, c.in-Ok.ensures.ready.2) c.in-Ok.ensures.stands (fresh_is g.S.Store c.args.conn made.tables (line_state made.line) empty own.0 own.1)
 
 pub returns-in-Ok-clause-again : goal.returns-in-Ok-clause-again
-returns-in-Ok-clause-again g c clean is_open old w s spells = opened_again g.S.Store old c.in-Ok.publisher w s (c.in-Ok.ensures.ready.0, c.in-Ok.ensures.ready.2) c.in-Ok.ensures.stands (c.in-Ok.ensures.found clean is_open w.disk spells).1
+returns-in-Ok-clause-again g c clean is_open = (
+  c.in-Ok.ensures.ready.0,
+  λ old w s spells. opened_again g.S.Store old c.in-Ok.publisher w s (c.in-Ok.ensures.ready.0, c.in-Ok.ensures.ready.2) c.in-Ok.ensures.stands (c.in-Ok.ensures.found clean is_open w.disk spells).1,
+)
 
 pub returns-in-Ok-clause-stopped : goal.returns-in-Ok-clause-stopped
 returns-in-Ok-clause-stopped g c clean is_open =

@@ -1,9 +1,11 @@
-use Rattle.std.proofs.Common.{◌≡◌, sym, subst, ◌∙◌}
+use Rattle.std.proofs.Common.{◌≡◌, ap, sym, subst, ◌∙◌}
+use Rattle.sqlite.specs.Held.{Held}
+use Rattle.prt_publisher.specs.Standing.{Standing}
 use Rattle.prt_grace.specs.Registry.{RegistryState}
 use Rattle.prt_publisher.specs.declared.phase.Phase.TheVariants.{Closed, Ready}
 use Rattle.prt_world.specs.World.{start}
-use Rattle.prt_follows.specs.Runs.{Acknowledges, step_turns}
-use Rattle.prt_follows.proofs.Ran.{leaves_all}
+use Rattle.prt_follows.specs.Runs.{Acknowledges, step_acts}
+use Rattle.prt_follows.proofs.Runs.{leaves_all}
 use Rattle.prt_follows.proofs.calls.first_command.Goals as goal
 
 pub returns-in-Ok : goal.returns-in-Ok
@@ -14,4 +16,7 @@ returns-in-Ok g c h known left may =
     let told = c.in-Ok.receipt in
     let command = c.args.command.now in
     let ran = subst (λ (r : RegistryState). Acknowledges g.S.Store old r command told new after) c.requires.registry c.in-Ok.ensures.ok in
-    leaves_all g.S.Store (step_turns command told) old new after h (ran start h) known left may (λ closed none. absurd (let both : Ready ≡ Closed = sym c.in-Ok.ensures.then ∙ closed in cc))
+    let acts = ran start h in
+    let last = acts.3.3.3.3 in
+    let ready : new.phase ≡ Ready = ap (λ (p : Standing (Held _)). p.phase) last.3.0 ∙ last.2.5.0 in
+    leaves_all g.S.Store (step_acts command told) old new after h acts known left may (λ closed none. absurd (let both : Ready ≡ Closed = sym ready ∙ closed in cc))

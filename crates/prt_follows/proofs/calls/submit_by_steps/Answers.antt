@@ -12,7 +12,7 @@ returns-in-Err-clause-err g c w h = inl (declined c.args.command.now c.in-Err.re
 pub returns-in-Err-plan-clause-err : goal.returns-in-Err-plan-clause-err
 returns-in-Err-plan-clause-err g c w h =
     let r = c.admit.new.registry in
-    inl (admitted ∷ unplanned ∷ [], refl, (c.admit.new.publisher, r, c.in_default.ensures.ok, (c.plan.new.publisher, r, (refl, (refl, c.in-Err-plan.ensures.err.1)), (refl, refl))))
+    inl (admitted ∷ unplanned ∷ [], refl, (c.admit.new.publisher, r, c.in_default.ensures.ok, (c.plan.new.publisher, r, (refl, (refl, c.in-Err-plan.ensures.err.1, c.in-Err-plan.ensures.err.2)), (refl, refl))))
 
 pub returns-in-Err-commit-clause-err : goal.returns-in-Err-commit-clause-err
 returns-in-Err-commit-clause-err g c w h =
@@ -31,7 +31,7 @@ returns-in-Err-show-clause-err g c w h =
     inl (
       admitted ∷ planned c.args.command.now ∷ committed commit_events ∷ unshown ∷ [],
       refl,
-      (a, r, c.in_default.ensures.ok, (b, r, (refl, plans), (c.commit.new.publisher, r, (refl, refl, c.in_default-commit.ensures.ok), (c.show.new.publisher, r, (refl, subst (λ (why : Refusal). PublishesNot g.S.Store c.commit.new.publisher c.show.new.publisher why) c.in-Err-show.ensures.err.0 c.in-Err-show.ensures.err), (refl, refl))))),
+      (a, r, c.in_default.ensures.ok, (b, r, (refl, plans), (c.commit.new.publisher, r, (refl, refl, c.in_default-commit.ensures.ok), (c.show.new.publisher, r, (refl, c.in_default-commit.ensures.then.0, subst (λ (why : Refusal). PublishesNot g.S.Store c.commit.new.publisher c.show.new.publisher why) c.in-Err-show.ensures.err.0 c.in-Err-show.ensures.err), (refl, refl))))),
     )
 
 pub returns-clause-ok : goal.returns-clause-ok
@@ -41,4 +41,4 @@ returns-clause-ok g c w h =
     let r = c.admit.new.registry in
     let plans = plans_it g.S.Store a b c.args.command.now c.in_default.ensures.then.1 c.in_default-plan.ensures.ok in
     let command = c.in_default-show.ensures.then.1 ∙ c.in_default-commit.ensures.then.1 ∙ c.in_default-plan.ensures.then.1 ∙ c.in_default.ensures.then.1 in
-    (a, r, c.in_default.ensures.ok, (b, r, (refl, plans), (c.commit.new.publisher, r, (refl, refl, c.in_default-commit.ensures.ok), (c.show.new.publisher, r, (refl, c.in_default-commit.ensures.then.0, c.in_default-show.ensures.ok), (c.note-receipt.new.publisher, c.note-receipt.new.registry, (c.in_default-show.ensures.then.0, command, c.note-receipt.ensures.notes), (refl, refl))))))
+    (a, r, c.in_default.ensures.ok, (b, r, (refl, plans), (c.commit.new.publisher, r, (refl, refl, c.in_default-commit.ensures.ok), (c.show.new.publisher, r, (refl, c.in_default-show.ensures.ok), (c.note-receipt.new.publisher, c.note-receipt.new.registry, (c.in_default-show.ensures.then.0, command, refl, c.note-receipt.new.registry, refl, c.note-receipt.ensures), (refl, refl))))))

@@ -14,7 +14,7 @@ use Rattle.prt_world.specs.declared.event.Event.{Event}
 use Rattle.prt_world.specs.declared.outcome.Outcome.{Outcome}
 use Rattle.prt_world.specs.declared.phase.Phase.{Phase as Moment}
 use Rattle.prt_world.specs.declared.phase.Phase.TheVariants as moments
-use Rattle.prt_follows.specs.Registers.{Registers}
+use Rattle.prt_follows.specs.Registries.{IsRegistryOf}
 use Rattle.prt_grace.specs.Registry.{RegistryState}
 use Rattle.prt_follows.specs.Spots.{IsAt}
 use Rattle.prt_follows.specs.Events.{own, own_outcomes}
@@ -50,7 +50,7 @@ SawRoom Committed w = Unit {0}
 SawRoom Published w = Unit {0}
 SawRoom Closed w = Unit {0}
 
-pub record StandsFor {S : Type 0} (g : Ghosts S) (p : Standing (Held S)) (w : World) : Type 0 where
+pub record IsPublisherOf {S : Type 0} (g : Ghosts S) (p : Standing (Held S)) (w : World) : Type 0 where
   pub moment : Moment
   pub is : Some moment ≡ moment_of p.phase p.command
   pub place : IsAt (record { line = p.line; disk = w.disk; moment = moment }) w
@@ -59,12 +59,12 @@ pub record StandsFor {S : Type 0} (g : Ghosts S) (p : Standing (Held S)) (w : Wo
 
 -- Whatever lookers do between these events: they show this, and lead to a world that the publisher stands for.
 abbrev pub Leads : {S : Type 0} → Ghosts S → World → List Event → List Outcome → Standing (Held S) → Type 0
-Leads g w written shown new = (all : List Event) → own all ≡ written → (own_outcomes w all ≡ shown) × StandsFor g new (run_from w all)
+Leads g w written shown new = (all : List Event) → own all ≡ written → (own_outcomes w all ≡ shown) × IsPublisherOf g new (run_from w all)
 
 -- And that world's disk is this state.
 abbrev pub LeadsTo : {S : Type 0} → Ghosts S → World → List Event → List Outcome → Standing (Held S) → State → Type 0
-LeadsTo g w written shown new left = (all : List Event) → own all ≡ written → (own_outcomes w all ≡ shown) × StandsFor g new (run_from w all) × ((run_from w all).disk ≡ left)
+LeadsTo g w written shown new left = (all : List Event) → own all ≡ written → (own_outcomes w all ≡ shown) × IsPublisherOf g new (run_from w all) × ((run_from w all).disk ≡ left)
 
 -- a world that the publisher stands for, and the registry that a lock shows
-abbrev pub StandFor : {S : Type 0} → Ghosts S → Standing (Held S) → RegistryState → World → Type 0
-StandFor g p r w = StandsFor g p w × Registers r w
+abbrev pub AreBothOf : {S : Type 0} → Ghosts S → Standing (Held S) → RegistryState → World → Type 0
+AreBothOf g p r w = IsPublisherOf g p w × IsRegistryOf r w

@@ -1,5 +1,5 @@
 -- Which worlds a registry of grace periods stands for, and what an event of a looker makes of it.
-use Rattle.std.specs.Prelude.{◌≡◌, ◌<◌, ◌++◌, ◌==◌, ℕ, nat_lt, length, Bool, true, false, List, [], ◌∷◌, map, None, Some}
+use Rattle.std.specs.Prelude.{◌≡◌, ◌<◌, ◌++◌, ◌==◌, if◌then◌else◌, ℕ, nat_lt, length, Bool, true, false, List, [], ◌∷◌, map, None, Some}
 use Rattle.std.specs.List.{AllByRecursion as Each}
 use Rattle.prt_grace.specs.Registry.{RegistryState, announced, noted_by, reclaimed, with_place}
 use Rattle.prt_grace.specs.declared.limits.TheConstants.{MOST_RETIRED}
@@ -13,16 +13,11 @@ use Rattle.prt_follows.specs.Spots.{IsReached}
 use Rattle.prt_world.specs.declared.phase.Phase.{Phase as Moment}
 use Rattle.prt_world.specs.declared.phase.Phase.TheVariants as moments
 
--- the version that is published and not noted
-abbrev pub unnoted_version : Bool → State → List State
-unnoted_version true state = []
-unnoted_version false state = state ∷ []
-
 -- The registry has noted the world's number. Its versions are those that the world keeps, but for one that is published and not noted. Its places announce what the world's lookers do.
-pub record Registers (r : RegistryState) (w : World) : Type 0 where
+pub record IsRegistryOf (r : RegistryState) (w : World) : Type 0 where
   pub noted : r.noted.count ≡ w.noted
   pub below : Each (λ state. state.count < w.noted) r.retired
-  pub all : w.versions ≡ r.retired ++ r.noted ∷ unnoted_version (w.noted == w.published) (published_version w)
+  pub all : w.versions ≡ r.retired ++ r.noted ∷ (if w.noted == w.published then [] else published_version w ∷ [])
   pub told : map announced r.places ≡ map announced_by w.lookers
 
 -- ---- what an event makes of it
@@ -65,8 +60,8 @@ registry_through r w (event ∷ all) = registry_through (registry_after r w even
 
 -- The registry's room is the world's.
 abbrev pub RoomIsRoom : Type 0
-RoomIsRoom = (r : RegistryState) (w : World) → IsReached w → Registers r w → has_room w ≡ nat_lt (length r.retired) MOST_RETIRED
+RoomIsRoom = (r : RegistryState) (w : World) → IsReached w → IsRegistryOf r w → has_room w ≡ nat_lt (length r.retired) MOST_RETIRED
 
 -- After each event, while the service runs, the registry stands for the world.
-abbrev pub EveryEventRegisters : Type 0
-EveryEventRegisters = (r : RegistryState) (w : World) (event : Event) → is_going event ≡ true → is_stopped w.phase ≡ false → IsReached w → Registers r w → Registers (registry_after r w event) (step w event).world
+abbrev pub EveryEventKeepsRegistry : Type 0
+EveryEventKeepsRegistry = (r : RegistryState) (w : World) (event : Event) → is_going event ≡ true → is_stopped w.phase ≡ false → IsReached w → IsRegistryOf r w → IsRegistryOf (registry_after r w event) (step w event).world

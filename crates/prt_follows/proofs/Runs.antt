@@ -1,0 +1,213 @@
+-- A run of a publisher's calls leads to a world that it stands for, which has acknowledged each receipt.
+use Rattle.std.proofs.Common.{◌≡◌, ℕ, Bool, true, false, List, [], ◌∷◌, ◌++◌, Option, Some, None, refl, sym, ap, ◌∙◌, subst, cond}
+use Rattle.std.specs.List.{AllByRecursion as Each}
+use Rattle.prt_addr.proofs.Each.{each_append}
+use Rattle.std.proofs.lemmas.List.{append-nil, append_assoc}
+use Rattle.sqlite.specs.Held.{Held}
+use Rattle.sqlite.specs.Store.{Ghosts}
+use Rattle.prt_command.specs.declared.request.Command.{Command}
+use Rattle.prt_store.specs.Exits.{IsKnown, IsStored, MayLeave, Spells}
+use Rattle.prt_publisher.specs.Standing.{Standing}
+use Rattle.prt_publisher.specs.declared.phase.Phase.{Phase}
+use Rattle.prt_publisher.specs.declared.phase.Phase.TheVariants.{Ready, Admitted, Prepared, Committed, Published, Closed}
+use Rattle.prt_version.specs.State.{State}
+use Rattle.prt_rule.specs.declared.packet.Packet.{Packet}
+use Rattle.prt_version.specs.declared.answer.Answer.{Answer}
+use Rattle.prt_world.specs.Durability.{IsAnswered}
+use Rattle.prt_world.specs.declared.outcome.Outcome.TheVariants as outcomes
+use Rattle.prt_world.specs.World as world
+use Rattle.prt_world.specs.World.{Ack, LookerState, Lookup, World, looker_state, offline, online, run_from, start, step}
+use Rattle.prt_world.specs.declared.event.Event.{Event}
+use Rattle.prt_world.specs.declared.event.Event.TheVariants as events
+use Rattle.prt_world.specs.declared.event.Fate.TheVariants.{Lost}
+use Rattle.prt_world.specs.declared.phase.Phase.TheVariants as moments
+use Rattle.prt_front.specs.Line.{grown, line_state}
+use Rattle.prt_grace.specs.Registry.{RegistryState, new_registry}
+use Rattle.prt_grace.specs.declared.place.PlaceState.TheVariants.{Free}
+use Rattle.sqlite.specs.Held.{state}
+use Rattle.sqlite.specs.Tree.{Trees}
+use Rattle.prt_follows.specs.Laws.{BeginsAt}
+use Rattle.prt_follows.specs.Registries.{IsRegistryOf, registry_through}
+use Rattle.prt_follows.proofs.Exits.{note_goes, place_in, published_command, spot, submits}
+use Rattle.prt_follows.proofs.Registering.{joins, registers_beside}
+use Rattle.prt_follows.specs.Events.{commit_events, fail_events, note_events, note_outcomes, own, publish_events, stop_events, submit_events, submit_outcomes, unpublished_events}
+use Rattle.prt_follows.specs.Runs.{EveryRunStands, HoldsAll, ActsAll, Act, Acts, adopted, admitted, answers_of, beside, committed, declined, events_of, failed, looked, noted, planned, receipts_of, refused, seated, shown, stopped, submit_failed, submit_unpublished, submitted, act_answers, act_events, act_receipts, unplanned, unshown}
+use Rattle.prt_follows.specs.Publishers.{HasDisk, AreBothOf, IsPublisherOf, moment_of}
+use Rattle.prt_follows.proofs.Acks.{event_keeps, failed_none, list_keeps, lookers_none, stopped_none, woven_acks, woven_keeps}
+use Rattle.prt_follows.proofs.Desks.{accepted_there}
+use Rattle.prt_follows.proofs.Through.{all_go_on, failed_go_on, registers_event, through}
+use Rattle.prt_follows.proofs.Answered.{list_had}
+use Rattle.prt_follows.proofs.Headline.{each_last, holds_all}
+use Rattle.prt_follows.proofs.Joined.{stands_beside}
+use Rattle.prt_follows.proofs.Opening.{left_is, open_moment}
+use Rattle.prt_follows.proofs.Steps.{holds_of, notes, run_more}
+use Rattle.prt_follows.proofs.Woven.{woven}
+
+-- ---- runs
+
+module _ {S : Type 0} (g : Ghosts S) where
+  abbrev Reaches : Standing (Held S) → RegistryState → World → List Event → List Ack → Type 0
+  Reaches new after w list told = IsPublisherOf g new (run_from w list) × IsRegistryOf after (run_from w list) × ((run_from w list).acks ≡ w.acks ++ told)
+
+  kept : {r after : RegistryState} {v : World} → after ≡ r → IsRegistryOf r v → IsRegistryOf after v
+  kept {r} {after} {v} is h = subst (λ (q : RegistryState). IsRegistryOf q v) (sym is) h
+
+  runs : (old : Standing (Held S)) (w : World) → IsPublisherOf g old w → world.is_stopped w.phase ≡ false
+  runs old w s = ap world.is_stopped s.place.moment ∙ open_moment old.phase old.command s.moment s.is
+
+  pub acted : (old new : Standing (Held S)) (r after : RegistryState) (w : World) (act : Act) → IsPublisherOf g old w → IsRegistryOf r w → Acts g old r w act new after → Reaches new after w (act_events act) (act_receipts act)
+  acted old new r after w (beside event) s h t =
+      (subst (λ (p : Standing (Held S)). IsPublisherOf g p (step w event).world) (sym t.1) (stands_beside g old w event t.0 s), kept t.2 (registers_beside r w event t.0 (runs old w s) s.place.reached h), list_keeps (event ∷ []) (lookers_none event t.0, tt) w)
+  acted old new r after w (looked i packet answer) s h t =
+      let event = events.Look i packet in
+      (subst (λ (p : Standing (Held S)). IsPublisherOf g p (step w event).world) (sym t.0) (stands_beside g old w event refl s), kept t.1 (registers_event r w s.place.reached h event refl (runs old w s)), list_keeps (event ∷ []) (refl, tt) w)
+  acted old new r after w (seated i place) s h t = (subst (λ (p : Standing (Held S)). IsPublisherOf g p w) (sym t.2) s, kept t.3 (joins r w h i place Free (t.1 ∙ sym t.0)), sym (append-nil w.acks))
+  acted old new r after w admitted s h t = ((t.1 w (s, h)).0, (t.1 w (s, h)).1, list_keeps (events.Reclaim ∷ []) (refl, tt) w)
+  acted old new r after w (declined command why true) s h t = ((t.1 w (s, h)).1.0, (t.1 w (s, h)).1.1, list_keeps (events.Reclaim ∷ events.Submit command ∷ []) (refl, (refl, tt)) w)
+  acted old new r after w (declined command why false) s h t = ((t.1 w (s, h)).1.0, (t.1 w (s, h)).1.1, list_keeps (events.Submit command ∷ []) (refl, tt) w)
+  acted old new r after w (planned command) s h t = ((t.1.1 w s (events.Submit command ∷ []) refl).1, kept t.0 (submits command r w h), list_keeps (events.Submit command ∷ []) (refl, tt) w)
+  acted old new r after w unplanned s h t = ((t.1.2 w s [] refl).1, kept t.0 h, sym (append-nil w.acks))
+  acted old new r after w (committed all) s h t = (
+    (t.2.1 w s all t.0).1,
+    kept t.1 (through all (all_go_on all commit_events t.0 (refl, (refl, (refl, (refl, tt))))) r w (runs old w s) s.place.reached h),
+    woven_keeps all commit_events t.0 (refl, (refl, (refl, (refl, tt)))) w ∙ sym (append-nil w.acks),
+  )
+  acted old new r after w (failed call fate left all) s h t = (
+    (t.2 w s all t.0).1,
+    kept t.1 (through all (all_go_on all (fail_events call fate) t.0 (failed_go_on call fate)) r w (runs old w s) s.place.reached h),
+    woven_keeps all (fail_events call fate) t.0 (failed_none call fate) w ∙ sym (append-nil w.acks),
+  )
+  acted old new r after w shown s h t = ((t.1.1 w s (events.Publish ∷ []) refl).1, kept t.0 (registers_event r w s.place.reached h events.Publish refl (runs old w s)), list_keeps (events.Publish ∷ []) (refl, tt) w)
+  acted old new r after w unshown s h t = ((t.2.2 w s (events.PublishFail ∷ []) refl).1, kept t.0 (registers_event r w s.place.reached h events.PublishFail refl (runs old w s)), list_keeps (events.PublishFail ∷ []) (refl, tt) w)
+  acted old new r after w (noted command told more) s h t =
+      let list = events.Note ∷ more in
+      let own_is : own list ≡ note_events = ap (λ xs. events.Note ∷ xs) t.2 in
+      let v : World = (step w events.Note).world in
+      let c = published_command old.command s.moment (s.is ∙ ap (λ (p : Phase). moment_of p old.command) t.0) in
+      let place = place_in g old old w s Published (moments.Published c.0) t.0 (sym (ap (moment_of Published) c.1)) in
+      let e = t.5.1 w s in
+      let law = e.1 list own_is in
+      let there = woven list note_events (note_outcomes old.line) (spot old.line w.disk (moments.Published c.0)) (spot old.line w.disk moments.Ready) w own_is (note_goes old.line w.disk c.0) place in
+      let number : (line_state old.line).count ≡ (line_state told).count = one_number (line_state old.line).count (line_state told).count (sym there.0 ∙ law.0) in
+      let same : c.0 ≡ command = one (sym c.1 ∙ t.1) in (
+        law.1,
+        kept (t.4 ∙ ap (λ q. registry_through q v more) e.0) (through list (refl, all_go_on more (events.Ack ∷ []) t.2 (refl, tt)) r w (runs old w s) s.place.reached h),
+        woven_acks old.line w.disk c.0 more v t.2 (notes old.line w.disk w c.0 place).1
+            ∙ ap (λ acks. acks ++ record { number = (line_state old.line).count; command = c.0 } ∷ []) (event_keeps w events.Note refl)
+            ∙ ap (λ n. w.acks ++ record { number = n; command = c.0 } ∷ []) number
+            ∙ ap (λ x. w.acks ++ record { number = (line_state told).count; command = x } ∷ []) same,
+      )
+    where
+      one : {x y : Command} → Some x ≡ Some y → x ≡ y
+      one is = cc
+
+      one_number : (a b : ℕ) → outcomes.Noted a ∷ outcomes.Acknowledged a ∷ [] ≡ outcomes.Noted b ∷ outcomes.Acknowledged b ∷ [] → a ≡ b
+      one_number a b is = cc
+  acted old new r after w (submitted command told more) s h t =
+      let list = events.Submit command ∷ more in
+      let own_is : own list ≡ submit_events command = ap (λ xs. events.Submit command ∷ xs) t.0 in
+      let law = t.4.1 w s t.1 list own_is in
+      let place = place_in g old old w s Ready moments.Ready t.3.0 refl in
+      let took = accepted_there old.line w.disk w command place t.3.1 t.1 more t.0 in
+      let number : (line_state told).count ≡ (line_state (grown old.line command)).count = same_submit (line_state told).count (line_state (grown old.line command)).count (sym law.0 ∙ took.0) in (
+        law.1,
+        kept t.2 (through list (refl, all_go_on more (commit_events ++ publish_events) t.0 (refl, (refl, (refl, (refl, (refl, (refl, (refl, tt)))))))) r w (runs old w s) s.place.reached h),
+        took.2 ∙ ap (λ n. w.acks ++ record { number = n; command = command } ∷ []) (sym number),
+      )
+    where
+      same_submit : (a b : ℕ) → submit_outcomes a ≡ submit_outcomes b → a ≡ b
+      same_submit a b is = cc
+  acted old new r after w (refused command why) s h t = ((t.2.1 w s t.0).1, kept t.1 (submits command r w h), list_keeps (events.Submit command ∷ []) (refl, tt) w)
+  acted old new r after w (submit_failed command call fate left more) s h t =
+      let list = events.Submit command ∷ more in
+      let own_is : own list ≡ events.Submit command ∷ fail_events call fate = ap (λ xs. events.Submit command ∷ xs) t.0 in (
+        (t.3 w s t.1 list own_is).1,
+        kept t.2 (through list (refl, all_go_on more (fail_events call fate) t.0 (failed_go_on call fate)) r w (runs old w s) s.place.reached h),
+        woven_keeps list (events.Submit command ∷ fail_events call fate) own_is (refl, failed_none call fate) w ∙ sym (append-nil w.acks),
+      )
+  acted old new r after w (submit_unpublished command more) s h t =
+      let list = events.Submit command ∷ more in
+      let own_is : own list ≡ unpublished_events command = ap (λ xs. events.Submit command ∷ xs) t.0 in (
+        (t.3.2 w s t.1 list own_is).1,
+        kept t.2 (through list (refl, all_go_on more (commit_events ++ events.PublishFail ∷ []) t.0 (refl, (refl, (refl, (refl, (refl, tt)))))) r w (runs old w s) s.place.reached h),
+        woven_keeps list (unpublished_events command) own_is (refl, (refl, (refl, (refl, (refl, (refl, tt)))))) w ∙ sym (append-nil w.acks),
+      )
+  acted old new r after w (adopted trees) s h t =
+      let there = t.2.1 old w s (spelled_by old.phase old.command old.tables w.disk trees refl refl t.1.1 t.1.2 (s.stored t.1.0)) in
+      (there.1.0, kept t.0 there.1.1, list_keeps (events.Stop Lost ∷ events.Reopen ∷ []) (refl, (refl, tt)) w)
+    where
+      spelled_by : (phase : Phase) (command : Option Command) (tables : Held S) (disk : State) (trees : Trees) → old.phase ≡ phase → old.command ≡ command → (state g tables).may_leave trees → (old.phase ≡ Closed → old.command ≡ None → Spells trees disk) → HasDisk g phase command tables disk → Spells trees disk
+      spelled_by Ready command tables disk trees at under may closed held = held.durable trees may
+      spelled_by Admitted command tables disk trees at under may closed held = held.durable trees may
+      spelled_by Prepared command tables disk trees at under may closed held = held.durable trees may
+      spelled_by Committed command tables disk trees at under may closed held = held.durable trees may
+      spelled_by Published command tables disk trees at under may closed held = held.durable trees may
+      spelled_by Closed None tables disk trees at under may closed held = closed at under
+      spelled_by Closed (Some command) tables disk trees at under may closed held = held.durable trees may
+  acted old new r after w (stopped call fate all) s h t =
+      let there = t.2.1 w s all t.0 in
+      let v : World = run_from w all in
+      let is : run_from w (all ++ events.Reopen ∷ []) ≡ (step v events.Reopen).world = run_more w all (events.Reopen ∷ []) in (
+        subst (IsPublisherOf g new) (sym is) there.2.0,
+        kept t.1 (subst (IsRegistryOf (new_registry (line_state new.line))) (sym is) there.2.1),
+        ap (λ (u : World). u.acks) is ∙ event_keeps v events.Reopen refl ∙ woven_keeps all (stop_events call fate) t.0 (stopped_none call fate) w ∙ sym (append-nil w.acks),
+      )
+
+  -- a run leads to a world that the publisher and the registry stand for, with its receipts
+  pub ran : EveryRunStands g
+  ran [] old new r after w h t = ((subst (λ (p : Standing (Held S)). IsPublisherOf g p w) (sym t.0) h.0, kept t.1 h.1), sym (append-nil w.acks))
+  ran (act ∷ acts) old new r after w h t =
+      let first = acted old t.0 r t.1 w act h.0 h.1 t.2 in
+      let v : World = run_from w (act_events act) in
+      let rest = ran acts t.0 new t.1 after v (first.0, first.1) t.3 in
+      let more : run_from w (act_events act ++ events_of acts) ≡ run_from v (events_of acts) = run_more w (act_events act) (events_of acts) in (
+        subst (AreBothOf g new after) (sym more) rest.0,
+        ap (λ (u : World). u.acks) more ∙ rest.1 ∙ ap (λ acks. acks ++ receipts_of acts) first.2 ∙ append_assoc w.acks (act_receipts act) (receipts_of acts),
+      )
+
+  -- ---- the answers that its lookers gave are the world's
+
+  module _ (P : Lookup → Type 0) where
+    look_shows : (w : World) (packet : Packet) (state : LookerState) (answer : Answer) → (world.look w packet state).outcome ≡ outcomes.Answered answer → Each P (world.look w packet state).world.answers → P (record { packet = packet; answer = answer })
+    look_shows w packet offline answer is all = absurd cc
+    look_shows w packet (online announced None) answer is all = absurd cc
+    look_shows w packet (online announced (Some held)) answer is all =
+        let given : world.answer_by (world.version w held) packet ≡ answer = cc in
+        subst (λ (a : Answer). P (record { packet = packet; answer = a })) given (each_last P w.answers (record { packet = packet; answer = world.answer_by (world.version w held) packet } ∷ []) all).0
+
+    unless_shows : (w : World) (packet : Packet) (state : LookerState) (answer : Answer) (b : Bool) → (cond b (world.unmet w) (world.look w packet state)).outcome ≡ outcomes.Answered answer → Each P (cond b (world.unmet w) (world.look w packet state)).world.answers → P (record { packet = packet; answer = answer })
+    unless_shows w packet state answer true is all = absurd cc
+    unless_shows w packet state answer false is all = look_shows w packet state answer is all
+
+    act_gave : (old new : Standing (Held S)) (r after : RegistryState) (w : World) (act : Act) → Acts g old r w act new after → Each P (run_from w (act_events act)).answers → Each P (act_answers act)
+    act_gave old new r after w (looked i packet answer) t all = (unless_shows w packet (looker_state w i) answer (world.is_stopped w.phase) t.2 all, tt)
+    act_gave old new r after w act t all = tt
+
+    pub run_gave : (acts : List Act) (old new : Standing (Held S)) (r after : RegistryState) (w : World) → ActsAll g old r w acts new after → Each P (run_from w (events_of acts)).answers → Each P (answers_of acts)
+    run_gave [] old new r after w t all = tt
+    run_gave (act ∷ acts) old new r after w t all =
+        let v : World = run_from w (act_events act) in
+        let there : Each P (run_from v (events_of acts)).answers = subst (λ (u : World). Each P u.answers) (run_more w (act_events act) (events_of acts)) all in
+        each_append P (act_answers act) (answers_of acts) (act_gave old t.0 r t.1 w act t.2 (list_had P (events_of acts) v there)) (run_gave acts t.0 new t.1 after v t.3 there)
+
+  -- ---- what a crash leaves after a run
+
+  left_in : (phase : Phase) (command : Option Command) (tables : Held S) (disk left : State) → HasDisk g phase command tables disk → (phase ≡ Closed → command ≡ None → left ≡ disk) → (IsStored g tables disk → left ≡ disk) → left ≡ disk
+  left_in Ready command tables disk left h shut stored = stored h
+  left_in Admitted command tables disk left h shut stored = stored h
+  left_in Prepared command tables disk left h shut stored = stored h
+  left_in Committed command tables disk left h shut stored = stored h
+  left_in Published command tables disk left h shut stored = stored h
+  left_in Closed None tables disk left h shut stored = shut refl refl
+  left_in Closed (Some command) tables disk left h shut stored = stored h
+
+  -- after a run, in its world; after a failed commit in that of the state which is left
+  pub leaves_all : (acts : List Act) (old new : Standing (Held S)) (after : RegistryState) → BeginsAt g old start → ActsAll g old (new_registry (line_state old.line)) start acts new after
+      → IsKnown g new.format_1 new.tables → (left : State) → MayLeave g new.tables left → (new.phase ≡ Closed → new.command ≡ None → left ≡ (run_from start (events_of acts)).disk)
+      → HoldsAll (run_from start (events_of acts)) (receipts_of acts) (answers_of acts) left
+  leaves_all acts old new after h t known left may shut =
+      let reached = ran acts old new (new_registry (line_state old.line)) after start h t in
+      let v : World = run_from start (events_of acts) in
+      let there : IsPublisherOf g new v = reached.0.0 in
+      let is : left ≡ v.disk = left_in new.phase new.command new.tables v.disk left (there.stored known) shut (λ stored. left_is g new v there known left may (λ held. stored)) in
+      holds_all v [] (receipts_of acts) (answers_of acts) left (holds_of v there.place.reached) is reached.1 (run_gave (IsAnswered v) acts old new (new_registry (line_state old.line)) after start t)
