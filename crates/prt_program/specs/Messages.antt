@@ -1,7 +1,9 @@
 -- What is told on standard error while a script is run.
-use Rattle.std.specs.Prelude.{ℕ, nat_lt, ◌==◌, ◌&&◌, ◌||◌, if◌then◌else◌, List, ◌++◌, map, codes, decimal}
+use Rattle.std.specs.Prelude.{ℕ, nat_lt, ◌==◌, ◌&&◌, ◌||◌, if◌then◌else◌, List, [], ◌++◌, map, codes, decimal}
 use Rattle.prt_addr.specs.Refusal.{refusal_text}
 use Rattle.prt_addr.specs.declared.refusal.Refusal.{Refusal}
+use Rattle.prt_addr.specs.declared.refusal.Refusal.TheVariants.{StoreFailed}
+use Rattle.prt_replay.specs.TraceText.{call_name}
 
 -- printable ASCII and tabs (9) as they are, any other byte as `?` (63)
 abbrev pub shown : ℕ → ℕ
@@ -11,9 +13,14 @@ shown byte = if byte == 9 || (nat_lt 31 byte && nat_lt byte 127) then byte else 
 abbrev pub location : List ℕ → ℕ → List ℕ
 location file line = file ++ codes ":" ++ decimal line
 
--- what is wrong with a line: `error C NAME: TEXT`
+-- which call of the store failed, where one did: ` in write`
+abbrev pub failed_call : Refusal → List ℕ
+failed_call (StoreFailed call) = codes " in " ++ call_name call
+failed_call other = []
+
+-- what is wrong with a line: `error C NAME: TEXT`, or `error 27 StoreFailed in CALL: TEXT`
 abbrev pub complaint : Refusal → List ℕ → List ℕ
-complaint reason text = refusal_text reason ++ codes ": " ++ map shown text
+complaint reason text = refusal_text reason ++ failed_call reason ++ codes ": " ++ map shown text
 
 -- of a refused line
 abbrev pub refused_message : List ℕ → ℕ → Refusal → List ℕ → List ℕ

@@ -1,8 +1,9 @@
 //! What is told on standard error while a script is run.
 ghost use Rattle.std.specs.Prelude.{◌≡◌, ◌≢◌, ◌<◌, IfOk, map, string_bytes};
-ghost use Rattle.prt_program.specs.Messages.{complaint, lines_text, location, progress_message, refused_message, shown, total_message};
+ghost use Rattle.prt_program.specs.Messages.{complaint, failed_call, lines_text, location, progress_message, refused_message, shown, total_message};
 ghost use Rattle.prt_words.specs.Faults.{fault_status};
 
+use prt_replay::call_name;
 use prt_session::{Observer, Refusal, Reply};
 use prt_words::{DONE, Fault, report};
 use std::alloc::{AllocError, Global};
@@ -46,13 +47,27 @@ fn location(alloc: Global, file: &str, line: u64) -> Result<String, AllocError>
     Ok(text)
 }
 
+/// Makes the text of which call of the store failed, which is empty where none did.
+fn failed_call(alloc: Global, refusal: Refusal) -> Result<String, AllocError>
+    ensures { IfOk result (λ made. string_bytes made ≡ failed_call refusal) }
+{
+    match refusal {
+        Refusal::StoreFailed(call) => {
+            let name = call_name(call);
+            format!(in alloc; " in {name}")
+        }
+        _ => Ok(String::new(alloc)),
+    }
+}
+
 /// Makes the text of what is wrong with a line.
 fn complaint(alloc: Global, refusal: Refusal, text: &[u8]) -> Result<String, AllocError>
     ensures { IfOk result (λ made. string_bytes made ≡ complaint refusal text.now) }
 {
     let reason = refusal.to_string(alloc)?;
+    let call = failed_call(alloc, refusal)?;
     let text = shown_text(alloc, text)?;
-    format!(in alloc; "{reason}: {text}")
+    format!(in alloc; "{reason}{call}: {text}")
 }
 
 /// Makes the message of a refused line.

@@ -52,7 +52,7 @@ fn push_of_looker(
 }
 
 /// Gives the word for a store call.
-fn call_name(call: StoreCall) -> &'static str
+pub fn call_name(call: StoreCall) -> &'static str
     ensures { result.now ≡ call_name call }
 {
     match call {
