@@ -1,4 +1,4 @@
--- The row at the place that a walk finds is the best of all rows.
+-- The row at the place of the heaviest is the best of all rows.
 use Rattle.std.proofs.Common.{◌≡◌, ℕ, zero, suc, ◌+◌, ◌*◌, ◌-◌, ◌^◌, ◌<◌, ◌≤◌, List, [], ◌∷◌, length, get_or, Bool, true, false, ◌&&◌, ◌||◌, cond, ltb, eqb, eq-eqb, arith, Some, refl, ap, subst, sym, ◌∙◌, ⊎_elim}
 use Rattle.std.specs.List.{All, filter, find, list_any, slice_get}
 use Rattle.std.proofs.lemmas.Bool.{cases_Bool, cases_lt, cases_eq}
@@ -11,11 +11,14 @@ use Rattle.prt_route.specs.Best.{best, is_candidate}
 use Rattle.prt_addr.specs.declared.addr.Addr.{Addr}
 use Rattle.prt_route.specs.Route.{is_better}
 use Rattle.prt_route.specs.declared.route.Route.{Route}
-use Rattle.prt_trie.specs.Walk.{AreBelow, IsBest, IsWithin, best_for, last_row, nowhere, weight}
+use Rattle.prt_trie.specs.Directory.{IsDirectory}
+use Rattle.prt_trie.specs.Heaviest.{IsBest, best_for, nowhere, weight}
+use Rattle.prt_trie.specs.Spans.{AreSpans}
+use Rattle.prt_trie.specs.Sweep.{AreDone}
 use Rattle.prt_trie.specs.Index.{IsIndex}
 use Rattle.prt_trie.specs.Table.{IsOfOneTable, IsRising, IsTable}
-use Rattle.prt_trie.specs.declared.node.Halves.{Halves}
-use Rattle.prt_trie.specs.declared.node.Node.{Node}
+use Rattle.prt_trie.specs.declared.index.Index.{Index}
+use Rattle.prt_trie.specs.declared.span.Span.{Span}
 
 -- the first that passes stands at p
 pub find_at : {X : Type 0} (q : X → Bool) (xs : List X) (p : ℕ) → ((k : ℕ) (d : X) → k < p → k < length xs → q (get_or xs k d) ≡ false) → ((d : X) → p < length xs → q (get_or xs p d) ≡ true) → find q xs ≡ slice_get xs p
@@ -55,7 +58,7 @@ better l k m n hm hn h =
     (cases_lt k l)
 
 -- the first of the best places has the best row
-pub best_row : (rows : List Route) (a p : ℕ) → length rows ≤ nowhere → All (λ row. row.metric < 2 ^ 32) rows → IsBest rows 0 (length rows) a nowhere p → slice_get rows p ≡ best_for rows (record { 0 = a })
+pub best_row : (rows : List Route) (a p : ℕ) → length rows ≤ nowhere → All (λ row. row.metric < 2 ^ 32) rows → IsBest rows (length rows) a p → slice_get rows p ≡ best_for rows (record { 0 = a })
 best_row rows a p few metrics best =
     let c : Route → Bool = λ row. contains row.prefix (record { 0 = a }) in
     let u : Route → Bool = is_first is_better (filter c rows) in
@@ -87,9 +90,20 @@ best_of_table rows table addr all =
     ap (λ (cs : List Route). first_by is_better cs) (filter_within (is_candidate table addr) (λ row. contains row.prefix addr) rows
     (λ k d l. let e : (get_or rows k d).table ≡ table = all k d l in let t : eqb (get_or rows k d).table table ≡ true = eq-eqb (get_or rows k d).table table e in rw t refl))
 
--- a trie that finds the best of all rows is an index of them
-pub index_of : (rows : List Route) (halves : List Halves) (root : Node) → length rows ≤ nowhere → IsTable rows → AreBelow halves → IsWithin (length halves) root → ((a b : ℕ) → IsBest rows 0 (length rows) a b (last_row halves root a b)) → IsIndex rows halves root
-index_of rows halves root few table below within best = record { table = table; halves_below = below; root_within = within; agrees = λ a. best_row rows a (last_row halves root a nowhere) few table.metrics (best a nowhere) }
+pub are_spans_of : (rows : List Route) (spans : List Span) → AreDone rows spans (2 ^ 32) → AreSpans spans
+are_spans_of rows [] done = let d : Span = record { first = 0; row = 0 } in absurd (let b : (0 < 0) × (d.first ≡ 0) = done.begin d (omega arith) in omega arith)
+are_spans_of rows (span ∷ spans) done = record { some = omega arith; begin = λ d. (done.begin d (omega arith)).1; rise = done.rise }
+
+-- spans that are right for all addresses are an index
+pub index_of : (rows : List Route) (index : Index) → IsTable rows → length rows ≤ nowhere → AreDone rows index.spans.items (2 ^ 32) → index.slots.shift < 32 → IsDirectory index.spans.items index.slots index.starts.items → IsIndex rows index
+index_of rows index table fits done shift directory = record {
+  table = table;
+  fits = fits;
+  are_spans = are_spans_of rows index.spans.items done;
+  shift = shift;
+  directory = directory;
+  agrees = λ a place d below is. best_row rows a (get_or index.spans.items place d).row fits table.metrics (done.best a place d below is);
+}
 
 pub table_from : (given rows : List Route) → given ≡ rows → IsOfOneTable rows → IsRising rows → All (λ row. IsPrefix row.prefix) given → All (λ row. row.metric < 2 ^ 32) given → IsTable given
 table_from given rows same one rises prefixes metrics = record { one_table = subst IsOfOneTable (sym same) one; rising = subst IsRising (sym same) rises; prefixes = prefixes; metrics = metrics }

@@ -1,12 +1,14 @@
-//! Tables of routes, and tries over their prefixes that find the best route for an address.
+//! Tables of routes, and spans of addresses that find the best route for an address.
 #![tactic(auto)]
 
+mod directory;
 mod edit;
+mod index;
 mod listing;
-mod node;
-mod part;
 mod pieces;
 mod place;
+mod span;
+mod sweep;
 mod table;
 mod tree;
 

@@ -1,4 +1,4 @@
-ghost use Rattle.std.specs.Prelude.{◌≡◌, ◌<◌, ◌^◌, ℕ, length, All, IfErr, IfOk, IsPermutation, option_map, slice_get};
+ghost use Rattle.std.specs.Prelude.{◌≡◌, ◌<◌, ◌^◌, ℕ, length, All, IfErr, IfOk, IsPermutation, option_map};
 ghost use Rattle.std.specs.List.{IsDistinct};
 ghost use Rattle.std.specs.Option.{option_copied};
 ghost use Rattle.prt_addr.specs.Sound.{IsPrefix};
@@ -9,20 +9,18 @@ ghost use Rattle.prt_route.specs.Route.{key_of};
 ghost use Rattle.prt_route.specs.RouteChoice.{chosen_route};
 ghost use Rattle.prt_trie.specs.Table.{IsOfOneTable, IsOfTable, IsRising, IsTable, has_same_key};
 
+use crate::index::Index;
 use crate::listing::sort_rows;
-use crate::node::{Halves, Node, last_row, node_of};
-use crate::part::Part;
 use crate::place::{chosen_route, has_key};
 use crate::{Addr, Refusal, Route, RouteChoice, RouteKey};
 use std::alloc::{AllocError, Global};
 use std::marker::Model;
 
-/// The routes of one table by address, length and metric, and a trie over their prefixes.
+/// The routes of one table by address, length and metric, and their index.
 #[derive(Drop)]
 pub struct Tree {
     rows: Vec<Route>,
-    halves: Vec<Halves>,
-    root: Node,
+    index: Index,
 }
 
 impl Model for Tree {
@@ -34,7 +32,7 @@ impl Model for Tree {
 
     ghost view = { λ tree. tree.rows.items };
 
-    ghost invariant = { λ tree. IsIndex tree.rows.items tree.halves.items tree.root };
+    ghost invariant = { λ tree. IsIndex tree.rows.items tree.index };
 }
 
 /// The metric of the row.
@@ -95,16 +93,8 @@ impl Tree {
     {
         let given = rows.as_slice();
         read_all(given);
-        // There are no more halves than rows, so their vector is allocated once.
-        let mut halves = Vec::with_capacity(alloc, given.len())?;
-        let all = Part {
-            start: 0,
-            end: given.len(),
-            first: 0,
-            len: 0,
-        };
-        let root = node_of(&mut halves, given, all)?;
-        Ok(Tree { rows, halves, root })
+        let index = Index::build(alloc, given)?;
+        Ok(Tree { rows, index })
     }
 
     /// The routes in the order of listings.
@@ -119,7 +109,7 @@ impl Tree {
     pub fn find(&self, addr: Addr) -> Option<&Route>
         ensures { (table : ℕ) → IsOfTable table self.now → option_copied result ≡ best self.now table addr }
     {
-        self.rows.get(last_row(&self.halves, &self.root, addr.0))
+        self.index.find(&self.rows, addr)
     }
 
     /// A copy of the routes by address, length and metric.

@@ -9,7 +9,7 @@ use prt_route::Kind;
 use prt_rule::matches;
 
 /// The best route of a table, unless a throw route ends the lookup there (`ip-route(8)`).
-// Out of line, the walk down the tries leaves the loop over the rules an innermost one, which the compiler keeps tight.
+// Out of line, the search in a table leaves the loop over the rules an innermost one, which the compiler keeps tight.
 #[inline(never)]
 fn table_lookup<'a>(routes: &'a Tables, table: u32, packet: &Packet) -> Option<&'a Route>
     ensures { option_map (λ r. r.now) result ≡ table_lookup table routes.now packet.now }

@@ -59,22 +59,36 @@ impl Random {
     }
 }
 
-/// A prefix of few octets and any length, so that many of a table's lie in one another.
-fn random_prefix(random: &mut Random) -> Prefix {
-    let bits = random.next();
-    let few = [0x0a000000u32, 0x0a0a0a00, 0x0b000000, 0xffffffff, 0];
-    let base = few[(bits % 5) as usize];
-    let len = (random.next() % 33) as u8;
-    Prefix::masked(base ^ (random.next() & 0x00810103), len)
+/// Which addresses the prefixes of a random table begin near: the bits of `spread` differ from those of one of `bases`.
+#[derive(Clone, Copy)]
+struct Area<'a> {
+    bases: &'a [u32],
+    spread: u32,
 }
 
-/// A table of up to so many routes of main.
-fn random_table(alloc: Global, random: &mut Random, count: u32) -> Result<Table, Refusal>
+/// A prefix of any length in the area.
+fn random_prefix(random: &mut Random, area: Area<'_>) -> Prefix {
+    let roll = (random.next() as usize).checked_rem(area.bases.len());
+    let base = match area.bases.get(roll.unwrap_or(0)) {
+        Some(base) => *base,
+        None => 0,
+    };
+    let len = (random.next() % 33) as u8;
+    Prefix::masked(base ^ (random.next() & area.spread), len)
+}
+
+/// A table of up to so many routes of main with prefixes in the area, of three metrics.
+fn random_table(
+    alloc: Global,
+    random: &mut Random,
+    area: Area<'_>,
+    count: u32,
+) -> Result<Table, Refusal>
     ensures { IfOk result (λ table. IsOfTable 254 table) }
 {
     let mut table = empty_table(alloc)?;
     for _ in 0..count {
-        let prefix = random_prefix(random);
+        let prefix = random_prefix(random, area);
         let mut new = route(0, 0, random.next() % 3);
         new.prefix = prefix;
         table = with_route(&table, new)?;
@@ -154,22 +168,49 @@ fn each_call_answers(rt: HostRuntime) -> Result<(), Fail> {
     Ok(())
 }
 
+/// Compares what tree and table find at both ends of each prefix, and beside them, with a scan of all rows.
+fn compare_ends(rt: &HostRuntime, table: &Table) -> Result<(), Fail> {
+    let rows = table.rows()?;
+    let tree = Tree::build(rt.alloc(), &rows)?;
+    assert!(rt; tree.rows()? == rows);
+    for row in &rows {
+        let first = row.prefix.bits();
+        let host_bits = u32::MAX.checked_shr(u32::from(row.prefix.len()));
+        let last = first | host_bits.unwrap_or(0);
+        compare(rt, &rows, &tree, table, first);
+        compare(rt, &rows, &tree, table, last);
+        compare(rt, &rows, &tree, table, first.wrapping_sub(1));
+        compare(rt, &rows, &tree, table, last.wrapping_add(1));
+    }
+    Ok(())
+}
+
 #[test]
 fn random_tables(rt: HostRuntime) -> Result<(), Fail> {
+    // Prefixes of few octets, so that many of a table's lie in one another.
+    let area = Area {
+        bases: &[0x0a000000, 0x0a0a0a00, 0x0b000000, 0xffffffff, 0],
+        spread: 0x00810103,
+    };
     let mut random = Random(0x9e3779b97f4a7c15);
     for _ in 0..20_000 {
-        let table = random_table(rt.alloc(), &mut random, 8)?;
-        let rows = table.rows()?;
-        let tree = Tree::build(rt.alloc(), &rows)?;
-        assert!(rt; tree.rows()? == rows);
-        for row in &rows {
-            let first = row.prefix.bits();
-            let host_bits = u32::MAX.checked_shr(u32::from(row.prefix.len()));
-            let last = first | host_bits.unwrap_or(0);
-            compare(&rt, &rows, &tree, &table, first);
-            compare(&rt, &rows, &tree, &table, last);
-            compare(&rt, &rows, &tree, &table, first.wrapping_sub(1));
-            compare(&rt, &rows, &tree, &table, last.wrapping_add(1));
+        let table = random_table(rt.alloc(), &mut random, area, 8)?;
+        compare_ends(&rt, &table)?;
+    }
+    Ok(())
+}
+
+#[test]
+fn random_tables_of_one_octet(rt: HostRuntime) -> Result<(), Fail> {
+    let area = Area {
+        bases: &[0x0a000000],
+        spread: 0x00c7c1c3,
+    };
+    let mut random = Random(0x2545f4914f6cdd1d);
+    for count in [20, 60, 200, 2_000] {
+        for _ in 0..4_000 / count {
+            let table = random_table(rt.alloc(), &mut random, area, count)?;
+            compare_ends(&rt, &table)?;
         }
     }
     Ok(())

@@ -1,16 +1,10 @@
-use Rattle.std.proofs.Common.{◌≡◌, arith, ap, sym, ◌∙◌}
-use Rattle.std.specs.Prelude.{slice_get}
-use Rattle.std.specs.Option.{option_copied}
-use Rattle.std.proofs.lemmas.Grind.{common_steps}
-use Rattle.std.proofs.lemmas.Option.{gets}
-use Rattle.prt_trie.specs.Walk.{best_for}
+use Rattle.std.proofs.Common.{ap, sym, ◌∙◌}
+use Rattle.prt_trie.specs.Heaviest.{best_for}
 use Rattle.prt_trie.proofs.Finds.{best_of_table}
 use Rattle.prt_trie.proofs.tree.Tree.find.Goals as goal
 
-found_row : (c : goal.After-get) → option_copied c.get.result ≡ slice_get c.deref.result.now c.last_row.result
-found_row c = grind (arith, common_steps, gets)
+pub find-requires : goal.find-requires
+find-requires c = rw c.deref.ensures.value c.self.invariant
 
 pub returns : goal.returns
-returns c table all =
-    let best : slice_get c.deref.result.now c.last_row.result ≡ best_for c.args.self.now c.args.addr = rw (c.deref.ensures.value, c.last_row.ensures, c.deref-2.ensures.value) (c.self.invariant.agrees c.args.addr.0 ∙ ap (λ rows. best_for rows c.args.addr) c.self.view_is) in
-    found_row c ∙ best ∙ sym (best_of_table _ table c.args.addr all)
+returns c table all = c.find.ensures ∙ ap (λ rows. best_for rows c.args.addr) (c.deref.ensures.value ∙ c.self.view_is) ∙ sym (best_of_table c.args.self.now table c.args.addr all)
