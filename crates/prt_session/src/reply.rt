@@ -66,16 +66,10 @@ fn accepted_line(number: u64) -> ArrayString<32>
 }
 
 /// Makes the line `error C NAME`.
-#[tactic(auto, using(crate::proofs::RefusalText::code_short, crate::proofs::RefusalText::name_short))]
 fn refused_line(refusal: Refusal) -> ArrayString<32>
     ensures { result.bytes ≡ refusal_text refusal ++ codes "\n" }
 {
-    let mut digits = Buffer::new();
-    let mut line = ArrayString::new();
-    line.push_str("error ");
-    line.push_str(digits.format(refusal.code()));
-    line.push_str(" ");
-    line.push_str(refusal.name());
+    let mut line = refusal.text();
     line.push_str("\n");
     line
 }

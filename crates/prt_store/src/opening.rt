@@ -7,18 +7,17 @@ ghost use Rattle.prt_addr.specs.declared.refusal.Refusal.TheVariants.{OpenFailed
 ghost use Rattle.prt_rows.specs.Effects.{AreEmpty};
 ghost use Rattle.prt_rows.specs.Format.{BeginsFormat1, HasFormat1, IsFormat1, SuitsFormat1};
 ghost use Rattle.prt_rows.specs.MetaRow.{meta_row};
-ghost use Rattle.prt_rows.specs.Statements.{insert_meta};
+ghost use Rattle.prt_rows.specs.RuleRow.{rule_row};
+ghost use Rattle.prt_rows.specs.Statements.{insert_meta, insert_rule};
 ghost use Rattle.prt_store.specs.Adopted.{IsSettled};
-ghost use Rattle.prt_store.specs.Openings.{Advances, Commits, Fills, Finds, InsertsRule, InsertsRules, IsEmpty, MakesAndFills, MakesMissing, MakesTables, OpensTables, Ran, Sees, ShowsNoRow, Takes, Works, create, look_at, table_of};
+ghost use Rattle.prt_store.specs.Openings.{Advances, Commits, Fills, Finds, InsertsRules, IsEmpty, MakesAndFills, MakesMissing, MakesTables, OpensTables, Ran, Sees, ShowsNoRow, Takes, Works, create, look_at, table_of};
 ghost use Rattle.prt_store.specs.declared.opening.OurTable.{OurTable as OneTable};
-ghost use Rattle.prt_version.specs.State.{table_rule};
 
 use crate::statements::insert_rule;
 use prt_addr::Refusal;
-use prt_route::{DEFAULT_TABLE, LOCAL_TABLE, MAIN_TABLE};
 use prt_rows::{has_format_1, has_table, meta_values, suits_format_1};
 use prt_rule::Rule;
-use prt_version::table_rule;
+use prt_version::opening_rules;
 use sqlite::{Alter, Connection, Error, Transaction};
 
 /// One of the three tables.
@@ -38,7 +37,7 @@ enum Step {
     Fill,
 }
 
-/// The statement that makes a table.
+/// Gives the statement that makes a table.
 fn create(table: OurTable) -> &'static str
     ensures { result.now ≡ create table }
 {
@@ -60,18 +59,16 @@ fn create_table<S: Alter>(tx: &mut Transaction<'_, S>, table: OurTable) -> Resul
     tx.execute(create(table), &[])
 }
 
-/// Inserts a rule that looks up a table for every packet.
-fn insert_table_rule<S: Alter>(
+/// Inserts one of the opening rules.
+fn insert_opening_rule<S: Alter>(
     tx: &mut Transaction<'_, S>,
-    id: u64,
-    priority: u32,
-    table: u32,
+    rule: &Rule,
 ) -> Result<usize, Error>
-    requires { id < 2 ^ 63 }
+    requires { rule.now.id < 2 ^ 63 }
     ensures same_reference { tx.new.conn.ghost_name ≡ tx.old.conn.ghost_name }
-    ensures works { Works S.Store (InsertsRule S.Store id priority table) tx.old.conn.now tx.new.conn.now result }
+    ensures works { Works S.Store (Ran S.Store insert_rule (rule_row rule.now)) tx.old.conn.now tx.new.conn.now result }
 {
-    insert_rule(tx, &table_rule(id, priority, table))
+    insert_rule(tx, rule)
 }
 
 /// Inserts the opening rules (`ip-rule(8)`).
@@ -79,9 +76,10 @@ fn insert_rules<S: Alter>(tx: &mut Transaction<'_, S>) -> Result<usize, Error>
     ensures same_reference { tx.new.conn.ghost_name ≡ tx.old.conn.ghost_name }
     ensures works { Works S.Store (InsertsRules S.Store) tx.old.conn.now tx.new.conn.now result }
 {
-    insert_table_rule(tx, 1, 0, LOCAL_TABLE)?;
-    insert_table_rule(tx, 2, 32766, MAIN_TABLE)?;
-    insert_table_rule(tx, 3, 32767, DEFAULT_TABLE)
+    let [local, main, default] = opening_rules();
+    insert_opening_rule(tx, &local)?;
+    insert_opening_rule(tx, &main)?;
+    insert_opening_rule(tx, &default)
 }
 
 /// Inserts the row of `meta`, with the count 0.
@@ -134,7 +132,7 @@ fn take<S: Alter>(conn: &mut Connection<S>, step: Step) -> Result<(), Refusal>
     tx.commit().or(Err(Refusal::OpenFailed))
 }
 
-/// The name of a table.
+/// Gives the name of a table.
 fn name(table: OurTable) -> &'static str
     ensures { result.now ≡ (table_of table).name }
 {
@@ -167,7 +165,7 @@ fn make_tables<S: Alter>(conn: &mut Connection<S>) -> Result<(), Refusal>
     make_missing(conn, OurTable::Meta)
 }
 
-/// The statement that shows the rowid of each row of a table.
+/// Gives the statement that shows the rowid of each row of a table.
 fn look_at(table: OurTable) -> &'static str
     ensures { result.now ≡ look_at table }
 {

@@ -44,7 +44,7 @@ pub(crate) fn metric_of(row: &Route) -> u32
 }
 
 /// Tells of all rows what their types tell of each that is read.
-fn read_all(rows: &[Route])
+pub(crate) fn read_all(rows: &[Route])
     ensures prefixes { All (λ row. IsPrefix row.prefix) rows.now }
     ensures metrics { All (λ row. row.metric < 2 ^ 32) rows.now }
 {

@@ -7,7 +7,7 @@ use crate::Refusal;
 use std::alloc::Global;
 use std::sync::Arc;
 
-/// The first owner of the value.
+/// Makes the first owner of the value.
 ///
 /// # Errors
 ///
@@ -18,17 +18,4 @@ pub fn first_owner<T: Drop>(alloc: Global, value: T) -> Result<Arc<T>, Refusal>
 {
     let owner = Arc::new(alloc, value)?;
     Ok(owner)
-}
-
-/// One more owner of the same value.
-///
-/// # Errors
-///
-/// `NoMemory` where the value has as many owners as can be counted.
-pub fn share<T: Drop>(owner: &Arc<T>) -> Result<Arc<T>, Refusal>
-    ensures value { IfOk result (λ other. arc_value other ≡ arc_value owner.now) }
-    ensures reason { IfErr result (λ reason. reason ≡ NoMemory) }
-{
-    let other = Arc::try_clone(owner)?;
-    Ok(other)
 }

@@ -22,7 +22,7 @@ fn table_lookup<'a>(routes: &'a Tables, table: u32, packet: &Packet) -> Option<&
     }
 }
 
-/// What one rule says of a packet, if it decides (`ip-rule(8)`).
+/// Tells what one rule says of a packet, if it decides (`ip-rule(8)`).
 fn decision(rule: &Rule, routes: &Tables, packet: &Packet) -> Option<Verdict>
     ensures { result ≡ decision rule.now routes.now packet.now }
 {
@@ -36,7 +36,7 @@ fn decision(rule: &Rule, routes: &Tables, packet: &Packet) -> Option<Verdict>
     Some(Verdict::Route(rule.priority, *route))
 }
 
-/// What the first of these rules that decides says.
+/// Tells what the first of these rules that decides says.
 #[tactic(auto, using(crate::proofs::Rules::decides, crate::proofs::Rules::passes_on))]
 fn first_verdict(rules: &[Rule], routes: &Tables, packet: &Packet) -> Verdict
     ensures { result ≡ first_verdict rules.now routes.now packet.now }
@@ -49,7 +49,7 @@ fn first_verdict(rules: &[Rule], routes: &Tables, packet: &Packet) -> Verdict
     Verdict::NoRoute
 }
 
-/// What the rules, in the order in which they are asked, make of a packet.
+/// Tells what the rules, in the order in which they are asked, make of a packet.
 pub(crate) fn verdict_of(rules: &[Rule], routes: &Tables, packet: &Packet) -> Verdict
     requires { IsInOrder rules.now }
     ensures { result ≡ verdict_of rules.now routes.now packet.now }

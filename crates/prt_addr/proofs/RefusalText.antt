@@ -1,4 +1,4 @@
--- The line of a refusal is short.
+-- The text of a refusal is short.
 use Rattle.std.proofs.Common.{◌<◌, ◌≤◌, length, lit<, lit≤, arith}
 use Rattle.std.proofs.lemmas.Fmt.{length-decimal-le}
 use Rattle.std.specs.Fmt.{decimal}
