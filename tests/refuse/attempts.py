@@ -90,10 +90,17 @@ def sessions(script, mishaps):
     return found
 
 
+def is_refused_opening(ended, refusal):
+    """Whether a run ended with this refusal of an opening; under it the cause may stand, in one line."""
+    fault, _, cause = ended.errors.partition("\n")
+    is_one_line = cause.startswith("prt: ") and cause.count("\n") == 1
+    return (ended.status, ended.replies, fault) == (3, "", f"prt: error {refusal}") and (not cause or is_one_line)
+
+
 def met_by(ended, allowed, openings):
     """What a run met: a refused opening, or one of the sessions; and the states that may be stored."""
     for refusal in openings:
-        if ended[:3] == (3, "", f"prt: error {refusal}\n"):
+        if is_refused_opening(ended, refusal):
             return f"{refusal[3:]} at the opening", [model.State()]
     what, session = allowed.get(ended.replies, (None, None))
     if session is None or (ended.status, ended.errors) != (session.status, ""):

@@ -1,11 +1,12 @@
--- What the program does: it runs the session or the replay that its words ask for, or it says why it does not.
+-- What the program does: it runs the session, the check or the replay that its words ask for, or it says why it does not.
 use Rattle.std.specs.Prelude.{◌≡◌, ◌≢◌, ◌⊎◌, ℕ, Bool, true, false, List, Option, Some, None}
 use Rattle.prt_addr.specs.declared.refusal.Refusal.{Refusal}
 use Rattle.prt_program.specs.Databases.{IsOpenOn, OpensAndCloses}
 use Rattle.prt_program.specs.Faults.{database_of}
 use Rattle.prt_words.specs.Faults.{IsStatusOf}
-use Rattle.prt_words.specs.Invocation.{Invocation, Word, batch, replay}
+use Rattle.prt_words.specs.Invocation.{Invocation, Word, batch, check, replay}
 use Rattle.prt_replay.specs.Replay.{ReplayIs}
+use Rattle.prt_session.specs.Check.{ChecksLines}
 use Rattle.prt_session.specs.Desk.{Befalls, DeskState, IsNoMemory, Mishap, request_turn, settled}
 use Rattle.prt_session.specs.Run.{RunIs}
 use Rattle.prt_session.specs.Stands.{Stands}
@@ -63,6 +64,13 @@ abbrev pub RunsBatch : (Word → SessionFact) → Option Word → SessionFact
 RunsBatch RunAt None mode streams status = (left : State) × RunsOn (λ desk after. after ≡ settled desk) IsNoMemory mode opening_state left streams status
 RunsBatch RunAt (Some path) mode streams status = RunAt path mode streams status
 
+-- A check was run, and this is its exit status.
+pub record RunsCheck (streams : Streams) (status : ℕ) : Type 0 where
+  pub reader : Option (List ℕ)
+  pub end : ScriptEnd
+  pub run : ChecksLines streams.input reader streams.output_before streams.output_after end
+  pub status_is : status ≡ exit_status end
+
 -- A replay was run, and this is its exit status.
 pub record RunsReplay (streams : Streams) (status : ℕ) : Type 0 where
   pub end : ScriptEnd
@@ -77,6 +85,7 @@ RunsOver {File} bytes Run (Some path) streams status = (file : File) × Run (rec
 -- what the words ask for was run
 abbrev pub Runs : {File : Type 0} → (File → Option (List ℕ)) → (Word → SessionFact) → Invocation → Streams → ℕ → Type 0
 Runs bytes RunAt (batch script) streams status = RunsOver bytes (RunsBatch RunAt script.database script.mode) script.file streams status
+Runs bytes RunAt (check file) streams status = RunsOver bytes RunsCheck file streams status
 Runs bytes RunAt (replay file) streams status = RunsOver bytes RunsReplay file streams status
 Runs bytes RunAt asked streams status = ⊥
 
@@ -91,6 +100,7 @@ LeavesInputFor (Some path) input0 input = input ≡ input0
 
 abbrev pub LeavesInput : Invocation → Option (List ℕ) → Option (List ℕ) → Type 0
 LeavesInput (batch script) input0 input = LeavesInputFor script.file input0 input
+LeavesInput (check file) input0 input = LeavesInputFor file input0 input
 LeavesInput (replay file) input0 input = LeavesInputFor file input0 input
 LeavesInput asked input0 input = input ≡ input0
 

@@ -133,7 +133,8 @@ enum Telling {
     ShowingProgress,
 }
 
-/// Looks on at a run, and tells of it on standard error once it is turned on.
+/// Looks on at a run, and tells of it on standard error once it is turned on. Why a file could not be opened it always
+/// tells.
 ///
 /// A fault of the clock, of memory or of writing loses a message and changes nothing else.
 #[derive(Drop)]
@@ -195,9 +196,7 @@ impl<'a, E: Write + Drop, K: Clock + Drop> Messages<'a, E, K> {
 
     /// Keeps why a file could not be opened.
     pub(crate) fn keep_cause<D: Display>(&mut self, path: &str, reason: &D) {
-        if self.is_on() {
-            self.cause = cause_message(self.alloc, &path, reason).ok();
-        }
+        self.cause = cause_message(self.alloc, &path, reason).ok();
     }
 
     /// Tells why a file could not be opened, if that was kept.

@@ -1,5 +1,7 @@
 pub mod Reply
+pub mod Form
 pub mod Session
+pub mod Check
 pub mod Desk
 pub mod Stands
 pub mod Preorder

@@ -1,9 +1,11 @@
-//! Sessions: the replies to a script, and the desk that executes its commands.
+//! Sessions: the replies to a script, and the desk that executes its commands. Checks, which execute nothing.
 #![tactic(auto)]
 
+mod check;
 mod desk;
 pub mod examples;
 mod executor;
+mod form;
 mod input;
 mod laws;
 mod list_desk;
@@ -13,6 +15,7 @@ mod script;
 pub mod scripts;
 mod session;
 
+pub use check::check_lines;
 pub use desk::Desk;
 pub use executor::Executor;
 pub use laws::{closed_replies, list_replies, session_ends};

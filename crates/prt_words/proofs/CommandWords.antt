@@ -8,7 +8,7 @@ use Rattle.clap.specs.declared.parser.matches.ValueSource.TheVariants.{CommandLi
 use Rattle.clap.specs.declared.builder.value_parser.Reading.TheVariants.{AsWritten}
 use Rattle.clap.specs.declared.error.kind.ErrorKind.TheVariants as kind
 use Rattle.clap.proofs.OnLiterals.{clap_on_literals}
-use Rattle.prt_words.specs.Invocation.{Argument, Force, Verbose, Database, File, Given, Invocation, anywhere, at_path, at_operands, asks_help, argument, unknown, Subcommand, Batch, Replay, Word, asked, asked_by, file_of, has_given, is_delimiter, is_option, mode_of, nothing_given, usage_error, with_given}
+use Rattle.prt_words.specs.Invocation.{Argument, Force, Verbose, Database, File, Given, Invocation, anywhere, at_path, at_operands, asks_help, argument, unknown, Subcommand, Batch, Check, Replay, Word, asked, asked_by, file_of, has_given, is_delimiter, is_option, mode_of, nothing_given, usage_error, with_given}
 use Rattle.prt_words.proofs.Rows.{used_once}
 use Rattle.prt_words.proofs.Arguments.{AreGiven, both_quiet, checks_quiet, database_at_end, defaults_quiet, file_at_end, forced_at_end, given_has, one_more, row_of, verbose_at_end}
 use Rattle.prt_words.proofs.LostWords.{end_lost, lost, lost_operands, option_mistaken, position_of}
@@ -56,6 +56,11 @@ at_end Batch given rows pending position trailing stands =
       forced_at_end given held stands.are ∙ ap (λ b. Some (text_of_flag b)) (sym (mode_goes_on given.forced)),
       verbose_at_end given held stands.are,
     )
+at_end Check given rows pending position trailing stands = (
+  no_faults Check rows pending position trailing stands.settled_here,
+  refl,
+  ap (option_and_then file_of) (file_at_end Check given (held_rows Check rows pending) stands.are),
+)
 at_end Replay given rows pending position trailing stands = (
   no_faults Replay rows pending position trailing stands.settled_here,
   refl,
@@ -79,6 +84,7 @@ never false x y = refl
 first_operand : (s : Subcommand) (word : Word) (rows : List Row) (pending : Option (Text × List Text)) → settles s rows pending → value_turn s word rows pending 1 ≡ []
 unfolding walked
 first_operand Batch word rows pending settled_here = quiet _ _ settled_here
+first_operand Check word rows pending settled_here = quiet _ _ settled_here
 first_operand Replay word rows pending settled_here = quiet _ _ settled_here
 
 abbrev waiting_operand : Word → Bool → Held → Walk
@@ -88,6 +94,8 @@ operand_waits : (s : Subcommand) (word : Word) (rows : List Row) (pending : Opti
     → after_operand s word rows pending 1 trailing ≡ walk_at (held_rows s rows pending) (pending_file word) 2 trailing
 operand_waits Batch word rows pending true = ap (waiting_operand word true) (never _ _ _)
 operand_waits Batch word rows pending false = ap (waiting_operand word false) (never _ _ _)
+operand_waits Check word rows pending true = ap (waiting_operand word true) (never _ _ _)
+operand_waits Check word rows pending false = ap (waiting_operand word false) (never _ _ _)
 operand_waits Replay word rows pending true = ap (waiting_operand word true) (never _ _ _)
 operand_waits Replay word rows pending false = ap (waiting_operand word false) (never _ _ _)
 
@@ -95,14 +103,17 @@ operand_waits Replay word rows pending false = ap (waiting_operand word false) (
 second_operand : (s : Subcommand) (word : Word) (rows : List Row) (pending : Option (Text × List Text)) → IsMistake (value_turn s word rows pending 2)
 unfolding walked
 second_operand Batch word rows pending = refl
+second_operand Check word rows pending = refl
 second_operand Replay word rows pending = refl
 
 operand_rows : (s : Subcommand) (word : Word) (rows : List Row) → has_row (codes "file") rows ≡ false → held_rows s rows (pending_file word) ≡ rows ++ row_of (File word) ∷ []
 operand_rows Batch word rows none = used_once (codes "file") AsWritten CommandLine (word ∷ []) rows none
+operand_rows Check word rows none = used_once (codes "file") AsWritten CommandLine (word ∷ []) rows none
 operand_rows Replay word rows none = used_once (codes "file") AsWritten CommandLine (word ∷ []) rows none
 
 operand_settles : (s : Subcommand) (word : Word) (rows : List Row) → has_row (codes "file") rows ≡ false → settles s rows (pending_file word)
 operand_settles Batch word rows none = rw none refl
+operand_settles Check word rows none = rw none refl
 operand_settles Replay word rows none = rw none refl
 
 with_operand : (s : Subcommand) (given : Given) (word : Word) (rows : List Row) (pending : Option (Text × List Text)) (position : ℕ) → has_given given (File word) ≡ false → Stands s given rows pending position
@@ -304,10 +315,12 @@ word_read s given word words rows pending position stands rest paths (class.unkn
     (word_mistaken s (walk_at rows pending position false) word words (u.turn rows pending position))
 word_read Batch given word words rows pending position stands rest paths (class.gives a batch g) =
     as_part Batch anywhere given word words (walk_at rows pending position false) (argument a) g.part (option_read given word words rows pending position a g stands rest)
+word_read Check given word words rows pending position stands rest paths (class.gives a batch g) = absurd batch
 word_read Replay given word words rows pending position stands rest paths (class.gives a batch g) = absurd batch
 word_read Batch given word words rows pending position stands rest paths (class.awaits batch is) =
     subst (λ w. Reads Batch (asked_by Batch (w ∷ words) anywhere given) (walk_at rows pending position false) (w ∷ words)) (sym is)
     (path_awaited given words rows pending position stands paths)
+word_read Check given word words rows pending position stands rest paths (class.awaits batch is) = absurd batch
 word_read Replay given word words rows pending position stands rest paths (class.awaits batch is) = absurd batch
 word_read s given word words rows pending position stands rest paths (class.operand o) =
     as_part s anywhere given word words (walk_at rows pending position false) (argument (File word)) o.part

@@ -1,4 +1,4 @@
--- What the words after the program's name ask for: `batch [--force] [--db PATH] [--verbose] [FILE]`, `replay [FILE]`, `serve` with its options, or help.
+-- What the words after the program's name ask for: `batch [--force] [--db PATH] [--verbose] [FILE]`, `check [FILE]`, `replay [FILE]`, `serve` with its options, the version, or help.
 -- Options and operands are told apart as POSIX.1 does (Base Definitions, section 12.2, guidelines 4, 10 and 13), but options may follow operands, and `--db=PATH` is `--db PATH`.
 use Rattle.std.specs.Prelude.{ℕ, ◌==◌, ◌||◌, Bool, true, false, List, [], ◌∷◌, Option, Some, None, is_some, if◌then◌else◌, map, drop, codes, option_and_then, slice_get, chars, bytes_eq, String, string_bytes}
 use Rattle.std.specs.List.{before_first, after_first}
@@ -21,11 +21,15 @@ pub record Script : Type 0 where
 pub data Invocation : Type 0 where
   -- a session over a script
   batch : Script → Invocation
+  -- a check of the file of this path, or of the input
+  check : Option Word → Invocation
   -- a replay of the file of this path, or of the input
   replay : Option Word → Invocation
   -- the word `serve`: sessions over TCP, help on that, or bad words
   serve : Invocation
   help : Invocation
+  -- the version, and the formats of database file that are read
+  version : Invocation
   -- the word `help`, and what help is asked on, if there is such a thing
   help_on : Invocation
   usage_error : Invocation
@@ -49,6 +53,10 @@ is_delimiter word = bytes_eq word (codes "--")
 abbrev pub is_help : Word → Bool
 is_help word = bytes_eq word (codes "--help") || option_map_or (λ letter. letter == 104) (option_letter word) false
 
+-- `--version`, or `-V` and what begins so
+abbrev pub is_version : Word → Bool
+is_version word = bytes_eq word (codes "--version") || option_map_or (λ letter. letter == 86) (option_letter word) false
+
 -- `-` is the input
 abbrev pub file_of : Word → Option Word
 file_of word = if bytes_eq word (codes "-") then None else Some word
@@ -57,6 +65,7 @@ file_of word = if bytes_eq word (codes "-") then None else Some word
 
 pub data Subcommand : Type 0 where
   Batch : Subcommand
+  Check : Subcommand
   Replay : Subcommand
 
 pub data Argument : Type 0 where
@@ -99,6 +108,7 @@ mode_of false = Stop
 -- what the subcommand asks for with this
 abbrev pub asked : Subcommand → Given → Invocation
 asked Batch given = batch (record { mode = mode_of given.forced; verbose = given.verbose; database = given.database; file = option_and_then file_of given.operand })
+asked Check given = check (option_and_then file_of given.operand)
 asked Replay given = replay (option_and_then file_of given.operand)
 
 -- ---- what a word of a subcommand is
@@ -118,6 +128,7 @@ is_equals byte = byte == 61
 
 -- an option other than help; `--db=` and what follows gives the path at once
 abbrev pub option_part : Subcommand → Word → Part
+option_part Check word = unknown
 option_part Replay word = unknown
 option_part Batch word =
     if bytes_eq word (codes "--force") then argument Force
@@ -181,7 +192,9 @@ abbrev pub invocation : List Word → Invocation
 invocation [] = usage_error
 invocation (word ∷ words) =
     if bytes_eq word (codes "batch") then asked_by Batch words anywhere nothing_given
+    else (if bytes_eq word (codes "check") then asked_by Check words anywhere nothing_given
     else (if bytes_eq word (codes "replay") then asked_by Replay words anywhere nothing_given
     else (if bytes_eq word (codes "serve") then serve
     else (if bytes_eq word (codes "help") then help_on
-    else (if is_help word then help else usage_error))))
+    else (if is_help word then help
+    else (if is_version word then version else usage_error))))))
