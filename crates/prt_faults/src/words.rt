@@ -4,17 +4,42 @@ use prt_addr::{Addr, Prefix, Refusal, read_addr, read_net, read_number, read_pre
 use prt_command::read_line;
 use prt_route::read_dev;
 
+/// Tells whether this is what comes of a word that is read as an address.
+fn reads_addr(word: &[u8], read: Result<Addr, Refusal>) -> bool {
+    read_addr(word) == read
+}
+
+/// Tells whether this is what comes of a word that is read as a prefix.
+fn reads_prefix(word: &[u8], read: Result<Prefix, Refusal>) -> bool {
+    read_prefix(word) == read
+}
+
+/// Tells whether this is what comes of a word that is read as the prefix of a rule.
+fn reads_net(word: &[u8], read: Result<Prefix, Refusal>) -> bool {
+    read_net(word) == read
+}
+
+/// Tells whether this is what comes of a word that is read as a number.
+fn reads_number(word: &[u8], read: Result<u32, Refusal>) -> bool {
+    read_number(word) == read
+}
+
+/// Tells whether a word is refused so as the name of an interface, or taken.
+fn reads_dev(word: &[u8], refused: Option<Refusal>) -> bool {
+    read_dev(word).err() == refused
+}
+
 /// Tells whether words are read as they are spelled, or refused for what is wrong with them.
 pub(crate) fn are_read() -> bool {
     let block = Prefix::masked(0x0a00_0000, 8);
-    read_addr(b"10.1.2.3") == Ok(Addr(0x0a01_0203))
-        && read_addr(b"10.256") == Err(Refusal::BadAddress)
-        && read_prefix(b"10/8") == Ok(block)
-        && read_prefix(b"10.0.0.1/8") == Err(Refusal::HostBits)
-        && read_net(b"10.0.0.1/8") == Ok(block)
-        && read_number(b"0x1f") == Ok(31)
-        && read_dev(b"eth0").is_ok()
-        && read_dev(b"a/b").err() == Some(Refusal::BadName)
+    reads_addr(b"10.1.2.3", Ok(Addr(0x0a01_0203)))
+        && reads_addr(b"10.256", Err(Refusal::BadAddress))
+        && reads_prefix(b"10/8", Ok(block))
+        && reads_prefix(b"10.0.0.1/8", Err(Refusal::HostBits))
+        && reads_net(b"10.0.0.1/8", Ok(block))
+        && reads_number(b"0x1f", Ok(31))
+        && reads_dev(b"eth0", None)
+        && reads_dev(b"a/b", Some(Refusal::BadName))
 }
 
 /// Tells whether lines are read, and refused for their first fault.
