@@ -169,9 +169,9 @@ fn each_call_answers(rt: HostRuntime) -> Result<(), Fail> {
 }
 
 /// Compares what tree and table find at both ends of each prefix, and beside them, with a scan of all rows.
-fn compare_ends(rt: &HostRuntime, table: &Table) -> Result<(), Fail> {
+fn compare_ends(rt: &impl Abort, alloc: Global, table: &Table) -> Result<(), Fail> {
     let rows = table.rows()?;
-    let tree = Tree::build(rt.alloc(), &rows)?;
+    let tree = Tree::build(alloc, &rows)?;
     assert!(rt; tree.rows()? == rows);
     for row in &rows {
         let first = row.prefix.bits();
@@ -195,7 +195,7 @@ fn random_tables(rt: HostRuntime) -> Result<(), Fail> {
     let mut random = Random(0x9e3779b97f4a7c15);
     for _ in 0..20_000 {
         let table = random_table(rt.alloc(), &mut random, area, 8)?;
-        compare_ends(&rt, &table)?;
+        compare_ends(&rt, rt.alloc(), &table)?;
     }
     Ok(())
 }
@@ -210,7 +210,7 @@ fn random_tables_of_one_octet(rt: HostRuntime) -> Result<(), Fail> {
     for count in [20, 60, 200, 2_000] {
         for _ in 0..4_000 / count {
             let table = random_table(rt.alloc(), &mut random, area, count)?;
-            compare_ends(&rt, &table)?;
+            compare_ends(&rt, rt.alloc(), &table)?;
         }
     }
     Ok(())
