@@ -13,7 +13,7 @@ use Rattle.prt_addr.specs.declared.refusal.Refusal.TheVariants.{UnknownWord, Bad
 use Rattle.prt_route.specs.Dev.{device}
 use Rattle.prt_route.specs.Names.{protocol, scope, table}
 use Rattle.prt_command.proofs.Results.{ok_result, err_result, err_inj}
-use Rattle.prt_command.specs.Grammar.{Place, IsFault, unknown_word, second_bare, nothing_after, given_before, alone_before, bad_value, further}
+use Rattle.prt_command.specs.Grammar.{ItemPlace, IsFault, unknown_word, second_bare, nothing_after, given_before, alone_before, bad_value, further}
 use Rattle.prt_command.specs.LineKinds.{LineKind}
 use Rattle.prt_command.specs.Mark.{is_slash, mark_at, part}
 use Rattle.prt_command.specs.Then.{◌>>=◌, map_ok}
@@ -86,7 +86,7 @@ value_fine Fwmark b w = map_fine _ _ (mark_fine (position is_slash w) w)
 value_fine Priority b w = map_fine _ _ (ok_or_fine (number w) BadNumber (omega arith))
 value_fine Action b w = map_fine _ _ (map_fine _ _ (ok_or_fine (table w) BadTable (omega arith)))
 
-pub fault_fine : (line : LineKind) (given : Items) (place : Place) (w : Word) (ws : List Word) (e : Refusal) → IsFault line given place w ws e → code_of e ≤ 17
+pub fault_fine : (line : LineKind) (given : Items) (place : ItemPlace) (w : Word) (ws : List Word) (e : Refusal) → IsFault line given place w ws e → code_of e ≤ 17
 fault_fine line given place w ws e (unknown_word w2 ws2 is none) = omega arith
 fault_fine line given place w ws e (second_bare w2 ws2 slot is g) = omega arith
 fault_fine line given place w ws e (nothing_after p next w2 slot f) = omega arith

@@ -18,7 +18,7 @@ use Rattle.prt_route.specs.declared.kind.Kind.TheVariants.{Unicast, Blackhole, U
 use Rattle.prt_route.specs.declared.route.Route.{Route}
 use Rattle.prt_rule.specs.declared.rule.Action as rule
 use Rattle.prt_rule.specs.declared.rule.Action.TheVariants.{Lookup}
-use Rattle.prt_command.specs.Grammar.{Place, start, IsItem, alone, valued, followed, AreItems, none, more, put_all}
+use Rattle.prt_command.specs.Grammar.{ItemPlace, start, IsItem, alone, valued, followed, AreItems, none, more, put_all}
 use Rattle.prt_command.specs.LineKinds.{Entry, LineKind, word_in}
 use Rattle.prt_command.specs.Items.{no_items, put, is_empty}
 use Rattle.prt_command.specs.Reading.{items_request, lone_verb, meaning_of, object_of, object_request, skip_word, verb_of, verb_request, words_request}
@@ -153,7 +153,7 @@ value_sound Fwmark b w x h = map_ok_all IsSoundItem item.Fwmark _ x h (λ y e. t
 value_sound Priority b w x h = map_ok_all IsSoundItem item.Priority _ x h (λ y e. tt)
 value_sound Action b w x h = map_ok_all IsSoundItem item.Action _ x h (λ action e. lookup_sound w action e)
 
-item_sound : (line : LineKind) (place : Place) (w : Word) (own : List Word) (x : Item) → AreSoundWords line.entries → IsItem line place w own x → IsSoundItem x
+item_sound : (line : LineKind) (place : ItemPlace) (w : Word) (own : List Word) (x : Item) → AreSoundWords line.entries → IsItem line place w own x → IsSoundItem x
 item_sound line place w own x are (alone w2 x2 e) = word_sound line.entries w (Alone x) are e
 item_sound line place w own x are (valued p w2 slot b x2 is e) = value_sound slot b w x e
 item_sound line place w own x are (followed p next w2 v own2 slot x2 f i) = item_sound line next v own2 x are i

@@ -1,20 +1,22 @@
 -- What the program does: it runs the session, the check or the replay that its words ask for, or it says why it does not.
 use Rattle.std.specs.Prelude.{◌≡◌, ◌≢◌, ◌⊎◌, ℕ, Bool, true, false, List, Option, Some, None}
+use Rattle.prt_addr.specs.Word.{Word}
 use Rattle.prt_addr.specs.declared.refusal.Refusal.{Refusal}
-use Rattle.prt_program.specs.Databases.{IsOpenOn, OpensAndCloses}
+use Rattle.prt_program.specs.Databases.{OpensAndCloses}
 use Rattle.prt_program.specs.Faults.{database_of}
 use Rattle.prt_words.specs.Faults.{IsStatusOf}
-use Rattle.prt_words.specs.Invocation.{Invocation, Word, batch, check, replay}
+use Rattle.prt_words.specs.Invocation.{Invocation, batch, check, replay}
 use Rattle.prt_replay.specs.Replay.{ReplayIs}
 use Rattle.prt_session.specs.Check.{ChecksLines}
 use Rattle.prt_session.specs.Desk.{Befalls, DeskState, IsNoMemory, Mishap, request_turn, settled}
+use Rattle.prt_session.specs.Open.{IsOpenOn}
 use Rattle.prt_session.specs.Run.{RunIs}
-use Rattle.prt_session.specs.Stands.{Stands}
+use Rattle.prt_session.specs.Stands.{StandsForSome}
 use Rattle.prt_version.specs.State.{State, opening_state}
 use Rattle.prt_addr.specs.declared.on_refusal.OnRefusal.{OnRefusal}
 use Rattle.prt_program.specs.declared.next.Next.{Next}
 use Rattle.prt_program.specs.declared.next.Next.TheVariants.{Exit, Serve}
-use Rattle.prt_session.specs.declared.script.ScriptEnd.{ScriptEnd}
+use Rattle.prt_session.specs.declared.script_end.ScriptEnd.{ScriptEnd}
 use Rattle.prt_words.specs.declared.serving.Serving.{Serving}
 
 -- 3 for a fault, else 1 for a refused line, else 0
@@ -39,7 +41,7 @@ streams_of input output_before output_after = record { input = input; output_bef
 pub record RunsOn {X : Type 0} (stands : X → DeskState → Type 0) (may : Mishap → Type 0) (mode : OnRefusal) (opened : State) (desk : X) (streams : Streams) (status : ℕ) : Type 0 where
   pub reader : Option (List ℕ)
   pub end : ScriptEnd
-  pub left : Stands stands desk
+  pub left : StandsForSome stands desk
   pub run : (after : DeskState) → stands desk after → RunIs request_turn (Befalls may) mode (settled opened) after streams.input reader streams.output_before streams.output_after end
   pub status_is : status ≡ exit_status end
 

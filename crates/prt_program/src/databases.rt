@@ -1,6 +1,7 @@
 //! Databases that are opened by their paths.
 ghost use Rattle.std.specs.Prelude.{IfErr, IfOk};
-ghost use Rattle.prt_program.specs.Databases.{IsOpenOn, IsOpenRefusal};
+ghost use Rattle.prt_addr.specs.Opening.{IsOpenRefusal};
+ghost use Rattle.prt_session.specs.Open.{IsOpenOn};
 ghost use Rattle.prt_version.specs.State.{State};
 
 use prt_session::{Desk, Refusal};

@@ -1,10 +1,11 @@
 //! The runs of the program.
 ghost use Rattle.std.specs.Prelude.{◌≡◌, ◌≢◌, ◌⊎◌, IfErr, IfOk, MatchResult, OnErr, None, option_map};
 ghost use Rattle.std.specs.Io.Buffered.{reader_remaining};
+ghost use Rattle.prt_addr.specs.Opening.{IsOpenRefusal};
 ghost use Rattle.prt_addr.specs.declared.refusal.Refusal.TheVariants.{NoMemory, ReadFault};
-ghost use Rattle.prt_program.specs.Databases.{IsOpenOn, IsOpenRefusal};
 ghost use Rattle.prt_program.specs.Faults.{IsDatabaseFault, IsFault, IsOpening, IsScriptFault};
 ghost use Rattle.prt_program.specs.Program.{IfExit, IfServe, LeavesDatabases, LeavesInput, LeavesInputFor, Runs, RunsAt, RunsBatch, RunsCheck, RunsNothing, RunsOn, RunsOver, RunsReplay, exit_status, streams_of};
+ghost use Rattle.prt_session.specs.Open.{IsOpenOn};
 ghost use Rattle.prt_version.specs.State.{State};
 ghost use Rattle.prt_words.specs.CommandLine.{IsServing};
 ghost use Rattle.prt_words.specs.Invocation.{arguments, invocation, serve};

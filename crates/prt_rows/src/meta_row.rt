@@ -19,7 +19,7 @@ const FORMAT: u32 = 1;
 /// The most commands that a database accepts.
 const LARGEST_COUNT: u64 = 1_000_000_000_000_000;
 
-/// The count that the row of `meta` spells, if it spells one.
+/// Gives the count that the row of `meta` spells, if it spells one.
 fn count_of_row(row: &Row) -> Option<u64>
     ensures { Decodes meta_row IsCount row.now result }
 {
@@ -36,7 +36,7 @@ fn count_of_row(row: &Row) -> Option<u64>
     }
 }
 
-/// The count of accepted commands, 0 to 10^15, that the rows of the table `meta` spell, if they spell one.
+/// Gives the count of accepted commands, 0 to 10^15, that the rows of the table `meta` spell, if they spell one.
 ///
 /// There is one row, with id 1 and format 1 (`docs/STORE.md`).
 pub fn count_of_rows(rows: &[Row]) -> Option<u64>
@@ -48,7 +48,7 @@ pub fn count_of_rows(rows: &[Row]) -> Option<u64>
     }
 }
 
-/// The values of the row of `meta` for a count of at most 10^15, in the order of the columns, to be bound to a
+/// Gives the values of the row of `meta` for a count of at most 10^15, in the order of the columns, to be bound to a
 /// statement.
 pub fn meta_values(count: u64) -> [ValueRef<'static>; META_COLUMNS]
     requires { IsCount count }

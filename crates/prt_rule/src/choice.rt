@@ -7,7 +7,7 @@ use prt_addr::{agrees, agrees_there};
 /// What `del` says of the rule that it removes: all that is given (`ip-rule(8)`).
 ///
 /// With None a part is not given.
-#[derive(Clone, Copy, Debug, PartialEq, Eq)]
+#[derive(Clone, Copy, PartialEq)]
 pub struct RuleChoice {
     /// The priority.
     pub priority: Option<u32>,

@@ -24,7 +24,7 @@ use Rattle.prt_session.specs.declared.input.Stop.TheVariants as stops
 use Rattle.prt_session.specs.declared.reply.Reply.{Reply}
 use Rattle.prt_session.specs.declared.reply.Reply.TheVariants.{Refused, Silent}
 use Rattle.prt_addr.specs.declared.on_refusal.OnRefusal.{OnRefusal}
-use Rattle.prt_session.specs.declared.script.ScriptEnd.{ScriptEnd}
+use Rattle.prt_session.specs.declared.script_end.ScriptEnd.{ScriptEnd}
 
 -- From now to later a line was read to there, and answered.
 pub record LineAnswered {D M : Type 0} (turn : TurnsOf D M) (may : Mishaps D M) (now later : Moment D) (stop : Stop) (content : List ℕ) (reply : Reply) : Type 0 where

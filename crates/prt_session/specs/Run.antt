@@ -10,7 +10,7 @@ use Rattle.prt_session.specs.declared.form.Form.TheVariants.{Plain}
 use Rattle.prt_session.specs.declared.reply.Reply.{Reply}
 use Rattle.prt_session.specs.declared.reply.Reply.TheVariants.{Silent, Refused}
 use Rattle.prt_addr.specs.declared.on_refusal.OnRefusal.{OnRefusal}
-use Rattle.prt_session.specs.declared.script.ScriptEnd.{ScriptEnd}
+use Rattle.prt_session.specs.declared.script_end.ScriptEnd.{ScriptEnd}
 
 -- a failed commit or publication, or a fault of the reader or the writer
 abbrev pub is_fault_refusal : Refusal → Bool
@@ -37,7 +37,7 @@ unfoldable pub fault_in : Option Refusal → List Reply → Option Refusal
 fault_in last replies = fold fault_after last replies
 
 -- The writer got all replies of the session, in this form, on all that the reader had, up to its fault if one came; what the session leaves unread is still to be read.
-pub record Ran {D M : Type 0} (form : Form) (input : Input) (session : Session D M) (reader0 reader writer0 writer : Option (List ℕ)) (fault : Option Refusal) : Type 0 where
+pub record RanWhole {D M : Type 0} (form : Form) (input : Input) (session : Session D M) (reader0 reader writer0 writer : Option (List ℕ)) (fault : Option Refusal) : Type 0 where
   pub beyond : List ℕ
   pub bytes_before : IfSome reader0 (λ bytes. bytes ≡ input.bytes ++ beyond)
   pub whole : input.ending ≡ end_of_input → beyond ≡ []
@@ -69,7 +69,7 @@ pub record RunsIn {D M : Type 0} (form : Form) (turn : TurnsOf D M) (may : Misha
   pub leaves : desk ≡ (session turn desk0 input mode mishaps).desk
   pub path : Path turn may desk0 (session turn desk0 input mode mishaps).exchanges desk
   pub refused_is : end.refused ≡ refused_in false (replies (session turn desk0 input mode mishaps))
-  pub ended : Ran form input (session turn desk0 input mode mishaps) reader0 reader writer0 writer end.fault
+  pub ended : RanWhole form input (session turn desk0 input mode mishaps) reader0 reader writer0 writer end.fault
       ⊎ Cut form input (session turn desk0 input mode mishaps) (session turn desk0 (record input { ending = read_fault }) mode mishaps) reader0 reader writer0 writer end.fault
 
 -- a run whose replies are written as they are

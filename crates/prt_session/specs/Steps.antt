@@ -19,7 +19,7 @@ use Rattle.prt_session.specs.declared.input.Stop.TheVariants as stops
 use Rattle.prt_session.specs.declared.reply.Reply.{Reply}
 use Rattle.prt_session.specs.declared.reply.Reply.TheVariants.{Accepted, Refused}
 use Rattle.prt_addr.specs.declared.on_refusal.OnRefusal.{OnRefusal}
-use Rattle.prt_session.specs.declared.script.ScriptEnd.{ScriptEnd}
+use Rattle.prt_session.specs.declared.script_end.ScriptEnd.{ScriptEnd}
 
 -- one read of one byte, at a reader that has these bytes left before and after
 abbrev pub ByteIs : ByteRead → Option (List ℕ) → Option (List ℕ) → Type 0

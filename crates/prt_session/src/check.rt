@@ -5,7 +5,7 @@ use crate::executor::Executor;
 use crate::form::Form;
 use crate::observer::Observer;
 use crate::reply::Reply;
-use crate::script::ScriptEnd;
+use crate::script_end::ScriptEnd;
 use crate::session::run_session_in;
 use prt_addr::OnRefusal;
 use prt_command::Request;

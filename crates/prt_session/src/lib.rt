@@ -12,6 +12,7 @@ mod list_desk;
 mod observer;
 mod reply;
 mod script;
+mod script_end;
 pub mod scripts;
 mod session;
 
@@ -24,5 +25,6 @@ pub use observer::{Observer, Unobserved};
 pub use prt_addr::OnRefusal;
 pub use prt_command::{Command, Query, Refusal};
 pub use reply::{Reply, Text, write_reply};
-pub use script::{ScriptEnd, run_script};
+pub use script::run_script;
+pub use script_end::ScriptEnd;
 pub use session::run_session;

@@ -4,7 +4,7 @@ ghost use Rattle.prt_session.specs.Example.{replies_to};
 ghost use Rattle.prt_session.specs.Session.{end_of_input};
 ghost use Rattle.prt_addr.specs.declared.on_refusal.OnRefusal.TheVariants.{GoOn, Stop};
 
-/// The scripts of `tests/cases`, each by the name of its case.
+/// Gives the scripts of `tests/cases`, each by the name of its case.
 pub fn scripts()
     ensures blank_lines { replies_to Stop (codes "\n  \n# a comment\n\t\nroute get 1#\n") end_of_input []
         ≡ codes "answer 0 none\n" }

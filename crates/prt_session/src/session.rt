@@ -2,7 +2,7 @@
 ghost use Rattle.std.specs.Prelude.{◌≡◌, ◌≤◌, ℕ, List, length};
 ghost use Rattle.prt_session.specs.Run.{RunIs, RunsIn};
 ghost use Rattle.prt_session.specs.Session.{stops_after};
-ghost use Rattle.prt_session.specs.Stands.{Explained, Stands};
+ghost use Rattle.prt_session.specs.Stands.{Explained, StandsForSome};
 ghost use Rattle.prt_session.specs.Steps.{AnswerIs, EndsAfterLast, EndsWith, LineGives, ends_after, is_nothing};
 
 use crate::executor::Executor;
@@ -10,7 +10,7 @@ use crate::form::Form;
 use crate::input::{ByteRead, LineRead, Stop, next_byte, next_line};
 use crate::observer::Observer;
 use crate::reply::Reply;
-use crate::script::ScriptEnd;
+use crate::script_end::ScriptEnd;
 use arrayvec::ArrayVec;
 use prt_addr::OnRefusal;
 use prt_command::{LONGEST_LINE, MOST_LINES, Refusal, read_line};
@@ -22,7 +22,7 @@ fn execute_line<C, E: Executor<C>>(context: &C, executor: &mut E, line: &[u8]) -
     requires { E.fits executor.old }
     ensures fits { E.fits executor.new }
     ensures turn { Explained E.stands executor.old executor.new (λ before after. LineGives E.turn E.may before line.now result after) }
-    ensures left { Stands E.stands executor.old → Stands E.stands executor.new }
+    ensures left { StandsForSome E.stands executor.old → StandsForSome E.stands executor.new }
     ensures keeps { E.keeps executor.old executor.new }
 {
     match read_line(line) {
@@ -43,7 +43,7 @@ fn reply_to_whole<C, E: Executor<C>>(
     ensures fits { E.fits executor.new }
     ensures turn { (content : List ℕ) → length content ≡ count → (count ≤ LONGEST_LINE → line.now ≡ content) →
         Explained E.stands executor.old executor.new (λ before after. LineGives E.turn E.may before content result after) }
-    ensures left { Stands E.stands executor.old → Stands E.stands executor.new }
+    ensures left { StandsForSome E.stands executor.old → StandsForSome E.stands executor.new }
     ensures keeps { E.keeps executor.old executor.new }
 {
     let is_long = count > LONGEST_LINE;
@@ -59,7 +59,7 @@ fn reply_to<C, E: Executor<C>>(context: &C, executor: &mut E, read: LineRead, li
     ensures fits { E.fits executor.new }
     ensures turn { (content : List ℕ) → length content ≡ read.length → (read.length ≤ LONGEST_LINE → line.now ≡ content) →
         Explained E.stands executor.old executor.new (λ before after. AnswerIs E.turn E.may before read.stop content result after) }
-    ensures left { Stands E.stands executor.old → Stands E.stands executor.new }
+    ensures left { StandsForSome E.stands executor.old → StandsForSome E.stands executor.new }
     ensures keeps { E.keeps executor.old executor.new }
 {
     match read.stop {
@@ -155,7 +155,7 @@ pub(crate) fn run_session_in<C, E: Executor<C>, R: Read, W: Write, O: Observer>(
     ensures fits { E.fits executor.new }
     ensures run { Explained E.stands executor.old executor.new (λ before after. RunsIn form E.turn E.may mode before after
         (R.remaining reader.old) (R.remaining reader.new) (W.contents writer.old) (W.contents writer.new) result) }
-    ensures left { Stands E.stands executor.old → Stands E.stands executor.new }
+    ensures left { StandsForSome E.stands executor.old → StandsForSome E.stands executor.new }
     ensures keeps { E.keeps executor.old executor.new }
 {
     let mut line = ArrayVec::<u8, LONGEST_LINE>::new();

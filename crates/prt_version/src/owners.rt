@@ -19,3 +19,16 @@ pub fn first_owner<T: Drop>(alloc: Global, value: T) -> Result<Arc<T>, Refusal>
     let owner = Arc::new(alloc, value)?;
     Ok(owner)
 }
+
+/// Gives one more owner of the same value.
+///
+/// # Errors
+///
+/// `NoMemory` where the value has as many owners as can be counted.
+pub fn share<T: Drop>(owner: &Arc<T>) -> Result<Arc<T>, Refusal>
+    ensures value { IfOk result (λ other. arc_value other ≡ arc_value owner.now) }
+    ensures reason { IfErr result (λ reason. reason ≡ NoMemory) }
+{
+    let other = Arc::try_clone(owner)?;
+    Ok(other)
+}

@@ -9,8 +9,9 @@ use Rattle.clap.specs.Simple.{filled, help_rule, with_index}
 use Rattle.clap.specs.Walk.{Row, Rule, Text, is_empty, first_of, one_of, has_row, row_text, with_default}
 use Rattle.clap.specs.declared.parser.matches.ValueSource.TheVariants.{CommandLine, DefaultValue}
 use Rattle.clap.specs.declared.builder.value_parser.Reading.TheVariants.{AsWritten}
+use Rattle.prt_addr.specs.Word.{Word}
 use Rattle.prt_words.specs.CommandLine.{flag_rule, database_rule, file_rule}
-use Rattle.prt_words.specs.Invocation.{Argument, Force, Verbose, Database, File, Given, Subcommand, Batch, Check, Replay, Word, has_given, with_given}
+use Rattle.prt_words.specs.Invocation.{Argument, Force, Verbose, Database, File, Given, Subcommand, Batch, Check, Replay, has_given, with_given}
 use Rattle.prt_words.proofs.Rows.{find_kept, find_last, row, valued}
 use Rattle.prt_words.proofs.Walks.{text_of_flag}
 use Rattle.prt_words.proofs.WordClasses.{id_of, rules_of, shape_of}

@@ -11,8 +11,9 @@ use Rattle.clap.specs.Faults.{turn_fault, walk_fault, level_fault, entered_fault
 use Rattle.clap.specs.Simple.{Shape, built, entered, names_of, subcommand_of}
 use Rattle.clap.specs.Walk.{Names, Row, Text, Walk, walked, bundle_met, walk_from, nothing_held, settled, finished, rows_after}
 use Rattle.clap.specs.declared.error.kind.ErrorKind.TheVariants as kind
+use Rattle.prt_addr.specs.Word.{Word}
 use Rattle.prt_words.specs.CommandLine.{command_line, subcommand_name}
-use Rattle.prt_words.specs.Invocation.{Invocation, Subcommand, Batch, Check, Replay, Word, anywhere, asked_by, invocation, help, nothing_given, usage_error, is_help, is_version, version}
+use Rattle.prt_words.specs.Invocation.{Invocation, Subcommand, Batch, Check, Replay, anywhere, asked_by, invocation, help, nothing_given, usage_error, is_help, is_version, version}
 use Rattle.prt_words.proofs.WordClasses.{IsMistake, rules_of, shape_of, same_bytes, long_name, long_of_is, before_none, no_value_in, no_name_of, differs, flipped}
 use Rattle.prt_words.proofs.CommandWords.{subcommand_reads}
 use Rattle.prt_words.proofs.Walks.{Agrees, name_of}

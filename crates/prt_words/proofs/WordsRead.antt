@@ -8,6 +8,7 @@ use Rattle.clap.specs.declared.parser.matches.SubCommand.{SubCommand}
 use Rattle.clap.specs.declared.parser.matches.ArgMatches.{ArgMatches}
 use Rattle.clap.specs.declared.parser.matches.ArgMatches.TheViews.{out-ArgMatches, out-SubCommand}
 use Rattle.clap.specs.Walk.{Row}
+use Rattle.prt_addr.specs.Word.{Word}
 use Rattle.prt_words.specs.CommandLine.{IsTaskOf, command_line, invocation_of, subcommand_name, flag_text}
 use Rattle.std.specs.List.{list_all}
 use Rattle.clap.specs.Kinds.{HasKind, IsAmong, Kinds}
@@ -16,7 +17,7 @@ use Rattle.clap.specs.declared.error.Error.{Error}
 use Rattle.clap.specs.declared.error.kind.ErrorKind.{ErrorKind}
 use Rattle.clap.specs.declared.error.kind.ErrorKind.TheVariants.{DisplayHelp, DisplayVersion, InvalidSubcommand}
 use Rattle.prt_words.specs.Faults.{FaultOf, IsStatusOf, IsWordsFault, words_status}
-use Rattle.prt_words.specs.Invocation.{Invocation, Word, batch, check, replay, serve, help, help_on, version, invocation, usage_error, file_of}
+use Rattle.prt_words.specs.Invocation.{Invocation, batch, check, replay, serve, help, help_on, version, invocation, usage_error, file_of}
 use Rattle.prt_addr.specs.declared.on_refusal.OnRefusal.{OnRefusal}
 use Rattle.prt_addr.specs.declared.on_refusal.OnRefusal.TheVariants.{Stop, GoOn}
 use Rattle.prt_words.specs.declared.fault.Fault.{Fault}

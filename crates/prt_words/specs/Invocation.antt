@@ -3,11 +3,9 @@
 use Rattle.std.specs.Prelude.{ℕ, ◌==◌, ◌||◌, Bool, true, false, List, [], ◌∷◌, Option, Some, None, is_some, if◌then◌else◌, map, drop, codes, option_and_then, slice_get, chars, bytes_eq, String, string_bytes}
 use Rattle.std.specs.List.{before_first, after_first}
 use Rattle.std.specs.Option.{option_map_or}
+use Rattle.prt_addr.specs.Word.{Word}
 use Rattle.prt_addr.specs.declared.on_refusal.OnRefusal.{OnRefusal}
 use Rattle.prt_addr.specs.declared.on_refusal.OnRefusal.TheVariants.{Stop, GoOn}
-
-abbrev pub Word : Type 0
-Word = List ℕ
 
 -- A script: how it is run, and whether a person is told of it.
 pub record Script : Type 0 where
@@ -145,39 +143,39 @@ part_of subcommand word =
     else argument (File word)))
 
 -- Where a word stands.
-pub data Place : Type 0 where
-  anywhere : Place
+pub data ArgumentPlace : Type 0 where
+  anywhere : ArgumentPlace
   -- after `--db`
-  at_path : Place
+  at_path : ArgumentPlace
   -- after `--`
-  at_operands : Place
+  at_operands : ArgumentPlace
 
 -- a path that begins with a hyphen is given by `--db=PATH`, but for `-` alone, which is a file of that name
-abbrev pub part_at : Place → Subcommand → Word → Part
+abbrev pub part_at : ArgumentPlace → Subcommand → Word → Part
 part_at anywhere subcommand word = part_of subcommand word
 part_at at_path subcommand word = if is_option word then unknown else argument (Database word)
 part_at at_operands subcommand word = argument (File word)
 
 -- ---- the words of a subcommand, from left to right
 
-abbrev pub place_after : Place → Place
+abbrev pub place_after : ArgumentPlace → ArgumentPlace
 place_after at_operands = at_operands
 place_after _ = anywhere
 
 -- each argument is given once; `more` says what the words after this one ask for
-abbrev pub asked_with : Place → Given → Part → (Place → Given → Invocation) → Invocation
+abbrev pub asked_with : ArgumentPlace → Given → Part → (ArgumentPlace → Given → Invocation) → Invocation
 asked_with place given delimiter more = more at_operands given
 asked_with place given asks_help more = help
 asked_with place given (argument a) more = if has_given given a then usage_error else more (place_after place) (with_given given a)
 asked_with place given awaits_path more = more at_path given
 asked_with place given unknown more = usage_error
 
-abbrev pub asked_at_end : Subcommand → Place → Given → Invocation
+abbrev pub asked_at_end : Subcommand → ArgumentPlace → Given → Invocation
 asked_at_end subcommand at_path given = usage_error
 asked_at_end subcommand _ given = asked subcommand given
 
 -- help where an option asks for it and the words before it are right
-abbrev pub asked_by : Subcommand → List Word → Place → Given → Invocation
+abbrev pub asked_by : Subcommand → List Word → ArgumentPlace → Given → Invocation
 asked_by subcommand [] place given = asked_at_end subcommand place given
 asked_by subcommand (word ∷ words) place given = asked_with place given (part_at place subcommand word) (asked_by subcommand words)
 
