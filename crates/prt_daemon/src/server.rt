@@ -1,15 +1,14 @@
 //! Serving sessions over TCP.
-ghost use Rattle.std.specs.Prelude.{◌≡◌, IfErr, IfOk};
-ghost use Rattle.prt_program.specs.Databases.{IsOpenRefusal};
+ghost use Rattle.std.specs.Prelude.{◌≡◌};
 ghost use Rattle.prt_publisher.specs.Standing.{IsQuiet};
 
 use prt_grace::Domain;
-use prt_program::{Refusal, cause_message};
-use prt_publisher::Publisher;
+use prt_program::cause_message;
+use prt_publisher::{Publisher, publisher_over};
 use prt_serve::{Accepting, Limits, OpenGate, serve_all};
 use prt_service::{Naming, Service};
 use prt_words::{DONE, Fault, Serving, report};
-use sqlite::{Alter, Connection, Error, FileStore};
+use sqlite::{Connection, Error, FileStore};
 use sqlite_disk::Disk;
 use std::alloc::Global;
 use std::fmt::Display;
@@ -35,24 +34,6 @@ fn report_fault<W: Write, E: Write, P: Display, D: Display>(
         }
     }
     status
-}
-
-/// Opens a publisher over the database of a connection that an open gave.
-fn publisher_over<S: Alter + Drop, R: Wait + Drop>(
-    rt: R,
-    alloc: Global,
-    conn: Result<Connection<S>, Error>,
-) -> Result<(Publisher<S, R>, Domain), (Refusal, Option<Error>)>
-    ensures quiet { IfOk result (λ made. IsQuiet made.0.phase) }
-    ensures reason { IfErr result (λ refused. IsOpenRefusal refused.0) }
-{
-    match conn {
-        Ok(conn) => match Publisher::adopt(rt, alloc, conn) {
-            Ok(made) => Ok(made),
-            Err((refusal, _)) => Err((refusal, None)),
-        },
-        Err(error) => Err((Refusal::OpenFailed, Some(error))),
-    }
 }
 
 /// Listens at a place, and says where on `output`, before anything is accepted.

@@ -14,7 +14,7 @@ use Rattle.prt_publisher.specs.declared.phase.Phase.{Phase}
 use Rattle.prt_publisher.specs.declared.phase.Phase.TheVariants as phases
 use Rattle.prt_session.proofs.Turns.{accepted_turn, memory_refused, refused_turn}
 use Rattle.prt_session.specs.Desk.{DeskState, IsNoMemory, Mishap, no_room, store_fails, commit_kept, publication_fails, command_or_refusal, settled, shut}
-use Rattle.prt_session.specs.Stands.{Explained, Stands}
+use Rattle.prt_session.specs.Stands.{Explained, StandsForSome}
 use Rattle.prt_session.specs.Steps.{CommandGives}
 use Rattle.prt_version.proofs.Folds.{fold_push}
 use Rattle.prt_version.specs.Change.{apply, refusal}
@@ -89,7 +89,7 @@ module _ {S : Type 0} (g : Ghosts S) (format_1 : Bool) (tables : Held S) (shown 
   something_by phases.Closed (Some command) quiet = (shut (settled shown) (apply shown command), refl)
 
 -- a desk stands for something
-pub something : {S : Type 0} (g : Ghosts S) (desk : Standing (Held S)) → IsQuiet desk.phase → Stands (StandsFor g) desk
+pub something : {S : Type 0} (g : Ghosts S) (desk : Standing (Held S)) → IsQuiet desk.phase → StandsForSome (StandsFor g) desk
 something g desk quiet = something_by g desk.format_1 desk.tables (published desk) desk.phase desk.command quiet
 
 module _ {S : Type 0} (g : Ghosts S) (old : Standing (Held S)) (command : Command) where

@@ -15,7 +15,7 @@ use Rattle.prt_publisher.specs.declared.phase.Phase.TheVariants.{Ready, Admitted
 use Rattle.prt_rows.specs.Format.{IsFormat1}
 use Rattle.prt_session.specs.Desk.{Befalls, DeskState, Mishap, request_turn, settled, shut}
 use Rattle.prt_session.specs.Run.{RunIs}
-use Rattle.prt_session.specs.declared.script.ScriptEnd.{ScriptEnd}
+use Rattle.prt_session.specs.declared.script_end.ScriptEnd.{ScriptEnd}
 use Rattle.prt_store.specs.Exits.{IsKnown, MayLeave, Opens}
 use Rattle.prt_version.specs.Change.{apply}
 use Rattle.prt_version.specs.State.{State}

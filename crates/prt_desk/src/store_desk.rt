@@ -2,6 +2,7 @@ ghost use Rattle.std.specs.Prelude.{◌≡◌, ◌++◌, ◌↔◌, IfErr, IfOk,
 ghost use Rattle.sqlite.specs.Held.{state};
 ghost use Rattle.sqlite.specs.State.{HasCleanDisk, Survives};
 ghost use Rattle.sqlite.specs.Tree.{Trees};
+ghost use Rattle.prt_addr.specs.Opening.{IsOpenRefusal};
 ghost use Rattle.prt_addr.specs.declared.refusal.Refusal.TheVariants.{Damaged};
 ghost use Rattle.prt_desk.specs.Remains.{Remains};
 ghost use Rattle.prt_desk.specs.StoreDesk.{IsKept, MayBeStored, Reopens, SessionLeaves, is_shut, published};
@@ -9,7 +10,6 @@ ghost use Rattle.prt_publisher.specs.Standing.{IsQuiet};
 ghost use Rattle.prt_rows.specs.Format.{BeginsFormat1};
 ghost use Rattle.prt_store.specs.Adopted.{Adopts, AdoptsPart, LeavesPart};
 ghost use Rattle.prt_store.specs.Exits.{IsKnown, IsStored, Opens, Spells};
-ghost use Rattle.prt_store.specs.Loaded.{IsLoadRefusal};
 ghost use Rattle.prt_version.specs.Sound.{IsSound};
 ghost use Rattle.prt_version.specs.State.{State};
 
@@ -107,7 +107,7 @@ impl<S: Alter + Drop, H: Wait + Drop> StoreDesk<S, H> {
             (SessionLeaves S.Store mode self.old self.new (R.remaining reader.old) (R.remaining reader.new) (W.contents writer.old) (W.contents writer.new) result) }
     {
         let end = run_script(alloc, self, reader, writer, mode, observer);
-        // Says what the desk keeps.
+        // Recalls what the desk keeps.
         let _is_closed = self.is_closed();
         end
     }
@@ -132,7 +132,7 @@ impl<S: Alter + Drop, H: Wait + Copy + Drop> StoreDesk<S, H> {
     ) -> Result<StoreDesk<S, H>, (Refusal, Connection<S>)>
         ensures open { IfOk result (λ desk. is_shut desk ≡ false) }
         ensures sound { IfOk result (λ desk. IsSound (published desk)) }
-        ensures reason { IfErr result (λ refused. IsLoadRefusal refused.0) }
+        ensures reason { IfErr result (λ refused. IsOpenRefusal refused.0) }
         ensures damaged { IfErr result (λ refused. refused.0 ≡ Damaged → HasCleanDisk (state S.Store refused.1) → IsTrue (state S.Store conn).is_open → (stored : State) →
             Spells (state S.Store conn).now.trees stored → ⊥) }
         ensures format { IfOk result (λ desk. (desk.format_1 ≡ true) ↔ BeginsFormat1 (state S.Store conn).now.schema) }
@@ -165,7 +165,7 @@ impl<S: Alter + Drop, H: Wait + Drop> Desk for StoreDesk<S, H> {
     ghost use Rattle.prt_desk.specs.StoreDesk.{IsStoreMishap, LeavesEither, StandsFor};
     ghost use Rattle.prt_listing.specs.QueryText.{query_text};
     ghost use Rattle.prt_publisher.specs.Exits.{HasCommitted};
-    ghost use Rattle.prt_session.specs.Stands.{Explained, Stands};
+    ghost use Rattle.prt_session.specs.Stands.{Explained, StandsForSome};
     ghost use Rattle.prt_session.specs.Steps.{CommandGives};
     ghost use Rattle.prt_store.specs.Exits.{IsKnown, MayLeave};
     ghost use Rattle.prt_version.specs.Change.{apply};
@@ -181,7 +181,7 @@ impl<S: Alter + Drop, H: Wait + Drop> Desk for StoreDesk<S, H> {
     fn command(&mut self, command: &Command) -> Result<u64, Refusal>
         requires { IsStorable command.now }
         ensures turn { Explained (StandsFor S.Store) self.old self.new (λ before after. CommandGives IsStoreMishap before command.now result after) }
-        ensures left { Stands (StandsFor S.Store) self.old → Stands (StandsFor S.Store) self.new }
+        ensures left { StandsForSome (StandsFor S.Store) self.old → StandsForSome (StandsFor S.Store) self.new }
         ensures keeps { Remains S.Store self.old self.new }
         ensures ran { HasCleanDisk (state S.Store self.new.tables) → OnOk result (HasCommitted S.Store self.old command.now self.new.tables) }
         ensures leaves { is_shut self.old ≡ false → IsKnown S.Store self.new.format_1 self.new.tables → (left : State) → MayLeave S.Store self.new.tables left →

@@ -27,7 +27,7 @@ impl Write for Shut {
     }
 }
 
-/// A desk over the database of these files. For files of whatever kind, so that the proof knows nothing of them.
+/// Makes a desk over the database of these files. For files of whatever kind, so that the proof knows nothing of them.
 fn desk_in<D: Disk + Drop, H: Wait + Copy + Drop>(
     rt: H,
     alloc: Global,

@@ -7,11 +7,12 @@ use Rattle.sqlite.specs.Held.{Held, state}
 use Rattle.sqlite.specs.State.{HasCleanDisk, IsUnchanged, Survives}
 use Rattle.sqlite.specs.Store.{Ghosts}
 use Rattle.sqlite.specs.Tree.{Trees}
+use Rattle.prt_addr.specs.Opening.{IsOpenRefusal}
 use Rattle.prt_addr.specs.declared.refusal.Refusal.{Refusal}
 use Rattle.prt_addr.specs.declared.refusal.Refusal.TheVariants.{Damaged, NoMemory, OpenFailed}
 use Rattle.prt_rows.specs.Format.{BeginsFormat1, IsFormat1}
 use Rattle.prt_store.specs.Adopted.{Adopts, AdoptsPart, IsSettled, LeavesPart}
-use Rattle.prt_store.specs.Loaded.{IsLoadRefusal, StaysSettled}
+use Rattle.prt_store.specs.Loaded.{StaysSettled}
 use Rattle.prt_store.specs.Stored.{Stores}
 use Rattle.prt_version.specs.Sound.{IsSound}
 use Rattle.prt_version.specs.State.{State}
@@ -69,7 +70,7 @@ module _ {S : Type 0} (g : Ghosts S) (was adopted loaded : Held S) (live : IsTru
     }
 
   -- tables that spell a state spell it once they are adopted, so their load finds no damage
-  module _ (reason : Refusal) (left : Held S) (released : left ≡ loaded) (why : IsLoadRefusal reason)
+  module _ (reason : Refusal) (left : Held S) (released : left ≡ loaded) (why : IsOpenRefusal reason)
       (keeps : HasCleanDisk (state g adopted) → (stored : State) → Stores (state g was).now stored → Stores (state g adopted).now stored)
       (settled : HasCleanDisk (state g adopted) → BeginsFormat1 (state g was).now.schema → IsSettled g adopted)
       (damaged : HasCleanDisk (state g loaded) → IsFormat1 (state g adopted).now.schema → reason ≡ Damaged → (stored : State) → Stores (state g adopted).now stored → ⊥)

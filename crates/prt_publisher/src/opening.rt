@@ -66,7 +66,7 @@ fn adopt_and_load<S: Alter + Drop>(
     };
     match store.load(alloc) {
         Ok(version) => {
-            // Says that the version is sound.
+            // Recalls that the version is sound.
             let _number = version.number();
             Ok(Loaded {
                 store,

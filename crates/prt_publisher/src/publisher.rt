@@ -2,6 +2,7 @@
 ghost use Rattle.std.specs.Prelude.{◌≡◌, ◌⊎◌, ◌+◌, ◌<◌, ◌↔◌, [], length, None, Some, IfErr, IfOk, IsSomeAnd, IsTrue, OnErr, OnOk, true};
 ghost use Rattle.sqlite.specs.Held.{state};
 ghost use Rattle.sqlite.specs.State.{HasCleanDisk, Survives};
+ghost use Rattle.prt_addr.specs.Opening.{IsOpenRefusal};
 ghost use Rattle.prt_addr.specs.declared.refusal.Refusal.TheVariants.{Damaged, NoMemory, NotPublished, StoreFailed};
 ghost use Rattle.prt_addr.specs.declared.refusal.StoreCall.{StoreCall};
 ghost use Rattle.prt_addr.specs.declared.refusal.StoreCall.TheVariants.{Commit};
@@ -14,7 +15,6 @@ ghost use Rattle.prt_publisher.specs.Standing.{IsQuiet, Stands, unnoted};
 ghost use Rattle.prt_rows.specs.Format.{BeginsFormat1};
 ghost use Rattle.prt_store.specs.Adopted.{Adopts, AdoptsPart, LeavesPart};
 ghost use Rattle.prt_store.specs.Exits.{IsKnown, IsStored, MayLeave, Opens, Spells};
-ghost use Rattle.prt_store.specs.Loaded.{IsLoadRefusal};
 ghost use Rattle.prt_store.specs.Stored.{Stores};
 ghost use Rattle.prt_version.specs.Sound.{IsSound};
 ghost use Rattle.prt_version.specs.State.{State};
@@ -106,7 +106,7 @@ impl<S: Alter + Drop, R: Wait + Drop> Publisher<S, R> {
     ) -> Result<(Publisher<S, R>, Domain), (Refusal, Connection<S>)>
         ensures ready { IfOk result (λ made. (made.0.phase ≡ Phase.Ready) × (made.0.command ≡ None) × (made.0.line.list ≡ [])) }
         ensures sound { IfOk result (λ made. IsSound (line_state made.0.line)) }
-        ensures reason { IfErr result (λ refused. IsLoadRefusal refused.0) }
+        ensures reason { IfErr result (λ refused. IsOpenRefusal refused.0) }
         ensures damaged { IfErr result (λ refused. refused.0 ≡ Damaged → HasCleanDisk (state S.Store refused.1) → IsTrue (state S.Store conn).is_open → (stored : State) →
             Spells (state S.Store conn).now.trees stored → ⊥) }
         ensures stands { IfOk result (λ made. Stands S.Store made.0) }
@@ -141,7 +141,7 @@ impl<S: Alter + Drop, R: Wait + Drop> Publisher<S, R> {
         ))
     }
 
-    /// How far it is with a command.
+    /// Tells how far it is with a command.
     pub fn phase(&self) -> Phase
         ensures value { result ≡ self.now.phase }
         ensures stands { Stands S.Store self.now }
@@ -156,14 +156,14 @@ impl<S: Alter + Drop, R: Wait + Drop> Publisher<S, R> {
         }
     }
 
-    /// The version that was published last; at first the one that was stored.
+    /// Gives the version that was published last; at first the one that was stored.
     pub fn published(&self) -> &Version
         ensures { result.now ≡ line_state self.now.line }
     {
         &self.version
     }
 
-    /// The number of the version that was noted last: the published one but for the moment before it is noted.
+    /// Gives the number of the version that was noted last: the published one but for the moment before it is noted.
     pub fn noted(&self) -> u64
         ensures { result + unnoted self.now.phase ≡ (line_state self.now.line).count }
     {
@@ -296,7 +296,7 @@ impl<S: Alter + Drop, R: Wait + Drop> Publisher<S, R> {
         ensures reason { IfErr result (λ reason. reason ≡ NotPublished) }
         ensures stands { Stands S.Store self.new }
     {
-        // Says how many commands there can be.
+        // Recalls how many commands there can be.
         let _most = self.version.number();
         match mem::replace(&mut self.step, Step::Closed(None)) {
             Step::Committed(plan, stamp) => {
@@ -410,7 +410,7 @@ impl<S: Alter + Drop, R: Wait + Drop> Publisher<S, R> {
         ensures stands { Stands S.Store self.new }
         ensures ran { HasCleanDisk (state S.Store self.new.tables) → OnOk result (HasCommitted S.Store self.old command.now self.new.tables) }
     {
-        // Says what is stored.
+        // Recalls what is stored.
         let _phase = self.phase();
         if let Err(reason) = self.prepare(rt, domain, command) {
             return Err(reason);

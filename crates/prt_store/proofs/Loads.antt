@@ -17,6 +17,7 @@ use Rattle.sqlite_rules.proofs.ListLemmas.{all_from, all_has, any_has}
 use Rattle.sqlite_rules.proofs.ProbeLemmas.{has_mapped, mapped_has}
 use Rattle.sqlite_rules.specs.Lists.{Has}
 use Rattle.sqlite_value.specs.Order.{Row}
+use Rattle.prt_addr.specs.Opening.{IsOpenRefusal}
 use Rattle.prt_addr.specs.Word.{Word}
 use Rattle.prt_addr.specs.declared.refusal.Refusal.{Refusal}
 use Rattle.prt_addr.specs.declared.refusal.Refusal.TheVariants.{Damaged, NoMemory, OpenFailed}
@@ -43,7 +44,7 @@ use Rattle.prt_version.specs.State.{State}
 use Rattle.prt_store.proofs.Changes.{rules_keyed}
 use Rattle.prt_store.proofs.Once.{unmapped}
 use Rattle.prt_store.specs.Adopted.{IsSettled}
-use Rattle.prt_store.specs.Loaded.{IsLoadRefusal, IsReadable, Reads, SpellsCount, SpellsRoutes, SpellsRules, StaysSettled}
+use Rattle.prt_store.specs.Loaded.{IsReadable, Reads, SpellsCount, SpellsRoutes, SpellsRules, StaysSettled}
 use Rattle.prt_rows.specs.Format.{IsFormat1}
 use Rattle.prt_store.specs.Stored.{Stores}
 
@@ -232,7 +233,7 @@ module _ (old new : Conn) (readable : IsReadable old) (rows : List Row) where
 -- ---- a result
 
 -- why rows are not read is why nothing is loaded
-pub read_refusal : {X : Type 0} (write : X → Row) (Fits : X → Type 0) (part : Row → Row) (rows : List Row) (reason : Refusal) → FailsToRead write Fits part rows reason → IsLoadRefusal reason
+pub read_refusal : {X : Type 0} (write : X → Row) (Fits : X → Type 0) (part : Row → Row) (rows : List Row) (reason : Refusal) → FailsToRead write Fits part rows reason → IsOpenRefusal reason
 read_refusal write Fits part rows reason (inl falls) = inl falls.0
 read_refusal write Fits part rows reason (inr (inl bad)) = inl bad.0
 read_refusal write Fits part rows reason (inr (inr none)) = inr (inr none)
@@ -240,7 +241,7 @@ read_refusal write Fits part rows reason (inr (inr none)) = inr (inr none)
 -- what was read, where the rows were decoded or not
 pub reads_of : {S X V : Type 0} (g : Ghosts S) (seen : X → V) (Spells : Database → V → Type 0) (old new : Held S) (result : Result X Refusal) (Rise Read : X → Type 0) (Fails : Refusal → Type 0) → IfOk result Rise → IfOk result Read → IfErr result Fails
     → (HasCleanDisk (state g new) → IsReadable (state g old) → (value : X) → Rise value → Read value → Spells (state g old).now (seen value))
-    → (HasCleanDisk (state g new) → IsReadable (state g old) → (reason : Refusal) → Fails reason → reason ≡ Damaged → (value : V) → Spells (state g old).now value → ⊥) → ((reason : Refusal) → Fails reason → IsLoadRefusal reason)
+    → (HasCleanDisk (state g new) → IsReadable (state g old) → (reason : Refusal) → Fails reason → reason ≡ Damaged → (value : V) → Spells (state g old).now value → ⊥) → ((reason : Refusal) → Fails reason → IsOpenRefusal reason)
     → (HasCleanDisk (state g new) → IsFormat1 (state g old).now.schema → IsUnchanged (state g old) (state g new)) → ((HasCleanDisk (state g old) → IsFormat1 (state g old).now.schema) → Survives (state g old) (state g new) (λ _. ⊥)) → Reads g seen Spells old new result
 reads_of g seen Spells old new (Ok value) Rise Read Fails rise read fails spells none why same quiet =
     record { ok = λ clean readable. spells clean readable value rise read; damaged = λ clean readable. tt; reason = tt; same = same; err = λ clean tables still_open was. tt; quiet = quiet }
@@ -311,7 +312,7 @@ module _ {S X Y V W : Type 0} (g : Ghosts S) (seen : X → V) (seen_too : Y → 
 
 -- what all reads together give
 pub in_all : {S X V : Type 0} (g : Ghosts S) (seen : X → V) (All : Database → V → Type 0) (a b : Held S) (x : X) → Reads g seen All a b (Ok x) → (result : Result State Refusal)
-    → IfOk result (λ stored. (db : Database) → IsFormat1 db.schema → All db (seen x) → Stores db stored) → IfErr result (λ reason. reason ≡ Damaged → (db : Database) (stored : State) → All db (seen x) → Stores db stored → ⊥) → IfErr result IsLoadRefusal
+    → IfOk result (λ stored. (db : Database) → IsFormat1 db.schema → All db (seen x) → Stores db stored) → IfErr result (λ reason. reason ≡ Damaged → (db : Database) (stored : State) → All db (seen x) → Stores db stored → ⊥) → IfErr result IsOpenRefusal
     → Reads g (λ stored. stored) Stores a b result
 in_all g seen All a b x one (Ok made) spells none why =
     record { ok = λ clean readable. spells (state g a).now readable.tables (one.ok clean readable); damaged = λ clean readable. tt; reason = tt; same = one.same; err = λ clean tables still_open was. tt; quiet = one.quiet }
@@ -394,7 +395,7 @@ rows_not_stored count rules routes (Ok stored) fails = tt
 rows_not_stored count rules routes (Err reason) (inl none) = λ is db stored read held. none.1 stored (rows_spell db stored held count rules routes read.0.0 read.0.1 read.1)
 rows_not_stored count rules routes (Err reason) (inr memory) = λ is. absurd (let other : Damaged ≡ NoMemory = sym is ∙ memory in cc)
 
-pub rows_refused : (count : ℕ) (rules : List Rule) (routes : List Route) (result : Result State Refusal) → IfErr result (λ reason. ((reason ≡ Damaged) × RowsSpellNone count rules routes) ⊎ (reason ≡ NoMemory)) → IfErr result IsLoadRefusal
+pub rows_refused : (count : ℕ) (rules : List Rule) (routes : List Route) (result : Result State Refusal) → IfErr result (λ reason. ((reason ≡ Damaged) × RowsSpellNone count rules routes) ⊎ (reason ≡ NoMemory)) → IfErr result IsOpenRefusal
 rows_refused count rules routes (Ok stored) fails = tt
 rows_refused count rules routes (Err reason) (inl none) = inl none.0
 rows_refused count rules routes (Err reason) (inr memory) = inr (inr memory)

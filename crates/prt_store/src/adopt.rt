@@ -19,9 +19,10 @@ use prt_addr::Refusal;
 use sqlite::{Alter, Connection, Error, File, FileStore};
 
 impl<S: Alter + Drop> Store<S> {
-    /// The store over a connection on which nothing is pending. The tables `rule`, `route` and `meta` are made where
-    /// they are missing, each by itself; where the three have no rows they are filled with the opening state, in one
-    /// transaction, with the row of `meta` last. All other rows stay as they are, whether they spell a state or not.
+    /// Gives the store over a connection on which nothing is pending. The tables `rule`, `route` and `meta` are made
+    /// where they are missing, each by itself; where the three have no rows they are filled with the opening state, in
+    /// one transaction, with the row of `meta` last. All other rows stay as they are, whether they spell a state or
+    /// not.
     ///
     /// After `Ok`, whatever the file, the three tables have the columns of format 1, nothing is pending, and a crash
     /// leaves what the tables show. Each missing table was made by its statement, and then nothing was changed, or the
@@ -65,7 +66,7 @@ impl<S: Alter + Drop> Store<S> {
     }
 }
 
-/// The store over the connection that an open gave.
+/// Gives the store over the connection that an open gave.
 fn adopt_opened<S: Alter + Drop>(
     opened: Result<Connection<S>, Error>,
 ) -> Result<Store<S>, (Refusal, Option<Connection<S>>)>
@@ -83,8 +84,8 @@ fn adopt_opened<S: Alter + Drop>(
 }
 
 impl Store<FileStore<File>> {
-    /// The store of the database file at this path, which is made where there is none. Beside it stands its write-ahead
-    /// log; each commit is forced to the disk (SQLite's `synchronous` is FULL).
+    /// Gives the store of the database file at this path, which is made where there is none. Beside it stands its
+    /// write-ahead log; each commit is forced to the disk (SQLite's `synchronous` is FULL).
     ///
     /// # Errors
     ///

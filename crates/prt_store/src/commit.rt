@@ -40,7 +40,7 @@ fn write<S: Alter>(tx: &mut Transaction<'_, S>, change: &Change) -> Result<usize
 /// # Errors
 ///
 /// The call that failed. Nothing is changed then, unless the commit failed: it may have been made.
-pub(crate) fn run<S: Alter>(
+pub(crate) fn make_change<S: Alter>(
     conn: &mut Connection<S>,
     change: &Change,
     number: u64,

@@ -13,7 +13,7 @@ use prt_version::Version;
 use sqlite::{Alter, Connection};
 use std::alloc::Global;
 
-/// The count that the table `meta` spells.
+/// Gives the count that the table `meta` spells.
 fn read_count<S: Alter>(conn: &mut Connection<S>) -> Result<u64, Refusal>
     ensures read { Reads S.Store (λ count. count) SpellsCount conn.old conn.new result }
     ensures fits { IfOk result IsCount }
@@ -27,7 +27,7 @@ fn read_count<S: Alter>(conn: &mut Connection<S>) -> Result<u64, Refusal>
     }
 }
 
-/// The rules that the table `rule` spells, with ids of at most `last`.
+/// Gives the rules that the table `rule` spells, with ids of at most `last`.
 fn read_rules<S: Alter>(
     alloc: Global,
     conn: &mut Connection<S>,
@@ -44,7 +44,7 @@ fn read_rules<S: Alter>(
     }
 }
 
-/// The routes that the table `route` spells.
+/// Gives the routes that the table `route` spells.
 fn read_routes<S: Alter>(alloc: Global, conn: &mut Connection<S>) -> Result<Vec<Route>, Refusal>
     ensures { Reads S.Store (λ (routes : _). routes.items) SpellsRoutes conn.old conn.new result }
 {
@@ -57,7 +57,7 @@ fn read_routes<S: Alter>(alloc: Global, conn: &mut Connection<S>) -> Result<Vec<
     }
 }
 
-/// The version that the tables spell.
+/// Gives the version that the tables spell.
 ///
 /// # Errors
 ///

@@ -60,10 +60,7 @@ fn create_table<S: Alter>(tx: &mut Transaction<'_, S>, table: OurTable) -> Resul
 }
 
 /// Inserts one of the opening rules.
-fn insert_opening_rule<S: Alter>(
-    tx: &mut Transaction<'_, S>,
-    rule: &Rule,
-) -> Result<usize, Error>
+fn insert_opening_rule<S: Alter>(tx: &mut Transaction<'_, S>, rule: &Rule) -> Result<usize, Error>
     requires { rule.now.id < 2 ^ 63 }
     ensures same_reference { tx.new.conn.ghost_name ≡ tx.old.conn.ghost_name }
     ensures works { Works S.Store (Ran S.Store insert_rule (rule_row rule.now)) tx.old.conn.now tx.new.conn.now result }

@@ -10,7 +10,7 @@ ghost use Rattle.prt_rows.specs.Statements.{delete_route, delete_rule, flush_rou
 ghost use Rattle.prt_rule.specs.Storable.{IsStorableAction};
 ghost use Rattle.prt_store.specs.Written.{CommitsNothing, RunsInside};
 
-use crate::ranges::{route_range, rule_range};
+use crate::ranges::{recall_route, recall_rule};
 use prt_route::{Route, RouteKey, Selector};
 use prt_rows::{route_values, rule_values, selector_values};
 use prt_rule::Rule;
@@ -27,7 +27,7 @@ pub(crate) fn put_route<S: Alter>(
     ensures survives { CommitsNothing S.Store tx.old.conn.now tx.new.conn.now }
     ensures typed { IsInRange route.now }
 {
-    route_range(route);
+    recall_route(route);
     tx.execute(
         "INSERT INTO route (tbl, net, len, metric, kind, via, dev, src, proto, scope) VALUES (?1, ?2, ?3, ?4, ?5, ?6, ?7, ?8, ?9, ?10) ON CONFLICT (tbl, net, len, metric) DO UPDATE SET kind = ?5, via = ?6, dev = ?7, src = ?8, proto = ?9, scope = ?10",
         &route_values(route),
@@ -81,7 +81,7 @@ pub(crate) fn insert_rule<S: Alter>(
     ensures survives { CommitsNothing S.Store tx.old.conn.now tx.new.conn.now }
     ensures typed { 1 ≤ rule.now.id → IsStorableAction rule.now.action → IsRule rule.now.id rule.now }
 {
-    rule_range(rule);
+    recall_rule(rule);
     tx.execute(
         "INSERT INTO rule (id, priority, inverted, src_net, src_len, dst_net, dst_len, iif, mark, mask, act, tbl) VALUES (?1, ?2, ?3, ?4, ?5, ?6, ?7, ?8, ?9, ?10, ?11, ?12)",
         &rule_values(rule),

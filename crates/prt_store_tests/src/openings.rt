@@ -1,6 +1,6 @@
 //! Files as they are found: half made, with tables of others, or with rows that spell no state.
 
-use crate::database::{adopted, loaded, run, spells};
+use crate::database::{adopted, execute, loaded, spells};
 use crate::steps::OPENING;
 use prt_rows::is_format_1;
 use prt_version::Refusal;
@@ -15,7 +15,7 @@ const RULE_TABLE: &str =
 /// Tells whether what these statements make spells the opening state once it is adopted.
 fn is_new_after(alloc: Global, sql: &str) -> Result<bool, Fail> {
     let mut connection = Connection::open_in_memory(alloc)?;
-    run(&mut connection, sql)?;
+    execute(&mut connection, sql)?;
     Ok(spells(alloc, connection, &OPENING)?.0)
 }
 
@@ -30,10 +30,10 @@ fn opens_half_made_files(rt: HostRuntime) -> Result<(), Fail> {
     Ok(())
 }
 
-/// What comes of loading a new database after this statement.
+/// Tells what comes of loading a new database after this statement.
 fn load_after(alloc: Global, sql: &str) -> Result<Option<Refusal>, Fail> {
     let mut connection = adopted(Connection::open_in_memory(alloc)?)?.release();
-    run(&mut connection, sql)?;
+    execute(&mut connection, sql)?;
     let mut store = adopted(connection)?;
     Ok(loaded(alloc, &mut store).err())
 }
@@ -58,7 +58,7 @@ fn refuses_damaged_rows(rt: HostRuntime) -> Result<(), Fail> {
 #[test]
 fn refuses_other_columns(rt: HostRuntime) -> Result<(), Fail> {
     let mut connection = Connection::open_in_memory(rt.alloc())?;
-    run(
+    execute(
         &mut connection,
         "CREATE TABLE route (tbl INTEGER NOT NULL) STRICT",
     )?;
@@ -74,11 +74,11 @@ const OTHER_TABLES: &str =
 fn tells_format_1_from_other_schemas(rt: HostRuntime) -> Result<(), Fail> {
     let mut connection = Connection::open_in_memory(rt.alloc())?;
     assert!(rt; !is_format_1(connection.schema()));
-    run(&mut connection, RULE_TABLE)?;
+    execute(&mut connection, RULE_TABLE)?;
     assert!(rt; !is_format_1(connection.schema()));
-    run(&mut connection, OTHER_TABLES)?;
+    execute(&mut connection, OTHER_TABLES)?;
     assert!(rt; is_format_1(connection.schema()));
-    run(
+    execute(
         &mut connection,
         "CREATE TABLE note (rule INTEGER REFERENCES rule (id))",
     )?;

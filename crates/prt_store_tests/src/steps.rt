@@ -83,7 +83,7 @@ pub const STEPS: [(&str, Contents); 8] = [
     ),
 ];
 
-/// The connection after the command of a line was committed.
+/// Gives the connection after the command of a line was committed.
 pub fn committed<S: Alter + Drop>(
     alloc: Global,
     connection: Connection<S>,
@@ -98,7 +98,7 @@ pub fn committed<S: Alter + Drop>(
     Ok(store.release())
 }
 
-/// The first command after which the tables of a new database spell something else.
+/// Gives the first command after which the tables of a new database spell something else.
 fn misstored_line<S: Alter + Drop>(
     alloc: Global,
     connection: Connection<S>,

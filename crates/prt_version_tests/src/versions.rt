@@ -26,7 +26,7 @@ const FLUSHED: &str = "rule flush
 rule add table 7
 rule del table local";
 
-/// The first of these queries that is not answered by this text after its script.
+/// Gives the first of these queries that is not answered by this text after its script.
 fn misanswered_query(alloc: Global) -> Result<Option<&'static str>, Fail> {
     for (script, query, text) in [
         (
@@ -74,7 +74,7 @@ fn answers_queries(rt: HostRuntime) -> Result<(), Fail> {
     Ok(())
 }
 
-/// The first of these lines that the version does not refuse by this.
+/// Gives the first of these lines that the version does not refuse by this.
 fn misjudged_line(version: &Version) -> Option<&'static str> {
     for (line, why) in [
         ("route add 10/8 dev eth0", Refusal::Exists),

@@ -1,23 +1,23 @@
 //! The registry of grace periods, each of its calls.
 
-use crate::script::next_version;
-use prt_grace::{Registry, Version};
+use crate::versions::{next_version, opening_version};
+use prt_grace::Registry;
 use std::sync::Arc;
 use std::test::Fail;
 
 #[test]
 fn gives_up_what_nobody_holds(rt: HostRuntime) -> Result<(), Fail> {
     let alloc = rt.alloc();
-    let opening = Version::opening(alloc)?;
-    let first = next_version(&opening, "rule flush")?;
-    let second = next_version(&first, "rule flush")?;
+    let opening = opening_version(alloc)?;
+    let first = next_version(alloc, &opening)?;
+    let second = next_version(alloc, &first)?;
     assert!(rt; opening.number() < first.number());
     assert!(rt; first.number() < second.number());
-    let mut registry = Registry::new(Arc::new(alloc, opening)?);
+    let mut registry = Registry::new(opening);
     let mut place = registry.join().expect(&rt, "a place is free");
     assert_eq!(rt; (place.announced(), registry.online(&mut place)), (None, 0));
-    registry.note(Arc::new(alloc, first)?);
-    registry.note(Arc::new(alloc, second)?);
+    registry.note(first);
+    registry.note(second);
     assert_eq!(rt; (registry.noted(), registry.has_room()), (2, true));
     assert_eq!(rt; registry.reclaim(), 0);
     registry.announce(&mut place, 1);
@@ -31,7 +31,7 @@ fn gives_up_what_nobody_holds(rt: HostRuntime) -> Result<(), Fail> {
 #[test]
 fn gives_64_places(rt: HostRuntime) -> Result<(), Fail> {
     let alloc = rt.alloc();
-    let mut registry = Registry::new(Arc::new(alloc, Version::opening(alloc)?)?);
+    let mut registry = Registry::new(opening_version(alloc)?);
     for _ in 0..63 {
         assert!(rt; registry.join().is_some());
     }
@@ -45,10 +45,10 @@ fn gives_64_places(rt: HostRuntime) -> Result<(), Fail> {
 #[test]
 fn keeps_64_retired_versions(rt: HostRuntime) -> Result<(), Fail> {
     let alloc = rt.alloc();
-    let mut version = Arc::new(alloc, Version::opening(alloc)?)?;
+    let mut version = opening_version(alloc)?;
     let mut registry = Registry::new(Arc::try_clone(&version)?);
     for _ in 0..64 {
-        let next = Arc::new(alloc, next_version(&version, "rule flush")?)?;
+        let next = next_version(alloc, &version)?;
         assert!(rt; registry.has_room() && registry.noted() < next.number());
         registry.note(Arc::try_clone(&next)?);
         version = next;

@@ -12,7 +12,7 @@ use Rattle.prt_store.specs.Written.{CommitsNothing, IsTyped, text_of, values_of}
 use Rattle.prt_store.proofs.Calls.{makes_change}
 use Rattle.prt_store.proofs.Stops.{calls_made, stopped_in_commit, stopped_in_count, stopped_in_write}
 use Rattle.prt_store.proofs.Transactions.{IsLeftAlone, committed, crash_after, left_alone, not_made, of_ok, statement_works, stopped}
-use Rattle.prt_store.proofs.commit.run.Goals as goal
+use Rattle.prt_store.proofs.commit.make_change.Goals as goal
 
 pub returns-clause-ok : goal.returns-clause-ok
 returns-clause-ok g c clean =
