@@ -1,5 +1,5 @@
 -- Acknowledgements: no event but Ack gives one.
-use Rattle.std.proofs.Common.{◌≡◌, ℕ, Bool, true, false, List, [], ◌∷◌, ◌++◌, Option, Some, None, refl, sym, ap, ◌∙◌, subst, cond}
+use Rattle.std.proofs.Common.{◌≡◌, Bool, true, false, List, [], ◌∷◌, ◌++◌, Some, None, refl, sym, ap, ◌∙◌, subst}
 use Rattle.std.specs.List.{AllByRecursion as Each}
 use Rattle.std.proofs.lemmas.List.{append-nil}
 use Rattle.prt_addr.specs.declared.refusal.StoreCall.{StoreCall}
@@ -12,14 +12,13 @@ use Rattle.prt_world.specs.World.{LookerState, World, looker_state, offline, onl
 use Rattle.prt_world.specs.declared.event.Event.{Event}
 use Rattle.prt_world.specs.declared.event.Event.TheVariants as events
 use Rattle.prt_world.specs.declared.event.Fate.{Fate}
-use Rattle.prt_world.specs.declared.outcome.Outcome.TheVariants as outcomes
 use Rattle.prt_world.specs.declared.phase.Phase.{Phase as Moment}
 use Rattle.prt_world.specs.declared.phase.Phase.TheVariants as moments
 use Rattle.prt_follows.specs.Events.{fail_events, is_lookers, own, stop_events}
 use Rattle.prt_follows.specs.Spots.{IsAt}
 use Rattle.prt_follows.proofs.Between.{stays_there}
 use Rattle.prt_follows.proofs.Exits.{spot}
-use Rattle.prt_follows.proofs.Keeping.{Keeps, is_record, most_keep, unless_keeps}
+use Rattle.prt_follows.proofs.Keeping.{Keeps, most_keep, unless_keeps}
 use Rattle.prt_follows.proofs.Steps.{number_of}
 use Rattle.prt_follows.proofs.Woven.{heads, own_by, tails}
 

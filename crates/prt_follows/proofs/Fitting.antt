@@ -11,7 +11,7 @@ use Rattle.prt_command.specs.declared.request.Command.{Command}
 use Rattle.prt_front.specs.Line.{line_state}
 use Rattle.prt_grace.specs.Registry.{RegistryState, new_registry}
 use Rattle.prt_store.specs.Exits.{IsKnown, IsStored, MayLeave, Spells}
-use Rattle.prt_publisher.specs.Standing.{Agrees, Standing, Stands}
+use Rattle.prt_publisher.specs.Standing.{Agrees, Standing}
 use Rattle.prt_publisher.specs.declared.phase.Phase.{Phase}
 use Rattle.prt_publisher.specs.declared.phase.Phase.TheVariants.{Ready, Admitted, Prepared, Committed, Published, Closed}
 use Rattle.prt_version.specs.State.{State}
@@ -19,11 +19,10 @@ use Rattle.prt_world.specs.Durability.{IsAnswered}
 use Rattle.prt_world.specs.World.{Ack, Lookup, Step, World, run_from, start, step}
 use Rattle.prt_world.specs.declared.event.Event.{Event}
 use Rattle.prt_world.specs.declared.event.Event.TheVariants as events
-use Rattle.prt_world.specs.declared.phase.Phase.{Phase as Moment}
 use Rattle.prt_world.specs.declared.phase.Phase.TheVariants as moments
 use Rattle.prt_follows.specs.Events.{stop_events, without_fate}
 use Rattle.prt_follows.specs.Laws.{BeginsAt, FailsBy, SubmitFailsBy}
-use Rattle.prt_follows.specs.Publishers.{AreBothOf, HasDisk, IsPublisherOf, moment_of}
+use Rattle.prt_follows.specs.Publishers.{AreBothOf, HasDisk, moment_of}
 use Rattle.prt_follows.specs.Runs.{Act, Acts, ActsAll, EveryRunGoesOn, EveryRunLeaves, EveryStopLeaves, HoldsAll, SameButFates, act_answers, act_events, act_receipts, adopted, admitted, answers_of, beside, committed, declined, events_of, failed, looked, noted, planned, receipts_of, refused, seated, shown, stopped, submit_failed, submit_unpublished, submitted, unplanned, unshown}
 use Rattle.prt_follows.proofs.Acks.{stopped_none, woven_keeps}
 use Rattle.prt_follows.proofs.Answered.{list_had}

@@ -13,7 +13,7 @@ use Rattle.prt_publisher.specs.declared.phase.Phase.{Phase}
 use Rattle.prt_publisher.specs.declared.phase.Phase.TheVariants.{Ready, Admitted, Prepared, Committed, Published, Closed}
 use Rattle.prt_store.specs.Exits.{IsKnown, IsStored}
 use Rattle.prt_version.proofs.Folds.{apply_count}
-use Rattle.prt_version.specs.Change.{apply, refusal}
+use Rattle.prt_version.specs.Change.{apply}
 use Rattle.prt_version.specs.State.{State}
 use Rattle.prt_world.specs.World.{World, has_room, step}
 use Rattle.prt_world.specs.declared.event.Event.TheVariants as events

@@ -1,5 +1,5 @@
 -- Which worlds a registry of grace periods stands for, and what an event of a looker makes of it.
-use Rattle.std.specs.Prelude.{◌≡◌, ◌<◌, ◌++◌, ◌==◌, if◌then◌else◌, ℕ, nat_lt, length, Bool, true, false, List, [], ◌∷◌, map, None, Some}
+use Rattle.std.specs.Prelude.{◌≡◌, ◌<◌, ◌++◌, ◌==◌, if◌then◌else◌, ℕ, nat_lt, length, true, false, List, [], ◌∷◌, map, None, Some}
 use Rattle.std.specs.List.{AllByRecursion as Each}
 use Rattle.prt_grace.specs.Registry.{RegistryState, announced, noted_by, reclaimed, with_place}
 use Rattle.prt_grace.specs.declared.limits.TheConstants.{MOST_RETIRED}

@@ -29,7 +29,7 @@ use Rattle.prt_world.specs.declared.event.Fate.TheVariants.{Lost}
 use Rattle.prt_follows.specs.Events.{commit_events, fail_events, is_lookers, own, publish_events, reclaim_events, stop_events, without_fate}
 use Rattle.prt_follows.specs.Laws.{Admits, AdoptsAgain, BeginsAt, Commits, DeclinesBy, FailsBy, FailsToCommit, IsCutShort, Notes, PlansBy, PlansNot, PublishesNot, Refuses, Shows, StopsBy, SubmitFails, SubmitFailsBy, SubmitUnpublished, Submits}
 use Rattle.prt_follows.specs.Registries.{registry_after, registry_through}
-use Rattle.prt_follows.specs.Publishers.{AreBothOf, IsPublisherOf}
+use Rattle.prt_follows.specs.Publishers.{AreBothOf}
 
 -- An exit of a step, or what comes between two steps. The list of one that makes store calls has what lookers do between them.
 pub data Act : Type 0 where
