@@ -8,6 +8,7 @@ import sys
 import tempfile
 import time
 
+from peak import peak_of
 from routes import addr_text, random_prefixes, route_line
 
 TURNS = 3
@@ -66,11 +67,10 @@ def most_memory(program, lines):
     program.stdin.writelines(lines)
     program.stdin.flush()
     time.sleep(1)
-    with open(f"/proc/{program.pid}/status") as status:
-        most = next(line for line in status if line.startswith("VmHWM:"))
+    most = peak_of(program)
     program.stdin.close()
     program.wait()
-    return int(most.split()[1]) / 1024
+    return most
 
 
 def flush_lines(prefixes):

@@ -24,7 +24,7 @@ CREATE TABLE route (tbl INTEGER NOT NULL, net INTEGER NOT NULL, len INTEGER NOT 
   kind INTEGER NOT NULL, via INTEGER NOT NULL, dev TEXT NOT NULL, src INTEGER NOT NULL, proto INTEGER NOT NULL,
   scope INTEGER NOT NULL, PRIMARY KEY (tbl, net, len, metric)) STRICT;
 CREATE TABLE meta (id INTEGER PRIMARY KEY NOT NULL, format INTEGER NOT NULL, count INTEGER NOT NULL) STRICT;
-INSERT INTO meta VALUES (1, 1, 0);
+INSERT INTO meta VALUES (1, 2, 0);
 """
 PUT = """
 INSERT INTO route (tbl, net, len, metric, kind, via, dev, src, proto, scope) VALUES (?1, ?2, ?3, ?4, ?5, ?6, ?7, ?8, ?9, ?10)

@@ -36,7 +36,7 @@ static void open_database(const char *path)
         " kind INTEGER NOT NULL, via INTEGER NOT NULL, dev TEXT NOT NULL, src INTEGER NOT NULL, proto INTEGER NOT NULL,"
         " scope INTEGER NOT NULL, PRIMARY KEY (tbl, net, len, metric)) STRICT;"
         "CREATE TABLE meta (id INTEGER PRIMARY KEY NOT NULL, format INTEGER NOT NULL, count INTEGER NOT NULL) STRICT;"
-        "INSERT INTO meta (id, format, count) VALUES (1, 1, 0)", NULL, NULL, NULL), SQLITE_OK);
+        "INSERT INTO meta (id, format, count) VALUES (1, 2, 0)", NULL, NULL, NULL), SQLITE_OK);
 }
 
 int main(int argc, char **argv)

@@ -5,6 +5,8 @@ import subprocess
 import sys
 import tempfile
 
+from peak import peak_of
+
 TURNS = 3
 ROUTES = 1_000
 MOST_EVENTS = 100_000
@@ -82,10 +84,9 @@ def most_memory(program, path):
     """The most memory that a replay has had in MB when it begins to write, which is where its pipe is full."""
     process = subprocess.Popen([program, "replay", path], stdout=subprocess.PIPE)
     process.stdout.read(1)
-    with open(f"/proc/{process.pid}/status") as status:
-        most = next(line for line in status if line.startswith("VmHWM:"))
+    most = peak_of(process)
     process.communicate()
-    return int(most.split()[1]) / 1024
+    return most
 
 
 def show(program, rounds, prefix_of, count):

@@ -43,10 +43,10 @@ def opened(path):
 
 
 def filled(sources, database, routes):
-    """Makes the three tables, and fills them as an opening and then the program does."""
-    for table in ("rule", "route", "meta"):
+    """Makes the four tables, and fills them as an opening and then the program does."""
+    for table in ("rule", "route", "meta", "suppress"):
         database.execute(statement(sources, "opening.rt", f"CREATE TABLE IF NOT EXISTS {table} "))
-    database.execute("INSERT INTO meta VALUES (1, 1, 0)")
+    database.execute("INSERT INTO meta VALUES (1, 2, 0)")
     database.executescript(FILL.format(routes=routes))
 
 

@@ -17,8 +17,12 @@ ROOM = "/dev/shm" if os.access("/dev/shm", os.W_OK) else None
 CORES = len(os.sched_getaffinity(0))
 # The exit status of a process that was ended at a call.
 STOPPED = 77
+# How many seconds a run may take.
+PATIENCE = 60
+# Of the requests of an opening, those whose number is a multiple of this are refused in the short sweep.
+STEP = 11
 # No run makes as many requests or calls.
-MOST_PLACES = 20000
+MOST_PLACES = 40000
 # What a database holds is seen by these queries.
 LISTINGS = "rule show\nroute show table all\nroute get 10.1.2.3\n"
 
@@ -35,6 +39,17 @@ class Ended(NamedTuple):
     told: list
 
 
+def places_of(told, is_whole, step=1):
+    """The places of a sweep over a new database, by what a run told that met nothing; the last place meets nothing.
+
+    A whole sweep has each request. Otherwise it is each STEPth of the opening, and after it each, or each `step`th.
+    """
+    made, opening, _ = told
+    if is_whole:
+        return range(1, made + 2)
+    return [*range(STEP, opening + 1, STEP), *range(opening + 1, made + 1, step), made + 1]
+
+
 def text_of(path):
     """The text of a file of the repository."""
     with open(f"{TOP}/{path}", encoding="ascii") as text:
@@ -48,17 +63,25 @@ def library(name, folder):
     return made
 
 
+def environment(preloaded, folder, variables):
+    """The environment of a run, in which a library tells its numbers in a file of the folder."""
+    named = {name: str(value) for name, value in variables.items()}
+    return named | {"LD_PRELOAD": preloaded, "TOLD": f"{folder}/told"} if preloaded else named
+
+
+def told_in(folder):
+    """The numbers that a library told in this folder."""
+    if not os.path.exists(f"{folder}/told"):
+        return []
+    with open(f"{folder}/told", encoding="ascii") as text:
+        return [int(number) for number in text.read().split()]
+
+
 def run(words, script="", preloaded=None, folder=None, **variables):
     """Runs a program over a script; with a library, it tells its numbers in a file of the folder."""
-    variables = {name: str(value) for name, value in variables.items()}
-    if preloaded:
-        variables |= {"LD_PRELOAD": preloaded, "TOLD": f"{folder}/told"}
-    ended = subprocess.run(words, input=script, capture_output=True, text=True, env=variables, timeout=60)
-    told = []
-    if preloaded and os.path.exists(f"{folder}/told"):
-        with open(f"{folder}/told", encoding="ascii") as text:
-            told = [int(number) for number in text.read().split()]
-    return Ended(ended.returncode, ended.stdout, ended.stderr, told)
+    surroundings = environment(preloaded, folder, variables)
+    ended = subprocess.run(words, input=script, capture_output=True, text=True, env=surroundings, timeout=PATIENCE)
+    return Ended(ended.returncode, ended.stdout, ended.stderr, told_in(folder) if preloaded else [])
 
 
 def look_into(path, states):
@@ -90,10 +113,17 @@ def sessions(script, mishaps):
     return found
 
 
+def is_refused_opening(ended, refusal):
+    """Whether a run ended with this refusal of an opening; under it the cause may stand, in one line."""
+    fault, _, cause = ended.errors.partition("\n")
+    is_one_line = cause.startswith("prt: ") and cause.count("\n") == 1
+    return (ended.status, ended.replies, fault) == (3, "", f"prt: error {refusal}") and (not cause or is_one_line)
+
+
 def met_by(ended, allowed, openings):
     """What a run met: a refused opening, or one of the sessions; and the states that may be stored."""
     for refusal in openings:
-        if ended[:3] == (3, "", f"prt: error {refusal}\n"):
+        if is_refused_opening(ended, refusal):
             return f"{refusal[3:]} at the opening", [model.State()]
     what, session = allowed.get(ended.replies, (None, None))
     if session is None or (ended.status, ended.errors) != (session.status, ""):

@@ -3,7 +3,7 @@
  * REFUSE=N         refuses the Nth request alone, counted from the start of the process
  * REFUSE_AFTER=T   refuses each request once the process has written a text that begins with T
  * TOLD=FILE        names a file that gets, at the end, how many requests were made, how many of them before the first
- *                  read of standard input, and how many were refused
+ *                  read of standard input, and before the process listens or writes, and how many were refused
  */
 #define _GNU_SOURCE
 #include <dlfcn.h>
@@ -12,6 +12,7 @@
 #include <stdio.h>
 #include <stdlib.h>
 #include <string.h>
+#include <sys/socket.h>
 #include <unistd.h>
 
 static long made, before_input = -1, refused;
@@ -58,12 +59,21 @@ ssize_t read(int file, void *bytes, size_t len) {
   return call(file, bytes, len);
 }
 
+int listen(int end, int waiting) {
+  int (*call)(int, int) = real("listen");
+  if (before_input < 0)
+    before_input = made;
+  return call(end, waiting);
+}
+
 ssize_t write(int file, const void *bytes, size_t len) {
   static ssize_t (*call)(int, const void *, size_t);
   const char *mark = getenv("REFUSE_AFTER");
   ssize_t written;
   if (!call)
     call = real("write");
+  if (file == STDOUT_FILENO && before_input < 0)
+    before_input = made;
   written = call(file, bytes, len);
   if (mark && len >= strlen(mark) && memcmp(bytes, mark, strlen(mark)) == 0)
     __atomic_store_n(&is_marked, 1, __ATOMIC_SEQ_CST);

@@ -5,3 +5,4 @@ pub mod Blocks
 pub mod Ranges
 pub mod Each
 pub mod Orders
+pub mod RefusalText

@@ -10,3 +10,4 @@ pub mod Order
 pub mod Rising
 pub mod Sound
 pub mod Steps
+pub mod Opening

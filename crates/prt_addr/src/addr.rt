@@ -50,7 +50,7 @@ fn read_octets(word: &[u8]) -> Option<[u8; 4]>
     if rest.is_some() { None } else { Some(octets) }
 }
 
-/// The address as four decimal parts joined by dots.
+/// Gives the address as four decimal parts joined by dots.
 pub fn addr_text(addr: Addr) -> ArrayString<15>
     ensures { result.bytes ≡ addr_text addr }
 {

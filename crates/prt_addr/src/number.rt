@@ -41,7 +41,7 @@ fn read_hex(digits: &[u8]) -> Option<u32>
     Some(number as u32)
 }
 
-/// The value of a hexadecimal digit of either case.
+/// Gives the value of a hexadecimal digit of either case.
 fn hex_digit(byte: u8) -> Option<u8>
     ensures value { result ≡ hex_digit_of byte }
     ensures below { IfSome result (λ digit. digit < 16) }

@@ -1,5 +1,5 @@
 /// What a session does after a refused line.
-#[derive(Clone, Copy, Debug, PartialEq, Eq)]
+#[derive(Clone, Copy)]
 pub enum OnRefusal {
     /// End, and leave the rest unread.
     Stop,

@@ -56,7 +56,7 @@ impl PartialEq for Prefix {
 }
 
 impl Prefix {
-    /// The prefix of these bits and this length, where the length is at most 32 and no host bit is set.
+    /// Makes the prefix of these bits and this length, where the length is at most 32 and no host bit is set.
     pub fn new(bits: u32, len: u8) -> Option<Prefix>
         ensures { SomeIff result (IsPrefix (record { bits = bits; len = len })) (record { bits = bits; len = len }) }
     {
@@ -71,7 +71,7 @@ impl Prefix {
         }
     }
 
-    /// The prefix of this length, at most 32, with the host bits of `bits` cleared.
+    /// Gives the prefix of this length, at most 32, with the host bits of `bits` cleared.
     pub fn masked(bits: u32, len: u8) -> Prefix
         requires { len ≤ 32 }
         ensures { result ≡ masked (record { bits = bits; len = len }) }
@@ -84,7 +84,7 @@ impl Prefix {
         }
     }
 
-    /// The bits of the prefix, as those of an address.
+    /// Gives the bits of the prefix, as those of an address.
     pub fn bits(&self) -> u32
         ensures value { result ≡ self.now.bits }
         ensures prefix { IsPrefix self.now }
@@ -92,7 +92,7 @@ impl Prefix {
         self.bits
     }
 
-    /// The length in bits, 0 to 32.
+    /// Gives the length in bits, 0 to 32.
     pub fn len(&self) -> u8
         ensures value { result ≡ self.now.len }
         ensures short { result ≤ 32 }
@@ -166,7 +166,7 @@ fn read_block(word: &[u8]) -> Option<(Addr, u8)>
     Some((addr, len))
 }
 
-/// The prefix as four decimal parts, with `/` and the length unless that is 32.
+/// Gives the prefix as four decimal parts, with `/` and the length unless that is 32.
 #[tactic(auto, using(crate::proofs::Digits::two_digits))]
 pub fn prefix_text(prefix: &Prefix) -> ArrayString<18>
     ensures { result.bytes ≡ prefix_text prefix.now }

@@ -1,7 +1,9 @@
-ghost use Rattle.std.specs.Prelude.{◌≡◌, ◌++◌, Some, codes, decimal};
+ghost use Rattle.std.specs.Prelude.{◌≡◌, ◌<◌, Some, length};
 ghost use Rattle.prt_addr.specs.Refusal.{code_of, entry_of, name_of, refusal_text};
 ghost use Rattle.prt_addr.specs.declared.refusal.Refusal.TheVariants.{NoMemory};
 
+use arrayvec::ArrayString;
+use itoa::Buffer;
 use std::alloc::{AllocError, AllocFailed};
 use std::error::Error;
 use std::fmt;
@@ -58,6 +60,8 @@ pub enum Refusal {
     NextHopNotAllowed,
     /// The command would take everything and has to name something.
     TooBroad,
+    /// Only a rule that looks up a table suppresses short prefixes.
+    SuppressNotAllowed,
     /// The publisher is closed since a commit or a publication failed.
     Closed,
     /// The route's key, or an equal rule, is there already.
@@ -91,7 +95,7 @@ pub enum Refusal {
 }
 
 impl Refusal {
-    /// The number and the name: the one table of both.
+    /// Gives the number and the name: the one table of both.
     fn entry(&self) -> (u32, &'static str)
         ensures { (result.0, result.1.now) ≡ entry_of self.now }
     {
@@ -113,6 +117,7 @@ impl Refusal {
             Refusal::NoNextHop => (15, "NoNextHop"),
             Refusal::NextHopNotAllowed => (16, "NextHopNotAllowed"),
             Refusal::TooBroad => (17, "TooBroad"),
+            Refusal::SuppressNotAllowed => (18, "SuppressNotAllowed"),
             Refusal::Closed => (20, "Closed"),
             Refusal::Exists => (21, "Exists"),
             Refusal::NoSuch => (22, "NoSuch"),
@@ -131,18 +136,33 @@ impl Refusal {
         }
     }
 
-    /// The number of the refusal, from 1 to 34.
+    /// Gives the number of the refusal, from 1 to 34.
     pub fn code(&self) -> u32
         ensures { result ≡ code_of self.now }
     {
         self.entry().0
     }
 
-    /// The name of the refusal.
+    /// Gives the name of the refusal.
     pub fn name(&self) -> &'static str
         ensures { result.now ≡ name_of self.now }
     {
         self.entry().1
+    }
+
+    /// Writes `error C NAME`, which leaves room for a newline.
+    #[tactic(auto, using(crate::proofs::RefusalText::code_short, crate::proofs::RefusalText::name_short))]
+    pub fn text(&self) -> ArrayString<32>
+        ensures value { result.bytes ≡ refusal_text self.now }
+        ensures room { length result.bytes < 32 }
+    {
+        let mut digits = Buffer::new();
+        let mut text = ArrayString::new();
+        text.push_str("error ");
+        text.push_str(digits.format(self.code()));
+        text.push_str(" ");
+        text.push_str(self.name());
+        text
     }
 }
 
@@ -151,9 +171,7 @@ impl fmt::Display for Refusal {
     ghost output = { λ refusal. Some (refusal_text refusal) };
 
     fn fmt<W: fmt::Write>(&self, f: &mut fmt::Formatter<W>) -> fmt::Result {
-        let code = self.code();
-        let name = self.name();
-        write!(f, "error {code} {name}")
+        f.write_str(self.text().as_str())
     }
 }
 

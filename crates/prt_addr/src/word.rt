@@ -9,7 +9,7 @@ pub(crate) fn is(word: &[u8], name: &str) -> bool
     name.as_bytes() == word
 }
 
-/// The place of the first byte that is the separator.
+/// Gives the place of the first byte that is the separator.
 fn separator_place(word: &[u8], separator: u8) -> Option<usize>
     ensures { result ≡ position (λ b. b == separator) word.now }
 {

@@ -37,6 +37,7 @@ empty_none items h =
     let from18 = from17.1 in
     let from19 = from18.1 in
     let from20 = from19.1 in
+    let from21 = from20.1 in
     λ i. record {
       destination = is_none items.destination from0.0 i;
       via = is_none items.via from1.0 i;
@@ -59,4 +60,5 @@ empty_none items h =
       fwmark = is_none items.fwmark from18.0 i;
       priority = is_none items.priority from19.0 i;
       action = is_none items.action from20.0 i;
+      suppress = is_none items.suppress from21.0 i;
     }

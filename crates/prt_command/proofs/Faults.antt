@@ -1,4 +1,4 @@
--- The refusals of lines are the first seventeen.
+-- The refusals of lines are the first eighteen.
 use Rattle.std.proofs.Common.{◌≡◌, ◌≤◌, ℕ, List, Bool, true, false, Option, Some, None, Result, Ok, Err, take, drop, ◌+◌, refl, sym, subst, arith}
 use Rattle.std.specs.Prelude.{◌==◌, bytes_eq, codes, if◌then◌else◌, position}
 use Rattle.std.specs.Option.{ok_or}
@@ -13,27 +13,27 @@ use Rattle.prt_addr.specs.declared.refusal.Refusal.TheVariants.{UnknownWord, Bad
 use Rattle.prt_route.specs.Dev.{device}
 use Rattle.prt_route.specs.Names.{protocol, scope, table}
 use Rattle.prt_command.proofs.Results.{ok_result, err_result, err_inj}
-use Rattle.prt_command.specs.Grammar.{Place, IsFault, unknown_word, second_bare, nothing_after, given_before, alone_before, bad_value, further}
+use Rattle.prt_command.specs.Grammar.{ItemPlace, IsFault, unknown_word, second_bare, nothing_after, given_before, alone_before, bad_value, further}
 use Rattle.prt_command.specs.LineKinds.{LineKind}
 use Rattle.prt_command.specs.Mark.{is_slash, mark_at, part}
 use Rattle.prt_command.specs.Then.{◌>>=◌, map_ok}
-use Rattle.prt_command.specs.Values.{kind_of, value}
+use Rattle.prt_command.specs.Values.{kind_of, length_number, value}
 use Rattle.prt_command.specs.declared.item.Item.TheVariants as item
 use Rattle.prt_command.specs.declared.item.Items.{Items}
 use Rattle.prt_command.specs.declared.item.PrefixWord.{PrefixWord}
 use Rattle.prt_command.specs.declared.item.Slot.{Slot}
 use Rattle.prt_command.specs.declared.item.WhichTables.TheVariants.{One, All}
-use Rattle.prt_command.specs.declared.item.Slot.TheVariants.{Destination, Via, Dev, Table, Proto, Scope, Src, Metric, Range, Tables, OfKind, Address, Source, Iif, Mark, Inverted, From, To, Fwmark, Priority, Action}
+use Rattle.prt_command.specs.declared.item.Slot.TheVariants.{Destination, Via, Dev, Table, Proto, Scope, Src, Metric, Range, Tables, OfKind, Address, Source, Iif, Mark, Inverted, From, To, Fwmark, Priority, Action, Suppress}
 
 -- The refusal, if there is one, is that of a line.
 pub record Fine {X : Type 0} (r : Result X Refusal) : Type 0 where
-  pub number : (e : Refusal) → r ≡ Err e → code_of e ≤ 17
+  pub number : (e : Refusal) → r ≡ Err e → code_of e ≤ 18
 
 pub fine_ok : {X : Type 0} (x : X) → Fine (ok_result x)
 fine_ok x = record { number = λ e h. absurd cc }
 
-pub fine_err : {X : Type 0} (e : Refusal) → code_of e ≤ 17 → Fine {X = X} (err_result e)
-fine_err e l = record { number = λ d h. subst (λ (c : Refusal). code_of c ≤ 17) (err_inj e d h) l }
+pub fine_err : {X : Type 0} (e : Refusal) → code_of e ≤ 18 → Fine {X = X} (err_result e)
+fine_err e l = record { number = λ d h. subst (λ (c : Refusal). code_of c ≤ 18) (err_inj e d h) l }
 
 pub map_fine : {X Y : Type 0} (f : X → Y) (r : Result X Refusal) → Fine r → Fine (map_ok f r)
 map_fine f (Ok x) fine = fine_ok (f x)
@@ -43,7 +43,7 @@ pub then_fine : {X Y : Type 0} (r : Result X Refusal) (f : X → Result Y Refusa
 then_fine (Ok x) f fine more = more x
 then_fine (Err e) f fine more = fine_err e (fine.number e refl)
 
-pub ok_or_fine : {X : Type 0} (o : Option X) (e : Refusal) → code_of e ≤ 17 → Fine (ok_or o e)
+pub ok_or_fine : {X : Type 0} (o : Option X) (e : Refusal) → code_of e ≤ 18 → Fine (ok_or o e)
 ok_or_fine None e l = fine_err e l
 ok_or_fine (Some x) e l = fine_ok x
 
@@ -85,8 +85,9 @@ value_fine To b w = map_fine _ _ (ok_or_fine (net w) BadPrefix (omega arith))
 value_fine Fwmark b w = map_fine _ _ (mark_fine (position is_slash w) w)
 value_fine Priority b w = map_fine _ _ (ok_or_fine (number w) BadNumber (omega arith))
 value_fine Action b w = map_fine _ _ (map_fine _ _ (ok_or_fine (table w) BadTable (omega arith)))
+value_fine Suppress b w = map_fine _ _ (ok_or_fine (length_number w) BadNumber (omega arith))
 
-pub fault_fine : (line : LineKind) (given : Items) (place : Place) (w : Word) (ws : List Word) (e : Refusal) → IsFault line given place w ws e → code_of e ≤ 17
+pub fault_fine : (line : LineKind) (given : Items) (place : ItemPlace) (w : Word) (ws : List Word) (e : Refusal) → IsFault line given place w ws e → code_of e ≤ 18
 fault_fine line given place w ws e (unknown_word w2 ws2 is none) = omega arith
 fault_fine line given place w ws e (second_bare w2 ws2 slot is g) = omega arith
 fault_fine line given place w ws e (nothing_after p next w2 slot f) = omega arith

@@ -12,7 +12,7 @@ use Rattle.prt_command.specs.Steps.{and_items}
 use Rattle.prt_command.specs.declared.item.Item.{Item}
 use Rattle.prt_command.specs.declared.item.Items.{Items}
 use Rattle.prt_command.specs.declared.item.Slot.{Slot}
-use Rattle.prt_command.specs.declared.item.Slot.TheVariants.{Destination, Via, Dev, Table, Proto, Scope, Src, Metric, Range, Tables, OfKind, Address, Source, Iif, Mark, Inverted, From, To, Fwmark, Priority, Action}
+use Rattle.prt_command.specs.declared.item.Slot.TheVariants.{Destination, Via, Dev, Table, Proto, Scope, Src, Metric, Range, Tables, OfKind, Address, Source, Iif, Mark, Inverted, From, To, Fwmark, Priority, Action, Suppress}
 use Rattle.prt_command.proofs.Results.{ok_result, ok_inj, err_inj}
 use Rattle.prt_command.proofs.ItemLaws.{Read, ok_read, is_read, is_fault, read_back, fault_back}
 
@@ -154,6 +154,7 @@ none_given To = refl
 none_given Fwmark = refl
 none_given Priority = refl
 none_given Action = refl
+none_given Suppress = refl
 
 -- Two items at the front of the same words are one, and the same words are left.
 pub record IsOne (item1 item2 : Item) (rest1 rest2 : List Word) : Type 0 where

@@ -9,3 +9,5 @@ pub mod OrderLaws
 pub mod Empty
 pub mod Faults
 pub mod Stored
+pub mod FaultWords
+pub mod WordPlaces

@@ -8,7 +8,7 @@ use Rattle.prt_command.specs.Items.{slot_of, has, no_items, put}
 use Rattle.prt_command.specs.Reading.{Meaning}
 use Rattle.prt_command.specs.Spelling.{Spells}
 use Rattle.prt_command.specs.declared.item.Item.{Item}
-use Rattle.prt_command.specs.declared.item.Item.TheVariants.{Destination, Via, Dev, Table, Proto, Scope, Src, Metric, Range, Tables, OfKind, Address, Source, Iif, Mark, Inverted, From, To, Fwmark, Priority, Action}
+use Rattle.prt_command.specs.declared.item.Item.TheVariants.{Destination, Via, Dev, Table, Proto, Scope, Src, Metric, Range, Tables, OfKind, Address, Source, Iif, Mark, Inverted, From, To, Fwmark, Priority, Action, Suppress}
 use Rattle.prt_command.specs.declared.item.Items.{Items}
 use Rattle.prt_command.specs.declared.request.Request.{Request}
 use Rattle.prt_command.proofs.GrammarLaws.{one_item}
@@ -63,6 +63,8 @@ apart (Priority x) (Priority y) given h = absurd cc
 apart (Priority x) b given h = record { same = refl; first = refl; second = refl }
 apart (Action x) (Action y) given h = absurd cc
 apart (Action x) b given h = record { same = refl; first = refl; second = refl }
+apart (Suppress x) (Suppress y) given h = absurd cc
+apart (Suppress x) b given h = record { same = refl; first = refl; second = refl }
 
 pub once_in_any_order : (given : Items) (front rest : List Item) (a b : Item) → EachOnce given (front ++ (a ∷ b ∷ rest)) → EachOnce given (front ++ (b ∷ a ∷ rest))
 once_in_any_order given [] rest a b once =

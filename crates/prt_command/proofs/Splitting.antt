@@ -110,7 +110,7 @@ position_or_len-le p (x ∷ xs) = elim (sides (p x)) [
 abbrev pub place : (ℕ → Bool) → List ℕ → ℕ
 place p xs = unwrap_or (position p xs) (length xs)
 
-place_is : (p : ℕ → Bool) (xs : List ℕ) → place p xs ≡ position_or_len p xs
+pub place_is : (p : ℕ → Bool) (xs : List ℕ) → place p xs ≡ position_or_len p xs
 place_is p xs = elim (sides (nat_lt (position_or_len p xs) (length xs))) [
   | inl h ↦ simp h refl
   | inr h ↦ let i = position_or_len-le p xs in let j : length xs ≤ position_or_len p xs = ltb-false _ _ h in simp h (omega (arith, i, j))
@@ -123,7 +123,7 @@ place_within p xs n e = let i = position_or_len-le p xs in let j = place_is p xs
 abbrev pub from : List ℕ → ℕ → List ℕ
 from xs n = take (length xs - n) (drop n xs)
 
-from-drop : (xs : List ℕ) (n : ℕ) → n ≤ length xs → from xs n ≡ drop n xs
+pub from-drop : (xs : List ℕ) (n : ℕ) → n ≤ length xs → from xs n ≡ drop n xs
 from-drop xs n l = take_all (length xs - n) (drop n xs) (let e = length-drop n xs in omega (arith, e))
 
 -- the text after n bytes, those of its white space

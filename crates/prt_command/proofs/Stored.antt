@@ -1,7 +1,8 @@
 -- What a line asks for is storable.
-use Rattle.std.proofs.Common.{◌≡◌, ◌≤◌, ◌<◌, ◌^◌, ℕ, zero, List, [], ◌∷◌, Bool, true, false, Option, Some, None, is_some, drop, IfSome, IfOk, IfErr, rules, Result, Ok, Err, refl, sym, ap, subst, arith}
-use Rattle.std.proofs.lemmas.Bool.{leb-true}
-use Rattle.std.specs.Prelude.{◌&&◌, ◌||◌, ◌==◌, not, nat_le, is_none, if◌then◌else◌, bytes_eq, codes, unwrap_or}
+use Rattle.std.proofs.Common.{◌≡◌, ◌≤◌, ◌<◌, ◌^◌, ℕ, zero, List, [], ◌∷◌, Bool, true, false, Option, Some, None, is_some, drop, IfSome, IfOk, IfErr, IsTrue, rules, Result, Ok, Err, refl, sym, ap, subst, arith}
+use Rattle.std.proofs.lemmas.Bool.{and_from, and_parts, leb-true}
+use Rattle.std.proofs.lemmas.Bool.Decides.{nat_tests}
+use Rattle.std.specs.Prelude.{◌&&◌, ◌||◌, ◌==◌, not, nat_le, nat_lt, is_none, if◌then◌else◌, bytes_eq, codes, unwrap_or}
 use Rattle.std.specs.Option.{ok_or, option_or}
 use Rattle.prt_addr.specs.Block.{Block}
 use Rattle.prt_addr.specs.Decimal.{decimal_value}
@@ -10,21 +11,21 @@ use Rattle.prt_addr.specs.Refusal.{code_of}
 use Rattle.prt_addr.specs.Word.{Word, is_one_of, keep}
 use Rattle.prt_addr.specs.declared.addr.Addr.{Addr}
 use Rattle.prt_addr.specs.declared.refusal.Refusal.{Refusal}
-use Rattle.prt_addr.specs.declared.refusal.Refusal.TheVariants.{UnknownObject, UnknownVerb, MissingDestination, NoNextHop, NextHopNotAllowed, TooBroad, BadTable}
+use Rattle.prt_addr.specs.declared.refusal.Refusal.TheVariants.{UnknownObject, UnknownVerb, MissingDestination, NoNextHop, NextHopNotAllowed, SuppressNotAllowed, TooBroad, BadTable}
 use Rattle.prt_route.specs.Names.{default_table, local_table, main_table, number_in, spelled_number, table, tables}
-use Rattle.prt_route.specs.Storable.{IsStorableRoute, suits}
+use Rattle.prt_route.specs.Storable.{is_storable_route, suits}
 use Rattle.prt_route.specs.declared.kind.Kind.{Kind}
 use Rattle.prt_route.specs.declared.kind.Kind.TheVariants.{Unicast, Blackhole, Unreachable, Prohibit, Throw}
 use Rattle.prt_route.specs.declared.route.Route.{Route}
 use Rattle.prt_rule.specs.declared.rule.Action as rule
 use Rattle.prt_rule.specs.declared.rule.Action.TheVariants.{Lookup}
-use Rattle.prt_command.specs.Grammar.{Place, start, IsItem, alone, valued, followed, AreItems, none, more, put_all}
+use Rattle.prt_command.specs.Grammar.{ItemPlace, start, IsItem, alone, valued, followed, AreItems, none, more, put_all}
 use Rattle.prt_command.specs.LineKinds.{Entry, LineKind, word_in}
 use Rattle.prt_command.specs.Items.{no_items, put, is_empty}
 use Rattle.prt_command.specs.Reading.{items_request, lone_verb, meaning_of, object_of, object_request, skip_word, verb_of, verb_request, words_request}
-use Rattle.prt_command.specs.Requests.{has_next_hop, is_unicast, new_route, refuse_if, route_by, route_of, route_request, selector_of, rule_choice, unless_empty}
+use Rattle.prt_command.specs.Requests.{has_next_hop, is_lookup, is_unicast, new_route, refuse_if, route_by, route_of, route_request, selector_of, rule_choice, rule_of, suppresses_without_lookup, unless_empty}
 use Rattle.prt_command.specs.Scan.{items_of}
-use Rattle.prt_rule.specs.Storable.{IsStorableAction}
+use Rattle.prt_rule.specs.Storable.{is_length, is_storable_rule}
 use Rattle.prt_command.specs.Storable.{IsStorable, IsStorableRequest, IsStorableLine}
 use Rattle.prt_command.specs.Then.{◌>>=◌, map_ok}
 use Rattle.prt_command.specs.Values.{value}
@@ -35,7 +36,7 @@ use Rattle.prt_command.specs.declared.item.ItemWord.TheVariants.{Keyword, Alone}
 use Rattle.prt_command.specs.declared.item.Items.{Items}
 use Rattle.prt_command.specs.declared.item.PrefixWord.{PrefixWord}
 use Rattle.prt_command.specs.declared.item.Slot.{Slot}
-use Rattle.prt_command.specs.declared.item.Slot.TheVariants.{Destination, Via, Dev, Table, Proto, Scope, Src, Metric, Range, Tables, OfKind, Address, Source, Iif, Mark, Inverted, From, To, Fwmark, Priority, Action}
+use Rattle.prt_command.specs.declared.item.Slot.TheVariants.{Destination, Via, Dev, Table, Proto, Scope, Src, Metric, Range, Tables, OfKind, Address, Source, Iif, Mark, Inverted, From, To, Fwmark, Priority, Action, Suppress}
 use Rattle.prt_command.specs.declared.request.Command.{Command}
 use Rattle.prt_command.specs.declared.request.Command.TheVariants as commands
 use Rattle.prt_command.specs.declared.request.Request.{Request}
@@ -90,16 +91,27 @@ table_is w n h = record {
   fits = spelled_fits (number_in tables w) w n (λ m e. named_table (bytes_eq (codes "local") w) (bytes_eq (codes "main") w) (bytes_eq (codes "default") w) m e) (keep_from (λ n. nat_le 1 n) (spelled_number tables w) n h);
 }
 
+storable_table : (n : ℕ) → IsTable n → (nat_le 1 n && nat_lt n (2 ^ 32)) ≡ true
+storable_table n is = and_from (nat_le 1 n) (nat_lt n (2 ^ 32)) (grind (arith, nat_tests, is.from)) (grind (arith, nat_tests, is.fits))
+
 ok_or_some : {X : Type 0} (o : Option X) (e : Refusal) (x : X) → ok_or o e ≡ Ok x → o ≡ Some x
 ok_or_some None e x h = absurd cc
 ok_or_some (Some y) e x h = ap (λ z. Some z) (ok_inj y x h)
 
 -- ---- the items of a line
 
--- what an item says of a table and an action is storable
+abbrev IsStorableRoute : Route → Type 0
+IsStorableRoute route = IsTrue (is_storable_route route)
+
+-- of a rule without a length
+abbrev IsStorableAction : rule.Action → Type 0
+IsStorableAction action = IsTrue (is_storable_rule action None)
+
+-- what an item says of a table, an action and a length is storable
 abbrev pub IsSoundItem : Item → Type 0
 IsSoundItem (item.Table n) = IsTable n
 IsSoundItem (item.Action action) = IsStorableAction action
+IsSoundItem (item.Suppress len) = IsTrue (nat_le len 32)
 IsSoundItem _ = Unit {0}
 
 abbrev pub IsSoundWord : ItemWord → Type 0
@@ -108,11 +120,12 @@ IsSoundWord (Alone x) = IsSoundItem x
 
 -- the same of all items of a line
 abbrev pub IsSound : Items → Type 0
-IsSound items = IfSome items.table IsTable × IfSome items.action IsStorableAction
+IsSound items = IfSome items.table IsTable × IfSome items.action IsStorableAction × IfSome items.suppress (λ len. IsTrue (nat_le len 32))
 
 put_sound : (x : Item) (items : Items) → IsSoundItem x → IsSound items → IsSound (put x items)
-put_sound (item.Table n) items is sound = (is, sound.1)
-put_sound (item.Action action) items is sound = (sound.0, is)
+put_sound (item.Table n) items is sound = (is, sound.1, sound.2)
+put_sound (item.Action action) items is sound = (sound.0, is, sound.2)
+put_sound (item.Suppress len) items is sound = (sound.0, sound.1, is)
 put_sound x items is sound = sound
 
 word_by : (b : Bool) (begun i : ItemWord) (rest : Option ItemWord) → IsSoundWord begun → (rest ≡ Some i → IsSoundWord i) → (if b then Some begun else rest) ≡ Some i → IsSoundWord i
@@ -128,7 +141,7 @@ word_sound [] w i are h = absurd cc
 word_sound (entry ∷ entries) w i are h = word_by (is_one_of w entry.0) entry.1 i (word_in entries w) are.0 (word_sound entries w i are.1) h
 
 lookup_sound : (w : Word) (action : rule.Action) → map_ok Lookup (ok_or (table w) BadTable) ≡ Ok action → IsStorableAction action
-lookup_sound w action h = map_ok_all IsStorableAction Lookup _ action h (λ n e. (table_is w n (ok_or_some _ _ n e)).from)
+lookup_sound w action h = map_ok_all IsStorableAction Lookup _ action h (λ n e. and_from _ _ (keep_passes (λ n. nat_le 1 n) (spelled_number tables w) n (ok_or_some _ _ n e)) refl)
 
 value_sound : (slot : Slot) (b : Option PrefixWord) (w : Word) (x : Item) → value slot b w ≡ Ok x → IsSoundItem x
 value_sound Destination b w x h = map_ok_all IsSoundItem item.Destination _ x h (λ y e. tt)
@@ -152,8 +165,9 @@ value_sound To b w x h = map_ok_all IsSoundItem item.To _ x h (λ y e. tt)
 value_sound Fwmark b w x h = map_ok_all IsSoundItem item.Fwmark _ x h (λ y e. tt)
 value_sound Priority b w x h = map_ok_all IsSoundItem item.Priority _ x h (λ y e. tt)
 value_sound Action b w x h = map_ok_all IsSoundItem item.Action _ x h (λ action e. lookup_sound w action e)
+value_sound Suppress b w x h = map_ok_all IsSoundItem item.Suppress _ x h (λ len e. keep_passes (λ n. nat_le n 32) (number w) len (ok_or_some _ _ len e))
 
-item_sound : (line : LineKind) (place : Place) (w : Word) (own : List Word) (x : Item) → AreSoundWords line.entries → IsItem line place w own x → IsSoundItem x
+item_sound : (line : LineKind) (place : ItemPlace) (w : Word) (own : List Word) (x : Item) → AreSoundWords line.entries → IsItem line place w own x → IsSoundItem x
 item_sound line place w own x are (alone w2 x2 e) = word_sound line.entries w (Alone x) are e
 item_sound line place w own x are (valued p w2 slot b x2 is e) = value_sound slot b w x e
 item_sound line place w own x are (followed p next w2 v own2 slot x2 f i) = item_sound line next v own2 x are i
@@ -183,7 +197,7 @@ bare_by None None (Some s) h = absurd cc
 bare_by None (Some d) src h = absurd cc
 bare_by (Some v) dev src h = absurd cc
 
--- The answer for good items is storable, or one of the first seventeen refusals.
+-- The answer for good items is storable, or one of the first eighteen refusals.
 pub record IsFineFor {X : Type 0} (P : X → Type 0) (r : Result X Refusal) : Type 0 where
   pub accepted : (x : X) → r ≡ Ok x → P x
   pub fine : Fine r
@@ -191,18 +205,18 @@ pub record IsFineFor {X : Type 0} (P : X → Type 0) (r : Result X Refusal) : Ty
 fine_for_ok : {X : Type 0} (P : X → Type 0) (x : X) → P x → IsFineFor P (ok_result x)
 fine_for_ok P x is = record { accepted = λ y h. subst P (ok_inj x y h) is; fine = fine_ok x }
 
-fine_for_err : {X : Type 0} (P : X → Type 0) (e : Refusal) → code_of e ≤ 17 → IsFineFor P (err_result e)
+fine_for_err : {X : Type 0} (P : X → Type 0) (e : Refusal) → code_of e ≤ 18 → IsFineFor P (err_result e)
 fine_for_err P e l = record { accepted = λ y h. absurd cc; fine = fine_err e l }
 
 fine_for_then : {X Y : Type 0} (Q : X → Type 0) (P : Y → Type 0) (r : Result X Refusal) (f : X → Result Y Refusal) → IsFineFor Q r → ((x : X) → Q x → IsFineFor P (f x)) → IsFineFor P (r >>= f)
 fine_for_then Q P (Ok x) f is next = next x (is.accepted x refl)
 fine_for_then Q P (Err e) f is next = fine_for_err P e (is.fine.number e refl)
 
-some_for : {X : Type 0} (o : Option X) (e : Refusal) → code_of e ≤ 17 → IsFineFor (λ x. Unit {0}) (ok_or o e)
+some_for : {X : Type 0} (o : Option X) (e : Refusal) → code_of e ≤ 18 → IsFineFor (λ x. Unit {0}) (ok_or o e)
 some_for None e l = fine_for_err _ e l
 some_for (Some x) e l = fine_for_ok _ x tt
 
-refuse_for : (b : Bool) (e : Refusal) → code_of e ≤ 17 → IsFineFor (λ _. b ≡ false) (refuse_if b e)
+refuse_for : (b : Bool) (e : Refusal) → code_of e ≤ 18 → IsFineFor (λ _. b ≡ false) (refuse_if b e)
 refuse_for true e l = fine_for_err _ e l
 refuse_for false e l = fine_for_ok _ tt refl
 
@@ -211,8 +225,18 @@ table_for None is = record { from = omega arith; fits = omega arith }
 table_for (Some n) is = is
 
 action_for : (o : Option rule.Action) → IfSome o IsStorableAction → IsStorableAction (unwrap_or o (Lookup main_table))
-action_for None is = omega arith
+action_for None is = refl
 action_for (Some action) is = is
+
+length_for : (o : Option ℕ) → IfSome o (λ len. IsTrue (nat_le len 32)) → is_length o ≡ true
+length_for None is = refl
+length_for (Some len) is = is
+
+-- a length stands with a lookup alone
+rule_for : (action : rule.Action) (suppress : Option ℕ) → IsStorableAction action → IfSome suppress (λ len. IsTrue (nat_le len 32)) → is_some suppress && not (is_lookup action) ≡ false → IsTrue (is_storable_rule action suppress)
+rule_for (Lookup table) suppress is length apart = and_from _ _ (and_parts _ _ is).0 (length_for suppress length)
+rule_for _ None is length apart = refl
+rule_for _ (Some len) is length apart = absurd cc
 
 not_false : (b : Bool) → not b ≡ false → b ≡ true
 not_false true h = refl
@@ -227,10 +251,9 @@ suits_for items Throw prefix a b = bare_by items.via items.dev items.src b
 
 route_for : (items : Items) (kind : Kind) (prefix : Block) → IsSound items → IsFineFor IsStorableRoute (route_by items kind prefix)
 route_for items kind prefix sound =
-    let t = table_for items.table sound.0 in
     fine_for_then _ IsStorableRoute _ _ (refuse_for (is_unicast kind && not (has_next_hop items)) NoNextHop (omega arith)) (λ _ a.
     fine_for_then _ IsStorableRoute _ _ (refuse_for (not (is_unicast kind) && (has_next_hop items || is_some items.src)) NextHopNotAllowed (omega arith)) (λ _ b.
-    fine_for_ok IsStorableRoute (route_of items kind prefix) (record { table = t.from; fits = t.fits; suits = suits_for items kind prefix a b })))
+    fine_for_ok IsStorableRoute (route_of items kind prefix) (and_from _ _ (storable_table _ (table_for items.table sound.0)) (suits_for items kind prefix a b))))
 
 route_request_for : (command : Route → Command) → ((route : Route) → IsStorableRoute route → IsStorable (command route)) → (items : Items) → IsSound items → IsFineFor IsStorableRequest (route_request command items)
 route_request_for command storable items sound =
@@ -249,7 +272,9 @@ asks_for RouteDel items sound = fine_for_then _ IsStorableRequest _ _ (some_for 
 asks_for RouteFlush items sound = command_for items (commands.RouteFlush (selector_of items)) tt
 asks_for RouteShow items sound = fine_for_ok IsStorableRequest _ tt
 asks_for RouteGet items sound = fine_for_then _ IsStorableRequest _ _ (some_for items.address MissingDestination (omega arith)) (λ dst _. fine_for_ok IsStorableRequest _ tt)
-asks_for RuleAdd items sound = fine_for_ok IsStorableRequest _ (action_for items.action sound.1)
+asks_for RuleAdd items sound =
+    fine_for_then _ IsStorableRequest _ _ (refuse_for (suppresses_without_lookup (rule_of items)) SuppressNotAllowed (omega arith))
+    (λ _ apart. fine_for_ok IsStorableRequest _ (rule_for (unwrap_or items.action (Lookup main_table)) items.suppress (action_for items.action sound.1) sound.2 apart))
 asks_for RuleDel items sound = command_for items (commands.RuleDel (rule_choice items)) tt
 asks_for RuleFlush items sound = fine_for_ok IsStorableRequest _ tt
 asks_for RuleShow items sound = fine_for_ok IsStorableRequest _ tt
@@ -259,7 +284,7 @@ asks_for RuleShow items sound = fine_for_ok IsStorableRequest _ tt
 read_for : (verb : ObjectVerb) (ws : List Word) (r : Result Items Refusal) → items_of (meaning_of verb).line no_items ws ≡ r → IsFineFor IsSound r
 read_for verb ws (Ok items) read =
     let d = good_of_items (meaning_of verb).line ws zero no_items items read (omega arith) in
-    fine_for_ok IsSound items (subst IsSound (sym d.is) (items_sound (meaning_of verb).line ws d.taken no_items (entries_sound verb) d.good.spelled (tt, tt)))
+    fine_for_ok IsSound items (subst IsSound (sym d.is) (items_sound (meaning_of verb).line ws d.taken no_items (entries_sound verb) d.good.spelled (tt, tt, tt)))
 read_for verb ws (Err e) read =
     let d = fault (meaning_of verb).line ws zero no_items e read (omega arith) in
     fine_for_err IsSound e (fault_fine (meaning_of verb).line (put_all d.taken no_items) start d.w d.rest e d.first)
@@ -279,10 +304,10 @@ text_for : (ws : List Word) → IsFineFor IsStorableLine (words_request ws)
 text_for [] = fine_for_ok IsStorableLine None tt
 text_for (w ∷ ws) = fine_for_then IsStorableRequest IsStorableLine _ _ (words_for (skip_word (codes "-4") (skip_word (codes "ip") (w ∷ ws)))) (λ request is. fine_for_ok IsStorableLine (Some request) is)
 
-by_result : (r : Result (Option Request) Refusal) → IsFineFor IsStorableLine r → IfOk r IsStorableLine × IfErr r (λ refusal. code_of refusal ≤ 17)
+by_result : (r : Result (Option Request) Refusal) → IsFineFor IsStorableLine r → IfOk r IsStorableLine × IfErr r (λ refusal. code_of refusal ≤ 18)
 by_result (Ok request) is = (is.accepted request refl, tt)
 by_result (Err refusal) is = (tt, is.fine.number refusal refl)
 
--- what a text asks for is storable, and its refusal is one of the first seventeen
-pub text_is : (ws : List Word) (r : Result (Option Request) Refusal) → r ≡ words_request ws → IfOk r IsStorableLine × IfErr r (λ refusal. code_of refusal ≤ 17)
+-- what a text asks for is storable, and its refusal is one of the first eighteen
+pub text_is : (ws : List Word) (r : Result (Option Request) Refusal) → r ≡ words_request ws → IfOk r IsStorableLine × IfErr r (λ refusal. code_of refusal ≤ 18)
 text_is ws r is = by_result r (subst (IsFineFor IsStorableLine) (sym is) (text_for ws))

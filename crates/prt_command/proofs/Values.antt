@@ -10,7 +10,7 @@ use Rattle.prt_command.specs.declared.item.Item.TheVariants as item
 use Rattle.prt_command.specs.declared.item.PrefixWord.{PrefixWord}
 use Rattle.prt_command.specs.declared.item.Slot.{Slot}
 use Rattle.prt_command.proofs.Results.{ok_inj}
-use Rattle.prt_command.specs.declared.item.Slot.TheVariants.{Destination, Via, Dev, Table, Proto, Scope, Src, Metric, Range, Tables, OfKind, Address, Source, Iif, Mark, Inverted, From, To, Fwmark, Priority, Action}
+use Rattle.prt_command.specs.declared.item.Slot.TheVariants.{Destination, Via, Dev, Table, Proto, Scope, Src, Metric, Range, Tables, OfKind, Address, Source, Iif, Mark, Inverted, From, To, Fwmark, Priority, Action, Suppress}
 
 -- what holds of all that f makes holds of what it makes of a value that was read
 pub map_ok_all : {X Y : Type 0} (P : Y → Type 0) (f : X → Y) (r : Result X Refusal) (y : Y) → map_ok f r ≡ Ok y → ((x : X) → r ≡ Ok x → P (f x)) → P y
@@ -39,3 +39,4 @@ slot_kept To b w x h = map_ok_all (λ x. slot_of x ≡ To) item.To _ x h (λ y e
 slot_kept Fwmark b w x h = map_ok_all (λ x. slot_of x ≡ Fwmark) item.Fwmark _ x h (λ y e. refl)
 slot_kept Priority b w x h = map_ok_all (λ x. slot_of x ≡ Priority) item.Priority _ x h (λ y e. refl)
 slot_kept Action b w x h = map_ok_all (λ x. slot_of x ≡ Action) item.Action _ x h (λ y e. refl)
+slot_kept Suppress b w x h = map_ok_all (λ x. slot_of x ≡ Suppress) item.Suppress _ x h (λ y e. refl)

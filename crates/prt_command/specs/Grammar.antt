@@ -15,42 +15,42 @@ use Rattle.prt_command.specs.declared.item.Slot.{Slot}
 -- ---- words at their places
 
 -- Where a word stands: at the start of an item, after `to`, or where the value of an item has to stand, after the word before its prefix if there is one.
-pub data Place : Type 0 where
-  start : Place
-  after_to : Slot → Place
-  at_value : Slot → Option PrefixWord → Place
+pub data ItemPlace : Type 0 where
+  start : ItemPlace
+  after_to : Slot → ItemPlace
+  at_value : Slot → Option PrefixWord → ItemPlace
 
 -- At this place the item needs no word of its own: the word w is no keyword of the line and not `to`, or stands after `to`.
-pub data IsPlain (line : LineKind) (w : Word) (slot : Slot) : Place → Type 0 where
+pub data IsPlain (line : LineKind) (w : Word) (slot : Slot) : ItemPlace → Type 0 where
   no_word : line.plain ≡ Some slot → word_in line.entries w ≡ None → is_to w ≡ false → IsPlain line w slot start
   word_after_to : IsPlain line w slot (after_to slot)
 
 -- The word w, at the first place, is one of this item that something must follow, which stands at the second place.
-pub data MustBeFollowed (line : LineKind) (w : Word) (slot : Slot) : Place → Place → Type 0 where
+pub data MustBeFollowed (line : LineKind) (w : Word) (slot : Slot) : ItemPlace → ItemPlace → Type 0 where
   -- a keyword
   keyword : word_in line.entries w ≡ Some (Keyword slot) → MustBeFollowed line w slot start (at_value slot None)
   -- `to`
   to_word : line.plain ≡ Some slot → word_in line.entries w ≡ None → is_to w ≡ true → MustBeFollowed line w slot start (after_to slot)
   -- a kind, `root`, `match` or `exact`
-  before_prefix : (place : Place) (b : PrefixWord) → IsPlain line w slot place → prefix_word slot w ≡ Some b → MustBeFollowed line w slot place (at_value slot (Some b))
+  before_prefix : (place : ItemPlace) (b : PrefixWord) → IsPlain line w slot place → prefix_word slot w ≡ Some b → MustBeFollowed line w slot place (at_value slot (Some b))
 
 -- The word w, at this place, is taken as the value of this item, after the word b before its prefix if there is one.
-pub data IsValue (line : LineKind) (w : Word) (slot : Slot) : Place → Option PrefixWord → Type 0 where
+pub data IsValue (line : LineKind) (w : Word) (slot : Slot) : ItemPlace → Option PrefixWord → Type 0 where
   -- none of the line's item words
-  bare : (place : Place) → IsPlain line w slot place → prefix_word slot w ≡ None → IsValue line w slot place None
+  bare : (place : ItemPlace) → IsPlain line w slot place → prefix_word slot w ≡ None → IsValue line w slot place None
   -- whatever word it is, after one that a value must follow
   any_word : (b : Option PrefixWord) → IsValue line w slot (at_value slot b) b
 
 -- ---- how an item is spelled
 
 -- An item of the line stands from the word w at this place on, with the words own after it, and this is what it says.
-pub data IsItem (line : LineKind) : Place → Word → List Word → Item → Type 0 where
+pub data IsItem (line : LineKind) : ItemPlace → Word → List Word → Item → Type 0 where
   -- a word that says the item alone
   alone : (w : Word) (x : Item) → word_in line.entries w ≡ Some (Alone x) → IsItem line start w [] x
   -- a value
-  valued : (place : Place) (w : Word) (slot : Slot) (b : Option PrefixWord) (x : Item) → IsValue line w slot place b → value slot b w ≡ Ok x → IsItem line place w [] x
+  valued : (place : ItemPlace) (w : Word) (slot : Slot) (b : Option PrefixWord) (x : Item) → IsValue line w slot place b → value slot b w ≡ Ok x → IsItem line place w [] x
   -- a word that something must follow, and what follows
-  followed : (place next : Place) (w v : Word) (own : List Word) (slot : Slot) (x : Item) → MustBeFollowed line w slot place next → IsItem line next v own x → IsItem line place w (v ∷ own) x
+  followed : (place next : ItemPlace) (w v : Word) (own : List Word) (slot : Slot) (x : Item) → MustBeFollowed line w slot place next → IsItem line next v own x → IsItem line place w (v ∷ own) x
 
 -- The words are these items, one after another.
 pub data AreItems (line : LineKind) : List Word → List Item → Type 0 where
@@ -75,21 +75,21 @@ pub record Good (line : LineKind) (given : Items) (ws : List Word) (taken : List
 -- ---- the first fault
 
 -- After items that were given, an item stands from the word w at this place on, before the words ws, and this is its first fault.
-pub data IsFault (line : LineKind) (given : Items) : Place → Word → List Word → Refusal → Type 0 where
+pub data IsFault (line : LineKind) (given : Items) : ItemPlace → Word → List Word → Refusal → Type 0 where
   -- A word that is none of the line's item words, where the line has no item without a word of its own,
   unknown_word : (w : Word) (ws : List Word) → line.plain ≡ None → word_in line.entries w ≡ None → IsFault line given start w ws UnknownWord
   -- or where that item was given: a second bare prefix or address.
   second_bare : (w : Word) (ws : List Word) (slot : Slot) → IsValue line w slot start None → has slot given ≡ true → IsFault line given start w ws UnknownWord
   -- Nothing after a keyword, `to`, a kind, `root`, `match` or `exact`, whether its item was given or not.
-  nothing_after : (place next : Place) (w : Word) (slot : Slot) → MustBeFollowed line w slot place next → IsFault line given place w [] MissingValue
+  nothing_after : (place next : ItemPlace) (w : Word) (slot : Slot) → MustBeFollowed line w slot place next → IsFault line given place w [] MissingValue
   -- An item that was given: by such a word, which something follows,
-  given_before : (place next : Place) (w v : Word) (ws : List Word) (slot : Slot) → MustBeFollowed line w slot place next → has slot given ≡ true → IsFault line given place w (v ∷ ws) Repeated
+  given_before : (place next : ItemPlace) (w v : Word) (ws : List Word) (slot : Slot) → MustBeFollowed line w slot place next → has slot given ≡ true → IsFault line given place w (v ∷ ws) Repeated
   -- or by a word that says the item alone.
   alone_before : (w : Word) (ws : List Word) (x : Item) → word_in line.entries w ≡ Some (Alone x) → has (slot_of x) given ≡ true → IsFault line given start w ws Repeated
   -- A bad value.
-  bad_value : (place : Place) (w : Word) (ws : List Word) (slot : Slot) (b : Option PrefixWord) (fault : Refusal) → IsValue line w slot place b → has slot given ≡ false → value slot b w ≡ Err fault → IsFault line given place w ws fault
+  bad_value : (place : ItemPlace) (w : Word) (ws : List Word) (slot : Slot) (b : Option PrefixWord) (fault : Refusal) → IsValue line w slot place b → has slot given ≡ false → value slot b w ≡ Err fault → IsFault line given place w ws fault
   -- The words are looked at from left to right: the fault of what follows, after a word of an item that was not given.
-  further : (place next : Place) (w v : Word) (ws : List Word) (slot : Slot) (fault : Refusal) → MustBeFollowed line w slot place next → has slot given ≡ false → IsFault line given next v ws fault → IsFault line given place w (v ∷ ws) fault
+  further : (place next : ItemPlace) (w v : Word) (ws : List Word) (slot : Slot) (fault : Refusal) → MustBeFollowed line w slot place next → has slot given ≡ false → IsFault line given next v ws fault → IsFault line given place w (v ∷ ws) fault
 
 -- After good words stands an item with this fault; there is one such place alone (the law `first_faults`).
 pub record FirstFault (line : LineKind) (given : Items) (ws : List Word) (fault : Refusal) : Type 0 where

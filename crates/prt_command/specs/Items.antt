@@ -5,7 +5,7 @@ use Rattle.prt_command.specs.declared.item.Item.{Item}
 use Rattle.prt_command.specs.declared.item.Item.TheVariants as item
 use Rattle.prt_command.specs.declared.item.Items.{Items}
 use Rattle.prt_command.specs.declared.item.Slot.{Slot}
-use Rattle.prt_command.specs.declared.item.Slot.TheVariants.{Destination, Via, Dev, Table, Proto, Scope, Src, Metric, Range, Tables, OfKind, Address, Source, Iif, Mark, Inverted, From, To, Fwmark, Priority, Action}
+use Rattle.prt_command.specs.declared.item.Slot.TheVariants.{Destination, Via, Dev, Table, Proto, Scope, Src, Metric, Range, Tables, OfKind, Address, Source, Iif, Mark, Inverted, From, To, Fwmark, Priority, Action, Suppress}
 
 -- which item it is
 abbrev pub slot_of : Item → Slot
@@ -30,6 +30,7 @@ slot_of (item.To prefix) = To
 slot_of (item.Fwmark mark) = Fwmark
 slot_of (item.Priority priority) = Priority
 slot_of (item.Action action) = Action
+slot_of (item.Suppress len) = Suppress
 
 abbrev pub no_items : Items
 no_items = record {
@@ -54,6 +55,7 @@ no_items = record {
   fwmark = None;
   priority = None;
   action = None;
+  suppress = None;
 }
 
 -- whether the item is among these
@@ -79,10 +81,11 @@ has To items = is_some items.to
 has Fwmark items = is_some items.fwmark
 has Priority items = is_some items.priority
 has Action items = is_some items.action
+has Suppress items = is_some items.suppress
 
 -- every item that there may be
 abbrev pub every_slot : List Slot
-every_slot = Destination ∷ Via ∷ Dev ∷ Table ∷ Proto ∷ Scope ∷ Src ∷ Metric ∷ Range ∷ Tables ∷ OfKind ∷ Address ∷ Source ∷ Iif ∷ Mark ∷ Inverted ∷ From ∷ To ∷ Fwmark ∷ Priority ∷ Action ∷ []
+every_slot = Destination ∷ Via ∷ Dev ∷ Table ∷ Proto ∷ Scope ∷ Src ∷ Metric ∷ Range ∷ Tables ∷ OfKind ∷ Address ∷ Source ∷ Iif ∷ Mark ∷ Inverted ∷ From ∷ To ∷ Fwmark ∷ Priority ∷ Action ∷ Suppress ∷ []
 
 -- whether none is among these
 abbrev pub is_empty : Items → Bool
@@ -111,3 +114,4 @@ put (item.To prefix) items = record items { to = Some prefix }
 put (item.Fwmark mark) items = record items { fwmark = Some mark }
 put (item.Priority priority) items = record items { priority = Some priority }
 put (item.Action action) items = record items { action = Some action }
+put (item.Suppress len) items = record items { suppress = Some len }

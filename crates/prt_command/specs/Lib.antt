@@ -10,6 +10,7 @@ pub mod Requests
 pub mod Storable
 pub mod Reading
 pub mod Grammar
+pub mod FaultWord
 pub mod Spelling
 pub use Rattle.prt_addr.specs.Addr
 pub use Rattle.prt_addr.specs.Block

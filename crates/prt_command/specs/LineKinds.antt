@@ -6,7 +6,7 @@ use Rattle.prt_command.specs.declared.item.Item.TheVariants as item
 use Rattle.prt_command.specs.declared.item.ItemWord.{ItemWord}
 use Rattle.prt_command.specs.declared.item.ItemWord.TheVariants.{Keyword, Alone}
 use Rattle.prt_command.specs.declared.item.Slot.{Slot}
-use Rattle.prt_command.specs.declared.item.Slot.TheVariants.{Destination, Via, Dev, Table, Proto, Scope, Src, Metric, Range, Tables, OfKind, Address, Source, Iif, Mark, From, To, Fwmark, Priority, Action}
+use Rattle.prt_command.specs.declared.item.Slot.TheVariants.{Destination, Via, Dev, Table, Proto, Scope, Src, Metric, Range, Tables, OfKind, Address, Source, Iif, Mark, From, To, Fwmark, Priority, Action, Suppress}
 
 -- the spellings of a word, and what it begins
 abbrev pub Entry : Type 0
@@ -76,6 +76,14 @@ action_words =
     ∷ (codes "prohibit" ∷ [], Alone (item.Action actions.Prohibit))
     ∷ []
 
+-- which prefixes its lookup suppresses
+abbrev pub suppress_words : List Entry
+suppress_words = (codes "suppress_prefixlength" ∷ [], Keyword Suppress) ∷ []
+
+-- what becomes of the packets that a rule matches
+abbrev pub outcome_words : List Entry
+outcome_words = action_words ++ suppress_words
+
 abbrev pub route_edit_line : LineKind
 route_edit_line = record { entries = route_edit_words; plain = Some Destination }
 
@@ -87,7 +95,7 @@ route_get_line = record { entries = route_get_words; plain = Some Address }
 
 -- add and del of rules
 abbrev pub rule_edit_line : LineKind
-rule_edit_line = record { entries = selector_words ++ action_words; plain = None }
+rule_edit_line = record { entries = selector_words ++ outcome_words; plain = None }
 
 -- flush and show of rules
 abbrev pub bare_line : LineKind

@@ -1,12 +1,12 @@
 -- What the items of a line ask for.
-use Rattle.std.specs.Prelude.{ℕ, Bool, not, ◌&&◌, ◌||◌, nat_lt, if◌then◌else◌, Option, Some, None, is_some, unwrap_or, Result, Ok, Err, codes}
+use Rattle.std.specs.Prelude.{ℕ, Bool, true, false, not, ◌&&◌, ◌||◌, nat_lt, if◌then◌else◌, Option, Some, None, is_some, unwrap_or, Result, Ok, Err, codes}
 use Rattle.std.specs.Option.{ok_or}
 use Rattle.prt_addr.specs.Block.{Block}
 use Rattle.prt_addr.specs.Prefix.{everything}
 use Rattle.prt_addr.specs.Word.{keep}
 use Rattle.prt_addr.specs.declared.addr.Addr.{Addr}
 use Rattle.prt_addr.specs.declared.refusal.Refusal.{Refusal}
-use Rattle.prt_addr.specs.declared.refusal.Refusal.TheVariants.{MissingDestination, NoNextHop, NextHopNotAllowed, TooBroad}
+use Rattle.prt_addr.specs.declared.refusal.Refusal.TheVariants.{MissingDestination, NoNextHop, NextHopNotAllowed, SuppressNotAllowed, TooBroad}
 use Rattle.prt_route.specs.Names.{boot_protocol, global_scope, link_scope, main_table}
 use Rattle.prt_route.specs.RouteChoice.{is_same_kind}
 use Rattle.prt_route.specs.declared.choice.Range.TheVariants as ranges
@@ -17,6 +17,7 @@ use Rattle.prt_route.specs.declared.kind.Kind.TheVariants.{Unicast}
 use Rattle.prt_route.specs.declared.route.Route.{Route}
 use Rattle.prt_rule.specs.declared.choice.RuleChoice.{RuleChoice}
 use Rattle.prt_rule.specs.declared.packet.Packet.{Packet}
+use Rattle.prt_rule.specs.declared.rule.Action.{Action}
 use Rattle.prt_rule.specs.declared.rule.Action.TheVariants.{Lookup}
 use Rattle.prt_command.specs.Then.{◌>>=◌}
 use Rattle.prt_command.specs.Items.{is_empty}
@@ -151,10 +152,20 @@ rule_of items = record {
   iif = items.iif;
   mark = items.fwmark;
   action = unwrap_or items.action (Lookup main_table);
+  suppress = items.suppress;
 }
 
+-- the action is to look up a table
+abbrev pub is_lookup : Action → Bool
+is_lookup (Lookup table) = true
+is_lookup _ = false
+
+-- prefixes are suppressed in a lookup alone
+abbrev pub suppresses_without_lookup : NewRule → Bool
+suppresses_without_lookup rule = is_some rule.suppress && not (is_lookup rule.action)
+
 abbrev pub rule_add_request : Asks
-rule_add_request items = Ok (requests.Command (RuleAdd (rule_of items)))
+rule_add_request items = refuse_if (suppresses_without_lookup (rule_of items)) SuppressNotAllowed >>= λ _. Ok (requests.Command (RuleAdd (rule_of items)))
 
 abbrev pub rule_choice : Items → RuleChoice
 rule_choice items = record {
@@ -165,6 +176,7 @@ rule_choice items = record {
   iif = items.iif;
   mark = items.fwmark;
   action = items.action;
+  suppress = items.suppress;
 }
 
 abbrev pub rule_del_request : Asks

@@ -8,7 +8,7 @@ use Rattle.prt_command.specs.Scan.{Scanned, items_after}
 use Rattle.prt_command.specs.Then.{◌>>=◌}
 use Rattle.prt_command.specs.declared.item.Items.{Items}
 use Rattle.prt_command.specs.declared.item.Slot.{Slot}
-use Rattle.prt_command.specs.declared.item.Slot.TheVariants.{Range, Tables, OfKind, Address, Source, Iif, Mark, Inverted, From, To, Fwmark, Priority, Action}
+use Rattle.prt_command.specs.declared.item.Slot.TheVariants.{Range, Tables, OfKind, Address, Source, Iif, Mark, Inverted, From, To, Fwmark, Priority, Action, Suppress}
 
 -- an item that was read and the items after it, or its fault
 abbrev pub and_items : LineKind → Items → Scanned → List Word → Result Items Refusal
@@ -22,6 +22,7 @@ is_of_rules To = true
 is_of_rules Fwmark = true
 is_of_rules Priority = true
 is_of_rules Action = true
+is_of_rules Suppress = true
 is_of_rules slot = false
 
 -- the items of lines that list or flush routes, or ask for one

@@ -1,7 +1,7 @@
 -- Which requests may be carried out: those whose routes and rules a table may hold.
-use Rattle.std.specs.Prelude.{Option, Some, None}
-use Rattle.prt_route.specs.Storable.{IsStorableRoute}
-use Rattle.prt_rule.specs.Storable.{IsStorableAction}
+use Rattle.std.specs.Prelude.{IsTrue, Option, Some, None}
+use Rattle.prt_route.specs.Storable.{is_storable_route}
+use Rattle.prt_rule.specs.Storable.{is_storable_rule}
 use Rattle.prt_command.specs.declared.request.Command.{Command}
 use Rattle.prt_command.specs.declared.request.Command.TheVariants.{RouteAdd, RouteChange, RouteReplace, RuleAdd}
 use Rattle.prt_command.specs.declared.request.Request.{Request}
@@ -9,10 +9,10 @@ use Rattle.prt_command.specs.declared.request.Request.TheVariants as requests
 
 -- a route or a rule that a command would put into a table may stand there
 abbrev pub IsStorable : Command → Type 0
-IsStorable (RouteAdd route) = IsStorableRoute route
-IsStorable (RouteChange route) = IsStorableRoute route
-IsStorable (RouteReplace route) = IsStorableRoute route
-IsStorable (RuleAdd rule) = IsStorableAction rule.action
+IsStorable (RouteAdd route) = IsTrue (is_storable_route route)
+IsStorable (RouteChange route) = IsTrue (is_storable_route route)
+IsStorable (RouteReplace route) = IsTrue (is_storable_route route)
+IsStorable (RuleAdd rule) = IsTrue (is_storable_rule rule.action rule.suppress)
 IsStorable _ = Unit {0}
 
 -- queries put nothing

@@ -1,11 +1,11 @@
 -- The values of items, and the words that may stand before a prefix.
-use Rattle.std.specs.Prelude.{if◌then◌else◌, List, [], ◌∷◌, map, find, Option, Some, None, Result, Ok, bytes_eq, codes}
+use Rattle.std.specs.Prelude.{ℕ, nat_le, if◌then◌else◌, List, [], ◌∷◌, map, find, Option, Some, None, Result, Ok, bytes_eq, codes}
 use Rattle.std.specs.Option.{ok_or}
 use Rattle.prt_addr.specs.Addr.{address}
 use Rattle.prt_addr.specs.Block.{Block}
 use Rattle.prt_addr.specs.Number.{number}
 use Rattle.prt_addr.specs.Prefix.{net, prefix}
-use Rattle.prt_addr.specs.Word.{Word}
+use Rattle.prt_addr.specs.Word.{Word, keep}
 use Rattle.prt_addr.specs.declared.refusal.Refusal.{Refusal}
 use Rattle.prt_addr.specs.declared.refusal.Refusal.TheVariants.{UnknownWord, BadAddress, BadName, BadNumber, BadPrefix, BadTable}
 use Rattle.prt_route.specs.Dev.{device}
@@ -22,7 +22,7 @@ use Rattle.prt_command.specs.Then.{map_ok}
 use Rattle.prt_command.specs.declared.item.Item.{Item}
 use Rattle.prt_command.specs.declared.item.Item.TheVariants as item
 use Rattle.prt_command.specs.declared.item.Slot.{Slot}
-use Rattle.prt_command.specs.declared.item.Slot.TheVariants.{Destination, Via, Dev, Table, Proto, Scope, Src, Metric, Range, Tables, OfKind, Address, Source, Iif, Mark, Inverted, From, To, Fwmark, Priority, Action}
+use Rattle.prt_command.specs.declared.item.Slot.TheVariants.{Destination, Via, Dev, Table, Proto, Scope, Src, Metric, Range, Tables, OfKind, Address, Source, Iif, Mark, Inverted, From, To, Fwmark, Priority, Action, Suppress}
 use Rattle.prt_command.specs.declared.item.PrefixWord.{PrefixWord}
 use Rattle.prt_command.specs.declared.item.PrefixWord.TheVariants as before
 use Rattle.prt_command.specs.declared.item.Target.{Target}
@@ -82,6 +82,10 @@ which_tables w = if bytes_eq (codes "all") w then Ok All else map_ok One (ok_or 
 abbrev pub lookup : Word → Result rule.Action Refusal
 lookup w = map_ok actions.Lookup (ok_or (table w) BadTable)
 
+-- the length of a prefix, as a number
+abbrev pub length_number : Word → Option ℕ
+length_number w = keep (λ n. nat_le n 32) (number w)
+
 -- the item that a word spells as its value, after the word before its prefix if there is one; `not` has no value
 abbrev pub value : Slot → Option PrefixWord → Word → Result Item Refusal
 value Destination b w = map_ok item.Destination (target b w)
@@ -105,3 +109,4 @@ value To b w = map_ok item.To (ok_or (net w) BadPrefix)
 value Fwmark b w = map_ok item.Fwmark (mark w)
 value Priority b w = map_ok item.Priority (ok_or (number w) BadNumber)
 value Action b w = map_ok item.Action (lookup w)
+value Suppress b w = map_ok item.Suppress (ok_or (length_number w) BadNumber)

@@ -1,7 +1,7 @@
 //! What the items of a line ask for together.
 ghost use Rattle.std.specs.Prelude.{◌≡◌, nat_lt};
 ghost use Rattle.prt_addr.specs.Word.{keep};
-ghost use Rattle.prt_command.specs.Requests.{has_next_hop, new_route, packet_of, route_by, route_choice, route_del_request, route_flush_request, route_get_request, route_of, rule_choice, rule_del_request, rule_of, scope_of, selected_table, selector_of, unless_empty};
+ghost use Rattle.prt_command.specs.Requests.{has_next_hop, new_route, packet_of, route_by, route_choice, route_del_request, route_flush_request, route_get_request, route_of, rule_add_request, rule_choice, rule_del_request, rule_of, scope_of, selected_table, selector_of, suppresses_without_lookup, unless_empty};
 ghost use Rattle.prt_command.specs.Reading.{meaning_of};
 
 use crate::verb::ObjectVerb;
@@ -31,7 +31,7 @@ impl ObjectVerb {
             ObjectVerb::RouteFlush => route_flush_request(items),
             ObjectVerb::RouteShow => Ok(Request::Query(Query::RouteShow(selector_of(items)))),
             ObjectVerb::RouteGet => route_get_request(items),
-            ObjectVerb::RuleAdd => Ok(Request::Command(Command::RuleAdd(rule_of(items)))),
+            ObjectVerb::RuleAdd => rule_add_request(items),
             ObjectVerb::RuleDel => rule_del_request(items),
             ObjectVerb::RuleFlush => Ok(Request::Command(Command::RuleFlush)),
             ObjectVerb::RuleShow => Ok(Request::Query(Query::RuleShow)),
@@ -204,7 +204,26 @@ fn rule_of(items: &Items) -> NewRule
         iif: items.iif,
         mark: items.fwmark,
         action: items.action.unwrap_or(Action::Lookup(MAIN_TABLE)),
+        suppress: items.suppress,
     }
+}
+
+/// Tells whether a rule that looks up no table would suppress prefixes.
+fn suppresses_without_lookup(rule: &NewRule) -> bool
+    ensures { result ≡ suppresses_without_lookup rule.now }
+{
+    rule.suppress.is_some() && !matches!(&rule.action, Action::Lookup(_))
+}
+
+/// Asks for a rule; prefixes are suppressed in a lookup alone.
+fn rule_add_request(items: &Items) -> Result<Request, Refusal>
+    ensures { result ≡ rule_add_request items.now }
+{
+    let rule = rule_of(items);
+    if suppresses_without_lookup(&rule) {
+        return Err(Refusal::SuppressNotAllowed);
+    }
+    Ok(Request::Command(Command::RuleAdd(rule)))
 }
 
 /// Puts together which rules `rule del` chooses from.
@@ -219,6 +238,7 @@ fn rule_choice(items: &Items) -> RuleChoice
         iif: items.iif,
         mark: items.fwmark,
         action: items.action,
+        suppress: items.suppress,
     }
 }
 

@@ -1,6 +1,6 @@
 //! Lines with what they ask for, computed with the definitions alone.
 ghost use Rattle.std.specs.Prelude.{◌≡◌, ◌∷◌, [], ◌++◌, Err, None, Ok, Some, codes, false, replicate, true};
-ghost use Rattle.prt_addr.specs.declared.refusal.Refusal.TheVariants.{BadAddress, BadName, BadNumber, BadPrefix, BadTable, HostBits, LineTooLong, MissingDestination, MissingValue, NextHopNotAllowed, NoNextHop, NotAscii, Repeated, TooBroad, UnknownObject, UnknownVerb, UnknownWord};
+ghost use Rattle.prt_addr.specs.declared.refusal.Refusal.TheVariants.{BadAddress, BadName, BadNumber, BadPrefix, BadTable, HostBits, LineTooLong, MissingDestination, MissingValue, NextHopNotAllowed, NoNextHop, NotAscii, Repeated, SuppressNotAllowed, TooBroad, UnknownObject, UnknownVerb, UnknownWord};
 ghost use Rattle.prt_command.specs.Reading.{reading};
 ghost use Rattle.prt_command.specs.declared.request.Command.TheVariants.{RouteAdd, RouteChange, RouteDel, RouteFlush, RouteReplace, RuleAdd, RuleDel, RuleFlush};
 ghost use Rattle.prt_command.specs.declared.request.Query.TheVariants.{Get, RouteShow, RuleShow};
@@ -88,6 +88,15 @@ pub fn refused_lines()
     ensures flush_of_all { reading (codes "route flush") ≡ Err TooBroad }
     ensures deletion_of_any_rule { reading (codes "rule del") ≡ Err TooBroad }
     ensures next_hop_of_kind { reading (codes "route add blackhole 10/8 dev eth0") ≡ Err NextHopNotAllowed }
+    ensures suppressed_route { reading (codes "route add 10/8 suppress_prefixlength 8") ≡ Err UnknownWord }
+    ensures suppressed_destination { reading (codes "route add suppress_prefixlength 8") ≡ Err BadPrefix }
+    ensures nothing_after_suppress { reading (codes "rule del suppress_prefixlength") ≡ Err MissingValue }
+    ensures repeated_suppress { reading (codes "rule add suppress_prefixlength 8 suppress_prefixlength 33") ≡ Err Repeated }
+    ensures long_suppressed { reading (codes "rule add suppress_prefixlength 33") ≡ Err BadNumber }
+    ensures zero_before_suppressed { reading (codes "rule add suppress_prefixlength 08") ≡ Err BadNumber }
+    ensures negative_suppressed { reading (codes "rule del suppress_prefixlength -1") ≡ Err BadNumber }
+    ensures suppressed_word { reading (codes "rule del suppress_prefixlength x") ≡ Err BadNumber }
+    ensures suppressed_by_kind { reading (codes "rule add suppress_prefixlength 0 prohibit") ≡ Err SuppressNotAllowed }
     ensures gateway_of_kind { reading (codes "route add via 192.0.2.1 throw 10/8") ≡ Err NextHopNotAllowed }
 {}
 
@@ -123,12 +132,16 @@ pub fn accepted_lines()
 
 /// Accepted lines about rules, each with what it asks for.
 pub fn accepted_rules()
-    ensures rule { reading (codes "rule add") ≡ Ok (Some (requests.Command (RuleAdd (record { priority = None; inverted = false; from = record { bits = 0; len = 0 }; to = record { bits = 0; len = 0 }; iif = None; mark = None; action = actions.Lookup 254 })))) }
-    ensures not_marked { reading (codes "ip -4 rule add not fwmark 51820 table 51820") ≡ Ok (Some (requests.Command (RuleAdd (record { priority = None; inverted = true; from = record { bits = 0; len = 0 }; to = record { bits = 0; len = 0 }; iif = None; mark = Some (record { mark = 51820; mask = 0xffffffff }); action = actions.Lookup 51820 })))) }
-    ensures from_source { reading (codes "rule add priority 10 from 192.0.2.1/24 blackhole") ≡ Ok (Some (requests.Command (RuleAdd (record { priority = Some 10; inverted = false; from = record { bits = 0xc0000200; len = 24 }; to = record { bits = 0; len = 0 }; iif = None; mark = None; action = actions.Blackhole })))) }
-    ensures all_rule_items { reading (codes "ru a lookup default order 0 dev eth0 to 10.1 from all fwmark 0xFF/0x0f not") ≡ Ok (Some (requests.Command (RuleAdd (record { priority = Some 0; inverted = true; from = record { bits = 0; len = 0 }; to = record { bits = 0x0a010000; len = 32 }; iif = Some (codes "eth0"); mark = Some (record { mark = 255; mask = 15 }); action = actions.Lookup 253 })))) }
-    ensures rule_delete { reading (codes "rule del not from all priority 5 prohibit") ≡ Ok (Some (requests.Command (RuleDel (record { priority = Some 5; inverted = true; from = Some (record { bits = 0; len = 0 }); to = None; iif = None; mark = None; action = Some actions.Prohibit })))) }
-    ensures rule_delete_inverted { reading (codes "ru d not") ≡ Ok (Some (requests.Command (RuleDel (record { priority = None; inverted = true; from = None; to = None; iif = None; mark = None; action = None })))) }
+    ensures rule { reading (codes "rule add") ≡ Ok (Some (requests.Command (RuleAdd (record { priority = None; inverted = false; from = record { bits = 0; len = 0 }; to = record { bits = 0; len = 0 }; iif = None; mark = None; action = actions.Lookup 254; suppress = None })))) }
+    ensures not_marked { reading (codes "ip -4 rule add not fwmark 51820 table 51820") ≡ Ok (Some (requests.Command (RuleAdd (record { priority = None; inverted = true; from = record { bits = 0; len = 0 }; to = record { bits = 0; len = 0 }; iif = None; mark = Some (record { mark = 51820; mask = 0xffffffff }); action = actions.Lookup 51820; suppress = None })))) }
+    ensures from_source { reading (codes "rule add priority 10 from 192.0.2.1/24 blackhole") ≡ Ok (Some (requests.Command (RuleAdd (record { priority = Some 10; inverted = false; from = record { bits = 0xc0000200; len = 24 }; to = record { bits = 0; len = 0 }; iif = None; mark = None; action = actions.Blackhole; suppress = None })))) }
+    ensures all_rule_items { reading (codes "ru a lookup default order 0 dev eth0 to 10.1 from all fwmark 0xFF/0x0f not") ≡ Ok (Some (requests.Command (RuleAdd (record { priority = Some 0; inverted = true; from = record { bits = 0; len = 0 }; to = record { bits = 0x0a010000; len = 32 }; iif = Some (codes "eth0"); mark = Some (record { mark = 255; mask = 15 }); action = actions.Lookup 253; suppress = None })))) }
+    ensures rule_delete { reading (codes "rule del not from all priority 5 prohibit") ≡ Ok (Some (requests.Command (RuleDel (record { priority = Some 5; inverted = true; from = Some (record { bits = 0; len = 0 }); to = None; iif = None; mark = None; action = Some actions.Prohibit; suppress = None })))) }
+    ensures rule_delete_inverted { reading (codes "ru d not") ≡ Ok (Some (requests.Command (RuleDel (record { priority = None; inverted = true; from = None; to = None; iif = None; mark = None; action = None; suppress = None })))) }
+    ensures suppress { reading (codes "rule add table main suppress_prefixlength 0") ≡ Ok (Some (requests.Command (RuleAdd (record { priority = None; inverted = false; from = record { bits = 0; len = 0 }; to = record { bits = 0; len = 0 }; iif = None; mark = None; action = actions.Lookup 254; suppress = Some 0 })))) }
+    ensures suppress_hexadecimal { reading (codes "rule add suppress_prefixlength 0x20 table 7") ≡ Ok (Some (requests.Command (RuleAdd (record { priority = None; inverted = false; from = record { bits = 0; len = 0 }; to = record { bits = 0; len = 0 }; iif = None; mark = None; action = actions.Lookup 7; suppress = Some 32 })))) }
+    ensures rule_delete_suppressing { reading (codes "rule del suppress_prefixlength 8") ≡ Ok (Some (requests.Command (RuleDel (record { priority = None; inverted = false; from = None; to = None; iif = None; mark = None; action = None; suppress = Some 8 })))) }
+    ensures rule_delete_failing_suppress { reading (codes "rule del blackhole suppress_prefixlength 8") ≡ Ok (Some (requests.Command (RuleDel (record { priority = None; inverted = false; from = None; to = None; iif = None; mark = None; action = Some actions.Blackhole; suppress = Some 8 })))) }
     ensures rule_flush { reading (codes "rule flush") ≡ Ok (Some (requests.Command RuleFlush)) }
     ensures rule_alone { reading (codes "ip rule") ≡ Ok (Some (requests.Query RuleShow)) }
     ensures rule_show { reading (codes "rule show #" ++ 195 ∷ []) ≡ Ok (Some (requests.Query RuleShow)) }

@@ -52,6 +52,8 @@ pub enum Slot {
     Priority,
     /// What a rule does.
     Action,
+    /// The length up to which a rule suppresses prefixes.
+    Suppress,
 }
 
 /// An item of a line, with its value; what each says stands at [`Slot`].
@@ -78,6 +80,7 @@ pub enum Item {
     Fwmark(Mark),
     Priority(u32),
     Action(Action),
+    Suppress(u8),
 }
 
 /// What an item word begins.
@@ -129,6 +132,7 @@ impl Item {
             Item::Fwmark(_) => Slot::Fwmark,
             Item::Priority(_) => Slot::Priority,
             Item::Action(_) => Slot::Action,
+            Item::Suppress(_) => Slot::Suppress,
         }
     }
 }
@@ -231,6 +235,7 @@ pub struct Items {
     pub fwmark: Option<Mark>,
     pub priority: Option<u32>,
     pub action: Option<Action>,
+    pub suppress: Option<u8>,
 }
 
 impl Items {
@@ -260,6 +265,7 @@ impl Items {
             fwmark: None,
             priority: None,
             action: None,
+            suppress: None,
         }
     }
 
@@ -289,6 +295,7 @@ impl Items {
             Slot::Fwmark => self.fwmark.is_some(),
             Slot::Priority => self.priority.is_some(),
             Slot::Action => self.action.is_some(),
+            Slot::Suppress => self.suppress.is_some(),
         }
     }
 
@@ -326,6 +333,7 @@ impl Items {
             Slot::Fwmark,
             Slot::Priority,
             Slot::Action,
+            Slot::Suppress,
         ];
         !self.has_any(&slots)
     }
@@ -358,6 +366,7 @@ impl Items {
             Item::Fwmark(mark) => self.fwmark = Some(mark),
             Item::Priority(priority) => self.priority = Some(priority),
             Item::Action(action) => self.action = Some(action),
+            Item::Suppress(len) => self.suppress = Some(len),
         }
     }
 }

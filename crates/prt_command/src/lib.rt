@@ -11,6 +11,7 @@ mod reader;
 mod request;
 mod value;
 mod verb;
+mod word_at_fault;
 mod words;
 
 pub use examples::{accepted_lines, accepted_routes, accepted_rules, refused_lines};
@@ -22,4 +23,5 @@ pub use prt_route::{
 };
 pub use prt_rule::{Action, Mark, Packet, Rule, RuleChoice};
 pub use request::{Command, NewRule, Query, Request};
+pub use word_at_fault::{WordPlace, fault_word, fault_words};
 pub use words::{is, next_word};

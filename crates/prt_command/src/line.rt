@@ -99,12 +99,12 @@ pub fn line_text(line: &[u8]) -> Result<&[u8], Refusal>
 ///
 /// # Errors
 ///
-/// The first fault of the line, one of the first seventeen refusals: `LineTooLong`, `NotAscii`, then the fault of the
+/// The first fault of the line, one of the first eighteen refusals: `LineTooLong`, `NotAscii`, then the fault of the
 /// first bad word, from left to right, then what the items lack.
 pub fn read_line(line: &[u8]) -> Result<Option<Request>, Refusal>
     ensures reading { result ≡ reading line.now }
     ensures storable { IfOk result IsStorableLine }
-    ensures number { IfErr result (λ refusal. code_of refusal ≤ 17) }
+    ensures number { IfErr result (λ refusal. code_of refusal ≤ 18) }
 {
     let text = line_text(line)?;
     read_text(text)

@@ -2,7 +2,7 @@ use prt_route::{Dev, Prefix, Route, RouteChoice, Selector};
 use prt_rule::{Action, Mark, Packet, RuleChoice};
 
 /// A rule to be added, which gets its id, and where it names none its priority, when it is.
-#[derive(Clone, Copy, Debug, PartialEq, Eq)]
+#[derive(Clone, Copy, PartialEq)]
 pub struct NewRule {
     /// The lower, the earlier it is asked; where none is named, that of the second rule less one, or 0.
     pub priority: Option<u32>,
@@ -17,10 +17,12 @@ pub struct NewRule {
     /// The mark, where it matters.
     pub mark: Option<Mark>,
     pub action: Action,
+    /// The length up to which prefixes are suppressed, 0 to 32, where some are.
+    pub suppress: Option<u8>,
 }
 
 /// A change that a line asks for.
-#[derive(Clone, Copy, Debug, PartialEq, Eq)]
+#[derive(Clone, Copy, PartialEq)]
 pub enum Command {
     /// `route add`: a route whose key is not there yet.
     RouteAdd(Route),
@@ -41,7 +43,7 @@ pub enum Command {
 }
 
 /// A question that a line asks.
-#[derive(Clone, Copy, Debug, PartialEq, Eq)]
+#[derive(Clone, Copy, PartialEq)]
 pub enum Query {
     /// `route show`: the routes that the selector takes.
     RouteShow(Selector),
@@ -52,7 +54,7 @@ pub enum Query {
 }
 
 /// What a line asks for.
-#[derive(Clone, Copy, Debug, PartialEq, Eq)]
+#[derive(Clone, Copy, PartialEq)]
 pub enum Request {
     Command(Command),
     Query(Query),

@@ -1,10 +1,10 @@
 //! The values of items.
 ghost use Rattle.std.specs.Prelude.{◌≡◌, false, true, Option};
 ghost use Rattle.std.specs.Option.{ok_or};
-ghost use Rattle.prt_addr.specs.declared.refusal.Refusal.TheVariants.{UnknownWord};
+ghost use Rattle.prt_addr.specs.declared.refusal.Refusal.TheVariants.{BadNumber, UnknownWord};
 ghost use Rattle.prt_command.specs.Steps.{is_of_queries, is_of_rules};
 ghost use Rattle.prt_command.specs.declared.item.PrefixWord.{PrefixWord};
-ghost use Rattle.prt_command.specs.Values.{kind_before, kind_of, lookup, range, target, value, which_tables};
+ghost use Rattle.prt_command.specs.Values.{kind_before, kind_of, length_number, lookup, range, target, value, which_tables};
 
 use crate::item::kind_of;
 use crate::mark::read_mark;
@@ -69,13 +69,30 @@ fn read_lookup(word: &[u8]) -> Result<Action, Refusal>
     Ok(Action::Lookup(read_table(word)?))
 }
 
+/// Reads a length of 0 to 32, as a number.
+fn read_length(word: &[u8]) -> Result<u8, Refusal>
+    ensures { result ≡ ok_or (length_number word.now) BadNumber }
+{
+    let length = read_number(word)?;
+    if length > 32 {
+        return Err(Refusal::BadNumber);
+    }
+    Ok(length as u8)
+}
+
 /// Tells whether it is an item of rules.
 fn is_of_rules(slot: Slot) -> bool
     ensures { result ≡ is_of_rules slot }
 {
     matches!(
         slot,
-        Slot::Inverted | Slot::From | Slot::To | Slot::Fwmark | Slot::Priority | Slot::Action
+        Slot::Inverted
+            | Slot::From
+            | Slot::To
+            | Slot::Fwmark
+            | Slot::Priority
+            | Slot::Action
+            | Slot::Suppress
     )
 }
 
@@ -90,6 +107,7 @@ fn rule_value(slot: Slot, word: &[u8]) -> Result<Item, Refusal>
         Slot::Fwmark => Ok(Item::Fwmark(read_mark(word)?)),
         Slot::Priority => Ok(Item::Priority(read_number(word)?)),
         Slot::Action => Ok(Item::Action(read_lookup(word)?)),
+        Slot::Suppress => Ok(Item::Suppress(read_length(word)?)),
         _ => Ok(Item::Inverted),
     }
 }

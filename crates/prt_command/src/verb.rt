@@ -1,5 +1,5 @@
 ghost use Rattle.std.specs.Prelude.{◌≡◌};
-ghost use Rattle.prt_command.specs.LineKinds.{action_words, route_edit_words, route_get_words, route_list_words, rule_edit_line, selector_words, word_in};
+ghost use Rattle.prt_command.specs.LineKinds.{action_words, outcome_words, route_edit_words, route_get_words, route_list_words, rule_edit_line, selector_words, suppress_words, word_in};
 ghost use Rattle.prt_addr.specs.Word.{is_one_of};
 ghost use Rattle.prt_command.specs.Reading.{add_words, del_words, lone_verb, meaning_of, object_of, show_words, verb_of};
 
@@ -261,12 +261,33 @@ fn action_word(word: &[u8]) -> Option<ItemWord>
     }
 }
 
+/// Tells what the word begins, as the one that says which prefixes the lookup of a rule suppresses.
+fn suppress_word(word: &[u8]) -> Option<ItemWord>
+    ensures { result ≡ word_in suppress_words word.now }
+{
+    if is(word, b"suppress_prefixlength") {
+        Some(ItemWord::Keyword(Slot::Suppress))
+    } else {
+        None
+    }
+}
+
+/// Tells what the word begins, as one of those that say what becomes of the packets that a rule matches.
+fn outcome_word(word: &[u8]) -> Option<ItemWord>
+    ensures { result ≡ word_in outcome_words word.now }
+{
+    match action_word(word) {
+        Some(item) => Some(item),
+        None => suppress_word(word),
+    }
+}
+
 /// Tells what the word begins on the lines of `rule add` and `del`.
 fn rule_edit_word(word: &[u8]) -> Option<ItemWord>
     ensures { result ≡ word_in rule_edit_line.entries word.now }
 {
     match selector_word(word) {
         Some(item) => Some(item),
-        None => action_word(word),
+        None => outcome_word(word),
     }
 }

@@ -93,14 +93,14 @@ fn first_white(text: &[u8]) -> Option<usize>
 }
 
 /// Counts the bytes of white space in front.
-fn white_len(text: &[u8]) -> usize
+pub(crate) fn white_len(text: &[u8]) -> usize
     ensures { result ≡ unwrap_or (position (λ b. not (is_white b)) text.now) (length text.now) }
 {
     first_byte(text).unwrap_or(text.len())
 }
 
 /// Counts the bytes before the first white space.
-fn word_len(text: &[u8]) -> usize
+pub(crate) fn word_len(text: &[u8]) -> usize
     ensures { result ≡ unwrap_or (position is_white text.now) (length text.now) }
 {
     first_white(text).unwrap_or(text.len())

@@ -1,18 +1,19 @@
 //! Serving sessions over TCP.
-ghost use Rattle.std.specs.Prelude.{◌≡◌, IfErr, IfOk};
-ghost use Rattle.prt_program.specs.Databases.{IsOpenRefusal};
+ghost use Rattle.std.specs.Prelude.{◌≡◌};
 ghost use Rattle.prt_publisher.specs.Standing.{IsQuiet};
 
+use crate::cause::cause_of;
 use prt_grace::Domain;
-use prt_program::{Refusal, cause_message};
-use prt_publisher::Publisher;
+use prt_program::{cause_message, log_message};
+use prt_publisher::{Publisher, publisher_over};
 use prt_serve::{Accepting, Limits, OpenGate, serve_all};
 use prt_service::{Naming, Service};
 use prt_words::{DONE, Fault, Serving, report};
-use sqlite::{Alter, Connection, Error, FileStore};
+use sqlite::{Connection, Error, FileStore};
 use sqlite_disk::Disk;
 use std::alloc::Global;
 use std::fmt::Display;
+use std::fs::Files;
 use std::io::{self, Write};
 use std::marker::Brand;
 use std::net::{Net, SocketAddr, TcpListener, TcpStream};
@@ -37,24 +38,6 @@ fn report_fault<W: Write, E: Write, P: Display, D: Display>(
     status
 }
 
-/// Opens a publisher over the database of a connection that an open gave.
-fn publisher_over<S: Alter + Drop, R: Wait + Drop>(
-    rt: R,
-    alloc: Global,
-    conn: Result<Connection<S>, Error>,
-) -> Result<(Publisher<S, R>, Domain), (Refusal, Option<Error>)>
-    ensures quiet { IfOk result (λ made. IsQuiet made.0.phase) }
-    ensures reason { IfErr result (λ refused. IsOpenRefusal refused.0) }
-{
-    match conn {
-        Ok(conn) => match Publisher::adopt(rt, alloc, conn) {
-            Ok(made) => Ok(made),
-            Err((refusal, _)) => Err((refusal, None)),
-        },
-        Err(error) => Err((Refusal::OpenFailed, Some(error))),
-    }
-}
-
 /// Listens at a place, and says where on `output`, before anything is accepted.
 fn listen<H: Net<Listener = TcpListener, Stream = TcpStream>, W: Write>(
     rt: &H,
@@ -77,6 +60,15 @@ fn idle_of(seconds: u64) -> Option<Duration> {
     }
 }
 
+/// How serving ended.
+#[derive(Drop)]
+struct Served {
+    /// Why not all that was asked for was served.
+    fault: Option<Fault>,
+    /// Whether the log of the database was moved into its file.
+    closed: Result<(), Error>,
+}
+
 /// Serves what a listener accepts, by a service that is named here, and closes the database at the end.
 fn serve_named<
     J: Naming + Send,
@@ -90,19 +82,19 @@ fn serve_named<
     domain: Domain,
     listener: &TcpListener,
     limits: Limits,
-) -> Result<(), Fault>
+) -> Served
     requires quiet { IsQuiet publisher.phase }
     requires of { (publisher.line.book ≡ J.book) × (publisher.line.base ≡ J.base) }
 {
     let service: Service<FileStore<D>, R, J> = Service::new(publisher, domain);
     let end = serve_all(rt, alloc, &service, &OpenGate, listener, limits);
-    // A fault of closing is not told of: what was committed stays in the log beside the file.
-    let _ = service.release().close();
-    match (end.accepting, end.refused) {
-        (Accepting::Failed, _) => Err(Fault::Listener),
-        (Accepting::Ended, Some(reason)) => Err(Fault::Opening(reason)),
-        (Accepting::Ended, None) => Ok(()),
-    }
+    let closed = service.release().close();
+    let fault = match (end.accepting, end.refused) {
+        (Accepting::Failed, _) => Some(Fault::Listener),
+        (Accepting::Ended, Some(reason)) => Some(Fault::Opening(reason)),
+        (Accepting::Ended, None) => None,
+    };
+    Served { fault, closed }
 }
 
 /// Serves the database of a connection that an open gave, and gives the exit status. Listens once the database is open.
@@ -113,6 +105,7 @@ pub(crate) fn serve<
     D: Disk + Drop + Send,
     H: Net<Listener = TcpListener, Stream = TcpStream>
         + Threads
+        + Files
         + Wait
         + Copy
         + Drop
@@ -132,7 +125,8 @@ pub(crate) fn serve<
     let (publisher, domain) = match publisher_over(*rt, alloc, conn) {
         Ok(made) => made,
         Err((refusal, error)) => {
-            let cause = error.as_ref().map(|error| (&asked.database, error));
+            let cause = cause_of(rt, asked.database, refusal, error);
+            let cause = cause.as_ref().map(|cause| (&asked.database, cause));
             return report_fault(alloc, Fault::Opening(refusal), cause, output, errors);
         }
     };
@@ -148,8 +142,14 @@ pub(crate) fn serve<
         sessions: asked.sessions,
         idle: idle_of(asked.idle),
     };
-    match serve_named::<Brand, _, _, _>(rt, alloc, publisher, domain, &listener, limits) {
-        Ok(()) => DONE,
-        Err(fault) => report(&fault, output, errors),
+    let served = serve_named::<Brand, _, _, _>(rt, alloc, publisher, domain, &listener, limits);
+    if let Err(reason) = &served.closed {
+        if let Ok(message) = log_message(alloc, asked.database, reason) {
+            let _ = errors.write_all(message.as_bytes());
+        }
+    }
+    match &served.fault {
+        Some(fault) => report(fault, output, errors),
+        None => DONE,
     }
 }

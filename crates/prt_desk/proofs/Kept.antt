@@ -18,8 +18,8 @@ use Rattle.prt_desk.specs.StoreDesk.{IsKept, MayBeStored, Reopens, StandsBy, Sta
 abbrev with_stored : State → Phase → State → DeskState
 with_stored state phase stored = record { published = state; stored = stored; closed = is_closed_at phase }
 
-module _ {S : Type 0} (g : Ghosts S) (format_1 : Bool) (tables : Held S) (shown : State) where
-  published_by : (phase : Phase) (under : Option Command) (desk : DeskState) → StandsBy g format_1 tables shown phase under desk → desk.published ≡ shown
+module _ {S : Type 0} (g : Ghosts S) (ours_first : Bool) (tables : Held S) (shown : State) where
+  published_by : (phase : Phase) (under : Option Command) (desk : DeskState) → StandsBy g ours_first tables shown phase under desk → desk.published ≡ shown
   published_by Ready under desk is = ap (λ (d : DeskState). d.published) is
   published_by Admitted under desk is = absurd is
   published_by Prepared under desk is = absurd is
@@ -28,7 +28,7 @@ module _ {S : Type 0} (g : Ghosts S) (format_1 : Bool) (tables : Held S) (shown 
   published_by Closed None desk is = is.0
   published_by Closed (Some command) desk is = ap (λ (d : DeskState). d.published) is
 
-  shut_by : (phase : Phase) (under : Option Command) (desk : DeskState) → StandsBy g format_1 tables shown phase under desk → desk.closed ≡ is_closed_at phase
+  shut_by : (phase : Phase) (under : Option Command) (desk : DeskState) → StandsBy g ours_first tables shown phase under desk → desk.closed ≡ is_closed_at phase
   shut_by Ready under desk is = ap (λ (d : DeskState). d.closed) is
   shut_by Admitted under desk is = absurd is
   shut_by Prepared under desk is = absurd is
@@ -37,8 +37,8 @@ module _ {S : Type 0} (g : Ghosts S) (format_1 : Bool) (tables : Held S) (shown 
   shut_by Closed None desk is = is.1
   shut_by Closed (Some command) desk is = ap (λ (d : DeskState). d.closed) is
 
-  durable_by : (phase : Phase) (under : Option Command) → IsQuiet phase → IsKnown g format_1 tables → Agrees g phase under shown tables → (trees : Trees) → (state g tables).may_leave trees
-      → (stored : State) × Spells trees stored × StandsBy g format_1 tables shown phase under (with_stored shown phase stored)
+  durable_by : (phase : Phase) (under : Option Command) → IsQuiet phase → IsKnown g ours_first tables → Agrees g phase under shown tables → (trees : Trees) → (state g tables).may_leave trees
+      → (stored : State) × Spells trees stored × StandsBy g ours_first tables shown phase under (with_stored shown phase stored)
   durable_by Ready under quiet known kept trees may = (shown, kept.durable trees may, refl)
   durable_by Admitted under quiet known kept trees may = absurd quiet
   durable_by Prepared under quiet known kept trees may = absurd quiet
@@ -51,16 +51,16 @@ module _ {S : Type 0} (g : Ghosts S) (desk : Standing (Held S)) where
   -- a state that it stands for is told by what is stored
   pub stands_with : (before : DeskState) → StandsFor g desk before → before ≡ desk_with desk before.stored
   stands_with before stands =
-      let shown : before.published ≡ published desk = published_by g desk.format_1 desk.tables (published desk) desk.phase desk.command before stands in
-      let closed : before.closed ≡ is_shut desk = shut_by g desk.format_1 desk.tables (published desk) desk.phase desk.command before stands in
+      let shown : before.published ≡ published desk = published_by g desk.ours_first desk.tables (published desk) desk.phase desk.command before stands in
+      let closed : before.closed ≡ is_shut desk = shut_by g desk.ours_first desk.tables (published desk) desk.phase desk.command before stands in
       λ i. record { published = shown i; stored = before.stored; closed = closed i }
 
   -- whatever a crash leaves spells a state that may be stored
-  pub durable_is : IsKept g desk → IsKnown g desk.format_1 desk.tables → (trees : Trees) → (state g desk.tables).may_leave trees → (stored : State) × Spells trees stored × MayBeStored g desk stored
-  durable_is kept known = durable_by g desk.format_1 desk.tables (published desk) desk.phase desk.command kept.0 known (kept.1 known)
+  pub durable_is : IsKept g desk → IsKnown g desk.ours_first desk.tables → (trees : Trees) → (state g desk.tables).may_leave trees → (stored : State) × Spells trees stored × MayBeStored g desk stored
+  durable_is kept known = durable_by g desk.ours_first desk.tables (published desk) desk.phase desk.command kept.0 known (kept.1 known)
 
   -- and an opening gives that state
-  pub reopens : IsKept g desk → IsKnown g desk.format_1 desk.tables → Reopens g desk.tables (MayBeStored g desk)
+  pub reopens : IsKept g desk → IsKnown g desk.ours_first desk.tables → Reopens g desk.tables (MayBeStored g desk)
   reopens kept known found sound may =
       let left = durable_is kept known found.trees may in (
         (stored_there found left.0 sound left.1).tables,
@@ -78,7 +78,7 @@ ready_by Committed quiet is = absurd quiet
 ready_by Published quiet is = absurd quiet
 ready_by Closed quiet is = absurd (let both : true ≡ false = is in cc)
 
-module _ {S : Type 0} (g : Ghosts S) (desk : Standing (Held S)) (kept : IsKept g desk) (is : is_shut desk ≡ false) (known : IsKnown g desk.format_1 desk.tables) where
+module _ {S : Type 0} (g : Ghosts S) (desk : Standing (Held S)) (kept : IsKept g desk) (is : is_shut desk ≡ false) (known : IsKnown g desk.ours_first desk.tables) where
   -- its state is stored
   pub stored_open : IsStored g desk.tables (published desk)
   stored_open = subst (λ (p : Phase). Agrees g p desk.command (published desk) desk.tables) (ready_by desk.phase kept.0 is) (kept.1 known)

@@ -88,13 +88,13 @@ module _ {S : Type 0} (g : Ghosts S) (old : Standing (Held S)) (command : Comman
   left_stored : (stored : State) → IsStored g new.tables stored → (left : State) → MayLeave g new.tables left → left ≡ stored
   left_stored stored holds left may = spelled_once may.0 left stored may.2 (holds.durable may.0 may.1)
 
-  module _ (known : IsKnown g new.format_1 new.tables) (left : State) (may : MayLeave g new.tables left) where
+  module _ (known : IsKnown g new.ours_first new.tables) (left : State) (may : MayLeave g new.tables left) where
     -- the state before, where it is not prepared
     as_before : IsQuiet old.phase → is_shut old ≡ false → (why : Refusal) → new ≡ old → IsNotPrepared old.phase (published old) command why → LeavesEither (Err why) (published old) after left
     as_before quiet open_is why same refuses =
         let ready : old.phase ≡ phases.Ready = ready_by old.phase quiet open_is in
         let other = prepared_other (published old) command why (subst (λ (p : Phase). IsNotPrepared p (published old) command why) ready refuses) in
-        let known_then = subst (λ (d : Standing (Held S)). IsKnown g d.format_1 d.tables) same known in
+        let known_then = subst (λ (d : Standing (Held S)). IsKnown g d.ours_first d.tables) same known in
         let may_then = subst (λ (d : Standing (Held S)). MayLeave g d.tables left) same may in
         other_leaves why (published old) after left other (inl (left_open g old (quiet, subst (Stands g) same stands) open_is known_then left may_then))
 
@@ -108,12 +108,12 @@ module _ {S : Type 0} (g : Ghosts S) (old : Standing (Held S)) (command : Comman
         let stored : IsStored g new.tables after = subst Agreed fails.left (stands known) in
         subst (λ (e : Refusal). LeavesEither (Err e) (published old) after left) (sym fails.why_is) (left_stored after stored left may)
 
-  pub refused_leaves : IsQuiet old.phase → (why : Refusal) → IsNotAcknowledged g old command why new → is_shut old ≡ false → IsKnown g new.format_1 new.tables → (left : State) → MayLeave g new.tables left → LeavesEither (Err why) (published old) after left
+  pub refused_leaves : IsQuiet old.phase → (why : Refusal) → IsNotAcknowledged g old command why new → is_shut old ≡ false → IsKnown g new.ours_first new.tables → (left : State) → MayLeave g new.tables left → LeavesEither (Err why) (published old) after left
   refused_leaves quiet why (inl same) open_is known left may = as_before known left may quiet open_is why same.0 same.1
   refused_leaves quiet why (inr (inl fails)) open_is known left may = not_stored known left may why fails
   refused_leaves quiet why (inr (inr fails)) open_is known left may = not_published known left may why fails
 
-  pub accepted_leaves : new ≡ record old { phase = phases.Ready; line = grown old.line command; command = None; tables = new.tables } → IsKnown g new.format_1 new.tables → (left : State) → MayLeave g new.tables left → left ≡ after
+  pub accepted_leaves : new ≡ record old { phase = phases.Ready; line = grown old.line command; command = None; tables = new.tables } → IsKnown g new.ours_first new.tables → (left : State) → MayLeave g new.tables left → left ≡ after
   accepted_leaves is known left may =
       let Agreed = λ (d : Standing (Held S)). Agrees g d.phase d.command (line_state d.line) new.tables in
       let stored : IsStored g new.tables (line_state (grown old.line command)) = subst Agreed is (stands known) in

@@ -10,5 +10,5 @@ pub leaves_a_state : {S : Type 0} (g : Ghosts S) → LeavesAState g
 leaves_a_state g desk kept is known left = (
   left_open g desk kept is known left,
   λ command call now storable stops known.
-      stopped_leaves g (published desk) desk.format_1 desk.tables now command call stops.0 storable (λ known. stored_open g desk kept is known) stops.1 stops.2 known left,
+      stopped_leaves g (published desk) desk.ours_first desk.tables now command call stops.0 storable (λ known. stored_open g desk kept is known) stops.1 stops.2 known left,
 )

@@ -14,7 +14,7 @@ use Rattle.prt_publisher.specs.declared.phase.Phase.{Phase}
 use Rattle.prt_publisher.specs.declared.phase.Phase.TheVariants as phases
 use Rattle.prt_session.proofs.Turns.{accepted_turn, memory_refused, refused_turn}
 use Rattle.prt_session.specs.Desk.{DeskState, IsNoMemory, Mishap, no_room, store_fails, commit_kept, publication_fails, command_or_refusal, settled, shut}
-use Rattle.prt_session.specs.Stands.{Explained, Stands}
+use Rattle.prt_session.specs.Stands.{Explained, StandsForSome}
 use Rattle.prt_session.specs.Steps.{CommandGives}
 use Rattle.prt_version.proofs.Folds.{fold_push}
 use Rattle.prt_version.specs.Change.{apply, refusal}
@@ -74,12 +74,12 @@ closed_turn desk command is = (
   ap (λ closed. (command_or_refusal desk command closed (refusal desk.published command) None).desk) (sym is),
 )
 
-module _ {S : Type 0} (g : Ghosts S) (format_1 : Bool) (tables : Held S) (shown : State) where
-  closed_by : (under : Option Command) (desk : DeskState) → StandsBy g format_1 tables shown phases.Closed under desk → desk.closed ≡ true
+module _ {S : Type 0} (g : Ghosts S) (ours_first : Bool) (tables : Held S) (shown : State) where
+  closed_by : (under : Option Command) (desk : DeskState) → StandsBy g ours_first tables shown phases.Closed under desk → desk.closed ≡ true
   closed_by None desk is = is.1
   closed_by (Some command) desk is = ap (λ (d : DeskState). d.closed) is
 
-  something_by : (phase : Phase) (under : Option Command) → IsQuiet phase → (desk : DeskState) × StandsBy g format_1 tables shown phase under desk
+  something_by : (phase : Phase) (under : Option Command) → IsQuiet phase → (desk : DeskState) × StandsBy g ours_first tables shown phase under desk
   something_by phases.Ready under quiet = (settled shown, refl)
   something_by phases.Admitted under quiet = absurd quiet
   something_by phases.Prepared under quiet = absurd quiet
@@ -89,18 +89,18 @@ module _ {S : Type 0} (g : Ghosts S) (format_1 : Bool) (tables : Held S) (shown 
   something_by phases.Closed (Some command) quiet = (shut (settled shown) (apply shown command), refl)
 
 -- a desk stands for something
-pub something : {S : Type 0} (g : Ghosts S) (desk : Standing (Held S)) → IsQuiet desk.phase → Stands (StandsFor g) desk
-something g desk quiet = something_by g desk.format_1 desk.tables (published desk) desk.phase desk.command quiet
+pub something : {S : Type 0} (g : Ghosts S) (desk : Standing (Held S)) → IsQuiet desk.phase → StandsForSome (StandsFor g) desk
+something g desk quiet = something_by g desk.ours_first desk.tables (published desk) desk.phase desk.command quiet
 
 module _ {S : Type 0} (g : Ghosts S) (old : Standing (Held S)) (command : Command) where
   abbrev Explains : Standing (Held S) → Result ℕ Refusal → Type 0
   Explains new result = Explained (StandsFor g) old new (λ before after. CommandGives IsStoreMishap before command result after)
 
   ready_stands : old.phase ≡ phases.Ready → StandsFor g old (settled (published old))
-  ready_stands is = subst (λ (p : Phase). StandsBy g old.format_1 old.tables (published old) p old.command (settled (published old))) (sym is) refl
+  ready_stands is = subst (λ (p : Phase). StandsBy g old.ours_first old.tables (published old) p old.command (settled (published old))) (sym is) refl
 
   ready_is : old.phase ≡ phases.Ready → (desk : DeskState) → StandsFor g old desk → desk ≡ settled (published old)
-  ready_is is desk stands = subst (λ (p : Phase). StandsBy g old.format_1 old.tables (published old) p old.command desk) is stands
+  ready_is is desk stands = subst (λ (p : Phase). StandsBy g old.ours_first old.tables (published old) p old.command desk) is stands
 
   abbrev before : DeskState
   before = settled (published old)
@@ -116,8 +116,8 @@ module _ {S : Type 0} (g : Ghosts S) (old : Standing (Held S)) (command : Comman
 
   closed_refused : old.phase ≡ phases.Closed → Explains old (Err reasons.Closed)
   closed_refused closed after stands =
-      let by = subst (λ (p : Phase). StandsBy g old.format_1 old.tables (published old) p old.command after) closed stands in
-      (after, stands, closed_turn after command (closed_by g old.format_1 old.tables (published old) old.command after by))
+      let by = subst (λ (p : Phase). StandsBy g old.ours_first old.tables (published old) p old.command after) closed stands in
+      (after, stands, closed_turn after command (closed_by g old.ours_first old.tables (published old) old.command after by))
 
   refused_by : (phase : Phase) → old.phase ≡ phase → IsQuiet phase → (why : Refusal) → IsNotPrepared phase (published old) command why → Explains old (Err why)
   refused_by phases.Ready is quiet why refuses = open_refused is why refuses
@@ -132,10 +132,10 @@ module _ {S : Type 0} (g : Ghosts S) (old : Standing (Held S)) (command : Comman
 
   -- a failed commit leaves the state before or, only where the commit call failed, possibly the one after the command
   module _ (why : Refusal) (new : Standing (Held S)) (fails : IsNotStored g old command why new) where
-    either : (stored : State) → IsPerhapsStored g old.format_1 new.tables (published old) stored → (stored ≡ published old) ⊎ ((why ≡ reasons.StoreFailed Commit) × (stored ≡ apply (published old) command))
+    either : (stored : State) → IsPerhapsStored g old.ours_first new.tables (published old) stored → (stored ≡ published old) ⊎ ((why ≡ reasons.StoreFailed Commit) × (stored ≡ apply (published old) command))
     either stored (inl is) = inl is
     either stored (inr left) =
-        let format : new.format_1 ≡ old.format_1 = ap (λ (d : Standing (Held S)). d.format_1) fails.left in
+        let format : new.ours_first ≡ old.ours_first = ap (λ (d : Standing (Held S)). d.ours_first) fails.left in
         fails.leaves (format ∙ left.0.0, left.0.1) stored left.1
 
     shut_is : (after : DeskState) (stored : State) → after.published ≡ published old → after.closed ≡ true → after.stored ≡ stored → shut before stored ≡ after

@@ -17,7 +17,7 @@ use Rattle.prt_desk.specs.StoreDesk.{is_closed_at, is_shut}
 
 -- whether our tables are the first of the file, that its disk has failed, all of a desk that is closed, and the other tables of the file, where that can be seen: while the desk is open, or at least its connection
 pub record Remains {S : Type 0} (g : Ghosts S) (old new : Standing (Held S)) : Type 0 where
-  pub format : new.format_1 ≡ old.format_1
+  pub format : new.ours_first ≡ old.ours_first
   pub clean : HasCleanDisk (state g new.tables) → HasCleanDisk (state g old.tables)
   pub closed : is_shut old ≡ true → new ≡ old
   pub others : Spares g old new
@@ -45,7 +45,7 @@ module _ {S : Type 0} (g : Ghosts S) (desk between last : Standing (Held S)) (fi
   others_on Closed is = λ known seen.
       let same : last ≡ between = next.closed (ap is_closed_at is) in
       let spares =
-      first.others (subst (λ (d : Standing (Held S)). IsKnown g d.format_1 d.tables) same known) (subst (λ (d : Standing (Held S)). d.phase ≡ Closed → IsTrue (state g d.tables).is_open) same seen) in
+      first.others (subst (λ (d : Standing (Held S)). IsKnown g d.ours_first d.tables) same known) (subst (λ (d : Standing (Held S)). d.phase ≡ Closed → IsTrue (state g d.tables).is_open) same seen) in
       subst (λ (d : Standing (Held S)). SparesOthers (state g desk.tables).now (state g d.tables).now) (sym same) spares
 
   remains_on : Remains g desk last

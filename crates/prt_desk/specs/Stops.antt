@@ -20,7 +20,7 @@ StopsIn g desk command call now = (made : Change) × (check (published desk) com
 
 -- Whichever store call of a command a stop falls into, a crash leaves the state before the command or, only where it fell into the call that commits, the one after it. Where it falls into none, a crash leaves the published state.
 abbrev pub LeavesAState : {S : Type 0} → Ghosts S → Type 0
-LeavesAState {S = S} g = (desk : Standing (Held S)) → IsKept g desk → is_shut desk ≡ false → IsKnown g desk.format_1 desk.tables → (left : State) →
+LeavesAState {S = S} g = (desk : Standing (Held S)) → IsKept g desk → is_shut desk ≡ false → IsKnown g desk.ours_first desk.tables → (left : State) →
     (MayLeave g desk.tables left → left ≡ published desk)
-    × ((command : Command) (call : StoreCall) (now : Held S) → IsStorable command → StopsIn g desk command call now → IsKnown g desk.format_1 now → MayLeave g now left
+    × ((command : Command) (call : StoreCall) (now : Held S) → IsStorable command → StopsIn g desk command call now → IsKnown g desk.ours_first now → MayLeave g now left
     → (left ≡ published desk) ⊎ ((call ≡ Commit) × (left ≡ apply (published desk) command)))

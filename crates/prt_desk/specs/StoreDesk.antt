@@ -12,10 +12,10 @@ use Rattle.prt_front.specs.Line.{line_state}
 use Rattle.prt_publisher.specs.Standing.{IsQuiet, Standing, Stands}
 use Rattle.prt_publisher.specs.declared.phase.Phase.{Phase}
 use Rattle.prt_publisher.specs.declared.phase.Phase.TheVariants.{Ready, Admitted, Prepared, Committed, Published, Closed}
-use Rattle.prt_rows.specs.Format.{IsFormat1}
+use Rattle.prt_rows.specs.Format.{IsFormat2}
 use Rattle.prt_session.specs.Desk.{Befalls, DeskState, Mishap, request_turn, settled, shut}
 use Rattle.prt_session.specs.Run.{RunIs}
-use Rattle.prt_session.specs.declared.script.ScriptEnd.{ScriptEnd}
+use Rattle.prt_session.specs.declared.script_end.ScriptEnd.{ScriptEnd}
 use Rattle.prt_store.specs.Exits.{IsKnown, MayLeave, Opens}
 use Rattle.prt_version.specs.Change.{apply}
 use Rattle.prt_version.specs.State.{State}
@@ -42,21 +42,21 @@ IsKept g desk = IsQuiet desk.phase × Stands g desk
 
 -- what may be stored after a failed commit: the state that is published, or one that a crash may leave
 abbrev pub IsPerhapsStored : {S : Type 0} → Ghosts S → Bool → Held S → State → State → Type 0
-IsPerhapsStored g format_1 tables published stored = (stored ≡ published) ⊎ (IsKnown g format_1 tables × MayLeave g tables stored)
+IsPerhapsStored g ours_first tables published stored = (stored ≡ published) ⊎ (IsKnown g ours_first tables × MayLeave g tables stored)
 
 -- after a refused publication the state after its command is stored
 abbrev pub StandsBy : {S : Type 0} → Ghosts S → Bool → Held S → State → Phase → Option Command → DeskState → Type 0
-StandsBy g format_1 tables published Ready command desk = desk ≡ settled published
-StandsBy g format_1 tables published Admitted command desk = ⊥
-StandsBy g format_1 tables published Prepared command desk = ⊥
-StandsBy g format_1 tables published Committed command desk = ⊥
-StandsBy g format_1 tables published Published command desk = ⊥
-StandsBy g format_1 tables published Closed None desk = (desk.published ≡ published) × (desk.closed ≡ true) × IsPerhapsStored g format_1 tables published desk.stored
-StandsBy g format_1 tables published Closed (Some command) desk = desk ≡ shut (settled published) (apply published command)
+StandsBy g ours_first tables published Ready command desk = desk ≡ settled published
+StandsBy g ours_first tables published Admitted command desk = ⊥
+StandsBy g ours_first tables published Prepared command desk = ⊥
+StandsBy g ours_first tables published Committed command desk = ⊥
+StandsBy g ours_first tables published Published command desk = ⊥
+StandsBy g ours_first tables published Closed None desk = (desk.published ≡ published) × (desk.closed ≡ true) × IsPerhapsStored g ours_first tables published desk.stored
+StandsBy g ours_first tables published Closed (Some command) desk = desk ≡ shut (settled published) (apply published command)
 
 -- what a desk stands for: while it is open, its state, published and stored; once it is closed, that state is published, and stored is what may be
 abbrev pub StandsFor : {S : Type 0} → Ghosts S → Standing (Held S) → DeskState → Type 0
-StandsFor g desk = StandsBy g desk.format_1 desk.tables (published desk) desk.phase desk.command
+StandsFor g desk = StandsBy g desk.ours_first desk.tables (published desk) desk.phase desk.command
 
 abbrev pub desk_with : {T : Type 0} → Standing T → State → DeskState
 desk_with desk stored = record { published = published desk; stored = stored; closed = is_shut desk }
@@ -67,7 +67,7 @@ MayBeStored g desk stored = StandsFor g desk (desk_with desk stored)
 
 -- what an opening makes of a database that a crash leaves spells a state of which this holds
 abbrev pub Reopens : {S : Type 0} → Ghosts S → Held S → (State → Type 0) → Type 0
-Reopens g tables Left = (found : Database) → IsDatabase found → (state g tables).may_leave found.trees → IsFormat1 found.schema × ((opened : State) → Opens found opened → Left opened)
+Reopens g tables Left = (found : Database) → IsDatabase found → (state g tables).may_leave found.trees → IsFormat2 found.schema × ((opened : State) → Opens found opened → Left opened)
 
 -- what may befall it: memory, room for old versions, a store call and the publication may fail
 abbrev pub IsStoreMishap : Mishap → Type 0

@@ -3,8 +3,8 @@
 ghost use Rattle.std.specs.Prelude.{◌≡◌, IfErr, IfOk, true};
 ghost use Rattle.sqlite.specs.Files.{file_state, over_files};
 ghost use Rattle.sqlite.specs.State.{HasCleanDisk};
+ghost use Rattle.prt_addr.specs.Opening.{IsOpenRefusal};
 ghost use Rattle.prt_desk.specs.StoreDesk.{MayBeStored, published};
-ghost use Rattle.prt_store.specs.Loaded.{IsLoadRefusal};
 
 use crate::StoreDesk;
 use prt_session::Refusal;
@@ -26,8 +26,8 @@ impl<D: Disk + Drop, H: Wait + Copy + Drop> StoreDesk<FileStore<D>, H> {
         alloc: Global,
         options: Options,
     ) -> Result<StoreDesk<FileStore<D>, H>, Refusal>
-        ensures reason { IfErr result IsLoadRefusal }
-        ensures stored { IfOk result (λ again. self.format_1 ≡ true → HasCleanDisk (file_state again.tables) → (again.format_1 ≡ true) × MayBeStored over_files self (published again)) }
+        ensures reason { IfErr result IsOpenRefusal }
+        ensures stored { IfOk result (λ again. self.ours_first ≡ true → HasCleanDisk (file_state again.tables) → (again.ours_first ≡ true) × MayBeStored over_files self (published again)) }
     {
         let rt = self.rt;
         let files = match self.release().close_files() {

@@ -2,14 +2,14 @@ ghost use Rattle.std.specs.Prelude.{◌≡◌, ◌++◌, ◌↔◌, IfErr, IfOk,
 ghost use Rattle.sqlite.specs.Held.{state};
 ghost use Rattle.sqlite.specs.State.{HasCleanDisk, Survives};
 ghost use Rattle.sqlite.specs.Tree.{Trees};
+ghost use Rattle.prt_addr.specs.Opening.{IsOpenRefusal};
 ghost use Rattle.prt_addr.specs.declared.refusal.Refusal.TheVariants.{Damaged};
 ghost use Rattle.prt_desk.specs.Remains.{Remains};
 ghost use Rattle.prt_desk.specs.StoreDesk.{IsKept, MayBeStored, Reopens, SessionLeaves, is_shut, published};
 ghost use Rattle.prt_publisher.specs.Standing.{IsQuiet};
-ghost use Rattle.prt_rows.specs.Format.{BeginsFormat1};
+ghost use Rattle.prt_rows.specs.Format.{BeginsFormat2};
 ghost use Rattle.prt_store.specs.Adopted.{Adopts, AdoptsPart, LeavesPart};
 ghost use Rattle.prt_store.specs.Exits.{IsKnown, IsStored, Opens, Spells};
-ghost use Rattle.prt_store.specs.Loaded.{IsLoadRefusal};
 ghost use Rattle.prt_version.specs.Sound.{IsSound};
 ghost use Rattle.prt_version.specs.State.{State};
 
@@ -101,13 +101,13 @@ impl<S: Alter + Drop, H: Wait + Drop> StoreDesk<S, H> {
         ensures run { (stored : State) → MayBeStored S.Store self.new stored →
             SessionLeaves S.Store mode self.old self.new (R.remaining reader.old) (R.remaining reader.new) (W.contents writer.old) (W.contents writer.new) result stored }
         ensures keeps { Remains S.Store self.old self.new }
-        ensures durable { IsKnown S.Store self.new.format_1 self.new.tables → (trees : Trees) → (state S.Store self.new.tables).may_leave trees →
+        ensures durable { IsKnown S.Store self.new.ours_first self.new.tables → (trees : Trees) → (state S.Store self.new.tables).may_leave trees →
             (stored : State) × Spells trees stored × MayBeStored S.Store self.new stored }
-        ensures reopened { IsKnown S.Store self.new.format_1 self.new.tables → Reopens S.Store self.new.tables
+        ensures reopened { IsKnown S.Store self.new.ours_first self.new.tables → Reopens S.Store self.new.tables
             (SessionLeaves S.Store mode self.old self.new (R.remaining reader.old) (R.remaining reader.new) (W.contents writer.old) (W.contents writer.new) result) }
     {
         let end = run_script(alloc, self, reader, writer, mode, observer);
-        // Says what the desk keeps.
+        // Recalls what the desk keeps.
         let _is_closed = self.is_closed();
         end
     }
@@ -132,20 +132,20 @@ impl<S: Alter + Drop, H: Wait + Copy + Drop> StoreDesk<S, H> {
     ) -> Result<StoreDesk<S, H>, (Refusal, Connection<S>)>
         ensures open { IfOk result (λ desk. is_shut desk ≡ false) }
         ensures sound { IfOk result (λ desk. IsSound (published desk)) }
-        ensures reason { IfErr result (λ refused. IsLoadRefusal refused.0) }
+        ensures reason { IfErr result (λ refused. IsOpenRefusal refused.0) }
         ensures damaged { IfErr result (λ refused. refused.0 ≡ Damaged → HasCleanDisk (state S.Store refused.1) → IsTrue (state S.Store conn).is_open → (stored : State) →
             Spells (state S.Store conn).now.trees stored → ⊥) }
-        ensures format { IfOk result (λ desk. (desk.format_1 ≡ true) ↔ BeginsFormat1 (state S.Store conn).now.schema) }
-        ensures adopts { IfOk result (λ desk. IsKnown S.Store desk.format_1 desk.tables → Opens (state S.Store conn).now (published desk)) }
+        ensures format { IfOk result (λ desk. (desk.ours_first ≡ true) ↔ BeginsFormat2 (state S.Store conn).now.schema) }
+        ensures adopts { IfOk result (λ desk. IsKnown S.Store desk.ours_first desk.tables → Opens (state S.Store conn).now (published desk)) }
         ensures found { IfOk result (λ desk. HasCleanDisk (state S.Store desk.tables) → IsTrue (state S.Store conn).is_open → (stored : State) →
-            Spells (state S.Store conn).now.trees stored → (desk.format_1 ≡ true) × (published desk ≡ stored)) }
-        ensures own { IfOk result (λ desk. IsKnown S.Store desk.format_1 desk.tables →
+            Spells (state S.Store conn).now.trees stored → (desk.ours_first ≡ true) × (published desk ≡ stored)) }
+        ensures own { IfOk result (λ desk. IsKnown S.Store desk.ours_first desk.tables →
             Adopts (state S.Store conn).now (state S.Store desk.tables).now × IsStored S.Store desk.tables (published desk)) }
-        ensures survives_ok { IfOk result (λ desk. (HasCleanDisk (state S.Store conn) → BeginsFormat1 (state S.Store conn).now.schema) →
+        ensures survives_ok { IfOk result (λ desk. (HasCleanDisk (state S.Store conn) → BeginsFormat2 (state S.Store conn).now.schema) →
             Survives (state S.Store conn) (state S.Store desk.tables) (LeavesPart (state S.Store conn).now)) }
         ensures err { IfErr result (λ refused. HasCleanDisk (state S.Store refused.1) → IsTrue (state S.Store refused.1).is_open →
-            BeginsFormat1 (state S.Store conn).now.schema → AdoptsPart (state S.Store conn).now (state S.Store refused.1).now) }
-        ensures crash_err { IfErr result (λ refused. (HasCleanDisk (state S.Store conn) → BeginsFormat1 (state S.Store conn).now.schema) →
+            BeginsFormat2 (state S.Store conn).now.schema → AdoptsPart (state S.Store conn).now (state S.Store refused.1).now) }
+        ensures crash_err { IfErr result (λ refused. (HasCleanDisk (state S.Store conn) → BeginsFormat2 (state S.Store conn).now.schema) →
             Survives (state S.Store conn) (state S.Store refused.1) (LeavesPart (state S.Store conn).now)) }
     {
         match Publisher::adopt(rt, alloc, conn) {
@@ -165,7 +165,7 @@ impl<S: Alter + Drop, H: Wait + Drop> Desk for StoreDesk<S, H> {
     ghost use Rattle.prt_desk.specs.StoreDesk.{IsStoreMishap, LeavesEither, StandsFor};
     ghost use Rattle.prt_listing.specs.QueryText.{query_text};
     ghost use Rattle.prt_publisher.specs.Exits.{HasCommitted};
-    ghost use Rattle.prt_session.specs.Stands.{Explained, Stands};
+    ghost use Rattle.prt_session.specs.Stands.{Explained, StandsForSome};
     ghost use Rattle.prt_session.specs.Steps.{CommandGives};
     ghost use Rattle.prt_store.specs.Exits.{IsKnown, MayLeave};
     ghost use Rattle.prt_version.specs.Change.{apply};
@@ -181,10 +181,10 @@ impl<S: Alter + Drop, H: Wait + Drop> Desk for StoreDesk<S, H> {
     fn command(&mut self, command: &Command) -> Result<u64, Refusal>
         requires { IsStorable command.now }
         ensures turn { Explained (StandsFor S.Store) self.old self.new (λ before after. CommandGives IsStoreMishap before command.now result after) }
-        ensures left { Stands (StandsFor S.Store) self.old → Stands (StandsFor S.Store) self.new }
+        ensures left { StandsForSome (StandsFor S.Store) self.old → StandsForSome (StandsFor S.Store) self.new }
         ensures keeps { Remains S.Store self.old self.new }
         ensures ran { HasCleanDisk (state S.Store self.new.tables) → OnOk result (HasCommitted S.Store self.old command.now self.new.tables) }
-        ensures leaves { is_shut self.old ≡ false → IsKnown S.Store self.new.format_1 self.new.tables → (left : State) → MayLeave S.Store self.new.tables left →
+        ensures leaves { is_shut self.old ≡ false → IsKnown S.Store self.new.ours_first self.new.tables → (left : State) → MayLeave S.Store self.new.tables left →
             LeavesEither result (published self.old) (apply (published self.old) command.now) left }
     {
         let receipt = match self.publisher.submit(&self.rt, &self.domain, command) {

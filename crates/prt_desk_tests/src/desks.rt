@@ -13,7 +13,7 @@ const SCRIPTS: [&str; 2] = [
     "rule add priority 5 from 10/8 table 100\nrule add to 10/8 iif a fwmark 0x10/0xf0 prohibit\nrule show\nroute get 10.0.0.1 iif a mark 0x1f\nrule del priority 5\nrule flush\nrule show\n",
 ];
 
-/// The replies of a desk to a script, and how it ended.
+/// Gives the replies of a desk to a script, and how it ended.
 pub fn run<D: Desk>(alloc: Global, desk: &mut D, script: &str) -> (Vec<u8>, ScriptEnd) {
     let mut text = Vec::new(alloc);
     let mut lines = script.as_bytes();
@@ -28,12 +28,12 @@ pub fn run<D: Desk>(alloc: Global, desk: &mut D, script: &str) -> (Vec<u8>, Scri
     (text, end)
 }
 
-/// The replies of a desk to a script.
+/// Gives the replies of a desk to a script.
 pub fn replies<D: Desk>(alloc: Global, desk: &mut D, script: &str) -> Vec<u8> {
     run(alloc, desk, script).0
 }
 
-/// A desk over the database of a connection.
+/// Makes a desk over the database of a connection.
 pub fn opened<S: Alter + Drop, H: Wait + Copy + Drop>(
     rt: H,
     alloc: Global,

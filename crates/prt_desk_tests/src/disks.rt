@@ -54,7 +54,7 @@ pub fn new_files(alloc: Global, faults: Faults) -> Files<Faulty> {
     files_with(Memory::new(alloc), Memory::new(alloc), faults)
 }
 
-/// The files of a connection, closed as far as their disk allows it.
+/// Gives the files of a connection, closed as far as their disk allows it.
 fn closed<D: Disk + Drop>(connection: Connection<FileStore<D>>) -> Files<D> {
     match connection.close_files() {
         Ok(files) => files,

@@ -34,7 +34,7 @@ const HELD: [&str; 6] = [
     "answer 5 none\nend 0\n0:\tfrom all lookup local\n32766:\tfrom all lookup main\n32767:\tfrom all lookup default\nend 3\n",
 ];
 
-/// The place of a text among others.
+/// Gives the place of a text among others.
 fn place_of(texts: &[&str; 6], text: &[u8]) -> Option<usize> {
     texts.iter().position(|other| other.as_bytes() == text)
 }
@@ -71,7 +71,7 @@ fn is_right_with<H: Wait + Copy + Drop>(
     Ok((may_leave(&ran, again?.0.as_slice()), has_failed))
 }
 
-/// How many calls of the log, and of the database's file, the script makes where none fails.
+/// Tells how many calls of the log, and of the database's file, the script makes where none fails.
 fn calls_made<H: Wait + Copy + Drop>(rt: H, alloc: Global) -> (u64, u64) {
     let (_ran, files) = run_in(rt, alloc, new_files(alloc, Faults::NONE), CHURN);
     let made = |disk: &Faulty| u64::MAX - disk.calls_left();

@@ -1,9 +1,9 @@
-//! Desks whose database is closed and opened again, also after its disk has failed.
+//! Desks whose database is closed and opened again.
 
 ghost use Rattle.std.specs.Prelude.{IsTrue};
 
 use crate::desks::{opened, replies};
-use crate::disks::{Faults, OPTIONS, mended, new_files, run_in};
+use crate::disks::{Faults, OPTIONS, new_files};
 use prt_desk::StoreDesk;
 use prt_session::{OnRefusal, Refusal, Unobserved};
 use sqlite::{Connection, FileStore, Files};
@@ -27,7 +27,7 @@ impl Write for Shut {
     }
 }
 
-/// A desk over the database of these files. For files of whatever kind, so that the proof knows nothing of them.
+/// Makes a desk over the database of these files. For files of whatever kind, so that the proof knows nothing of them.
 fn desk_in<D: Disk + Drop, H: Wait + Copy + Drop>(
     rt: H,
     alloc: Global,
@@ -71,24 +71,5 @@ fn an_unheard_command_is_kept(rt: HostRuntime) -> Result<(), Fail> {
     let (fault, after) = run_unheard(rt, alloc, files, "rule flush\n", "route get 10.1.2.3\n")?;
     assert!(rt; fault == Some(Refusal::WriteFault));
     assert!(rt; after.as_slice() == b"answer 1 none\n".as_slice());
-    Ok(())
-}
-
-#[test]
-fn a_closed_desk_answers(rt: HostRuntime) -> Result<(), Fail> {
-    let alloc = rt.alloc();
-    // The call that sets the count fails, and each one after it.
-    let faults = Faults {
-        log_stop: 76,
-        ..Faults::NONE
-    };
-    let script = "route add 10/8 dev a\nroute add 10/8 dev a\nroute get 10.1.2.3\n";
-    let (ran, files) = run_in(rt, alloc, new_files(alloc, faults), script);
-    assert!(rt;
-        ran?.0.as_slice() == b"error 27 StoreFailed\nerror 20 Closed\nanswer 0 none\n".as_slice()
-    );
-    let files = mended(alloc, &files)?;
-    let (again, _files) = run_in(rt, alloc, files, "route get 10.1.2.3\n");
-    assert!(rt; again?.0.as_slice() == b"answer 0 none\n".as_slice());
     Ok(())
 }

@@ -246,7 +246,7 @@ const FIRST_RUN: &str = "route add default via 192.0.2.1 dev eth0\nroute get 198
 /// The replies to that script.
 const FIRST_REPLIES: &str = "ok 1\nanswer 1 rule 32766 table main default via 192.0.2.1 dev eth0\n";
 
-/// The replies to so many lines of that script, after which the reader failed.
+/// Gives the replies to so many lines of that script, after which the reader failed.
 fn replies_before_fault(lines: usize) -> &'static str {
     match lines {
         0 => "error 32 ReadFault\n",

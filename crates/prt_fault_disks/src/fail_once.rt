@@ -34,14 +34,14 @@ impl<D: Disk> FailOnce<D> {
         }
     }
 
-    /// The disk that calls are passed on to.
+    /// Gives the disk that calls are passed on to.
     pub fn inner(&self) -> &D
         ensures { result.now ≡ inner_of self.now }
     {
         &self.inner
     }
 
-    /// How many calls are still passed on before the one that fails.
+    /// Tells how many calls are still passed on before the one that fails.
     pub fn calls_left(&self) -> u64
         ensures { result ≡ calls_left self.now }
     {

@@ -1,13 +1,16 @@
 -- Answers that were given stay in the world's list.
-use Rattle.std.proofs.Common.{Bool, true, false, List, [], ◌∷◌, ◌++◌, Some, None, refl, subst, cond}
+use Rattle.std.proofs.Common.{◌≡◌, Bool, true, false, List, [], ◌∷◌, ◌++◌, Some, None, refl, subst, cond}
 use Rattle.std.specs.List.{AllByRecursion as Each}
 use Rattle.prt_rule.specs.declared.packet.Packet.{Packet}
+use Rattle.prt_version.specs.declared.answer.Answer.{Answer}
 use Rattle.prt_world.specs.World as world
 use Rattle.prt_world.specs.World.{Lookup, LookerState, Step, World, looker_state, offline, online, run_from, step}
 use Rattle.prt_world.specs.declared.event.Event.{Event}
 use Rattle.prt_world.specs.declared.event.Event.TheVariants as events
+use Rattle.prt_world.specs.declared.outcome.Outcome.TheVariants as outcomes
 use Rattle.prt_world.specs.declared.phase.Phase.{Phase as Moment}
 use Rattle.prt_world.specs.declared.phase.Phase.TheVariants as moments
+use Rattle.prt_follows.proofs.Headline.{each_last}
 use Rattle.prt_follows.proofs.Keeping.{most_keep}
 
 pub each_first : {X : Type 0} (P : X → Type 0) (xs ys : List X) → Each P (xs ++ ys) → Each P xs
@@ -40,3 +43,16 @@ module _ (P : Lookup → Type 0) where
   pub list_had : (list : List Event) (w : World) → Each P (run_from w list).answers → Each P w.answers
   list_had [] w h = h
   list_had (event ∷ list) w h = event_had w event (list_had list (step w event).world h)
+
+  -- ---- what a lookup shows is one of them
+
+  look_shows : (w : World) (packet : Packet) (state : LookerState) (answer : Answer) → (world.look w packet state).outcome ≡ outcomes.Answered answer → Each P (world.look w packet state).world.answers → P (record { packet = packet; answer = answer })
+  look_shows w packet offline answer is all = absurd cc
+  look_shows w packet (online announced None) answer is all = absurd cc
+  look_shows w packet (online announced (Some held)) answer is all =
+      let given : world.answer_by (world.version w held) packet ≡ answer = cc in
+      subst (λ (a : Answer). P (record { packet = packet; answer = a })) given (each_last P w.answers (record { packet = packet; answer = world.answer_by (world.version w held) packet } ∷ []) all).0
+
+  pub unless_shows : (w : World) (packet : Packet) (state : LookerState) (answer : Answer) (b : Bool) → (cond b (world.unmet w) (world.look w packet state)).outcome ≡ outcomes.Answered answer → Each P (cond b (world.unmet w) (world.look w packet state)).world.answers → P (record { packet = packet; answer = answer })
+  unless_shows w packet state answer true is all = absurd cc
+  unless_shows w packet state answer false is all = look_shows w packet state answer is all

@@ -23,9 +23,9 @@ use Rattle.prt_world.specs.declared.outcome.Outcome.TheVariants as outcomes
 use Rattle.prt_world.specs.declared.phase.Phase.{Phase as Moment}
 use Rattle.prt_world.specs.declared.phase.Phase.TheVariants as moments
 use Rattle.prt_follows.specs.Desks.{DeskHoldsAll, HasRoomFor, IsDeskOf, TurnIsSteps, Weaves, events_by, moment_between, reply_acks, shown_reply, submitted_events}
-use Rattle.prt_follows.specs.Events.{commit_events, commit_outcomes, fail_events, fail_outcomes, own, own_outcomes, publish_events, submit_outcomes}
+use Rattle.prt_follows.specs.Events.{commit_events, commit_outcomes, fail_events, fail_outcomes, own, own_outcomes, publish_events, publish_outcomes, submit_outcomes}
 use Rattle.prt_follows.specs.Spots.{IsAt, Spot}
-use Rattle.prt_follows.proofs.Acks.{failed_none, is_ack, woven_acks, woven_keeps}
+use Rattle.prt_follows.proofs.Acks.{event_keeps, failed_none, is_ack, woven_acks, woven_keeps}
 use Rattle.prt_follows.proofs.Exits.{commit_goes, goes_on, kept_goes, lost_goes, publish_fails, publish_goes, spot}
 use Rattle.prt_follows.proofs.Headline.{holds_all}
 use Rattle.prt_follows.proofs.Joined.{shown_more, split}
@@ -39,7 +39,49 @@ desk_of desk line disk moment v h between published stored = record { reached = 
 
 -- ---- a command that is acknowledged
 
--- Up to the note, and then the acknowledgement: they show their outcomes, lead to the version after the command, and acknowledge it.
+-- Events up to the note, and then the acknowledgement: they show their outcomes, and acknowledge the command.
+acked_there : (first : Spot) (line : Line) (disk : State) (command : Command) (rest : List Event) (shown : List Outcome) (v : World) → IsAt first v → Goes first rest shown (spot line disk (moments.Noted command)) → Each (λ event. is_ack event ≡ false) rest
+    → (more : List Event) → own more ≡ rest ++ events.Ack ∷ []
+    → (own_outcomes v more ≡ shown ++ outcomes.Acknowledged (line_state line).count ∷ []) × IsAt (spot line disk moments.Ready) (run_from v more)
+    × ((run_from v more).acks ≡ v.acks ++ record { number = (line_state line).count; command = command } ∷ [])
+acked_there first line disk command rest shown v h goes none more e =
+    let n = (line_state line).count in
+    let known = spot line disk (moments.Noted command) in
+    let ready = spot line disk moments.Ready in
+    let p = split more rest (events.Ack ∷ []) e in
+    let a = woven p.0 rest shown first known v p.3 goes h in
+    let u : World = run_from v p.0 in
+    let b = woven p.1 (events.Ack ∷ []) (outcomes.Acknowledged n ∷ []) known ready u p.4 (ready, λ x at. acknowledges line disk x command at, refl) a.1 in
+    let ran : run_from v more ≡ run_from u p.1 = ap (run_from v) p.2 ∙ run_more v p.0 p.1 in
+    let out : own_outcomes v more ≡ shown ++ outcomes.Acknowledged n ∷ [] =
+    ap (own_outcomes v) p.2 ∙ shown_more v p.0 p.1 ∙ ap (λ os. os ++ own_outcomes u p.1) a.0 ∙ ap (λ os. shown ++ os) b.0 in
+    let quiet : u.acks ≡ v.acks = woven_keeps p.0 rest p.3 none v in (
+      out,
+      subst (IsAt ready) (sym ran) b.1,
+      ap (λ (x : World). x.acks) ran ∙ woven_acks line disk command p.1 u p.4 a.1 ∙ ap (λ acks. acks ++ record { number = n; command = command } ∷ []) quiet,
+    )
+
+-- a committed command is published and noted
+noted_goes : (line : Line) (disk : State) (command : Command)
+    → Goes (spot line disk (moments.Committed command)) (events.Publish ∷ events.Note ∷ []) (outcomes.Published (line_state (grown line command)).count ∷ outcomes.Noted (line_state (grown line command)).count ∷ []) (spot (grown line command) disk (moments.Noted command))
+noted_goes line disk command =
+    let after : Line = grown line command in
+    let n = (line_state after).count in
+    let shown = spot after disk (moments.Published command) in
+    let known = spot after disk (moments.Noted command) in
+    let noting : Goes shown (events.Note ∷ []) (outcomes.Noted n ∷ []) known = (known, λ v at. notes after disk v command at, refl) in
+    goes_on (events.Publish ∷ []) (outcomes.Published n ∷ []) (events.Note ∷ []) (outcomes.Noted n ∷ []) (spot line disk (moments.Committed command)) shown known (publish_goes line disk command) noting
+
+-- and acknowledged
+pub published_there : (line : Line) (disk : State) (w : World) (command : Command) → IsAt (spot line disk (moments.Committed command)) w → (all : List Event) → own all ≡ publish_events
+    → (own_outcomes w all ≡ publish_outcomes (line_state (grown line command)).count)
+    × ((run_from w all).acks ≡ w.acks ++ record { number = (line_state (grown line command)).count; command = command } ∷ [])
+published_there line disk w command h all e =
+    let n = (line_state (grown line command)).count in
+    let a = acked_there (spot line disk (moments.Committed command)) (grown line command) disk command (events.Publish ∷ events.Note ∷ []) (outcomes.Published n ∷ outcomes.Noted n ∷ []) w h (noted_goes line disk command) (refl, (refl, tt)) all e in
+    (a.0, a.2)
+
+-- A command that the world takes: they show their outcomes, lead to the version after the command, and acknowledge it.
 pub accepted_there : (line : Line) (disk : State) (w : World) (command : Command) → IsAt (spot line disk moments.Ready) w → refusal (line_state line) command ≡ None → has_room w ≡ true → (more : List Event) → own more ≡ commit_events ++ publish_events
     → (own_outcomes w (events.Submit command ∷ more) ≡ submit_outcomes (line_state (grown line command)).count) × IsAt (spot (grown line command) (apply (line_state line) command) moments.Ready) (run_from w (events.Submit command ∷ more))
     × ((run_from w (events.Submit command ∷ more)).acks ≡ w.acks ++ record { number = (line_state (grown line command)).count; command = command } ∷ [])
@@ -49,26 +91,17 @@ accepted_there line disk w command h allowed has more e =
     let n = (line_state after).count in
     let first = spot line disk (moments.Prepared command calls.Begin) in
     let stored = spot line next (moments.Committed command) in
-    let shown = spot after next (moments.Published command) in
     let known = spot after next (moments.Noted command) in
     let prepared = takes line disk w command allowed has h in
     let counted : n ≡ (line_state line).count + 1 = ap (λ (s : State). s.count) (fold_push line.base line.list command) ∙ apply_count (line_state line) command allowed in
-    let noting : Goes shown (events.Note ∷ []) (outcomes.Noted n ∷ []) known = (known, λ v at. notes after next v command at, refl) in
-    let to_known = goes_on commit_events commit_outcomes (events.Publish ∷ events.Note ∷ []) (outcomes.Published n ∷ outcomes.Noted n ∷ []) first stored known
-    (commit_goes line disk command)
-    (goes_on (events.Publish ∷ []) (outcomes.Published n ∷ []) (events.Note ∷ []) (outcomes.Noted n ∷ []) stored shown known (publish_goes line next command) noting) in
+    let rest = commit_events ++ events.Publish ∷ events.Note ∷ [] in
+    let shown = commit_outcomes ++ outcomes.Published n ∷ outcomes.Noted n ∷ [] in
+    let goes : Goes first rest shown known = goes_on commit_events commit_outcomes (events.Publish ∷ events.Note ∷ []) (outcomes.Published n ∷ outcomes.Noted n ∷ []) first stored known (commit_goes line disk command) (noted_goes line next command) in
     let v : World = (step w (events.Submit command)).world in
-    let p = split more (commit_events ++ events.Publish ∷ events.Note ∷ []) (events.Ack ∷ []) e in
-    let a = woven p.0 (commit_events ++ events.Publish ∷ events.Note ∷ []) (commit_outcomes ++ outcomes.Published n ∷ outcomes.Noted n ∷ []) first known v p.3 to_known prepared.1 in
-    let u : World = run_from v p.0 in
-    let b = woven p.1 (events.Ack ∷ []) (outcomes.Acknowledged n ∷ []) known (spot after next moments.Ready) u p.4 (spot after next moments.Ready, λ v at. acknowledges after next v command at, refl) a.1 in
-    let ran : run_from v more ≡ run_from u p.1 = ap (run_from v) p.2 ∙ run_more v p.0 p.1 in
-    let out : own_outcomes v more ≡ (commit_outcomes ++ outcomes.Published n ∷ outcomes.Noted n ∷ []) ++ outcomes.Acknowledged n ∷ [] =
-    ap (own_outcomes v) p.2 ∙ shown_more v p.0 p.1 ∙ ap (λ os. os ++ own_outcomes u p.1) a.0 ∙ ap (λ os. (commit_outcomes ++ outcomes.Published n ∷ outcomes.Noted n ∷ []) ++ os) b.0 in
-    let quiet : u.acks ≡ w.acks = woven_keeps (events.Submit command ∷ p.0) (events.Submit command ∷ (commit_events ++ events.Publish ∷ events.Note ∷ [])) (ap (λ xs. events.Submit command ∷ xs) p.3) (refl, (refl, (refl, (refl, (refl, (refl, (refl, tt))))))) w in (
-      ap (λ o. o ∷ own_outcomes v more) (prepared.0 ∙ ap outcomes.Prepared (sym counted)) ∙ ap (λ os. outcomes.Prepared n ∷ os) out,
-      subst (IsAt (spot after next moments.Ready)) (sym ran) b.1,
-      ap (λ (x : World). x.acks) ran ∙ woven_acks after next command p.1 u p.4 a.1 ∙ ap (λ acks. acks ++ record { number = n; command = command } ∷ []) quiet,
+    let a = acked_there first after next command rest shown v prepared.1 goes (refl, (refl, (refl, (refl, (refl, (refl, tt)))))) more e in (
+      ap (λ o. o ∷ own_outcomes v more) (prepared.0 ∙ ap outcomes.Prepared (sym counted)) ∙ ap (λ os. outcomes.Prepared n ∷ os) a.0,
+      a.1,
+      a.2 ∙ ap (λ acks. acks ++ record { number = n; command = command } ∷ []) (event_keeps w (events.Submit command) refl),
     )
 
 -- ---- one turn

@@ -133,7 +133,7 @@ pub acknowledges_registers : (r : RegistryState) (w : World) → IsRegistryOf r 
 acknowledges_registers r w s = same_registers r w (step w events.Ack).world (ack_same w w.phase) s
 
 module _ {S : Type 0} (g : Ghosts S) where
-  pub stands : (p : Standing (Held S)) (v : World) (disk : State) (moment : Moment) → Some moment ≡ moment_of p.phase p.command → IsAt (spot p.line disk moment) v → (IsKnown g p.format_1 p.tables → HasDisk g p.phase p.command p.tables disk) → SawRoom p.phase v → IsPublisherOf g p v
+  pub stands : (p : Standing (Held S)) (v : World) (disk : State) (moment : Moment) → Some moment ≡ moment_of p.phase p.command → IsAt (spot p.line disk moment) v → (IsKnown g p.ours_first p.tables → HasDisk g p.phase p.command p.tables disk) → SawRoom p.phase v → IsPublisherOf g p v
   stands p v disk moment is place stored room = record {
     moment = moment;
     is = is;
@@ -147,7 +147,7 @@ module _ {S : Type 0} (g : Ghosts S) where
     pub place_in : (phase : Phase) (moment : Moment) → old.phase ≡ phase → Some moment ≡ moment_of phase old.command → IsAt (spot old.line w.disk moment) w
     place_in phase moment is at = subst (λ (m : Moment). IsAt (spot old.line w.disk m) w) (one_moment s.moment moment (s.is ∙ ap (λ (p : Phase). moment_of p old.command) is ∙ sym at)) s.place
 
-    pub stored_in : (phase : Phase) → old.phase ≡ phase → IsKnown g old.format_1 old.tables → HasDisk g phase old.command old.tables w.disk
+    pub stored_in : (phase : Phase) → old.phase ≡ phase → IsKnown g old.ours_first old.tables → HasDisk g phase old.command old.tables w.disk
     stored_in phase is known = subst (λ (p : Phase). HasDisk g p old.command old.tables w.disk) is (s.stored known)
 
     -- ---- plan
@@ -176,8 +176,8 @@ module _ {S : Type 0} (g : Ghosts S) where
         let next : State = apply (line_state old.line) c.0 in
         let place : IsAt (spot old.line w.disk (moments.Prepared c.0 calls.Begin)) w = subst (λ (m : Moment). IsAt (spot old.line w.disk m) w) c.2 s.place in
         let r = woven all commit_events commit_outcomes (spot old.line w.disk (moments.Prepared c.0 calls.Begin)) (spot old.line next (moments.Committed c.0)) w e (commit_goes old.line w.disk c.0) place in
-        let held : IsKnown g old.format_1 new.tables → Agrees g Committed old.command (line_state old.line) new.tables = subst (Stands g) is kept in
-        let stored : IsKnown g old.format_1 new.tables → IsStored g new.tables next = λ known. subst (λ (o : Option Command). Agrees g Committed o (line_state old.line) new.tables) c.1 (held known) in
+        let held : IsKnown g old.ours_first new.tables → Agrees g Committed old.command (line_state old.line) new.tables = subst (Stands g) is kept in
+        let stored : IsKnown g old.ours_first new.tables → IsStored g new.tables next = λ known. subst (λ (o : Option Command). Agrees g Committed o (line_state old.line) new.tables) c.1 (held known) in
         (r.0, subst (λ (p : Standing (Held S)). IsPublisherOf g p (run_from w all)) (sym is) (stands (record old { phase = Committed; tables = new.tables }) (run_from w all) next (moments.Committed c.0) (ap (moment_of Committed) (sym c.1)) r.1 stored tt))
 
     -- ---- publish
@@ -196,7 +196,7 @@ module _ {S : Type 0} (g : Ghosts S) where
         let c = committed_command old.command s.moment (s.is ∙ ap (λ (p : Phase). moment_of p old.command) phase) in
         let place : IsAt (spot old.line w.disk (moments.Committed c.0)) w = subst (λ (m : Moment). IsAt (spot old.line w.disk m) w) c.2 s.place in
         let r = woven all (events.PublishFail ∷ []) (outcomes.Refused refusals.NotPublished ∷ []) (spot old.line w.disk (moments.Committed c.0)) (spot old.line w.disk moments.Closed) w e (publish_fails old.line w.disk c.0) place in
-        let stored : IsKnown g old.format_1 old.tables → HasDisk g Closed old.command old.tables w.disk = λ known. subst (λ (o : Option Command). HasDisk g Closed o old.tables w.disk) (sym c.1) (stored_in Committed phase known) in
+        let stored : IsKnown g old.ours_first old.tables → HasDisk g Closed old.command old.tables w.disk = λ known. subst (λ (o : Option Command). HasDisk g Closed o old.tables w.disk) (sym c.1) (stored_in Committed phase known) in
         (r.0, subst (λ (p : Standing (Held S)). IsPublisherOf g p (run_from w all)) (sym is) (stands (record old { phase = Closed }) (run_from w all) w.disk moments.Closed refl r.1 stored tt))
 
     -- ---- note, whatever the registry is
@@ -220,10 +220,10 @@ module _ {S : Type 0} (g : Ghosts S) where
   module _ (old new : Standing (Held S)) where
     -- what a failed commit may leave is the published state or, where the commit call failed, the one after the command
     abbrev pub Leaves : Option Command → Refusal → Type 0
-    Leaves command why = IsKnown g new.format_1 new.tables → (left : State) → MayLeave g new.tables left → (left ≡ line_state old.line) ⊎ ((why ≡ refusals.StoreFailed calls.Commit) × (Some left ≡ after_command (line_state old.line) command))
+    Leaves command why = IsKnown g new.ours_first new.tables → (left : State) → MayLeave g new.tables left → (left ≡ line_state old.line) ⊎ ((why ≡ refusals.StoreFailed calls.Commit) × (Some left ≡ after_command (line_state old.line) command))
 
     pub failed : old.phase ≡ Prepared → new ≡ record old { phase = Closed; command = None; tables = new.tables } → (why : Refusal) → (call : StoreCall) → why ≡ refusals.StoreFailed call → Leaves old.command why
-        → IsKnown g new.format_1 new.tables → (left : State) → MayLeave g new.tables left → (fate : Fate) × FailsBy g old new call fate left
+        → IsKnown g new.ours_first new.tables → (left : State) → MayLeave g new.tables left → (fate : Fate) × FailsBy g old new call fate left
     failed phase is why call why_is leaves known left may = elim (leaves known left may) [
       | inl same ↦ (
         Lost,

@@ -23,7 +23,7 @@ use Rattle.prt_world.specs.declared.phase.Phase.TheVariants as moments
 use Rattle.prt_follows.specs.Events.{stop_events, without_fate}
 use Rattle.prt_follows.specs.Laws.{BeginsAt, FailsBy, SubmitFailsBy}
 use Rattle.prt_follows.specs.Publishers.{AreBothOf, HasDisk, moment_of}
-use Rattle.prt_follows.specs.Runs.{Act, Acts, ActsAll, EveryRunGoesOn, EveryRunLeaves, EveryStopLeaves, HoldsAll, SameButFates, act_answers, act_events, act_receipts, adopted, admitted, answers_of, beside, committed, declined, events_of, failed, looked, noted, planned, receipts_of, refused, seated, shown, stopped, submit_failed, submit_unpublished, submitted, unplanned, unshown}
+use Rattle.prt_follows.specs.Runs.{Act, Acts, ActsAll, EveryRunGoesOn, EveryRunLeaves, EveryStopLeaves, HoldsAll, SameButFates, act_answers, act_events, act_receipts, adopted, admitted, answers_of, beside, committed, declined, events_of, failed, looked, noted, planned, prepared, published, receipts_of, refused, seated, shown, stopped, submit_failed, submit_unpublished, submitted, unplanned, unshown}
 use Rattle.prt_follows.proofs.Acks.{stopped_none, woven_keeps}
 use Rattle.prt_follows.proofs.Answered.{list_had}
 use Rattle.prt_follows.proofs.Between.{moment_stays}
@@ -109,7 +109,7 @@ module _ {S : Type 0} (g : Ghosts S) where
 
   module _ (old mid new : Standing (Held S)) (r between after : RegistryState) (w : World) (h : AreBothOf g old r w) (acts : List Act) where
     -- the last act before the publisher idles, or one of those in which it does
-    last : (act : Act) → Acts g old r w act mid between → Idles mid between (run_from w (act_events act)) acts new after → IsKnown g new.format_1 new.tables → (left : State) → MayLeave g new.tables left
+    last : (act : Act) → Acts g old r w act mid between → Idles mid between (run_from w (act_events act)) acts new after → IsKnown g new.ours_first new.tables → (left : State) → MayLeave g new.tables left
         → Fits old r w (act ∷ acts) new after left ⊎ Idles old r w (act ∷ acts) new after
     last (beside event) t idle known left may = inr (idles_more old mid new r between after w (beside event) acts (
       t.1,
@@ -132,7 +132,7 @@ module _ {S : Type 0} (g : Ghosts S) where
     last unplanned t idle known left may = absurd (let both : Ready ≡ Closed = sym t.1.1 ∙ idle.0 in cc)
     last (committed all) t idle known left may = absurd (let both : Committed ≡ Closed = sym t.2.0 ∙ idle.0 in cc)
     last (failed call fate other all) t idle known left may =
-        let by = t.3.4 (subst (λ (p : Standing (Held S)). IsKnown g p.format_1 p.tables) idle.2 known) left (subst (λ (p : Standing (Held S)). MayLeave g p.tables left) idle.2 may) in
+        let by = t.3.4 (subst (λ (p : Standing (Held S)). IsKnown g p.ours_first p.tables) idle.2 known) left (subst (λ (p : Standing (Held S)). MayLeave g p.tables left) idle.2 may) in
         let law : FailsBy g old mid call by.0 left = subst (λ (k : StoreCall). FailsBy g old mid k by.0 left) (same_call call t.3.2 t.3.3) by.1 in
         let again = map (refated by.0) all in
         let alike = refates by.0 fate all call t.0 r w in
@@ -143,13 +143,15 @@ module _ {S : Type 0} (g : Ghosts S) where
         let c = committed_command old.command h.0.moment (h.0.is ∙ ap (λ (p : Phase). moment_of p old.command) t.1) in
         absurd (let both : Some c.0 ≡ None = sym c.1 ∙ ap (λ (p : Standing (Held S)). p.command) (sym t.2.1) ∙ idle.1 in cc)
     last (noted command told more) t idle known left may = absurd (let both : Ready ≡ Closed = sym t.5.0 ∙ idle.0 in cc)
+    last (prepared command) t idle known left may = absurd (let both : Prepared ≡ Closed = sym t.2.0 ∙ idle.0 in cc)
+    last (published command told all) t idle known left may = absurd (let both : Ready ≡ Closed = sym t.4.0 ∙ idle.0 in cc)
     last (submitted command told more) t idle known left may = absurd (let both : Ready ≡ Closed = sym t.4.0 ∙ idle.0 in cc)
     last (refused command why) t idle known left may =
         let shut : old.phase ≡ Closed = ap (λ (p : Standing (Held S)). p.phase) (sym t.2.0) ∙ idle.0 in
         let place = place_in g old old w h.0 Closed moments.Closed shut refl in
         inr (idles_more old mid new r between after w (refused command why) acts (t.2.0, λ d p. (t, ap (λ (s : Step). s.world) (closed_with w d p command place.moment))) idle)
     last (submit_failed command call fate other more) t idle known left may =
-        let by = t.4.4 (subst (λ (p : Standing (Held S)). IsKnown g p.format_1 p.tables) idle.2 known) left (subst (λ (p : Standing (Held S)). MayLeave g p.tables left) idle.2 may) in
+        let by = t.4.4 (subst (λ (p : Standing (Held S)). IsKnown g p.ours_first p.tables) idle.2 known) left (subst (λ (p : Standing (Held S)). MayLeave g p.tables left) idle.2 may) in
         let law : SubmitFailsBy g old mid command call by.0 left = subst (λ (k : StoreCall). SubmitFailsBy g old mid command k by.0 left) (same_call call t.4.2 t.4.3) by.1 in
         let again = map (refated by.0) more in
         let alike = refates by.0 fate more call t.0 r (step w (events.Submit command)).world in
@@ -157,17 +159,17 @@ module _ {S : Type 0} (g : Ghosts S) where
         inl (refailed old mid new r between after w (submit_failed command call by.0 left again) (submit_failed command call fate other more) acts left alike.1.0 alike.1.1 (alike.0, t.1, t.2 ∙ sym alike.1.3, law, t.4) refl refl
         (ap (λ xs. events.Submit command ∷ xs) (same_without by.0 more)) alike.1.2
         (law w h.0 t.1 (events.Submit command ∷ again) own_is).2 idle)
-    last (submit_unpublished command more) t idle known left may = absurd (let both : Some command ≡ None = sym t.3.1 ∙ idle.1 in cc)
+    last (submit_unpublished command more) t idle known left may = absurd (let both : Some command ≡ None = sym t.3.2 ∙ idle.1 in cc)
     last (adopted trees) t idle known left may = absurd (let both : Ready ≡ Closed = sym t.2.0 ∙ idle.0 in cc)
     last (stopped call fate all) t idle known left may = absurd (let both : Ready ≡ Closed = sym t.2.0 ∙ idle.0 in cc)
 
   -- a run fits what is left, or began where it idles
-  fits : (acts : List Act) (old new : Standing (Held S)) (r after : RegistryState) (w : World) → AreBothOf g old r w → ActsAll g old r w acts new after → IsKnown g new.format_1 new.tables → (left : State) → MayLeave g new.tables left
+  fits : (acts : List Act) (old new : Standing (Held S)) (r after : RegistryState) (w : World) → AreBothOf g old r w → ActsAll g old r w acts new after → IsKnown g new.ours_first new.tables → (left : State) → MayLeave g new.tables left
       → Fits old r w acts new after left ⊎ Idles old r w acts new after
   fits [] old new r after w h t known left may = at_end old.phase old.command refl refl (h.0.stored here)
     where
-      here : IsKnown g old.format_1 old.tables
-      here = subst (λ (p : Standing (Held S)). IsKnown g p.format_1 p.tables) t.0 known
+      here : IsKnown g old.ours_first old.tables
+      here = subst (λ (p : Standing (Held S)). IsKnown g p.ours_first p.tables) t.0 known
 
       stored_there : IsStored g old.tables w.disk → Fits old r w [] new after left
       stored_there stored = ([], record { events = refl; receipts = refl; answers = refl }, t, sym (left_is g old w h.0 here left (subst (λ (p : Standing (Held S)). MayLeave g p.tables left) t.0 may) (λ _. stored)))
@@ -193,17 +195,33 @@ module _ {S : Type 0} (g : Ghosts S) where
       ]
 
   -- a run on a new file does not begin closed
-  run_fits : (acts : List Act) (old new : Standing (Held S)) (after : RegistryState) → BeginsAt g old start → ActsAll g old (new_registry (line_state old.line)) start acts new after → IsKnown g new.format_1 new.tables → (left : State) → MayLeave g new.tables left
+  run_fits : (acts : List Act) (old new : Standing (Held S)) (after : RegistryState) → BeginsAt g old start → ActsAll g old (new_registry (line_state old.line)) start acts new after → IsKnown g new.ours_first new.tables → (left : State) → MayLeave g new.tables left
       → Fits old (new_registry (line_state old.line)) start acts new after left
   run_fits acts old new after h t known left may = elim (fits acts old new (new_registry (line_state old.line)) after start h t known left may) [
     | inl f ↦ f
     | inr idle ↦ absurd (let both : moments.Ready ≡ moments.Closed = (place_in g old old start h.0 Closed moments.Closed idle.0 refl).moment in cc)
   ]
 
+  -- whatever may be left spells a state
+  spells_by : (phase : Phase) (command : Option Command) (current : State) (tables : Held S) (trees : Trees) → (state g tables).may_leave trees → Agrees g phase command current tables → (left : State) × Spells trees left
+  spells_by Ready command current tables trees may held = (current, held.durable trees may)
+  spells_by Admitted command current tables trees may held = (current, held.durable trees may)
+  spells_by Prepared command current tables trees may held = (current, held.durable trees may)
+  spells_by Committed None current tables trees may held = absurd held
+  spells_by Committed (Some command) current tables trees may held = (_, held.durable trees may)
+  spells_by Published command current tables trees may held = (current, held.durable trees may)
+  spells_by Closed None current tables trees may held = let found = held.durable trees may in (found.0, found.1)
+  spells_by Closed (Some command) current tables trees may held = (_, held.durable trees may)
+
   pub run_leaves : EveryRunLeaves g
-  run_leaves acts old new after h t known left may =
-      let f = run_fits acts old new after h t known left may in
-      let held = leaves_all g f.0 old new after h f.2 known left may (λ _ _. sym f.3) in (
+  run_leaves acts old new after h t stood known trees may =
+      let spelled = spells_by new.phase new.command (line_state new.line) new.tables trees may (stood known) in
+      let left : State = spelled.0 in
+      let may_leave : MayLeave g new.tables left = (trees, may, spelled.1) in
+      let f = run_fits acts old new after h t known left may_leave in
+      let held = leaves_all g f.0 old new after h f.2 known left may_leave (λ _ _. sym f.3) in (
+        left,
+        spelled.1,
         f.0,
         f.1,
         f.2,
@@ -223,17 +241,6 @@ module _ {S : Type 0} (g : Ghosts S) where
     acts_more xs ys first.0 mid new first.1 between after (run_from w (act_events x)) first.3 (subst (λ (u : World). ActsAll g mid between u ys new after) (run_more w (act_events x) (events_of xs)) rest),
   )
 
-  -- whatever may be left spells a state
-  spells_by : (phase : Phase) (command : Option Command) (published : State) (tables : Held S) (trees : Trees) → (state g tables).may_leave trees → Agrees g phase command published tables → (left : State) × Spells trees left
-  spells_by Ready command published tables trees may held = (published, held.durable trees may)
-  spells_by Admitted command published tables trees may held = (published, held.durable trees may)
-  spells_by Prepared command published tables trees may held = (published, held.durable trees may)
-  spells_by Committed None published tables trees may held = absurd held
-  spells_by Committed (Some command) published tables trees may held = (_, held.durable trees may)
-  spells_by Published command published tables trees may held = (published, held.durable trees may)
-  spells_by Closed None published tables trees may held = let found = held.durable trees may in (found.0, found.1)
-  spells_by Closed (Some command) published tables trees may held = (_, held.durable trees may)
-
   pub run_goes_on : EveryRunGoesOn g
   run_goes_on acts old new last after h t stood known trees may adopts =
       let r = new_registry (line_state old.line) in
@@ -250,11 +257,15 @@ module _ {S : Type 0} (g : Ghosts S) where
   -- ---- a stop within a store call
 
   pub stop_leaves : EveryStopLeaves g
-  stop_leaves acts old mid after h t stood call now was known left may =
+  stop_leaves acts old mid after h t stood call now was known trees may =
       let r = new_registry (line_state old.line) in
       let reached = ran g acts old mid r after start h t in
-      let at = stopped_at g mid was.prepared call left (cut_left g mid call now left stood was known may) in
+      let cut = cut_left g mid call now stood was known trees may in
+      let left : State = cut.0 in
+      let at = stopped_at g mid was.prepared call left cut.2 in
       let u : World = run_from start (events_of acts) in (
+        left,
+        cut.1,
         at.0,
         λ all e.
             let there = at.1 u reached.0.0 all e in

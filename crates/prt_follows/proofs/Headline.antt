@@ -19,4 +19,5 @@ holds_all w before receipts answers left holds is acks given = record {
   durable = durable_of w holds;
   acknowledged = each_last (IsAcknowledged w) before receipts (subst (λ (xs : List Ack). Each (IsAcknowledged w) xs) acks (acknowledged_of w holds));
   answered = given (answered_of w holds);
+  all_answered = answered_of w holds;
 }

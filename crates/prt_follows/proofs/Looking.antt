@@ -1,23 +1,25 @@
 -- The registry's calls for lookers, and what they are in the world.
-use Rattle.std.proofs.Common.{◌≡◌, ℕ, ◌<◌, true, false, List, Option, Some, None, length, get_or, set, refl, sym, ap, ◌∙◌, subst, arith, cond}
-use Rattle.std.specs.Prelude.{IsSome, position, slice_get, unwrap_or}
+use Rattle.std.proofs.Common.{◌≡◌, ℕ, ◌+◌, ◌-◌, ◌<◌, Bool, true, false, List, [], ◌∷◌, Option, Some, None, length, length-append, get_or, set, refl, sym, ap, ◌∙◌, subst, arith, cond}
+use Rattle.std.specs.Prelude.{◌==◌, if◌then◌else◌, IsSome, position, slice_get, unwrap_or}
 use Rattle.std.proofs.lemmas.List.{get_or-map, get_or-set_same, length-map, set-get_or}
 use Rattle.std.proofs.lemmas.List.Quantifiers.{position-Some}
 use Rattle.std.proofs.lemmas.Option.{get_or_from_slice_get, slice_get_within}
 use Rattle.sqlite.specs.Store.{Ghosts}
-use Rattle.prt_grace.specs.Registry.{HasPlace, RegistryState, announced, announcing, is_free, with_place}
+use Rattle.prt_grace.specs.Registry.{HasPlace, RegistryState, announced, announcing, is_free, reclaimed, with_place}
 use Rattle.prt_grace.specs.declared.place.Place.{Place}
 use Rattle.prt_grace.specs.declared.place.PlaceState.{PlaceState}
 use Rattle.prt_grace.specs.declared.place.PlaceState.TheVariants as places
+use Rattle.prt_version.specs.State.{State}
 use Rattle.prt_world.specs.World as world
-use Rattle.prt_world.specs.World.{LookerState, Step, World, announced_by, looker_state, offline, online, step}
+use Rattle.prt_world.specs.World.{LookerState, Step, World, announced_by, kept_versions, looker_state, offline, online, published_version, step}
 use Rattle.prt_world.specs.declared.event.Event.TheVariants as events
-use Rattle.prt_follows.specs.Lookers.{EveryLookersEvent, IsAnnounce, IsJoin, IsOffline, IsOnline, IsPart, held_online, seat}
+use Rattle.prt_world.specs.declared.outcome.Outcome.TheVariants as outcomes
+use Rattle.prt_follows.specs.Lookers.{EveryLookersEvent, IsAnnounce, IsJoin, IsOffline, IsOnline, IsPart, ShowsOnline, ShowsReclaimed, held_online, seat}
 use Rattle.prt_follows.specs.Registries.{IsRegistryOf, brought_online, taken_offline, told_number}
 use Rattle.prt_follows.specs.Publishers.{IsPublisherOf}
 use Rattle.prt_follows.proofs.Joined.{stands_beside}
 use Rattle.prt_follows.proofs.Opening.{open_moment}
-use Rattle.prt_follows.proofs.Registering.{joins, registers_beside, sits}
+use Rattle.prt_follows.proofs.Registering.{joins, registers_beside, registers_reclaimed, sits}
 
 -- ---- places and lookers
 
@@ -67,6 +69,13 @@ module _ (r new : RegistryState) (before place : Place) (has : HasPlace r before
             ∙ ap (λ n. online n held) (sym counted)
             ∙ sym (ap (λ (p : Place). seat p.announced (held_online before.announced held)) moved ∙ ap (λ a. seat (Some number) (held_online a held)) is),
       )
+
+  pub online_shows : (number : ℕ) → number ≡ unwrap_or before.announced r.noted.count → ShowsOnline r new before place number
+  online_shows number counted w going s sat none =
+      let was : looker_state w before.index ≡ offline = sat ∙ ap (λ a. seat a None) none in
+      let noted : number ≡ w.noted = counted ∙ ap (λ a. unwrap_or a r.noted.count) none ∙ s.noted in
+      let to : step w (events.Online before.index) ≡ world.go_online w before.index offline = runs w (world.go_online w before.index (looker_state w before.index)) going ∙ ap (world.go_online w before.index) was in
+      ap (λ (t : Step). t.outcome) to ∙ ap (outcomes.Online before.index) (sym noted)
 
   -- ---- announce
 
@@ -147,6 +156,24 @@ parted r new place has (Some told) is registry held w going s sat =
           (subst (λ (t : Step). IsRegistryOf (with_place r place.index places.Free) t.world) (sym to) (sits r w s place.index places.Free offline refl)),
       ap (λ (t : Step). looker_state t.world place.index) to ∙ sits_there w place.index offline (has_looker r w place s has),
     )
+
+-- ---- reclaim
+
+tops_long : (first second third : State) (b : Bool) → length (first ∷ (if b then [] else second ∷ [])) ≡ length (first ∷ (if b then [] else third ∷ []))
+tops_long first second third true = refl
+tops_long first second third false = refl
+
+pub reclaim_shows : (r new : RegistryState) (number : ℕ) → new ≡ reclaimed r → number + length new.retired ≡ length r.retired → ShowsReclaimed r number
+reclaim_shows r new number is sum w going reached s =
+    let counted : number + length (reclaimed r).retired ≡ length r.retired = subst (λ (q : RegistryState). number + length q.retired ≡ length r.retired) is sum in
+    let after : IsRegistryOf (reclaimed r) (world.reclaim w).world = registers_reclaimed r w reached s in
+    let top = r.noted ∷ (if w.noted == w.published then [] else published_version w ∷ []) in
+    let other = r.noted ∷ (if w.noted == w.published then [] else published_version (world.reclaim w).world ∷ []) in
+    let same : length top ≡ length other = tops_long r.noted (published_version w) (published_version (world.reclaim w).world) (w.noted == w.published) in
+    let had : length w.versions ≡ length r.retired + length top = ap length s.all ∙ length-append r.retired top in
+    let has : length (kept_versions w) ≡ length (reclaimed r).retired + length other = ap length after.all ∙ length-append (reclaimed r).retired other in
+    let gone : length w.versions - length (kept_versions w) ≡ number = omega (arith, counted, same, had, has) in
+    ap (λ (t : Step). t.outcome) (runs w (world.reclaim w) going) ∙ ap outcomes.Reclaimed gone
 
 -- ---- every event of a looker
 

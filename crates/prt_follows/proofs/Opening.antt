@@ -1,6 +1,7 @@
 -- A database that is opened, first or again.
-use Rattle.std.proofs.Common.{◌≡◌, ◌⊎◌, inl, inr, false, List, [], ◌∷◌, Option, Some, None, refl, sym, ap, ◌∙◌, subst, cond, arith}
+use Rattle.std.proofs.Common.{◌≡◌, ◌⊎◌, inl, inr, ◌+◌, false, List, [], ◌∷◌, Option, Some, None, refl, sym, ap, ◌∙◌, subst, cond, arith}
 use Rattle.sqlite.specs.Held.{Held, state}
+use Rattle.sqlite.specs.State.{HasCleanDisk}
 use Rattle.sqlite.specs.Store.{Ghosts}
 use Rattle.prt_addr.specs.declared.refusal.StoreCall.{StoreCall}
 use Rattle.prt_addr.specs.declared.refusal.StoreCall.TheVariants as calls
@@ -20,7 +21,7 @@ use Rattle.std.proofs.lemmas.List.{take-take}
 use Rattle.prt_world.specs.Durability.{state_after}
 use Rattle.prt_world.proofs.Phases.{Holds}
 use Rattle.prt_follows.proofs.Steps.{holds_of, told_opened}
-use Rattle.prt_version.specs.Change.{apply, fold}
+use Rattle.prt_version.specs.Change.{apply, fold, put, put_if}
 use Rattle.prt_version.specs.State.{State, opening_state}
 use Rattle.prt_world.specs.World as world
 use Rattle.prt_world.specs.World.{Step, World, published_version, run_from, outcomes_from, start, step}
@@ -35,7 +36,10 @@ use Rattle.prt_world.proofs.Phases.{version_kept}
 use Rattle.prt_follows.specs.Laws.{AdoptsStopped, BeginsAt, IsCutShort, OpensAgain}
 use Rattle.prt_follows.specs.Registries.{IsRegistryOf}
 use Rattle.prt_follows.proofs.Registering.{registers_opened, registers_started}
-use Rattle.prt_store.proofs.StoppedCommits.{stopped_leaves}
+use Rattle.prt_store.proofs.Calls.{makes_next}
+use Rattle.prt_store.proofs.Exits.{next_spelled}
+use Rattle.prt_store.proofs.Stops.{left_by}
+use Rattle.prt_store.specs.Next.{IsNext}
 use Rattle.prt_grace.specs.Registry.{new_registry}
 use Rattle.prt_store.proofs.Adoptions.{opening_stored}
 use Rattle.prt_world.specs.declared.event.Fate.{Fate}
@@ -81,7 +85,7 @@ open_moment Closed command moment is = let e : moment ≡ moments.Closed = cc in
 
 module _ {S : Type 0} (g : Ghosts S) where
   -- a publisher that was opened stores what it publishes
-  ready_stored : (new : Standing (Held S)) → new.phase ≡ Ready → Stands g new → IsKnown g new.format_1 new.tables → HasDisk g new.phase new.command new.tables (line_state new.line)
+  ready_stored : (new : Standing (Held S)) → new.phase ≡ Ready → Stands g new → IsKnown g new.ours_first new.tables → HasDisk g new.phase new.command new.tables (line_state new.line)
   ready_stored new ready kept known =
       let held : IsStored g new.tables (line_state new.line) = subst (λ (p : Phase). Agrees g p new.command (line_state new.line) new.tables) ready (kept known) in
       subst (λ (p : Phase). HasDisk g p new.command new.tables (line_state new.line)) (sym ready) held
@@ -103,7 +107,7 @@ module _ {S : Type 0} (g : Ghosts S) where
       stored_once (state g made).now.schema (state g made).now.schema (state g made).now.trees opened opening_state stores (opening_stored (state g was).now (state g made).now adopts empty)
 
   -- what a crash leaves is the world's disk, unless a commit failed
-  pub left_is : (old : Standing (Held S)) (w : World) → IsPublisherOf g old w → IsKnown g old.format_1 old.tables → (left : State) → MayLeave g old.tables left → (HasDisk g old.phase old.command old.tables w.disk → IsStored g old.tables w.disk) → left ≡ w.disk
+  pub left_is : (old : Standing (Held S)) (w : World) → IsPublisherOf g old w → IsKnown g old.ours_first old.tables → (left : State) → MayLeave g old.tables left → (HasDisk g old.phase old.command old.tables w.disk → IsStored g old.tables w.disk) → left ≡ w.disk
   left_is old w s known left may stored = spelled_once may.0 left w.disk may.2 ((stored (s.stored known)).durable may.0 may.1)
 
   -- opened again in a world that is stopped
@@ -179,26 +183,39 @@ module _ {S : Type 0} (g : Ghosts S) where
     )
   ]
 
-  -- what a connection holds whose commit was stopped there
-  pub cut_left : (old : Standing (Held S)) (call : StoreCall) (now : Held S) (left : State) → Stands g old → IsCutShort g old call now → IsKnown g old.format_1 now → MayLeave g now left
-      → (left ≡ line_state old.line) ⊎ ((call ≡ calls.Commit) × (Some left ≡ after_command (line_state old.line) old.command))
-  cut_left old call now left stood was known may =
-      let keeps : IsKnown g old.format_1 old.tables → IsStored g old.tables (line_state old.line) = λ known. subst (λ (p : Phase). Agrees g p old.command (line_state old.line) old.tables) was.prepared (stood known) in
-      elim (stopped_leaves g (line_state old.line) old.format_1 old.tables now was.command call was.change was.storable keeps was.makes was.stops known left may) [
-        | inl same ↦ inl same
-        | inr more ↦ inr (more.0, ap Some more.1 ∙ sym (ap (after_command (line_state old.line)) was.under_way))
+  -- Whatever file is left of a commit that was stopped there spells the published state or, within the commit call alone, the one after the command.
+  pub cut_left : (old : Standing (Held S)) (call : StoreCall) (now : Held S) → Stands g old → IsCutShort g old call now → IsKnown g old.ours_first now → (trees : Trees) → (state g now).may_leave trees
+      → (left : State) × Spells trees left × ((left ≡ line_state old.line) ⊎ ((call ≡ calls.Commit) × (Some left ≡ after_command (line_state old.line) old.command)))
+  cut_left old call now stood was known trees may =
+      let published : State = line_state old.line in
+      let next : State = put published was.change in
+      let number = published.count + 1 in
+      let survives = left_by g was.change number old.tables now call was.stops in
+      let before : HasCleanDisk (state g old.tables) = omega (arith, survives.clean, known.1) in
+      let stored : IsStored g old.tables published = subst (λ (p : Phase). Agrees g p old.command published old.tables) was.prepared (stood (known.0, before)) in
+      let follows : IsNext published was.change number = record { sound = stored.now.fits.sound; command = was.command; storable = was.storable; makes = was.makes; counts = refl } in
+      elim (survives.crash known.1 trees may) [
+        | inl found ↦ (published, stored.durable trees found, inl refl)
+        | inr it ↦
+            let done = it.2 in
+            let all = makes_next g was.change number old.tables done.0 published follows it.1 stored.now done.1 in
+            let spells : Spells trees next = subst (λ (t : Trees). Spells t next) (sym done.2) (next_spelled (state g old.tables).now next done.0.schema done.0.trees all) in
+            let is : next ≡ apply published was.command = sym (ap (put_if published) was.makes) in
+            (next, spells, inr (it.0, ap Some is ∙ sym (ap (after_command published) was.under_way)))
       ]
 
   -- and it is opened again
   pub stopped_there : (new : Standing (Held S)) (trees : Trees) → (new.phase ≡ Ready) × (new.line.list ≡ []) → Stands g new → ((stored : State) → Spells trees stored → line_state new.line ≡ stored) → AdoptsStopped g trees new
-  stopped_there new trees opened kept found old call now left stood was known may spelled =
-      let at = stopped_at old was.prepared call left (cut_left old call now left stood was known (trees, may, spelled)) in (
+  stopped_there new trees opened kept found old call now stood was known may =
+      let cut = cut_left old call now stood was known trees may in
+      let left : State = cut.0 in
+      let at = stopped_at old was.prepared call left cut.2 in (
         at.0,
         (
           opened.0,
           λ w s all e.
               let there = at.1 w s all e in
-              let o = opened_after g old.line left new (run_from w all) there.1 opened kept (found left spelled) in
+              let o = opened_after g old.line left new (run_from w all) there.1 opened kept (found left cut.1) in
               (there.0, o.0, o.1),
         ),
       )

@@ -1,5 +1,5 @@
 -- A run of a publisher's calls leads to a world that it stands for, which has acknowledged each receipt.
-use Rattle.std.proofs.Common.{◌≡◌, ℕ, Bool, true, false, List, [], ◌∷◌, ◌++◌, Option, Some, None, refl, sym, ap, ◌∙◌, subst, cond}
+use Rattle.std.proofs.Common.{◌≡◌, ℕ, true, false, List, [], ◌∷◌, ◌++◌, Option, Some, None, refl, sym, ap, ◌∙◌, subst}
 use Rattle.std.specs.List.{AllByRecursion as Each}
 use Rattle.prt_addr.proofs.Each.{each_append}
 use Rattle.std.proofs.lemmas.List.{append-nil, append_assoc}
@@ -11,12 +11,10 @@ use Rattle.prt_publisher.specs.Standing.{Standing}
 use Rattle.prt_publisher.specs.declared.phase.Phase.{Phase}
 use Rattle.prt_publisher.specs.declared.phase.Phase.TheVariants.{Ready, Admitted, Prepared, Committed, Published, Closed}
 use Rattle.prt_version.specs.State.{State}
-use Rattle.prt_rule.specs.declared.packet.Packet.{Packet}
-use Rattle.prt_version.specs.declared.answer.Answer.{Answer}
 use Rattle.prt_world.specs.Durability.{IsAnswered}
 use Rattle.prt_world.specs.declared.outcome.Outcome.TheVariants as outcomes
 use Rattle.prt_world.specs.World as world
-use Rattle.prt_world.specs.World.{Ack, LookerState, Lookup, World, looker_state, offline, online, run_from, start, step}
+use Rattle.prt_world.specs.World.{Ack, Lookup, World, looker_state, run_from, start, step}
 use Rattle.prt_world.specs.declared.event.Event.{Event}
 use Rattle.prt_world.specs.declared.event.Event.TheVariants as events
 use Rattle.prt_world.specs.declared.event.Fate.TheVariants.{Lost}
@@ -28,16 +26,16 @@ use Rattle.sqlite.specs.Held.{state}
 use Rattle.sqlite.specs.Tree.{Trees}
 use Rattle.prt_follows.specs.Laws.{BeginsAt}
 use Rattle.prt_follows.specs.Registries.{IsRegistryOf, registry_through}
-use Rattle.prt_follows.proofs.Exits.{note_goes, place_in, published_command, spot, submits}
+use Rattle.prt_follows.proofs.Exits.{committed_command, note_goes, place_in, published_command, spot, submits}
 use Rattle.prt_follows.proofs.Registering.{joins, registers_beside}
-use Rattle.prt_follows.specs.Events.{commit_events, fail_events, note_events, note_outcomes, own, publish_events, stop_events, submit_events, submit_outcomes, unpublished_events}
-use Rattle.prt_follows.specs.Runs.{EveryRunStands, HoldsAll, ActsAll, Act, Acts, adopted, admitted, answers_of, beside, committed, declined, events_of, failed, looked, noted, planned, receipts_of, refused, seated, shown, stopped, submit_failed, submit_unpublished, submitted, act_answers, act_events, act_receipts, unplanned, unshown}
+use Rattle.prt_follows.specs.Events.{commit_events, fail_events, note_events, note_outcomes, own, publish_events, publish_outcomes, stop_events, submit_events, submit_outcomes, unpublished_events}
+use Rattle.prt_follows.specs.Runs.{EveryRunStands, HoldsAll, ActsAll, Act, Acts, adopted, admitted, answers_of, beside, committed, declined, events_of, failed, looked, noted, planned, prepared, published, receipts_of, refused, seated, shown, stopped, submit_failed, submit_unpublished, submitted, act_answers, act_events, act_receipts, unplanned, unshown}
 use Rattle.prt_follows.specs.Publishers.{HasDisk, AreBothOf, IsPublisherOf, moment_of}
 use Rattle.prt_follows.proofs.Acks.{event_keeps, failed_none, list_keeps, lookers_none, stopped_none, woven_acks, woven_keeps}
-use Rattle.prt_follows.proofs.Desks.{accepted_there}
+use Rattle.prt_follows.proofs.Desks.{accepted_there, published_there}
 use Rattle.prt_follows.proofs.Through.{all_go_on, failed_go_on, registers_event, through}
-use Rattle.prt_follows.proofs.Answered.{list_had}
-use Rattle.prt_follows.proofs.Headline.{each_last, holds_all}
+use Rattle.prt_follows.proofs.Answered.{list_had, unless_shows}
+use Rattle.prt_follows.proofs.Headline.{holds_all}
 use Rattle.prt_follows.proofs.Joined.{stands_beside}
 use Rattle.prt_follows.proofs.Opening.{left_is, open_moment}
 use Rattle.prt_follows.proofs.Steps.{holds_of, notes, run_more}
@@ -103,6 +101,24 @@ module _ {S : Type 0} (g : Ghosts S) where
 
       one_number : (a b : ℕ) → outcomes.Noted a ∷ outcomes.Acknowledged a ∷ [] ≡ outcomes.Noted b ∷ outcomes.Acknowledged b ∷ [] → a ≡ b
       one_number a b is = cc
+  acted old new r after w (prepared command) s h t = ((t.2.1 w s t.0 (events.Submit command ∷ []) refl).1, kept t.1 (submits command r w h), list_keeps (events.Submit command ∷ []) (refl, tt) w)
+  acted old new r after w (published command told all) s h t =
+      let c = committed_command old.command s.moment (s.is ∙ ap (λ (p : Phase). moment_of p old.command) t.1) in
+      let place = place_in g old old w s Committed (moments.Committed c.0) t.1 (sym (ap (moment_of Committed) c.1)) in
+      let law = t.4.1 w s all t.0 in
+      let there = published_there old.line w.disk w c.0 place all t.0 in
+      let number : (line_state (grown old.line c.0)).count ≡ (line_state told).count = same_publish (line_state (grown old.line c.0)).count (line_state told).count (sym there.0 ∙ law.0) in
+      let same : c.0 ≡ command = one (sym c.1 ∙ t.2) in (
+        law.1,
+        kept t.3 (through all (all_go_on all publish_events t.0 (refl, (refl, (refl, tt)))) r w (runs old w s) s.place.reached h),
+        there.1 ∙ ap (λ n. w.acks ++ record { number = n; command = c.0 } ∷ []) number ∙ ap (λ x. w.acks ++ record { number = (line_state told).count; command = x } ∷ []) same,
+      )
+    where
+      one : {x y : Command} → Some x ≡ Some y → x ≡ y
+      one is = cc
+
+      same_publish : (a b : ℕ) → publish_outcomes a ≡ publish_outcomes b → a ≡ b
+      same_publish a b is = cc
   acted old new r after w (submitted command told more) s h t =
       let list = events.Submit command ∷ more in
       let own_is : own list ≡ submit_events command = ap (λ xs. events.Submit command ∷ xs) t.0 in
@@ -128,7 +144,7 @@ module _ {S : Type 0} (g : Ghosts S) where
   acted old new r after w (submit_unpublished command more) s h t =
       let list = events.Submit command ∷ more in
       let own_is : own list ≡ unpublished_events command = ap (λ xs. events.Submit command ∷ xs) t.0 in (
-        (t.3.2 w s t.1 list own_is).1,
+        (t.3.3 w s t.1 list own_is).1,
         kept t.2 (through list (refl, all_go_on more (commit_events ++ events.PublishFail ∷ []) t.0 (refl, (refl, (refl, (refl, (refl, tt)))))) r w (runs old w s) s.place.reached h),
         woven_keeps list (unpublished_events command) own_is (refl, (refl, (refl, (refl, (refl, (refl, tt)))))) w ∙ sym (append-nil w.acks),
       )
@@ -168,19 +184,8 @@ module _ {S : Type 0} (g : Ghosts S) where
   -- ---- the answers that its lookers gave are the world's
 
   module _ (P : Lookup → Type 0) where
-    look_shows : (w : World) (packet : Packet) (state : LookerState) (answer : Answer) → (world.look w packet state).outcome ≡ outcomes.Answered answer → Each P (world.look w packet state).world.answers → P (record { packet = packet; answer = answer })
-    look_shows w packet offline answer is all = absurd cc
-    look_shows w packet (online announced None) answer is all = absurd cc
-    look_shows w packet (online announced (Some held)) answer is all =
-        let given : world.answer_by (world.version w held) packet ≡ answer = cc in
-        subst (λ (a : Answer). P (record { packet = packet; answer = a })) given (each_last P w.answers (record { packet = packet; answer = world.answer_by (world.version w held) packet } ∷ []) all).0
-
-    unless_shows : (w : World) (packet : Packet) (state : LookerState) (answer : Answer) (b : Bool) → (cond b (world.unmet w) (world.look w packet state)).outcome ≡ outcomes.Answered answer → Each P (cond b (world.unmet w) (world.look w packet state)).world.answers → P (record { packet = packet; answer = answer })
-    unless_shows w packet state answer true is all = absurd cc
-    unless_shows w packet state answer false is all = look_shows w packet state answer is all
-
     act_gave : (old new : Standing (Held S)) (r after : RegistryState) (w : World) (act : Act) → Acts g old r w act new after → Each P (run_from w (act_events act)).answers → Each P (act_answers act)
-    act_gave old new r after w (looked i packet answer) t all = (unless_shows w packet (looker_state w i) answer (world.is_stopped w.phase) t.2 all, tt)
+    act_gave old new r after w (looked i packet answer) t all = (unless_shows P w packet (looker_state w i) answer (world.is_stopped w.phase) t.2 all, tt)
     act_gave old new r after w act t all = tt
 
     pub run_gave : (acts : List Act) (old new : Standing (Held S)) (r after : RegistryState) (w : World) → ActsAll g old r w acts new after → Each P (run_from w (events_of acts)).answers → Each P (answers_of acts)
@@ -203,7 +208,7 @@ module _ {S : Type 0} (g : Ghosts S) where
 
   -- after a run, in its world; after a failed commit in that of the state which is left
   pub leaves_all : (acts : List Act) (old new : Standing (Held S)) (after : RegistryState) → BeginsAt g old start → ActsAll g old (new_registry (line_state old.line)) start acts new after
-      → IsKnown g new.format_1 new.tables → (left : State) → MayLeave g new.tables left → (new.phase ≡ Closed → new.command ≡ None → left ≡ (run_from start (events_of acts)).disk)
+      → IsKnown g new.ours_first new.tables → (left : State) → MayLeave g new.tables left → (new.phase ≡ Closed → new.command ≡ None → left ≡ (run_from start (events_of acts)).disk)
       → HoldsAll (run_from start (events_of acts)) (receipts_of acts) (answers_of acts) left
   leaves_all acts old new after h t known left may shut =
       let reached = ran acts old new (new_registry (line_state old.line)) after start h t in

@@ -1,48 +1,59 @@
 -- The lines of a script are a list of the world's events.
-use Rattle.std.proofs.Common.{◌≡◌, ◌⊎◌, inl, inr, ℕ, Bool, true, false, not, ◌&&◌, List, [], ◌∷◌, ◌++◌, Option, Some, None, Result, Ok, Err, length, map, refl, sym, ap, ◌∙◌, subst, cond}
-use Rattle.std.specs.Prelude.{filter, nat_lt}
+use Rattle.std.proofs.Common.{◌≡◌, inl, inr, ℕ, Bool, true, false, not, ◌&&◌, List, [], ◌∷◌, ◌++◌, Option, Some, None, Result, Ok, Err, get_or, length, map, replicate, set, refl, sym, ap, ◌∙◌, subst, cond}
+use Rattle.std.specs.Prelude.{codes, filter, nat_lt}
 use Rattle.std.specs.List.{AllByRecursion as Each, list_any}
 use Rattle.std.proofs.lemmas.List.{append-nil, append_assoc}
 use Rattle.prt_addr.specs.declared.refusal.Refusal.{Refusal}
-use Rattle.prt_addr.specs.declared.refusal.Refusal.TheVariants.{Busy}
+use Rattle.prt_addr.specs.declared.refusal.Refusal.TheVariants.{Busy, NoMemory}
 use Rattle.prt_addr.specs.declared.refusal.StoreCall.{StoreCall}
 use Rattle.prt_addr.specs.declared.refusal.StoreCall.TheVariants as calls
 use Rattle.prt_command.specs.Reading.{reading}
 use Rattle.prt_command.specs.declared.request.Command.{Command}
 use Rattle.prt_command.specs.declared.request.Query.{Query}
+use Rattle.prt_command.specs.declared.request.Query.TheVariants.{Get, RouteShow, RuleShow}
 use Rattle.prt_command.specs.declared.request.Request.{Request}
 use Rattle.prt_command.specs.declared.request.Request.TheVariants as requests
 use Rattle.prt_front.specs.Line.{Line}
 use Rattle.prt_grace.specs.GracePeriod.{is_retired, may_hold}
 use Rattle.prt_grace.specs.declared.limits.TheConstants.{MOST_RETIRED, PLACES}
+use Rattle.prt_listing.specs.AnswerText.{answer_text}
+use Rattle.prt_listing.specs.QueryText.{query_text}
+use Rattle.prt_rule.specs.declared.packet.Packet.{Packet}
 use Rattle.prt_session.specs.Desk.{DeskState, Mishap, command_or_refusal, command_turn, commit_kept, no_memory, no_room, publication_fails, query_turn, request_turn, settled, store_fails}
 use Rattle.prt_session.specs.Session as session
 use Rattle.prt_session.specs.Session.{Exchange, Turn, turn_on}
 use Rattle.prt_session.specs.declared.reply.Reply.{Reply}
-use Rattle.prt_session.specs.declared.reply.Reply.TheVariants.{Refused}
+use Rattle.prt_session.specs.declared.reply.Reply.TheVariants.{Answered, Refused, Silent}
 use Rattle.prt_version.specs.Change.{refusal}
 use Rattle.prt_version.specs.State.{State, opening_state}
+use Rattle.prt_version.specs.declared.answer.Answer.{Answer}
+use Rattle.prt_world.specs.Durability.{IsAnswered}
 use Rattle.prt_world.specs.World as world
-use Rattle.prt_world.specs.World.{Ack, LookerState, Step, World, announced_by, has_room, offline, published_version, run_from, start, step}
+use Rattle.prt_world.specs.World.{Ack, LookerState, Lookup, Step, World, announced_by, has_room, looker_state, offline, online, outcomes_from, published_version, run_from, start, step}
 use Rattle.prt_world.specs.declared.event.Event.{Event}
 use Rattle.prt_world.specs.declared.event.Event.TheVariants as events
 use Rattle.prt_world.specs.declared.event.Fate.{Fate}
 use Rattle.prt_world.specs.declared.event.Fate.TheVariants.{Kept, Lost}
+use Rattle.prt_world.specs.declared.outcome.Outcome.{Outcome}
+use Rattle.prt_world.specs.declared.outcome.Outcome.TheVariants as outcomes
 use Rattle.prt_world.specs.declared.phase.Phase.{Phase as Moment}
 use Rattle.prt_world.specs.declared.phase.Phase.TheVariants as moments
+use Rattle.prt_world.proofs.Claims.{answered_of}
 use Rattle.prt_world.proofs.History.{stays}
 use Rattle.prt_world.proofs.KeptVersions.{each_replicate}
-use Rattle.prt_follows.specs.Desks.{AreOffline, DeskHasRoom, HasRoomFor, IsDeskOf, Lines, ReopenedDesk, ScriptIsRun, Sessions, SessionsHold, ShowsReply, Weaves, accepted_by, accepted_in, desk_events, events_by, joined, moment_between, reply_acks, request_acks, shown_reply, submitted_events}
-use Rattle.prt_follows.specs.Events.{commit_events, fail_events, own_outcomes, publish_events}
+use Rattle.prt_follows.specs.Desks.{AllTell, AnswersOrNot, AreOffline, DeskHasRoom, HasRoomFor, IsDeskOf, Lines, ReopenedDesk, ScriptIsRun, Sessions, SessionsHold, ShowsAnswer, ShowsReply, ShowsTurn, Tells, Weaves, accepted_by, accepted_in, desk_events, events_by, joined, lookup_events, lookup_outcomes, moment_between, reply_acks, request_acks, submitted_events}
+use Rattle.prt_follows.specs.Events.{commit_events, fail_events, own, publish_events}
 use Rattle.prt_follows.specs.Spots.{HasRoom, IsAt, IsReached}
 use Rattle.prt_follows.proofs.Acks.{event_keeps}
+use Rattle.prt_follows.proofs.Answered.{list_had, unless_shows}
 use Rattle.prt_follows.proofs.Between.{stays_there}
 use Rattle.prt_follows.proofs.Desks.{desk_of, turn_is_steps}
 use Rattle.prt_follows.proofs.Exits.{spot}
 use Rattle.prt_follows.proofs.Headline.{holds_all}
 use Rattle.prt_follows.proofs.Keeping.{Keeps, is_storing, storing_keeps}
+use Rattle.prt_follows.proofs.Looking.{runs}
 use Rattle.prt_follows.proofs.Opening.{reopens, stops}
-use Rattle.prt_follows.proofs.Steps.{holds_of, line_at, placed, run_more}
+use Rattle.prt_follows.proofs.Steps.{holds_of, line_at, placed, reached_run, run_more}
 
 -- ---- a desk's events leave lookers as they are
 
@@ -92,25 +103,25 @@ list_seats (event ∷ list) all w = list_seats list all.1 (step w event).world �
 
 -- they are a command's, and in turn
 abbrev IsPlain : List Event → Type 0
-IsPlain list = Each (λ event. is_command event ≡ true) list × Weaves list list
+IsPlain list = Each (λ event. is_command event ≡ true) list × Weaves list list × (own list ≡ list)
 
 plain_fail : (command : Command) (call : StoreCall) (fate : Fate) → IsPlain (events.Submit command ∷ fail_events call fate)
-plain_fail command calls.Begin fate = ((refl, (refl, tt)), (fail_events calls.Begin fate, refl, refl))
-plain_fail command calls.Write fate = ((refl, (refl, (refl, tt))), (fail_events calls.Write fate, refl, refl))
-plain_fail command calls.Count fate = ((refl, (refl, (refl, (refl, tt)))), (fail_events calls.Count fate, refl, refl))
-plain_fail command calls.Commit fate = ((refl, (refl, (refl, (refl, (refl, tt))))), (fail_events calls.Commit fate, refl, refl))
+plain_fail command calls.Begin fate = ((refl, (refl, tt)), (fail_events calls.Begin fate, refl, refl), refl)
+plain_fail command calls.Write fate = ((refl, (refl, (refl, tt))), (fail_events calls.Write fate, refl, refl), refl)
+plain_fail command calls.Count fate = ((refl, (refl, (refl, (refl, tt)))), (fail_events calls.Count fate, refl, refl), refl)
+plain_fail command calls.Commit fate = ((refl, (refl, (refl, (refl, (refl, tt))))), (fail_events calls.Commit fate, refl, refl), refl)
 
 plain_submitted : (command : Command) (mishap : Option Mishap) → IsPlain (submitted_events command mishap)
-plain_submitted command None = ((refl, (refl, (refl, (refl, (refl, (refl, (refl, (refl, tt)))))))), (commit_events ++ publish_events, refl, refl))
-plain_submitted command (Some no_room) = ((refl, tt), ([], refl, refl))
-plain_submitted command (Some no_memory) = (tt, refl)
+plain_submitted command None = ((refl, (refl, (refl, (refl, (refl, (refl, (refl, (refl, tt)))))))), (commit_events ++ publish_events, refl, refl), refl)
+plain_submitted command (Some no_room) = ((refl, tt), ([], refl, refl), refl)
+plain_submitted command (Some no_memory) = (tt, refl, refl)
 plain_submitted command (Some (store_fails call)) = plain_fail command call Lost
 plain_submitted command (Some commit_kept) = plain_fail command calls.Commit Kept
-plain_submitted command (Some publication_fails) = ((refl, (refl, (refl, (refl, (refl, (refl, tt)))))), (commit_events ++ events.PublishFail ∷ [], refl, refl))
+plain_submitted command (Some publication_fails) = ((refl, (refl, (refl, (refl, (refl, (refl, tt)))))), (commit_events ++ events.PublishFail ∷ [], refl, refl), refl)
 
 plain : (command : Command) (shuts : Bool) (reason : Option Refusal) (mishap : Option Mishap) → IsPlain (events_by command shuts reason mishap)
-plain command true reason mishap = ((refl, tt), ([], refl, refl))
-plain command false (Some why) mishap = ((refl, tt), ([], refl, refl))
+plain command true reason mishap = ((refl, tt), ([], refl, refl), refl)
+plain command false (Some why) mishap = ((refl, tt), ([], refl, refl), refl)
 plain command false None mishap = plain_submitted command mishap
 
 -- ---- a reclaim where no looker is online
@@ -132,12 +143,49 @@ stays_by true = refl
 stays_by false = refl
 
 room_then : (w : World) → AreOffline w → has_room (world.reclaim w).world ≡ true
-room_then w all =
+room_then w none =
     let told = map announced_by w.lookers in
+    let all : Each (λ looker. looker ≡ offline) w.lookers = subst (λ (ls : List LookerState). Each (λ looker. looker ≡ offline) ls) (sym none) (each_replicate (λ looker. looker ≡ offline) PLACES offline refl) in
     let p = λ (state : State). is_retired w.noted state.count in
     let q = λ (state : State). stays w.noted told state.count in
     let left : (state : State) → q state ≡ not (p state) = λ state. ap (λ b. not (p state && not b)) (none_holds state.count w.lookers all) ∙ stays_by (p state) in
     ap (λ (xs : List State). nat_lt (length xs) MOST_RETIRED) (none_stays p q w.versions left)
+
+-- ---- one looker's lookup
+
+-- a looker that went online, fetched and went offline again sits as before
+seat_back : (lookers : List LookerState) (up held : LookerState) → lookers ≡ replicate PLACES offline → set (set (set lookers 0 up) 0 held) 0 offline ≡ replicate PLACES offline
+seat_back lookers up held is = ap (λ (ls : List LookerState). set (set (set ls 0 up) 0 held) 0 offline) is
+
+-- the first looker of a world without one that is online looks a packet up, and that shows the answer of the published version
+abbrev LooksUp : World → Packet → Type 0
+LooksUp w packet =
+    (outcomes_from w (lookup_events packet) ≡ lookup_outcomes w (world.answer_by (published_version w) packet))
+    × (run_from w (lookup_events packet)
+    ≡ record w {
+      lookers = set (set (set w.lookers 0 (online w.noted None)) 0 (online w.noted (Some w.published))) 0 offline;
+      answers = w.answers ++ record { packet = packet; answer = world.answer_by (published_version w) packet } ∷ [];
+    })
+
+looks_up : (w : World) (packet : Packet) → world.is_stopped w.phase ≡ false → AreOffline w → LooksUp w packet
+looks_up w packet going all =
+    let up = online w.noted None in
+    let held = online w.noted (Some w.published) in
+    let answer : Answer = world.answer_by (published_version w) packet in
+    let a : World = world.with_looker w 0 up in
+    let b : World = world.with_looker a 0 held in
+    let c : World = record b { answers = w.answers ++ record { packet = packet; answer = answer } ∷ [] } in
+    let rest = events.Look 0 packet ∷ events.Offline 0 ∷ [] in
+    let first : step w (events.Online 0) ≡ world.go_online w 0 offline = runs w (world.go_online w 0 (looker_state w 0)) going ∙ ap (λ (ls : List LookerState). world.go_online w 0 (get_or ls 0 offline)) all in
+    let second : step a (events.Fetch 0) ≡ world.fetch a 0 up = runs a (world.fetch a 0 (looker_state a 0)) going ∙ ap (λ (ls : List LookerState). world.fetch a 0 (get_or (set ls 0 up) 0 offline)) all in
+    let third : step b (events.Look 0 packet) ≡ world.look b packet held = runs b (world.look b packet (looker_state b 0)) going ∙ ap (λ (ls : List LookerState). world.look b packet (get_or (set (set ls 0 up) 0 held) 0 offline)) all in
+    let last : step c (events.Offline 0) ≡ world.go_offline c 0 held = runs c (world.go_offline c 0 (looker_state c 0)) going ∙ ap (λ (ls : List LookerState). world.go_offline c 0 (get_or (set (set ls 0 up) 0 held) 0 offline)) all in (
+      ap (λ (s : Step). s.outcome ∷ outcomes_from s.world (events.Fetch 0 ∷ rest)) first
+          ∙ ap (λ (s : Step). outcomes.Online 0 w.noted ∷ s.outcome ∷ outcomes_from s.world rest) second
+          ∙ ap (λ (s : Step). outcomes.Online 0 w.noted ∷ outcomes.Fetched 0 w.published ∷ s.outcome ∷ outcomes_from s.world (events.Offline 0 ∷ [])) third
+          ∙ ap (λ (s : Step). outcomes.Online 0 w.noted ∷ outcomes.Fetched 0 w.published ∷ outcomes.Answered answer ∷ s.outcome ∷ []) last,
+      ap (λ (s : Step). run_from s.world (events.Fetch 0 ∷ rest)) first ∙ ap (λ (s : Step). run_from s.world rest) second ∙ ap (λ (s : Step). run_from s.world (events.Offline 0 ∷ [])) third ∙ ap (λ (s : Step). s.world) last,
+    )
 
 -- ---- one line
 
@@ -158,12 +206,12 @@ abbrev Reaches : World → (List Event → Type 0) → DeskState → List Ack �
 Reaches w Part desk acks = (list : List Event) × Part list × IsDeskOf desk (run_from w list) × AreOffline (run_from w list) × ((run_from w list).acks ≡ w.acks ++ acks)
 
 -- those of a command's turn
-abbrev Turned : World → Command → Turn DeskState → Type 0
-Turned w command turn = Reaches w (λ list. (shown_reply (own_outcomes w list) ≡ turn.reply) ⊎ ((turn.reply ≡ Refused Busy) × (list ≡ []))) turn.desk (reply_acks command turn.reply)
+abbrev Turned : World → Command → Option Mishap → Turn DeskState → Type 0
+Turned w command mishap turn = Reaches w (λ list. ShowsTurn w list command mishap turn.reply) turn.desk (reply_acks command turn.reply)
 
 module _ (w : World) (desk : DeskState) (h : IsDeskOf desk w) (all : AreOffline w) where
-  nothing_done : Reaches w (λ list. list ≡ []) desk []
-  nothing_done = ([], refl, h, all, sym (append-nil w.acks))
+  nothing_done : (Part : List Event → Type 0) → Part [] → Reaches w Part desk []
+  nothing_done Part part = ([], part, h, all, sym (append-nil w.acks))
 
   -- a reclaim leaves the desk's world as it is, with room
   reclaimed : IsDeskOf desk (step w events.Reclaim).world × AreOffline (step w events.Reclaim).world × (has_room (step w events.Reclaim).world ≡ true)
@@ -177,30 +225,31 @@ module _ (w : World) (desk : DeskState) (h : IsDeskOf desk w) (all : AreOffline 
         ap (λ (s : Step). has_room s.world) is ∙ room_then w all,
       )
 
-  acted : (command : Command) (mishap : Option Mishap) → (desk.closed ≡ false → refusal desk.published command ≡ None → HasRoomFor (step w events.Reclaim).world mishap) → Turned w command (command_turn desk command mishap)
+  acted : (command : Command) (mishap : Option Mishap) → (desk.closed ≡ false → refusal desk.published command ≡ None → HasRoomFor (step w events.Reclaim).world mishap) → Turned w command mishap (command_turn desk command mishap)
   acted command mishap room =
       let v : World = (step w events.Reclaim).world in
       let list = desk_events desk command mishap in
       let is = plain command desk.closed (refusal desk.published command) mishap in
       let t = turn_is_steps desk v command mishap reclaimed.0 room list is.1 in
+      let written : own list ≡ events_by command desk.closed (refusal (published_version w) command) mishap = is.2 ∙ ap (λ (s : State). events_by command desk.closed (refusal s command) mishap) (sym h.published) in
       let kept : v.acks ≡ w.acks = event_keeps w events.Reclaim refl in (
         events.Reclaim ∷ list,
-        inl t.0,
+        inl (desk.closed, h.between, written, t.0),
         t.1,
-        subst (λ (ls : List LookerState). Each (λ looker. looker ≡ offline) ls) (sym (list_seats list is.0 v)) reclaimed.1,
+        list_seats list is.0 v ∙ reclaimed.1,
         t.2 ∙ ap (λ acks. acks ++ reply_acks command (command_turn desk command mishap).reply) kept,
       )
 
   -- refused for want of room, unless for another reason
-  without_room : (command : Command) (shuts : Bool) (reason : Option Refusal) → desk.closed ≡ shuts → refusal desk.published command ≡ reason → Turned w command (command_turn desk command (Some no_room))
+  without_room : (command : Command) (shuts : Bool) (reason : Option Refusal) → desk.closed ≡ shuts → refusal desk.published command ≡ reason → Turned w command (Some no_room) (command_turn desk command (Some no_room))
   without_room command true reason is asked = acted command (Some no_room) (λ closed _. absurd (let both : true ≡ false = sym is ∙ closed in cc))
   without_room command false (Some why) is asked = acted command (Some no_room) (λ _ allowed. absurd (let both : Some why ≡ None = sym asked ∙ allowed in cc))
   without_room command false None is asked =
       let turn : command_turn desk command (Some no_room) ≡ record { reply = Refused Busy; desk = desk } =
       ap (λ b. command_or_refusal desk command b (refusal desk.published command) (Some no_room)) is ∙ ap (λ r. command_or_refusal desk command false r (Some no_room)) asked in
-      subst (Turned w command) (sym turn) ([], inr (refl, refl), h, all, sym (append-nil w.acks))
+      subst (Turned w command (Some no_room)) (sym turn) ([], inr (refl, refl, refl), h, all, sym (append-nil w.acks))
 
-  commanded : (command : Command) (mishap : Option Mishap) → Turned w command (command_turn desk command mishap)
+  commanded : (command : Command) (mishap : Option Mishap) → Turned w command mishap (command_turn desk command mishap)
   commanded command None = acted command None (λ _ _. reclaimed.2)
   commanded command (Some no_room) = without_room command desk.closed (refusal desk.published command) refl refl
   commanded command (Some no_memory) = acted command (Some no_memory) (λ _ _. tt)
@@ -208,18 +257,35 @@ module _ (w : World) (desk : DeskState) (h : IsDeskOf desk w) (all : AreOffline 
   commanded command (Some commit_kept) = acted command (Some commit_kept) (λ _ _. reclaimed.2)
   commanded command (Some publication_fails) = acted command (Some publication_fails) (λ _ _. reclaimed.2)
 
-  queried : (query : Query) (mishap : Option Mishap) → Reaches w (λ list. list ≡ []) (query_turn desk query mishap).desk []
-  queried query None = nothing_done
-  queried query (Some no_room) = nothing_done
-  queried query (Some no_memory) = nothing_done
-  queried query (Some (store_fails call)) = nothing_done
-  queried query (Some commit_kept) = nothing_done
-  queried query (Some publication_fails) = nothing_done
+  -- a lookup shows the answer of the published version, and leaves all but the answers as they were
+  looked : (packet : Packet) → Reaches w (λ list. ShowsAnswer w list (Get packet) (Answered (query_text desk.published (Get packet)))) desk []
+  looked packet =
+      let answer : Answer = world.answer_by (published_version w) packet in
+      let l = looks_up w packet (ap world.is_stopped h.between ∙ going desk.closed) all in (
+        lookup_events packet,
+        (refl, answer, l.0, ap (λ (s : State). Answered (answer_text (world.answer_by s packet) ++ codes "\n")) (sym h.published)),
+        record { reached = reached_run w (lookup_events packet) h.reached; between = ap (λ (v : World). v.phase) l.1 ∙ h.between; published = ap published_version l.1 ∙ h.published; stored = ap (λ (v : World). v.disk) l.1 ∙ h.stored },
+        ap (λ (v : World). v.lookers) l.1 ∙ seat_back w.lookers (online w.noted None) (online w.noted (Some w.published)) all,
+        ap (λ (v : World). v.acks) l.1 ∙ sym (append-nil w.acks),
+      )
+
+  answered : (query : Query) → Reaches w (λ list. ShowsAnswer w list query (Answered (query_text desk.published query))) desk []
+  answered (RouteShow selector) = nothing_done (λ list. ShowsAnswer w list (RouteShow selector) (Answered (query_text desk.published (RouteShow selector)))) (refl, ap (λ (s : State). Answered (query_text s (RouteShow selector))) (sym h.published))
+  answered RuleShow = nothing_done (λ list. ShowsAnswer w list RuleShow (Answered (query_text desk.published RuleShow))) (refl, ap (λ (s : State). Answered (query_text s RuleShow)) (sym h.published))
+  answered (Get packet) = looked packet
+
+  queried : (query : Query) (mishap : Option Mishap) → Reaches w (λ list. AnswersOrNot w list query mishap (query_turn desk query mishap).reply) (query_turn desk query mishap).desk []
+  queried query None = answered query
+  queried query (Some no_room) = answered query
+  queried query (Some no_memory) = nothing_done (λ list. AnswersOrNot w list query (Some no_memory) (Refused NoMemory)) (refl, refl)
+  queried query (Some (store_fails call)) = answered query
+  queried query (Some commit_kept) = answered query
+  queried query (Some publication_fails) = answered query
 
   lined : (asked : Result (Option Request) Refusal) (mishap : Option Mishap)
-      → Reaches w (λ list. ShowsReply w list asked (turn_on request_turn desk asked mishap).reply) (turn_on request_turn desk asked mishap).desk (request_acks asked (turn_on request_turn desk asked mishap).reply)
-  lined (Err reason) mishap = nothing_done
-  lined (Ok None) mishap = nothing_done
+      → Reaches w (λ list. ShowsReply w list asked mishap (turn_on request_turn desk asked mishap).reply) (turn_on request_turn desk asked mishap).desk (request_acks asked (turn_on request_turn desk asked mishap).reply)
+  lined (Err reason) mishap = nothing_done (λ list. ShowsReply w list (Err reason) mishap (Refused reason)) (refl, refl)
+  lined (Ok None) mishap = nothing_done (λ list. ShowsReply w list (Ok None) mishap Silent) (refl, refl)
   lined (Ok (Some (requests.Command command))) mishap = commanded command mishap
   lined (Ok (Some (requests.Query query))) mishap = queried query mishap
 
@@ -235,7 +301,7 @@ script_is_run (x ∷ xs) before after w h all path =
     let ran : run_from w (first.0 ++ joined rest.0) ≡ run_from v (joined rest.0) = run_more w first.0 (joined rest.0) in
     let told : (run_from w first.0).acks ≡ w.acks ++ request_acks (reading x.line) x.reply = first.4 ∙ ap (λ reply. w.acks ++ request_acks (reading x.line) reply) (sym path.1) in (
       first.0 ∷ rest.0,
-      (subst (λ (reply : Reply). ShowsReply w first.0 (reading x.line) reply) (sym path.1) first.1, rest.1),
+      (subst (λ (reply : Reply). ShowsReply w first.0 (reading x.line) x.mishap reply) (sym path.1) first.1, rest.1),
       subst (IsDeskOf after) (sym ran) rest.2,
       subst AreOffline (sym ran) rest.3,
       ap (λ (u : World). u.acks) ran ∙ rest.4 ∙ ap (λ acks. acks ++ accepted_in xs) told ∙ append_assoc w.acks (request_acks (reading x.line) x.reply) (accepted_in xs),
@@ -255,24 +321,86 @@ reopened_desk desk w h =
     let b = reopens (line_at w) opened w.disk v refl refl a.1 in
     let is : step v events.Reopen ≡ world.reopen v moments.Stopped = ap (world.reopen v) a.1.moment in (
       desk_of (settled desk.stored) opened w.disk moments.Ready (step v events.Reopen).world b.1 refl h.stored h.stored,
-      subst (λ (s : Step). AreOffline s.world) (sym is) (each_replicate (λ looker. looker ≡ offline) PLACES offline refl),
+      subst (λ (s : Step). AreOffline s.world) (sym is) refl,
       event_keeps v events.Reopen refl ∙ event_keeps w (events.Stop Lost) refl,
     )
 
+-- ---- the answers that replies tell
+
+module _ (P : Lookup → Type 0) where
+  get_tells : (w : World) (part : List Event) (packet : Packet) (reply : Reply) → ShowsAnswer w part (Get packet) reply → Each P (run_from w part).answers → Tells P (Ok (Some (requests.Query (Get packet)))) reply
+  get_tells w part packet reply shows all =
+      let b : World = run_from w (events.Online 0 ∷ events.Fetch 0 ∷ []) in
+      let c : World = (step b (events.Look 0 packet)).world in
+      let given : Each P (run_from c (events.Offline 0 ∷ [])).answers = subst (λ (list : List Event). Each P (run_from w list).answers) shows.0 all in
+      let shown : (step b (events.Look 0 packet)).outcome ≡ outcomes.Answered shows.1 = ap (λ (os : List Outcome). get_or os 2 outcomes.Nothing) (sym (ap (outcomes_from w) shows.0) ∙ shows.2) in
+      let held = unless_shows P b packet (looker_state b 0) shows.1 (world.is_stopped b.phase) shown (list_had P (events.Offline 0 ∷ []) c given) in
+      subst (Tells P (Ok (Some (requests.Query (Get packet))))) (sym shows.3) (shows.1, refl, held)
+
+  query_tells : (w : World) (part : List Event) (query : Query) (reply : Reply) → ShowsAnswer w part query reply → Each P (run_from w part).answers → Tells P (Ok (Some (requests.Query query))) reply
+  query_tells w part (RouteShow selector) reply shows all = tt
+  query_tells w part RuleShow reply shows all = tt
+  query_tells w part (Get packet) reply shows all = get_tells w part packet reply shows all
+
+  query_or_not : (w : World) (part : List Event) (query : Query) (mishap : Option Mishap) (reply : Reply) → AnswersOrNot w part query mishap reply → Each P (run_from w part).answers → Tells P (Ok (Some (requests.Query query))) reply
+  query_or_not w part query None reply shows all = query_tells w part query reply shows all
+  query_or_not w part query (Some no_room) reply shows all = query_tells w part query reply shows all
+  query_or_not w part query (Some no_memory) reply shows all = subst (Tells P (Ok (Some (requests.Query query)))) (sym shows.1) (unanswered query)
+    where
+      unanswered : (query : Query) → Tells P (Ok (Some (requests.Query query))) (Refused NoMemory)
+      unanswered (RouteShow selector) = tt
+      unanswered RuleShow = tt
+      unanswered (Get packet) = tt
+  query_or_not w part query (Some (store_fails call)) reply shows all = query_tells w part query reply shows all
+  query_or_not w part query (Some commit_kept) reply shows all = query_tells w part query reply shows all
+  query_or_not w part query (Some publication_fails) reply shows all = query_tells w part query reply shows all
+
+  line_tells : (w : World) (part : List Event) (asked : Result (Option Request) Refusal) (mishap : Option Mishap) (reply : Reply) → ShowsReply w part asked mishap reply → Each P (run_from w part).answers → Tells P asked reply
+  line_tells w part (Err reason) mishap reply shows all = tt
+  line_tells w part (Ok None) mishap reply shows all = tt
+  line_tells w part (Ok (Some (requests.Command command))) mishap reply shows all = tt
+  line_tells w part (Ok (Some (requests.Query query))) mishap reply shows all = query_or_not w part query mishap reply shows all
+
+  lines_tell : (xs : List (Exchange Mishap)) (w : World) (parts : List (List Event)) → Lines w xs parts → Each P (run_from w (joined parts)).answers → AllTell P xs
+  lines_tell [] w parts lines all = tt
+  lines_tell (x ∷ xs) w [] lines all = absurd lines
+  lines_tell (x ∷ xs) w (part ∷ parts) lines all =
+      let v : World = run_from w part in
+      let there : Each P (run_from v (joined parts)).answers = subst (λ (u : World). Each P u.answers) (run_more w part (joined parts)) all in
+      (line_tells w part (reading x.line) x.mishap x.reply lines.0 (list_had P (joined parts) v there), lines_tell xs v parts lines.1 there)
+
 -- ---- scripts on one file
 
-sessions_from : (sessions : List (List (Exchange Mishap))) (stored left : State) (w : World) → IsDeskOf (settled stored) w → AreOffline w → Sessions stored sessions left
-    → (v : World) × IsReached v × (v.disk ≡ left) × (v.acks ≡ w.acks ++ accepted_by sessions)
-sessions_from [] stored left w h all is = (w, h.reached, h.stored ∙ sym is, sym (append-nil w.acks))
+-- some events lead to a world with this on disk, which acknowledged what replies do and gave the answers that they tell
+abbrev Holding : World → List (List (Exchange Mishap)) → State → Type 0
+Holding w sessions left = (v : World) × (list : List Event) × (v ≡ run_from w list) × (v.disk ≡ left) × (v.acks ≡ w.acks ++ accepted_by sessions) × Each (AllTell (IsAnswered v)) sessions
+
+sessions_from : (sessions : List (List (Exchange Mishap))) (stored left : State) (w : World) → IsDeskOf (settled stored) w → AreOffline w → Sessions stored sessions left → Holding w sessions left
+sessions_from [] stored left w h all is = (w, [], refl, h.stored ∙ sym is, sym (append-nil w.acks), tt)
 sessions_from (xs ∷ sessions) stored left w h all s =
     let desk : DeskState = s.0 in
     let run = script_is_run xs (settled stored) desk w h all s.1 in
-    let v : World = run_from w (joined run.0) in
-    let again = reopened_desk desk v run.2 in
-    let rest = sessions_from sessions desk.stored left (run_from v (events.Stop Lost ∷ events.Reopen ∷ [])) again.0 again.1 s.2 in
-    (rest.0, rest.1, rest.2, rest.3 ∙ ap (λ acks. acks ++ accepted_by sessions) (again.2 ∙ run.4) ∙ append_assoc w.acks (accepted_in xs) (accepted_by sessions))
+    let u : World = run_from w (joined run.0) in
+    let again = reopened_desk desk u run.2 in
+    let opening = events.Stop Lost ∷ events.Reopen ∷ [] in
+    let rest = sessions_from sessions desk.stored left (run_from u opening) again.0 again.1 s.2 in
+    let v : World = rest.0 in
+    let list = opening ++ rest.1 in
+    let more : v ≡ run_from u list = rest.2 ∙ sym (run_more u opening rest.1) in
+    let whole : v ≡ run_from w (joined run.0 ++ list) = more ∙ sym (run_more w (joined run.0) list) in
+    let reached : IsReached v = subst IsReached (sym whole) (reached_run w (joined run.0 ++ list) h.reached) in
+    let had : Each (IsAnswered v) u.answers = list_had (IsAnswered v) list u (subst (λ (x : World). Each (IsAnswered v) x.answers) more (answered_of v (holds_of v reached))) in (
+      v,
+      joined run.0 ++ list,
+      whole,
+      rest.3,
+      rest.4 ∙ ap (λ acks. acks ++ accepted_by sessions) (again.2 ∙ run.4) ∙ append_assoc w.acks (accepted_in xs) (accepted_by sessions),
+      (lines_tell (IsAnswered v) xs w run.0 run.1 had, rest.5),
+    )
 
 pub sessions_hold : SessionsHold
 sessions_hold sessions left s =
-    let there = sessions_from sessions opening_state left start (record { reached = ([], refl); between = refl; published = refl; stored = refl }) (each_replicate (λ looker. looker ≡ offline) PLACES offline refl) s in
-    (there.0, there.1, there.2, there.3, holds_all there.0 [] (accepted_by sessions) (there.0).answers left (holds_of there.0 there.1) (sym there.2) there.3 (λ all. all))
+    let there = sessions_from sessions opening_state left start (record { reached = ([], refl); between = refl; published = refl; stored = refl }) refl s in
+    let v : World = there.0 in
+    let reached : IsReached v = (there.1, there.2) in
+    (v, reached, there.3, there.4, holds_all v [] (accepted_by sessions) v.answers left (holds_of v reached) (sym there.3) there.4 (λ all. all), there.5)

@@ -54,8 +54,10 @@ module _ {S : Type 0} (g : Ghosts S) where
       (λ v t. planned g (admitted_as old command) (prepared_as old command) v t command refl refl refl takes.1) w (admitted_there old command w takes.0 s room)
 
   pub prepares : (old new : Standing (Held S)) (command : Command) → new ≡ prepared_as old command → Takes old command → Prepares g old new command
-  prepares old new command is takes w s room =
-      subst (λ (p : Standing (Held S)). Leads g w (events.Submit command ∷ []) (outcomes.Prepared ((line_state old.line).count + 1) ∷ []) p) (sym is) (prepared_there old command takes w s room)
+  prepares old new command is takes = (
+    ap (λ (p : Standing (Held S)). p.phase) is,
+    λ w s room. subst (λ (p : Standing (Held S)). Leads g w (events.Submit command ∷ []) (outcomes.Prepared ((line_state old.line).count + 1) ∷ []) p) (sym is) (prepared_there old command takes w s room),
+  )
 
   -- ---- refused
 
@@ -97,18 +99,21 @@ module _ {S : Type 0} (g : Ghosts S) where
       leads_then g w mid new (events.Publish ∷ []) note_events (outcomes.Published (line_state mid.line).count ∷ []) (note_outcomes mid.line) (published g old mid w s phase shown) (λ v t. noted_on g mid new v t at is)
 
   pub publishes_it : (old new : Standing (Held S)) (told : Line) → old.phase ≡ Committed → (new ≡ record old { phase = Ready; line = new.line; command = None }) × (Some new.line ≡ line_after old.line old.command) → told ≡ new.line → Publishes g old new told
-  publishes_it old new told phase ok receipt w s =
-      let r = published_then old (record old { phase = Published; line = new.line }) new phase (refl, ok.1) ok.0 w s in
-      subst (λ (l : Line). Leads g w publish_events (publish_outcomes (line_state l).count) new) (sym receipt) r
+  publishes_it old new told phase ok receipt = (
+    ap (λ (p : Standing (Held S)). p.phase) ok.0,
+    λ w s.
+        let r = published_then old (record old { phase = Published; line = new.line }) new phase (refl, ok.1) ok.0 w s in
+        subst (λ (l : Line). Leads g w publish_events (publish_outcomes (line_state l).count) new) (sym receipt) r,
+  )
 
   -- ---- submitted
 
   module _ (old new : Standing (Held S)) (command : Command) (takes : Takes old command) where
     -- what the tables hold after the commit
-    committed_stands : (IsKnown g old.format_1 new.tables → IsStored g new.tables (apply (line_state old.line) command)) → Stands g (committed_as old command new.tables)
+    committed_stands : (IsKnown g old.ours_first new.tables → IsStored g new.tables (apply (line_state old.line) command)) → Stands g (committed_as old command new.tables)
     committed_stands stored = stored
 
-    committed_there : (IsKnown g old.format_1 new.tables → IsStored g new.tables (apply (line_state old.line) command)) → (w : World) → IsPublisherOf g old w → has_room w ≡ true
+    committed_there : (IsKnown g old.ours_first new.tables → IsStored g new.tables (apply (line_state old.line) command)) → (w : World) → IsPublisherOf g old w → has_room w ≡ true
         → Leads g w (events.Submit command ∷ commit_events) (outcomes.Prepared ((line_state old.line).count + 1) ∷ commit_outcomes) (committed_as old command new.tables)
     committed_there stored w s room =
         leads_then g w (prepared_as old command) (committed_as old command new.tables) (events.Submit command ∷ []) commit_events (outcomes.Prepared ((line_state old.line).count + 1) ∷ []) commit_outcomes
@@ -120,8 +125,8 @@ module _ {S : Type 0} (g : Ghosts S) where
       λ w s room.
           let mid = committed_as old command new.tables in
           let line : Line = grown old.line command in
-          let held : IsKnown g old.format_1 new.tables → IsStored g new.tables (line_state line) = subst (λ (p : Standing (Held S)). IsKnown g p.format_1 new.tables → Agrees g p.phase p.command (line_state p.line) new.tables) is kept in
-          let stored : IsKnown g old.format_1 new.tables → IsStored g new.tables (apply (line_state old.line) command) = λ known. subst (λ (state : State). IsStored g new.tables state) (state_grown old.line line command refl) (held known) in
+          let held : IsKnown g old.ours_first new.tables → IsStored g new.tables (line_state line) = subst (λ (p : Standing (Held S)). IsKnown g p.ours_first new.tables → Agrees g p.phase p.command (line_state p.line) new.tables) is kept in
+          let stored : IsKnown g old.ours_first new.tables → IsStored g new.tables (apply (line_state old.line) command) = λ known. subst (λ (state : State). IsStored g new.tables state) (state_grown old.line line command refl) (held known) in
           let count : (line_state line).count ≡ (line_state old.line).count + 1 = ap (λ (state : State). state.count) (state_grown old.line line command refl) ∙ apply_count (line_state old.line) command takes.1 in
           let all = leads_then g w mid new (events.Submit command ∷ commit_events) publish_events (outcomes.Prepared ((line_state old.line).count + 1) ∷ commit_outcomes) (publish_outcomes (line_state line).count)
           (committed_there stored w s room) (λ v t. published_then mid (published_as old command new.tables) new refl (refl, refl) is v t) in
@@ -147,10 +152,11 @@ module _ {S : Type 0} (g : Ghosts S) where
     pub submit_unpublished : (why : Refusal) → IsNotPublished g old command why new → Stands g new → SubmitUnpublished g old new command why
     submit_unpublished why fails kept = (
       fails.why_is,
+      ap (λ (p : Standing (Held S)). p.phase) fails.left,
       ap (λ (p : Standing (Held S)). p.command) fails.left,
       λ w s room.
           let mid = committed_as old command new.tables in
-          let stored : IsKnown g old.format_1 new.tables → IsStored g new.tables (apply (line_state old.line) command) = subst (λ (p : Standing (Held S)). IsKnown g p.format_1 new.tables → Agrees g p.phase p.command (line_state p.line) new.tables) fails.left kept in
+          let stored : IsKnown g old.ours_first new.tables → IsStored g new.tables (apply (line_state old.line) command) = subst (λ (p : Standing (Held S)). IsKnown g p.ours_first new.tables → Agrees g p.phase p.command (line_state p.line) new.tables) fails.left kept in
           leads_then g w mid new (events.Submit command ∷ commit_events) (events.PublishFail ∷ []) (outcomes.Prepared ((line_state old.line).count + 1) ∷ commit_outcomes) (outcomes.Refused refusals.NotPublished ∷ [])
           (committed_there stored w s room) (λ v t. not_published g mid new v t refl fails.left),
     )

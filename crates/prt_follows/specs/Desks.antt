@@ -1,20 +1,28 @@
 -- The turns of a desk's definition, beside the world's events.
-use Rattle.std.specs.Prelude.{◌≡◌, ◌⊎◌, ◌++◌, Bool, true, false, List, [], ◌∷◌, Option, Some, None, Result, Ok, ⊤}
+use Rattle.std.specs.Prelude.{◌≡◌, ◌⊎◌, ◌++◌, Bool, true, false, List, [], ◌∷◌, replicate, Option, Some, None, Result, Ok, Err, codes, ⊤}
 use Rattle.std.specs.List.{AllByRecursion as Each}
 use Rattle.prt_addr.specs.declared.refusal.Refusal.{Refusal}
 use Rattle.prt_addr.specs.declared.refusal.Refusal.TheVariants.{Busy, NoMemory}
 use Rattle.prt_addr.specs.declared.refusal.StoreCall.TheVariants.{Commit}
 use Rattle.prt_command.specs.Reading.{reading}
 use Rattle.prt_command.specs.declared.request.Command.{Command}
+use Rattle.prt_command.specs.declared.request.Query.{Query}
+use Rattle.prt_command.specs.declared.request.Query.TheVariants.{Get}
 use Rattle.prt_command.specs.declared.request.Request.{Request}
 use Rattle.prt_command.specs.declared.request.Request.TheVariants as requests
+use Rattle.prt_grace.specs.declared.limits.TheConstants.{PLACES}
+use Rattle.prt_listing.specs.AnswerText.{answer_text}
+use Rattle.prt_listing.specs.QueryText.{query_text}
+use Rattle.prt_rule.specs.declared.packet.Packet.{Packet}
 use Rattle.prt_session.specs.Desk.{Befalls, DeskState, Mishap, command_turn, commit_kept, no_memory, no_room, publication_fails, request_turn, settled, store_fails}
 use Rattle.prt_session.specs.Session.{Exchange, Path}
 use Rattle.prt_session.specs.declared.reply.Reply.{Reply}
-use Rattle.prt_session.specs.declared.reply.Reply.TheVariants.{Accepted, Refused}
+use Rattle.prt_session.specs.declared.reply.Reply.TheVariants.{Accepted, Answered, Refused, Silent}
 use Rattle.prt_version.specs.Change.{refusal}
 use Rattle.prt_version.specs.State.{State, opening_state}
-use Rattle.prt_world.specs.World.{Ack, World, has_room, offline, published_version, run_from, step}
+use Rattle.prt_version.specs.declared.answer.Answer.{Answer}
+use Rattle.prt_world.specs.Durability.{IsAnswered}
+use Rattle.prt_world.specs.World.{Ack, Lookup, World, has_room, offline, outcomes_from, published_version, run_from, step}
 use Rattle.prt_world.specs.declared.event.Event.{Event}
 use Rattle.prt_world.specs.declared.event.Event.TheVariants as events
 use Rattle.prt_world.specs.declared.event.Fate.TheVariants.{Kept, Lost}
@@ -101,7 +109,7 @@ TurnIsSteps = (desk : DeskState) (w : World) (command : Command) (mishap : Optio
 
 -- no looker is online
 abbrev pub AreOffline : World → Type 0
-AreOffline w = Each (λ looker. looker ≡ offline) w.lookers
+AreOffline w = w.lookers ≡ replicate PLACES offline
 
 abbrev pub request_acks : Result (Option Request) Refusal → Reply → List Ack
 request_acks (Ok (Some (requests.Command command))) reply = reply_acks command reply
@@ -112,16 +120,41 @@ abbrev pub accepted_in : {M : Type 0} → List (Exchange M) → List Ack
 accepted_in {M} [] = []
 accepted_in {M} (x ∷ xs) = request_acks (reading x.line) x.reply ++ accepted_in xs
 
--- The events of a command's line show its reply. Only a refusal as busy is none, for lack of a looker: then nothing is done.
-abbrev pub ShowsReply : World → List Event → Result (Option Request) Refusal → Reply → Type 0
-ShowsReply w part (Ok (Some (requests.Command command))) reply = (shown_reply (own_outcomes w part) ≡ reply) ⊎ ((reply ≡ Refused Busy) × (part ≡ []))
-ShowsReply w part request reply = part ≡ []
+-- The events of a command, by what befalls it, show its reply. Only a refusal as busy is none, for lack of a looker: then nothing is done.
+abbrev pub ShowsTurn : World → List Event → Command → Option Mishap → Reply → Type 0
+ShowsTurn w part command mishap reply =
+    ((closed : Bool) × (w.phase ≡ moment_between closed) × (own part ≡ events_by command closed (refusal (published_version w) command) mishap) × (shown_reply (own_outcomes w part) ≡ reply))
+    ⊎ ((mishap ≡ Some no_room) × (reply ≡ Refused Busy) × (part ≡ []))
+
+-- one looker's lookup of a packet
+abbrev pub lookup_events : Packet → List Event
+lookup_events packet = events.Online 0 ∷ events.Fetch 0 ∷ events.Look 0 packet ∷ events.Offline 0 ∷ []
+
+abbrev pub lookup_outcomes : World → Answer → List Outcome
+lookup_outcomes w answer = outcomes.Online 0 w.noted ∷ outcomes.Fetched 0 w.published ∷ outcomes.Answered answer ∷ outcomes.Offline 0 ∷ []
+
+-- `route get` is a lookup, which shows the answer that the reply tells. A listing is one of the published version, and no event.
+abbrev pub ShowsAnswer : World → List Event → Query → Reply → Type 0
+ShowsAnswer w part (Get packet) reply = (part ≡ lookup_events packet) × (answer : Answer) × (outcomes_from w part ≡ lookup_outcomes w answer) × (reply ≡ Answered (answer_text answer ++ codes "\n"))
+ShowsAnswer w part query reply = (part ≡ []) × (reply ≡ Answered (query_text (published_version w) query))
+
+-- a query that gets no memory does nothing
+abbrev pub AnswersOrNot : World → List Event → Query → Option Mishap → Reply → Type 0
+AnswersOrNot w part query (Some no_memory) reply = (part ≡ []) × (reply ≡ Refused NoMemory)
+AnswersOrNot w part query mishap reply = ShowsAnswer w part query reply
+
+-- the part of one line
+abbrev pub ShowsReply : World → List Event → Result (Option Request) Refusal → Option Mishap → Reply → Type 0
+ShowsReply w part (Err reason) mishap reply = (part ≡ []) × (reply ≡ Refused reason)
+ShowsReply w part (Ok None) mishap reply = (part ≡ []) × (reply ≡ Silent)
+ShowsReply w part (Ok (Some (requests.Command command))) mishap reply = ShowsTurn w part command mishap reply
+ShowsReply w part (Ok (Some (requests.Query query))) mishap reply = AnswersOrNot w part query mishap reply
 
 -- each line has its part of the events
 abbrev pub Lines : World → List (Exchange Mishap) → List (List Event) → Type 0
 Lines w [] parts = parts ≡ []
 Lines w (x ∷ xs) [] = ⊥
-Lines w (x ∷ xs) (part ∷ parts) = ShowsReply w part (reading x.line) x.reply × Lines (run_from w part) xs parts
+Lines w (x ∷ xs) (part ∷ parts) = ShowsReply w part (reading x.line) x.mishap x.reply × Lines (run_from w part) xs parts
 
 abbrev pub joined : List (List Event) → List Event
 joined [] = []
@@ -131,7 +164,7 @@ joined (part ∷ parts) = part ++ joined parts
 abbrev pub Exchanges : DeskState → List (Exchange Mishap) → DeskState → Type 0
 Exchanges before xs after = Path request_turn (Befalls (λ mishap. ⊤)) before xs after
 
--- The lines of a script are lists of events of a world without lookers, which show their replies: they lead to a world of the desk after them, and acknowledge what the replies do.
+-- The lines of a script are lists of events which show their replies. No looker is online between them. They lead to a world of the desk after them, and acknowledge what the replies do.
 abbrev pub ScriptIsRun : Type 0
 ScriptIsRun = (xs : List (Exchange Mishap)) (before after : DeskState) (w : World) → IsDeskOf before w → AreOffline w → Exchanges before xs after
     → (parts : List (List Event)) × Lines w xs parts
@@ -162,6 +195,15 @@ abbrev pub accepted_by : List (List (Exchange Mishap)) → List Ack
 accepted_by [] = []
 accepted_by (xs ∷ sessions) = accepted_in xs ++ accepted_by sessions
 
--- What any number of scripts on a new file leave is on disk in a world that acknowledged what their replies do: it holds all of that.
+-- where the reply answers a `route get`, this holds of the packet and the answer that it tells
+abbrev pub Tells : (Lookup → Type 0) → Result (Option Request) Refusal → Reply → Type 0
+Tells P (Ok (Some (requests.Query (Get packet)))) (Answered text) = (answer : Answer) × (text ≡ answer_text answer ++ codes "\n") × P (record { packet = packet; answer = answer })
+Tells P request reply = Unit {0}
+
+abbrev pub AllTell : (Lookup → Type 0) → List (Exchange Mishap) → Type 0
+AllTell P xs = Each (λ x. Tells P (reading x.line) x.reply) xs
+
+-- What any number of scripts on a new file leave is on disk in a world that acknowledged what their replies do: it holds all of that, and the version by which each `route get` was answered.
 abbrev pub SessionsHold : Type 0
-SessionsHold = (sessions : List (List (Exchange Mishap))) (left : State) → Sessions opening_state sessions left → (v : World) × IsReached v × (v.disk ≡ left) × (v.acks ≡ accepted_by sessions) × HoldsAll v (accepted_by sessions) v.answers left
+SessionsHold = (sessions : List (List (Exchange Mishap))) (left : State) → Sessions opening_state sessions left → (v : World) × IsReached v × (v.disk ≡ left) × (v.acks ≡ accepted_by sessions)
+    × HoldsAll v (accepted_by sessions) v.answers left × Each (AllTell (IsAnswered v)) sessions

@@ -64,7 +64,7 @@ module _ {S : Type 0} (g : Ghosts S) (old new : Standing (Held S)) where
 
   -- closed; each state that a crash may leave is that of a world whose event of the failed call has the fate that fits
   abbrev pub FailsToCommit : Refusal → Type 0
-  FailsToCommit why = (new.phase ≡ Closed) × (new.command ≡ None) × (call : StoreCall) × (why ≡ StoreFailed call) × (IsKnown g new.format_1 new.tables → (left : State) → MayLeave g new.tables left → (fate : Fate) × FailsBy call fate left)
+  FailsToCommit why = (new.phase ≡ Closed) × (new.command ≡ None) × (call : StoreCall) × (why ≡ StoreFailed call) × (IsKnown g new.ours_first new.tables → (left : State) → MayLeave g new.tables left → (fate : Fate) × FailsBy call fate left)
 
   abbrev pub Shows : Type 0
   Shows = (new.phase ≡ Published) × ((w : World) → IsPublisherOf g old w → Leads g w (events.Publish ∷ []) (outcomes.Published (line_state new.line).count ∷ []) new)
@@ -80,7 +80,7 @@ module _ {S : Type 0} (g : Ghosts S) (old new : Standing (Held S)) where
 
   -- where the world has room
   abbrev pub Prepares : Command → Type 0
-  Prepares command = (w : World) → IsPublisherOf g old w → has_room w ≡ true → Leads g w (events.Submit command ∷ []) (outcomes.Prepared ((line_state old.line).count + 1) ∷ []) new
+  Prepares command = (new.phase ≡ Prepared) × ((w : World) → IsPublisherOf g old w → has_room w ≡ true → Leads g w (events.Submit command ∷ []) (outcomes.Prepared ((line_state old.line).count + 1) ∷ []) new)
 
   -- the world refuses it: for want of room where it has none; the publisher is as it was
   abbrev pub Refuses : Command → Refusal → Type 0
@@ -91,7 +91,7 @@ module _ {S : Type 0} (g : Ghosts S) (old new : Standing (Held S)) where
   PreparesNot command why = PlansNot why ⊎ Refuses command why
 
   abbrev pub Publishes : Line → Type 0
-  Publishes told = (w : World) → IsPublisherOf g old w → Leads g w publish_events (publish_outcomes (line_state told).count) new
+  Publishes told = (new.phase ≡ Ready) × ((w : World) → IsPublisherOf g old w → Leads g w publish_events (publish_outcomes (line_state told).count) new)
 
   -- where the world has room, all of a command's events
   abbrev pub Submits : Command → Line → Type 0
@@ -102,11 +102,11 @@ module _ {S : Type 0} (g : Ghosts S) (old new : Standing (Held S)) where
       LeadsTo g w (events.Submit command ∷ fail_events call fate) (outcomes.Prepared ((line_state old.line).count + 1) ∷ fail_outcomes call) new left
 
   abbrev pub SubmitFails : Command → Refusal → Type 0
-  SubmitFails command why = (new.phase ≡ Closed) × (new.command ≡ None) × (call : StoreCall) × (why ≡ StoreFailed call) × (IsKnown g new.format_1 new.tables → (left : State) → MayLeave g new.tables left → (fate : Fate) × SubmitFailsBy command call fate left)
+  SubmitFails command why = (new.phase ≡ Closed) × (new.command ≡ None) × (call : StoreCall) × (why ≡ StoreFailed call) × (IsKnown g new.ours_first new.tables → (left : State) → MayLeave g new.tables left → (fate : Fate) × SubmitFailsBy command call fate left)
 
   -- stored, and its publication is refused
   abbrev pub SubmitUnpublished : Command → Refusal → Type 0
-  SubmitUnpublished command why = (why ≡ NotPublished) × (new.command ≡ Some command) × ((w : World) → IsPublisherOf g old w → has_room w ≡ true → Leads g w (unpublished_events command) (unpublished_outcomes ((line_state old.line).count + 1)) new)
+  SubmitUnpublished command why = (why ≡ NotPublished) × (new.phase ≡ Closed) × (new.command ≡ Some command) × ((w : World) → IsPublisherOf g old w → has_room w ≡ true → Leads g w (unpublished_events command) (unpublished_outcomes ((line_state old.line).count + 1)) new)
 
   abbrev pub SubmitsNot : Command → Refusal → Type 0
   SubmitsNot command why = PreparesNot command why ⊎ (SubmitFails command why ⊎ SubmitUnpublished command why)
@@ -145,5 +145,5 @@ module _ {S : Type 0} (g : Ghosts S) where
 
   -- in each world of a publisher whose commit was stopped there, and whose file is one that this may leave
   abbrev pub AdoptsStopped : Trees → Standing (Held S) → Type 0
-  AdoptsStopped trees new = (old : Standing (Held S)) (call : StoreCall) (now : Held S) (left : State) → Stands g old → IsCutShort old call now → IsKnown g old.format_1 now
-      → (state g now).may_leave trees → Spells trees left → (fate : Fate) × StopsBy old new call fate
+  AdoptsStopped trees new = (old : Standing (Held S)) (call : StoreCall) (now : Held S) → Stands g old → IsCutShort old call now → IsKnown g old.ours_first now
+      → (state g now).may_leave trees → (fate : Fate) × StopsBy old new call fate

@@ -8,9 +8,11 @@ use Rattle.prt_publisher.specs.Standing.{Standing}
 use Rattle.prt_world.specs.World.{LookerState, World, is_stopped, looker_state, offline, online, step}
 use Rattle.prt_world.specs.declared.event.Event.{Event}
 use Rattle.prt_world.specs.declared.event.Event.TheVariants as events
+use Rattle.prt_world.specs.declared.outcome.Outcome.TheVariants as outcomes
 use Rattle.prt_follows.specs.Events.{is_lookers}
 use Rattle.prt_follows.specs.Registries.{IsRegistryOf, registry_after}
 use Rattle.prt_follows.specs.Publishers.{AreBothOf}
+use Rattle.prt_follows.specs.Spots.{IsReached}
 
 -- a looker that has announced this, and holds the version of that number
 abbrev pub seat : Option ℕ → Option ℕ → LookerState
@@ -35,12 +37,20 @@ module _ (r new : RegistryState) (before place : Place) where
   abbrev pub IsOnline : Type 0
   IsOnline = (held : Option ℕ) → IsCall held (held_online before.announced held) (λ looker. events.Online looker)
 
+  -- where it was offline, that shows this number
+  abbrev pub ShowsOnline : ℕ → Type 0
+  ShowsOnline number = (w : World) → is_stopped w.phase ≡ false → IsRegistryOf r w → Sits before None w → before.announced ≡ None → (step w (events.Online before.index)).outcome ≡ outcomes.Online before.index number
+
   -- of a looker that holds the version of this number
   abbrev pub IsAnnounce : ℕ → Type 0
   IsAnnounce number = IsCall (Some number) (Some number) (λ looker. events.Announce looker)
 
   abbrev pub IsOffline : Type 0
   IsOffline = (held : Option ℕ) → IsCall held None (λ looker. events.Offline looker)
+
+-- a reclaim shows how many versions went
+abbrev pub ShowsReclaimed : RegistryState → ℕ → Type 0
+ShowsReclaimed r number = (w : World) → is_stopped w.phase ≡ false → IsReached w → IsRegistryOf r w → (step w events.Reclaim).outcome ≡ outcomes.Reclaimed number
 
 -- a looker that joins is offline, and the registry stands for the same worlds
 abbrev pub IsJoin : RegistryState → RegistryState → Place → Type 0

@@ -54,7 +54,7 @@ pub record IsPublisherOf {S : Type 0} (g : Ghosts S) (p : Standing (Held S)) (w 
   pub moment : Moment
   pub is : Some moment ≡ moment_of p.phase p.command
   pub place : IsAt (record { line = p.line; disk = w.disk; moment = moment }) w
-  pub stored : IsKnown g p.format_1 p.tables → HasDisk g p.phase p.command p.tables w.disk
+  pub stored : IsKnown g p.ours_first p.tables → HasDisk g p.phase p.command p.tables w.disk
   pub room : SawRoom p.phase w
 
 -- Whatever lookers do between these events: they show this, and lead to a world that the publisher stands for.

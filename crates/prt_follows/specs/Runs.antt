@@ -15,7 +15,7 @@ use Rattle.prt_grace.specs.declared.place.PlaceState.TheVariants.{Free}
 use Rattle.prt_publisher.specs.Exits.{Takes}
 use Rattle.prt_publisher.specs.Standing.{Standing, Stands}
 use Rattle.prt_publisher.specs.declared.phase.Phase.TheVariants.{Closed, Committed, Published}
-use Rattle.prt_store.specs.Exits.{IsKnown, MayLeave, Spells}
+use Rattle.prt_store.specs.Exits.{IsKnown, Spells}
 use Rattle.prt_version.specs.State.{State}
 use Rattle.prt_world.specs.Durability.{IsAcknowledged, IsAnswered, IsDurable}
 use Rattle.prt_world.specs.World.{Ack, Lookup, World, has_room, run_from, start, step}
@@ -27,7 +27,7 @@ use Rattle.prt_version.specs.declared.answer.Answer.{Answer}
 use Rattle.prt_world.specs.declared.event.Fate.{Fate}
 use Rattle.prt_world.specs.declared.event.Fate.TheVariants.{Lost}
 use Rattle.prt_follows.specs.Events.{commit_events, fail_events, is_lookers, own, publish_events, reclaim_events, stop_events, without_fate}
-use Rattle.prt_follows.specs.Laws.{Admits, AdoptsAgain, BeginsAt, Commits, DeclinesBy, FailsBy, FailsToCommit, IsCutShort, Notes, PlansBy, PlansNot, PublishesNot, Refuses, Shows, StopsBy, SubmitFails, SubmitFailsBy, SubmitUnpublished, Submits}
+use Rattle.prt_follows.specs.Laws.{Admits, AdoptsAgain, BeginsAt, Commits, DeclinesBy, FailsBy, FailsToCommit, IsCutShort, Notes, PlansBy, PlansNot, Prepares, Publishes, PublishesNot, Refuses, Shows, StopsBy, SubmitFails, SubmitFailsBy, SubmitUnpublished, Submits}
 use Rattle.prt_follows.specs.Registries.{registry_after, registry_through}
 use Rattle.prt_follows.specs.Publishers.{AreBothOf}
 
@@ -49,7 +49,10 @@ pub data Act : Type 0 where
   unshown : Act
   -- with the events that come after the note: the acknowledgement, and what lookers do around it
   noted : (command : Command) → (told : Line) → (more : List Event) → Act
-  -- the call with a domain, and the events that come after its first
+  -- the calls with a domain
+  prepared : (command : Command) → Act
+  published : (command : Command) → (told : Line) → (all : List Event) → Act
+  -- the one of a whole submission, with the events that come after its first
   submitted : (command : Command) → (told : Line) → (more : List Event) → Act
   refused : (command : Command) → (why : Refusal) → Act
   submit_failed : (command : Command) → (call : StoreCall) → (fate : Fate) → (left : State) → (more : List Event) → Act
@@ -73,6 +76,8 @@ act_events (failed call fate left all) = all
 act_events shown = events.Publish ∷ []
 act_events unshown = events.PublishFail ∷ []
 act_events (noted command told more) = events.Note ∷ more
+act_events (prepared command) = events.Submit command ∷ []
+act_events (published command told all) = all
 act_events (submitted command told more) = events.Submit command ∷ more
 act_events (refused command why) = events.Submit command ∷ []
 act_events (submit_failed command call fate left more) = events.Submit command ∷ more
@@ -87,6 +92,7 @@ events_of (act ∷ acts) = act_events act ++ events_of acts
 -- the receipts that were given, with their commands
 abbrev pub act_receipts : Act → List Ack
 act_receipts (noted command told more) = record { number = (line_state told).count; command = command } ∷ []
+act_receipts (published command told all) = record { number = (line_state told).count; command = command } ∷ []
 act_receipts (submitted command told more) = record { number = (line_state told).count; command = command } ∷ []
 act_receipts act = []
 
@@ -113,17 +119,18 @@ pub record SameButFates (again acts : List Act) : Type 0 where
 abbrev pub step_acts : Command → Line → List Act
 step_acts command told = admitted ∷ planned command ∷ committed commit_events ∷ shown ∷ noted command told (events.Ack ∷ []) ∷ []
 
--- What a crash leaves is on disk in this world. It is a beginning of the accepted commands that lacks one at most. It has each command of a receipt under its number, and the version by which each answer was given.
+-- What a crash leaves is on disk in this world. It is a beginning of the accepted commands that lacks one at most. It has each command of a receipt under its number, and the version by which each of these answers was given. So it has that of every answer of the world, also of one that was given while a call was under way.
 pub record HoldsAll (w : World) (receipts : List Ack) (answers : List Lookup) (left : State) : Type 0 where
   pub is : w.disk ≡ left
   pub durable : IsDurable w
   pub acknowledged : Each (IsAcknowledged w) receipts
   pub answered : Each (IsAnswered w) answers
+  pub all_answered : Each (IsAnswered w) w.answers
 
 module _ {S : Type 0} (g : Ghosts S) where
   -- A crash may leave these trees of a file that is known. After a failed commit they spell the state that was chosen for the world.
   abbrev pub LeavesFile : Standing (Held S) → World → Trees → Type 0
-  LeavesFile old w trees = IsKnown g old.format_1 old.tables × (state g old.tables).may_leave trees × (old.phase ≡ Closed → old.command ≡ None → Spells trees w.disk)
+  LeavesFile old w trees = IsKnown g old.ours_first old.tables × (state g old.tables).may_leave trees × (old.phase ≡ Closed → old.command ≡ None → Spells trees w.disk)
 
   -- The law of the call that has this exit. The registry changes under its lock alone: by a step that is handed it, by a looker's call, or where a place is taken or given up.
   abbrev pub Acts : Standing (Held S) → RegistryState → World → Act → Standing (Held S) → RegistryState → Type 0
@@ -139,6 +146,8 @@ module _ {S : Type 0} (g : Ghosts S) where
   Acts old r w shown new after = (after ≡ r) × Shows g old new
   Acts old r w unshown new after = (after ≡ r) × (old.phase ≡ Committed) × PublishesNot g old new NotPublished
   Acts old r w (noted command told more) new after = (old.phase ≡ Published) × (old.command ≡ Some command) × (own more ≡ events.Ack ∷ []) × (mid : RegistryState) × (after ≡ registry_through mid (step w events.Note).world more) × Notes g old new r mid told
+  Acts old r w (prepared command) new after = (has_room w ≡ true) × (after ≡ r) × Prepares g old new command
+  Acts old r w (published command told all) new after = (own all ≡ publish_events) × (old.phase ≡ Committed) × (old.command ≡ Some command) × (after ≡ registry_through r w all) × Publishes g old new told
   Acts old r w (submitted command told more) new after = (own more ≡ commit_events ++ publish_events) × (has_room w ≡ true) × (after ≡ registry_through r w (events.Submit command ∷ more)) × Takes old command × Submits g old new command told
   Acts old r w (refused command why) new after = (why ≡ Busy → has_room w ≡ false) × (after ≡ r) × Refuses g old new command why
   Acts old r w (submit_failed command call fate left more) new after = (own more ≡ fail_events call fate) × (has_room w ≡ true) × (after ≡ registry_through r w (events.Submit command ∷ more)) × SubmitFailsBy g old new command call fate left × SubmitFails g old new command (StoreFailed call)
@@ -157,11 +166,13 @@ module _ {S : Type 0} (g : Ghosts S) where
   abbrev pub Acknowledges : Standing (Held S) → RegistryState → Command → Line → Standing (Held S) → RegistryState → Type 0
   Acknowledges old r command told new after = (w : World) → AreBothOf g old r w → ActsAll old r w (step_acts command told) new after
 
-  -- One that is not is some of them, without a receipt; or two, and then a commit that fails.
+  -- One that is not is refused at once, or after a reclaim; or it has no memory; or it is stored, and its publication fails; or its commit fails.
   abbrev pub TakesNot : Standing (Held S) → RegistryState → Command → Refusal → Standing (Held S) → RegistryState → Type 0
   TakesNot old r command why new after = (w : World) → AreBothOf g old r w →
-      ((acts : List Act) × (receipts_of acts ≡ []) × ActsAll old r w acts new after)
-      ⊎ ((mid : Standing (Held S)) × ActsAll old r w (admitted ∷ planned command ∷ []) mid after × FailsToCommit g mid new why)
+      ((reclaims : Bool) × ActsAll old r w (declined command why reclaims ∷ []) new after)
+      ⊎ (((why ≡ NoMemory) × ActsAll old r w (admitted ∷ unplanned ∷ []) new after)
+      ⊎ (((why ≡ NotPublished) × ActsAll old r w (admitted ∷ planned command ∷ committed commit_events ∷ unshown ∷ []) new after)
+      ⊎ ((mid : Standing (Held S)) × ActsAll old r w (admitted ∷ planned command ∷ []) mid after × FailsToCommit g mid new why)))
 
   -- ---- the laws of every run
 
@@ -170,20 +181,20 @@ module _ {S : Type 0} (g : Ghosts S) where
   EveryRunStands = (acts : List Act) (old new : Standing (Held S)) (r after : RegistryState) (w : World) → AreBothOf g old r w → ActsAll old r w acts new after
       → AreBothOf g new after (run_from w (events_of acts)) × ((run_from w (events_of acts)).acks ≡ w.acks ++ receipts_of acts)
 
-  -- What a crash may leave after a run on a new file holds all that was acknowledged and answered, in the world of the run's events. Once a commit has failed that is the world of the fate which fits.
+  -- Whatever file a crash may leave after a run on a new one spells a state, which holds all that was acknowledged and answered in the world of the run's events. Once a commit has failed that is the world of the fate which fits.
   abbrev pub EveryRunLeaves : Type 0
   EveryRunLeaves = (acts : List Act) (old new : Standing (Held S)) (after : RegistryState) → BeginsAt g old start → ActsAll old (new_registry (line_state old.line)) start acts new after
-      → IsKnown g new.format_1 new.tables → (left : State) → MayLeave g new.tables left
-      → (again : List Act) × SameButFates again acts × ActsAll old (new_registry (line_state old.line)) start again new after × HoldsAll (run_from start (events_of again)) (receipts_of acts) (answers_of acts) left
+      → Stands g new → IsKnown g new.ours_first new.tables → (trees : Trees) → (state g new.tables).may_leave trees
+      → (left : State) × Spells trees left × (again : List Act) × SameButFates again acts × ActsAll old (new_registry (line_state old.line)) start again new after × HoldsAll (run_from start (events_of again)) (receipts_of acts) (answers_of acts) left
 
   -- And whichever file it leaves is adopted: the run goes on.
   abbrev pub EveryRunGoesOn : Type 0
   EveryRunGoesOn = (acts : List Act) (old new last : Standing (Held S)) (after : RegistryState) → BeginsAt g old start → ActsAll old (new_registry (line_state old.line)) start acts new after
-      → Stands g new → IsKnown g new.format_1 new.tables → (trees : Trees) → (state g new.tables).may_leave trees → AdoptsAgain g trees last
+      → Stands g new → IsKnown g new.ours_first new.tables → (trees : Trees) → (state g new.tables).may_leave trees → AdoptsAgain g trees last
       → (again : List Act) × SameButFates again acts × ActsAll old (new_registry (line_state old.line)) start (again ++ adopted trees ∷ []) last (new_registry (line_state last.line))
 
-  -- Where a commit is stopped within a store call after a run, what a crash then leaves holds all of it too, before the file is opened again.
+  -- Where a commit is stopped within a store call after a run, whatever file a crash then leaves spells a state that holds all of it too, before it is opened again.
   abbrev pub EveryStopLeaves : Type 0
   EveryStopLeaves = (acts : List Act) (old mid : Standing (Held S)) (after : RegistryState) → BeginsAt g old start → ActsAll old (new_registry (line_state old.line)) start acts mid after
-      → Stands g mid → (call : StoreCall) (now : Held S) → IsCutShort g mid call now → IsKnown g mid.format_1 now → (left : State) → MayLeave g now left
-      → (fate : Fate) × ((all : List Event) → own all ≡ stop_events call fate → HoldsAll (run_from start (events_of acts ++ all)) (receipts_of acts) (answers_of acts) left)
+      → Stands g mid → (call : StoreCall) (now : Held S) → IsCutShort g mid call now → IsKnown g mid.ours_first now → (trees : Trees) → (state g now).may_leave trees
+      → (left : State) × Spells trees left × (fate : Fate) × ((all : List Event) → own all ≡ stop_events call fate → HoldsAll (run_from start (events_of acts ++ all)) (receipts_of acts) (answers_of acts) left)

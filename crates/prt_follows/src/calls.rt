@@ -153,7 +153,7 @@ pub fn first_command<S: Alter + Drop, R: Wait + Drop>(
     requires quiet { IsQuiet publisher.old.phase }
     requires storable { IsStorable command.now }
     requires registry { registry.old ≡ new_registry (line_state publisher.old.line) }
-    ensures { IfOk result (λ told. BeginsAt S.Store publisher.old start → IsKnown S.Store publisher.new.format_1 publisher.new.tables → (left : State) → MayLeave S.Store publisher.new.tables left →
+    ensures { IfOk result (λ told. BeginsAt S.Store publisher.old start → IsKnown S.Store publisher.new.ours_first publisher.new.tables → (left : State) → MayLeave S.Store publisher.new.tables left →
         HoldsAll (run_from start (events_of (step_acts command.now told))) (receipts_of (step_acts command.now told)) [] left) }
 {
     match submit_by_steps(publisher, registry, command) {
@@ -238,7 +238,7 @@ pub fn adopt<S: Alter + Drop, R: Wait + Drop>(
     alloc: Global,
     conn: Connection<S>,
 ) -> Result<(Publisher<S, R>, Domain), (Refusal, Connection<S>)>
-    ensures fresh { IfOk result (λ made. AreEmpty (state S.Store conn).now → IsKnown S.Store made.0.format_1 made.0.tables → BeginsAt S.Store made.0 start) }
+    ensures fresh { IfOk result (λ made. AreEmpty (state S.Store conn).now → IsKnown S.Store made.0.ours_first made.0.tables → BeginsAt S.Store made.0 start) }
     ensures again { IfOk result (λ made. HasCleanDisk (state S.Store made.0.tables) → IsTrue (state S.Store conn).is_open → AdoptsAgain S.Store (state S.Store conn).now.trees made.0) }
     ensures stopped { IfOk result (λ made. HasCleanDisk (state S.Store made.0.tables) → IsTrue (state S.Store conn).is_open → AdoptsStopped S.Store (state S.Store conn).now.trees made.0) }
 {

@@ -11,12 +11,22 @@ use sqlite::Alter;
 ///
 /// * the publisher and the registry stand for the world of the list's events, which has acknowledged each receipt and
 ///   nothing else (`stands`);
-/// * on a new file, what a crash leaves is a beginning of the accepted commands that lacks one at most; it has each
-///   command of a receipt under its number, and the version by which each answer was given (`leaves`);
+/// * on a new file, whatever a crash leaves spells a beginning of the accepted commands that lacks one at most. It has
+///   each command of a receipt under its number, and the version by which each answer was given, also of one that was
+///   given while a call was under way (`leaves`);
 /// * that holds of what a stop within a store call leaves, too (`stopped`);
-/// * whichever file is left and adopted, the list goes on (`goes_on`).
+/// * whichever file is left at an exit and adopted, the list goes on (`goes_on`). After a call that was cut short it goes
+///   on by `calls::adopt` (`stopped`).
 ///
 /// A failed commit leaves open whether its command is durable: what is found later shows which fate it had.
+///
+/// Premises:
+///
+/// * the calls of each lock come in some order;
+/// * a call that doesn't return leaves what its failing exit leaves; of the steps of a commit `IsCutShort` says it;
+/// * the disk returns what was written, and our tables are the first of the file (`IsKnown`);
+/// * the connection that is adopted shows what was left;
+/// * what lies behind the domain's lock is the registry of the list.
 pub fn every_run_of_calls<S: Alter>()
     ensures stands { EveryRunStands S.Store }
     ensures leaves { EveryRunLeaves S.Store }
@@ -32,11 +42,16 @@ pub fn turn_is_steps()
     ensures holds { DeskHoldsAll }
 {}
 
-/// The lines of a script, whatever befalls each, are lists of events of a world without lookers, which show their
-/// replies: they lead to a world of the desk that the script leaves, and acknowledge what the replies do. Such a world
-/// has room for each command, so a refusal as busy is no event of it. A desk whose stored state is opened again is such a
-/// world too, stopped and reopened. So what any number of scripts on one file leave holds each command that a reply
-/// acknowledged, under the number that the reply tells.
+/// The lines of a script, whatever befalls each, are lists of events. A command has those of its turn, and they show its
+/// reply. A `route get` is a lookup, which shows the answer that its reply tells. Other queries are answered from the
+/// published version, without an event. The lists lead to a world of the desk that the script leaves, and acknowledge
+/// what the replies do (`run`).
+///
+/// No looker is online between lines, so that world has room for each command: a refusal as busy is no event (`room`). A
+/// desk whose stored state is opened again is such a world too, stopped and reopened (`reopened`).
+///
+/// So what any number of scripts on one file leave holds each command that a reply acknowledged, under the number that
+/// the reply tells, and the version of each answer to a `route get` (`sessions`).
 pub fn script_is_run()
     ensures run { ScriptIsRun }
     ensures room { DeskHasRoom }

@@ -3,7 +3,7 @@ ghost use Rattle.std.specs.Prelude.{◌≡◌, ◌≤◌, IfSome, IsSome};
 ghost use Rattle.prt_grace.specs.Registry.{HasPlace};
 ghost use Rattle.prt_world.specs.World.{World};
 ghost use Rattle.prt_world.specs.declared.event.Event.TheVariants.{Reclaim};
-ghost use Rattle.prt_follows.specs.Lookers.{IsAnnounce, IsJoin, IsOffline, IsOnline, IsPart};
+ghost use Rattle.prt_follows.specs.Lookers.{IsAnnounce, IsJoin, IsOffline, IsOnline, IsPart, ShowsOnline, ShowsReclaimed};
 ghost use Rattle.prt_follows.specs.Registries.{registry_after};
 
 use prt_grace::{Place, Registry};
@@ -26,10 +26,11 @@ pub fn part(registry: &mut Registry, place: Place)
     registry.part(place);
 }
 
-/// Brings a looker online.
+/// Brings a looker online. Where it was offline, the number is the one that the event shows.
 pub fn online(registry: &mut Registry, place: &mut Place) -> u64
     requires { HasPlace registry.old place.old }
-    ensures { IsOnline registry.old registry.new place.old place.new }
+    ensures moved { IsOnline registry.old registry.new place.old place.new }
+    ensures number { ShowsOnline registry.old registry.new place.old place.new result }
 {
     registry.online(place)
 }
@@ -52,9 +53,10 @@ pub fn offline(registry: &mut Registry, place: &mut Place)
     registry.offline(place);
 }
 
-/// Gives up each retired version that no looker can hold any more.
+/// Gives up each retired version that no looker can hold any more. The event shows how many went.
 pub fn reclaim(registry: &mut Registry) -> usize
-    ensures { (w : World) → registry.new ≡ registry_after registry.old w Reclaim }
+    ensures registry { (w : World) → registry.new ≡ registry_after registry.old w Reclaim }
+    ensures number { ShowsReclaimed registry.old result }
 {
     registry.reclaim()
 }

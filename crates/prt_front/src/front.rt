@@ -78,7 +78,7 @@ impl<R: Wait + Drop> Front<R> {
         Ok((front, readers))
     }
 
-    /// The published list.
+    /// Gives the published list.
     pub fn known(&self) -> Known
         ensures { result ≡ self.now }
     {

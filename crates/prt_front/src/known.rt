@@ -46,7 +46,7 @@ impl Known {
         (Known { count: 0, seen }, word)
     }
 
-    /// How many commands it has.
+    /// Tells how many commands it has.
     pub fn count(&self) -> u64
         ensures { result ≡ length self.now.list }
     {

@@ -37,7 +37,7 @@ impl Model for FrontReader {
 }
 
 impl FrontReader {
-    /// The list that it knows: each list that it was told, and that of each version that it fetched, begins it.
+    /// Gives the list that it knows: each list that it was told, and that of each version that it fetched, begins it.
     pub fn known(&self) -> Known
         ensures { result ≡ self.now }
     {

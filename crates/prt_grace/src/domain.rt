@@ -16,7 +16,7 @@ pub struct Domain {
 }
 
 impl Domain {
-    /// A domain in which this version is noted, and its keeper.
+    /// Makes a domain in which this version is noted, and its keeper.
     pub fn new(version: Arc<Version>) -> (Domain, Keeper)
         ensures { result.1.noted ≡ (arc_value version).count }
     {

@@ -15,7 +15,7 @@ pub struct Keeper {
 }
 
 impl Keeper {
-    /// The number of the version that it noted last, and at first that of the loaded one.
+    /// Gives the number of the version that it noted last, and at first that of the loaded one.
     pub fn noted(&self) -> u64
         ensures { result ≡ self.now.noted }
     {

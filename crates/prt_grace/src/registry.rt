@@ -34,7 +34,7 @@ impl Model for Registry {
 }
 
 impl Registry {
-    /// A registry in which this version is noted, with no version retired and all places free.
+    /// Makes a registry in which this version is noted, with no version retired and all places free.
     pub fn new(version: Arc<Version>) -> Registry
         ensures { result ≡ new_registry (arc_value version) }
     {
@@ -45,7 +45,7 @@ impl Registry {
         }
     }
 
-    /// The number of the version noted last.
+    /// Gives the number of the version noted last.
     pub fn noted(&self) -> u64
         ensures { result ≡ self.now.noted.count }
     {
@@ -204,7 +204,7 @@ fn is_announcing(state: &PlaceState, announced: Option<u64>) -> bool
     }
 }
 
-/// The index of the first free place.
+/// Gives the index of the first free place.
 fn first_free(places: &[PlaceState]) -> Option<usize>
     ensures value { result ≡ position is_free places.now }
     ensures within { IfSome result (λ index. index < length places.now) }
@@ -212,7 +212,8 @@ fn first_free(places: &[PlaceState]) -> Option<usize>
     places.iter().position(|place| place.is_free())
 }
 
-/// The lowest number that an online looker has announced: it holds back exactly the versions that some place does.
+/// Gives the lowest number that an online looker has announced: it holds back exactly the versions that some place
+/// does.
 fn lowest_announced(places: &[PlaceState]) -> Option<u64>
     ensures { (n : ℕ) → may_hold n result ≡ list_any (may_hold n) (map announced places.now) }
 {
@@ -223,7 +224,7 @@ fn lowest_announced(places: &[PlaceState]) -> Option<u64>
     lowest
 }
 
-/// The lower of two announced numbers, or the only one.
+/// Gives the lower of two announced numbers, or the only one.
 fn lower(first: Option<u64>, second: Option<u64>) -> Option<u64>
     ensures { (n : ℕ) → may_hold n result ≡ (may_hold n first || may_hold n second) }
 {

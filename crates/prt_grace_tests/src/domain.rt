@@ -1,24 +1,12 @@
 //! Each call of a domain, by what the registry under its lock does then.
 
-use prt_command::{Command, Refusal};
+use crate::versions::{next_version, opening_version};
+use prt_command::Refusal;
 use prt_grace::{Domain, Keeper, MOST_RETIRED, PLACES};
 use prt_version::Version;
 use std::alloc::Global;
 use std::sync::{Arc, Wait};
 use std::test::Fail;
-
-/// The version of a new database, with its owner.
-fn opening_version(alloc: Global) -> Result<Arc<Version>, Refusal> {
-    Ok(Arc::new(alloc, Version::opening(alloc)?)?)
-}
-
-/// The version after a flush of the rules, which is always accepted.
-fn next_version(alloc: Global, version: &Version) -> Result<Arc<Version>, Refusal> {
-    match version.check(&Command::RuleFlush) {
-        Ok(change) => Ok(Arc::new(alloc, version.next(&change)?)?),
-        Err(reason) => Err(reason),
-    }
-}
 
 /// Notes the version after this one, where it is later than what the keeper noted, and gives it.
 fn note_next<H: Wait>(

@@ -39,4 +39,4 @@ masked mark mask = Some (record { mark = mark; mask = mask })
 
 -- a rule for every packet
 abbrev pub rule_for_all : ℕ → Action → Rule
-rule_for_all priority action = record { id = 4; priority = priority; inverted = false; from = everything; to = everything; iif = None; mark = None; action = action }
+rule_for_all priority action = record { id = 4; priority = priority; inverted = false; from = everything; to = everything; iif = None; mark = None; action = action; suppress = None }

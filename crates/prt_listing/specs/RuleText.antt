@@ -36,8 +36,9 @@ rule_parts rule =
     ∷ mark_part rule.mark
     ∷ part (codes "iif") rule.iif
     ∷ Some (action_text rule.action)
+    ∷ part (codes "suppress_prefixlength") (option_map decimal rule.suppress)
     ∷ []
 
--- PRIORITY:, a tab, and [not] from PREFIX [to PREFIX] [fwmark MARK[/MASK]] [iif NAME] ACTION
+-- PRIORITY:, a tab, and [not] from PREFIX [to PREFIX] [fwmark MARK[/MASK]] [iif NAME] ACTION [suppress_prefixlength LEN]
 abbrev pub rule_text : Rule → List ℕ
 rule_text rule = decimal rule.priority ++ codes ":\t" ++ spaced (rule_parts rule)

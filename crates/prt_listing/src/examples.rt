@@ -22,3 +22,9 @@ pub fn marks()
     ensures nothing { rule_text (record (rule_for_all 1 (Lookup 253)) { mark = masked 0 0 }) ≡ codes "1:\tfrom all fwmark 0x0/0x0 lookup default" }
     ensures everything { rule_text (record (rule_for_all 1 (Lookup 254)) { mark = whole 4294967295 }) ≡ codes "1:\tfrom all fwmark 0xffffffff lookup main" }
 {}
+
+/// The length up to which a rule suppresses prefixes stands at the end (`ip-rule(8)`).
+pub fn suppressed_lengths()
+    ensures default_alone { rule_text (record (rule_for_all 1 (Lookup 254)) { suppress = Some 0 }) ≡ codes "1:\tfrom all lookup main suppress_prefixlength 0" }
+    ensures all { rule_text (record (rule_for_all 1 (Lookup 7)) { suppress = Some 32 }) ≡ codes "1:\tfrom all lookup 7 suppress_prefixlength 32" }
+{}

@@ -14,7 +14,7 @@ use std::alloc::AllocError;
 const UNSAID_METRIC: u32 = 0;
 
 /// Whether the text of a route names its table.
-#[derive(Clone, Copy, Debug, PartialEq, Eq)]
+#[derive(Clone, Copy)]
 pub enum TablePart {
     /// It does, but for the table main.
     Shown,

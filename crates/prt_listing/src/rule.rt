@@ -1,6 +1,7 @@
-ghost use Rattle.std.specs.Prelude.{◌≡◌, ◌++◌, IsOkUnless, OnErr, OnOk, map};
+ghost use Rattle.std.specs.Prelude.{◌≡◌, ◌++◌, IsOkUnless, OnErr, OnOk, codes, decimal, map, option_map};
 ghost use Rattle.prt_addr.specs.declared.refusal.Refusal.TheVariants.{NoMemory};
 ghost use Rattle.prt_listing.specs.Keeps.{Keeps};
+ghost use Rattle.prt_listing.specs.Parts.{part};
 ghost use Rattle.prt_listing.specs.RuleText.{action_text, mark_part, not_part, rule_parts, rule_text, to_part};
 ghost use Rattle.prt_listing.specs.Steps.{part_of, part_text};
 
@@ -51,8 +52,15 @@ pub(crate) fn action_part(action: Action) -> Part
     }
 }
 
+/// Gives the length up to which prefixes are suppressed, if some are.
+fn suppress_part(suppress: Option<u8>) -> Option<Part>
+    ensures { part_of result ≡ part (codes "suppress_prefixlength") (option_map decimal suppress) }
+{
+    suppress.map(|len| Part::Named("suppress_prefixlength", Value::Number(u64::from(len))))
+}
+
 /// Gives the parts of a rule after its priority, in their order.
-fn rule_parts(rule: &Rule) -> [Option<Part>; 6]
+fn rule_parts(rule: &Rule) -> [Option<Part>; 7]
     ensures { map part_of result ≡ rule_parts rule.now }
 {
     [
@@ -62,6 +70,7 @@ fn rule_parts(rule: &Rule) -> [Option<Part>; 6]
         mark_part(rule.mark),
         dev_part("iif", rule.iif),
         Some(action_part(rule.action)),
+        suppress_part(rule.suppress),
     ]
 }
 

@@ -23,8 +23,8 @@ use Rattle.prt_world.proofs.Phases.{Holds, looker_served, version_kept}
 use Rattle.prt_follows.proofs.Looking.{runs}
 use Rattle.prt_follows.proofs.Steps.{holds_of, number_of, reached_run, shown_number}
 use Rattle.prt_follows.specs.Spots.{IsAt, IsReached, Spot}
-use Rattle.prt_lookers.specs.Seated.{Looks, Refreshes, RefreshesNot, Rests, Runs, announcing_at, fetching, seat_of}
-use Rattle.prt_lookers.proofs.Seats.{At, announces_it, fetches_it, goes_offline, goes_online, others, stays_online}
+use Rattle.prt_lookers.specs.Seated.{IsMade, Learns, Looks, Refreshes, RefreshesNot, Rests, Runs, announcing_at, fetching, held_number}
+use Rattle.prt_lookers.proofs.Seats.{At, announces_it, at_seat, fetches_it, goes_offline, goes_online, others, seat_of, seated_at, stays_online}
 
 -- ---- refresh
 
@@ -38,10 +38,10 @@ up i (Some line) w going h =
     let number = (line_state line).count in
     (number, Some number, stays_online i w going number (Some number) h)
 
-pub refreshes : (old new : Look) → new.held ≡ Some new.known → Refreshes old new
-refreshes old new held i w before between after reached seated first second third going at_fetch at_announce shown =
+pub refreshes : (old new : Look) → new.held ≡ Some new.known → new.announced ≡ Some (line_state new.known).count → Refreshes old new
+refreshes old new held announced i w before between after reached seated first second third going at_fetch at_announce shown =
     let a : World = run_from w before in
-    let was = up i old.held a going (others i (seat_of old.held) before w first seated) in
+    let was = up i old.held a going (others i (seat_of old.held) before w first (at_seat old i w seated)) in
     let b : World = fetching w i before between in
     let mid = others i (online was.0 was.1) between (step a (events.Online i)).world second was.2 in
     let c : World = announcing_at w i before between after in
@@ -50,26 +50,37 @@ refreshes old new held i w before between after reached seated first second thir
     let there : IsReached b = reached_run (step a (events.Online i)).world between (reached_run a (events.Online i ∷ []) (reached_run w before reached)) in
     let number : b.published ≡ (line_state new.known).count = sym (shown_number b there) ∙ ap (λ (state : State). state.count) shown in
     let is : online b.published (Some b.published) ≡ seat_of new.held = ap (λ n. online n (Some n)) number ∙ sym (ap seat_of held) in
-    (told.0, told.1 ∙ is)
+    seated_at new i (step c (events.Announce i)).world (announced ∙ sym (ap held_number held)) (told.0, told.1 ∙ is)
 
-pub refreshes_not : (old new : Look) → new.held ≡ old.held → RefreshesNot old new
-refreshes_not old new held i w before between seated first second =
+pub refreshes_not : (old new : Look) → new.held ≡ old.held → new.announced ≡ old.announced → RefreshesNot old new
+refreshes_not old new held announced i w before between seated first second =
+    let agrees : new.announced ≡ held_number new.held = announced ∙ seated.0 ∙ sym (ap held_number held) in
     let same : seat_of old.held ≡ seat_of new.held = sym (ap seat_of held) in
     let a : World = run_from w before in
-    let was = others i (seat_of old.held) before w first seated in (
-      (was.0, was.1 ∙ same),
+    let was = others i (seat_of old.held) before w first (at_seat old i w seated) in (
+      seated_at new i a agrees (was.0, was.1 ∙ same),
       λ none going at_offline.
           let here : seat_of old.held ≡ offline = ap seat_of none in
           let on = goes_online i a going (was.0, was.1 ∙ here) in
           let mid = others i (online a.noted None) between (step a (events.Online i)).world second on in
           let off = goes_offline i (fetching w i before between) at_offline (online a.noted None) mid in
-          (off.0, off.1 ∙ sym here ∙ same),
+          seated_at new i (step (fetching w i before between) (events.Offline i)).world agrees (off.0, off.1 ∙ sym here ∙ same),
     )
 
-pub rests : (old new : Look) → new.held ≡ None → Rests old new
-rests old new none i w seated going =
-    let off = goes_offline i w going (seat_of old.held) seated in
-    (off.0, off.1 ∙ sym (ap seat_of none))
+pub rests : (old new : Look) → new.held ≡ None → new.announced ≡ None → Rests old new
+rests old new none untold i w seated going =
+    let off = goes_offline i w going (seat_of old.held) (at_seat old i w seated) in
+    seated_at new i (step w (events.Offline i)).world (untold ∙ sym (ap held_number none)) (off.0, off.1 ∙ sym (ap seat_of none))
+
+-- ---- learn, and a new looker
+
+pub learns : (old new : Look) → new.held ≡ old.held → new.announced ≡ old.announced → Learns old new
+learns old new held announced i w seated =
+    let at = at_seat old i w seated in
+    seated_at new i w (announced ∙ seated.0 ∙ sym (ap held_number held)) (at.0, at.1 ∙ sym (ap seat_of held))
+
+pub made : (look : Look) → look.held ≡ None → look.announced ≡ None → IsMade look
+made look none untold i w within off = seated_at look i w (untold ∙ sym (ap held_number none)) (within, off ∙ sym (ap seat_of none))
 
 -- ---- look
 
@@ -168,4 +179,4 @@ looks_by held packet answer i spot w h seated going line is begins number verdic
 
 pub looks : (look : Look) (packet : Packet) (answer : Answer) (held : Option Line) → look.held ≡ held → IfSome held (λ line. answer.number ≡ (line_state line).count) → IfSome held (λ line. answer.verdict ≡ select (line_state line) packet) → (held ≡ None → ⊥) → Looks look packet answer
 looks look packet answer None is number verdict some i spot w h seated going begins = absurd (some refl)
-looks look packet answer (Some line) is number verdict some i spot w h seated going begins = looks_by look.held packet answer i spot w h seated going line is (subst (λ o. IfSome o (λ line. Begins line spot.line)) is begins) number verdict
+looks look packet answer (Some line) is number verdict some i spot w h seated going begins = looks_by look.held packet answer i spot w h (at_seat look i w seated) going line is (subst (λ o. IfSome o (λ line. Begins line spot.line)) is begins) number verdict

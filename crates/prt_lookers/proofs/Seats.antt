@@ -3,20 +3,35 @@ use Rattle.std.proofs.Common.{◌≡◌, ◌≢◌, ℕ, ◌<◌, Bool, true, fa
 use Rattle.std.specs.Prelude.{◌==◌}
 use Rattle.std.proofs.lemmas.Bool.Decides.{nat_tests}
 use Rattle.std.proofs.lemmas.List.{get_or-set_other, length-set}
+use Rattle.prt_front.specs.Line.{Line}
 use Rattle.prt_rule.specs.declared.packet.Packet.{Packet}
+use Rattle.prt_service.specs.Look.{Look}
 use Rattle.prt_world.specs.World as world
 use Rattle.prt_world.specs.World.{LookerState, Step, World, looker_state, offline, online, published_version, run_from, step}
 use Rattle.prt_world.specs.declared.event.Event.{Event}
 use Rattle.prt_world.specs.declared.event.Event.TheVariants as events
+use Rattle.prt_follows.specs.Lookers.{seat}
 use Rattle.prt_follows.proofs.Looking.{runs, sits_there}
 use Rattle.prt_follows.proofs.Scripts.{event_seats}
-use Rattle.prt_lookers.specs.Seated.{Others, Runs, is_others}
+use Rattle.prt_lookers.specs.Seated.{Others, Runs, Seated, held_number, is_others}
 
--- ---- others leave a looker where it is
+-- ---- a looker's state
 
 -- the looker of this number is there, in that state
 abbrev pub At : ℕ → LookerState → World → Type 0
 At i state w = (i < length w.lookers) × (looker_state w i ≡ state)
+
+-- one that has announced the number of what it holds
+abbrev pub seat_of : Option Line → LookerState
+seat_of held = seat (held_number held) (held_number held)
+
+pub at_seat : (look : Look) (i : ℕ) (w : World) → Seated look i w → At i (seat_of look.held) w
+at_seat look i w s = (s.1, s.2 ∙ ap (λ told. seat told (held_number look.held)) s.0)
+
+pub seated_at : (look : Look) (i : ℕ) (w : World) → look.announced ≡ held_number look.held → At i (seat_of look.held) w → Seated look i w
+seated_at look i w is at = (is, at.0, at.1 ∙ sym (ap (λ told. seat told (held_number look.held)) is))
+
+-- ---- others leave a looker where it is
 
 other_by : (i j : ℕ) → not (j == i) ≡ true → i ≢ j
 other_by i j is same = absurd (let e : j == i ≡ true = grind (arith, nat_tests) in let f : false ≡ true = ap not (sym e) ∙ is in cc)

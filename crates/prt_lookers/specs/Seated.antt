@@ -5,20 +5,21 @@ use Rattle.prt_front.specs.Line.{Begins, Line, line_state}
 use Rattle.prt_rule.specs.declared.packet.Packet.{Packet}
 use Rattle.prt_service.specs.Look.{Look}
 use Rattle.prt_version.specs.declared.answer.Answer.{Answer}
-use Rattle.prt_world.specs.World.{LookerState, World, is_stopped, looker_state, offline, online, published_version, run_from, step}
+use Rattle.prt_world.specs.World.{World, is_stopped, looker_state, offline, published_version, run_from, step}
 use Rattle.prt_world.specs.declared.event.Event.{Event}
 use Rattle.prt_world.specs.declared.event.Event.TheVariants as events
 use Rattle.prt_world.specs.declared.outcome.Outcome.TheVariants as outcomes
+use Rattle.prt_follows.specs.Lookers.{seat}
 use Rattle.prt_follows.specs.Spots.{IsAt, IsReached, Spot}
 
--- Offline it holds nothing. Online it holds the version of its list, and has announced that number.
-abbrev pub seat_of : Option Line → LookerState
-seat_of None = offline
-seat_of (Some line) = online (line_state line).count (Some (line_state line).count)
+-- the number of the version that it holds
+abbrev pub held_number : Option Line → Option ℕ
+held_number None = None
+held_number (Some line) = Some (line_state line).count
 
--- the world's looker of this number is that looker
+-- The world's looker of this number holds and has announced what that looker does. It has announced the number of what it holds; offline it holds nothing.
 abbrev pub Seated : Look → ℕ → World → Type 0
-Seated look i w = (i < length w.lookers) × (looker_state w i ≡ seat_of look.held)
+Seated look i w = (look.announced ≡ held_number look.held) × (i < length w.lookers) × (looker_state w i ≡ seat look.announced (held_number look.held))
 
 -- ---- what others do
 
@@ -61,6 +62,14 @@ abbrev pub RefreshesNot : Look → Look → Type 0
 RefreshesNot old new = (i : ℕ) (w : World) (before between : List Event) → Seated old i w → Others i before → Others i between
     → (Seated new i (run_from w before))
     × (old.held ≡ None → Runs (run_from w before) → Runs (fetching w i before between) → Seated new i (step (fetching w i before between) (events.Offline i)).world)
+
+-- to learn is no event
+abbrev pub Learns : Look → Look → Type 0
+Learns old new = (i : ℕ) (w : World) → Seated old i w → Seated new i w
+
+-- one that is made can be any looker that is offline
+abbrev pub IsMade : Look → Type 0
+IsMade look = (i : ℕ) (w : World) → i < length w.lookers → looker_state w i ≡ offline → Seated look i w
 
 -- to rest is Offline
 abbrev pub Rests : Look → Look → Type 0

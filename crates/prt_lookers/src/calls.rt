@@ -1,11 +1,37 @@
 //! The calls of a looker, with what they are in the world.
-ghost use Rattle.std.specs.Prelude.{IsSome, OnErr, OnOk};
-ghost use Rattle.prt_lookers.specs.Seated.{Looks, Refreshes, RefreshesNot, Rests};
+ghost use Rattle.std.specs.Prelude.{◌≡◌, IfOk, IsSome, OnErr, OnOk};
+ghost use Rattle.prt_lookers.specs.Seated.{IsMade, Learns, Looks, Refreshes, RefreshesNot, Rests};
 
+use prt_publisher::Receipt;
 use prt_service::{Looker, Naming, Service};
 use prt_version::{Answer, Packet, Refusal};
 use sqlite::Alter;
 use std::sync::Wait;
+
+/// Makes a looker, offline.
+///
+/// # Errors
+///
+/// `Full`.
+pub fn looker<S: Alter + Drop, R: Wait + Drop, J: Naming, W: Wait>(
+    rt: &W,
+    service: &Service<S, R, J>,
+) -> Result<Looker, Refusal>
+    ensures { IfOk result IsMade }
+{
+    match service.looker(rt) {
+        Ok(looker) => Ok(looker),
+        Err(reason) => Err(reason),
+    }
+}
+
+/// Learns the list of a receipt: no event.
+pub fn learn(looker: &mut Looker, receipt: Receipt)
+    requires { receipt.book ≡ looker.old.known.book }
+    ensures { Learns looker.old looker.new }
+{
+    looker.learn(receipt);
+}
 
 /// Takes the published version in place of the one that the looker holds, and announces its number.
 ///

@@ -1,8 +1,9 @@
 -- A fault that was reported, and an input that was left alone.
 use Rattle.std.proofs.Common.{◌≡◌, ◌≢◌, ◌∙◌, ℕ, inl, inr, refl, List, Option, Some, None}
+use Rattle.prt_addr.specs.Word.{Word}
 use Rattle.prt_program.specs.Faults.{IsFault}
 use Rattle.prt_words.specs.Faults.{fault_status}
-use Rattle.prt_words.specs.Invocation.{Invocation, Word, batch, replay}
+use Rattle.prt_words.specs.Invocation.{Invocation, batch, check, replay}
 use Rattle.prt_program.specs.Program.{LeavesInput, LeavesInputFor, RunsNothing}
 use Rattle.prt_words.specs.declared.fault.Fault.{Fault}
 use Rattle.prt_words.specs.declared.fault.Fault.TheVariants.{Words, Opening, Listener}
@@ -19,5 +20,6 @@ unread_for (Some path) input = refl
 
 pub unread : (asked : Invocation) (input : Option (List ℕ)) → LeavesInput asked input input
 unread (batch script) input = unread_for script.file input
+unread (check file) input = unread_for file input
 unread (replay file) input = unread_for file input
 unread _ input = refl

@@ -1,19 +1,19 @@
 -- Sessions that were run over a desk.
 use Rattle.std.proofs.Common.{◌≡◌, ◌∙◌, ℕ, List, Option, subst, sym}
 use Rattle.prt_addr.specs.declared.on_refusal.OnRefusal.{OnRefusal}
-use Rattle.prt_program.specs.Databases.{IsOpenOn}
 use Rattle.prt_program.specs.Program.{RunsOn, exit_status, streams_of}
 use Rattle.prt_session.specs.Desk.{Befalls, DeskState, Mishap, request_turn, settled}
+use Rattle.prt_session.specs.Open.{IsOpenOn}
 use Rattle.prt_session.specs.Run.{RunIs}
-use Rattle.prt_session.specs.Stands.{Explained, Stands}
-use Rattle.prt_session.specs.declared.script.ScriptEnd.{ScriptEnd}
+use Rattle.prt_session.specs.Stands.{Explained, StandsForSome}
+use Rattle.prt_session.specs.declared.script_end.ScriptEnd.{ScriptEnd}
 use Rattle.prt_version.specs.State.{State, opening_state}
 
 -- what was run over a desk that stood for one state alone
 pub runs_on : {X : Type 0} (stands : X → DeskState → Type 0) (may : Mishap → Type 0) (mode : OnRefusal) (opened : State) (old new : X) (reader0 reader writer0 writer : Option (List ℕ)) (end : ScriptEnd) (status : ℕ)
     → IsOpenOn stands old opened
     → Explained stands old new (λ before after. RunIs request_turn (Befalls may) mode before after reader0 reader writer0 writer end)
-    → (Stands stands old → Stands stands new)
+    → (StandsForSome stands old → StandsForSome stands new)
     → status ≡ exit_status end
     → RunsOn stands may mode opened new (streams_of reader0 writer0 writer) status
 runs_on stands may mode opened old new reader0 reader writer0 writer end status is_open explained left is = record {

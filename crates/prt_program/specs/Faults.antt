@@ -1,10 +1,11 @@
 -- Why the program runs nothing.
 use Rattle.std.specs.Prelude.{◌≡◌, ◌⊎◌, Option, Some, None}
+use Rattle.prt_addr.specs.Opening.{IsOpenRefusal}
+use Rattle.prt_addr.specs.Word.{Word}
 use Rattle.prt_addr.specs.declared.refusal.Refusal.{Refusal}
 use Rattle.prt_addr.specs.declared.refusal.Refusal.TheVariants.{NoMemory, ReadFault}
-use Rattle.prt_program.specs.Databases.{IsOpenRefusal}
 use Rattle.prt_words.specs.Faults.{IsStatusOf, fault_status}
-use Rattle.prt_words.specs.Invocation.{Invocation, Word, batch}
+use Rattle.prt_words.specs.Invocation.{Invocation, batch}
 use Rattle.prt_words.specs.declared.fault.Fault.{Fault}
 use Rattle.prt_words.specs.declared.fault.Fault.TheVariants.{Words, Opening, Listener}
 

@@ -1,7 +1,11 @@
 -- What is told on standard error while a script is run.
-use Rattle.std.specs.Prelude.{ℕ, nat_lt, ◌==◌, ◌&&◌, ◌||◌, if◌then◌else◌, List, ◌++◌, map, codes, decimal}
+use Rattle.std.specs.Prelude.{ℕ, nat_lt, ◌==◌, ◌&&◌, ◌||◌, if◌then◌else◌, List, [], ◌++◌, map, codes, decimal, Option, Some, None}
 use Rattle.prt_addr.specs.Refusal.{refusal_text}
+use Rattle.prt_addr.specs.Word.{Word}
 use Rattle.prt_addr.specs.declared.refusal.Refusal.{Refusal}
+use Rattle.prt_addr.specs.declared.refusal.Refusal.TheVariants.{LineTooLong, ReadFault, StoreFailed}
+use Rattle.prt_command.specs.FaultWord.{fault_word}
+use Rattle.prt_replay.specs.TraceText.{call_name}
 
 -- printable ASCII and tabs (9) as they are, any other byte as `?` (63)
 abbrev pub shown : ℕ → ℕ
@@ -11,13 +15,33 @@ shown byte = if byte == 9 || (nat_lt 31 byte && nat_lt byte 127) then byte else 
 abbrev pub location : List ℕ → ℕ → List ℕ
 location file line = file ++ codes ":" ++ decimal line
 
--- what is wrong with a line: `error C NAME: TEXT`
-abbrev pub complaint : Refusal → List ℕ → List ℕ
-complaint reason text = refusal_text reason ++ codes ": " ++ map shown text
+-- which call of the store failed, where one did: ` in write`
+abbrev pub failed_call : Refusal → List ℕ
+failed_call (StoreFailed call) = codes " in " ++ call_name call
+failed_call other = []
+
+-- the word that the refusal of a line is about, as far as there is one; of a line that was not read whole none is told
+abbrev pub told_word : Refusal → List ℕ → Option Word
+told_word LineTooLong text = None
+told_word ReadFault text = None
+told_word reason text = fault_word text
+
+-- in quotes: ` 'mtu'`
+abbrev pub quoted : Option Word → List ℕ
+quoted None = []
+quoted (Some w) = codes " '" ++ (map shown w ++ codes "'")
+
+-- why a line is refused: `error C NAME 'WORD'`, or `error 27 StoreFailed in CALL`
+abbrev pub blame : Refusal → Option Word → List ℕ
+blame reason word = refusal_text reason ++ failed_call reason ++ quoted word
+
+-- with the text of the line
+abbrev pub complaint : Refusal → Option Word → List ℕ → List ℕ
+complaint reason word text = blame reason word ++ codes ": " ++ map shown text
 
 -- of a refused line
-abbrev pub refused_message : List ℕ → ℕ → Refusal → List ℕ → List ℕ
-refused_message file line reason text = location file line ++ codes ": " ++ complaint reason text ++ codes "\n"
+abbrev pub refused_message : List ℕ → ℕ → Refusal → Option Word → List ℕ → List ℕ
+refused_message file line reason word text = location file line ++ codes ": " ++ complaint reason word text ++ codes "\n"
 
 -- a number of lines
 abbrev pub lines_text : ℕ → List ℕ

@@ -1,19 +1,22 @@
--- What the program does: it runs the session or the replay that its words ask for, or it says why it does not.
+-- What the program does: it runs the session, the check or the replay that its words ask for, or it says why it does not.
 use Rattle.std.specs.Prelude.{◌≡◌, ◌≢◌, ◌⊎◌, ℕ, Bool, true, false, List, Option, Some, None}
+use Rattle.prt_addr.specs.Word.{Word}
 use Rattle.prt_addr.specs.declared.refusal.Refusal.{Refusal}
-use Rattle.prt_program.specs.Databases.{IsOpenOn, OpensAndCloses}
+use Rattle.prt_program.specs.Databases.{OpensAndCloses}
 use Rattle.prt_program.specs.Faults.{database_of}
 use Rattle.prt_words.specs.Faults.{IsStatusOf}
-use Rattle.prt_words.specs.Invocation.{Invocation, Word, batch, replay}
+use Rattle.prt_words.specs.Invocation.{Invocation, batch, check, replay}
 use Rattle.prt_replay.specs.Replay.{ReplayIs}
+use Rattle.prt_session.specs.Check.{ChecksLines}
 use Rattle.prt_session.specs.Desk.{Befalls, DeskState, IsNoMemory, Mishap, request_turn, settled}
+use Rattle.prt_session.specs.Open.{IsOpenOn}
 use Rattle.prt_session.specs.Run.{RunIs}
-use Rattle.prt_session.specs.Stands.{Stands}
+use Rattle.prt_session.specs.Stands.{StandsForSome}
 use Rattle.prt_version.specs.State.{State, opening_state}
 use Rattle.prt_addr.specs.declared.on_refusal.OnRefusal.{OnRefusal}
 use Rattle.prt_program.specs.declared.next.Next.{Next}
 use Rattle.prt_program.specs.declared.next.Next.TheVariants.{Exit, Serve}
-use Rattle.prt_session.specs.declared.script.ScriptEnd.{ScriptEnd}
+use Rattle.prt_session.specs.declared.script_end.ScriptEnd.{ScriptEnd}
 use Rattle.prt_words.specs.declared.serving.Serving.{Serving}
 
 -- 3 for a fault, else 1 for a refused line, else 0
@@ -38,7 +41,7 @@ streams_of input output_before output_after = record { input = input; output_bef
 pub record RunsOn {X : Type 0} (stands : X → DeskState → Type 0) (may : Mishap → Type 0) (mode : OnRefusal) (opened : State) (desk : X) (streams : Streams) (status : ℕ) : Type 0 where
   pub reader : Option (List ℕ)
   pub end : ScriptEnd
-  pub left : Stands stands desk
+  pub left : StandsForSome stands desk
   pub run : (after : DeskState) → stands desk after → RunIs request_turn (Befalls may) mode (settled opened) after streams.input reader streams.output_before streams.output_after end
   pub status_is : status ≡ exit_status end
 
@@ -63,6 +66,13 @@ abbrev pub RunsBatch : (Word → SessionFact) → Option Word → SessionFact
 RunsBatch RunAt None mode streams status = (left : State) × RunsOn (λ desk after. after ≡ settled desk) IsNoMemory mode opening_state left streams status
 RunsBatch RunAt (Some path) mode streams status = RunAt path mode streams status
 
+-- A check was run, and this is its exit status.
+pub record RunsCheck (streams : Streams) (status : ℕ) : Type 0 where
+  pub reader : Option (List ℕ)
+  pub end : ScriptEnd
+  pub run : ChecksLines streams.input reader streams.output_before streams.output_after end
+  pub status_is : status ≡ exit_status end
+
 -- A replay was run, and this is its exit status.
 pub record RunsReplay (streams : Streams) (status : ℕ) : Type 0 where
   pub end : ScriptEnd
@@ -77,6 +87,7 @@ RunsOver {File} bytes Run (Some path) streams status = (file : File) × Run (rec
 -- what the words ask for was run
 abbrev pub Runs : {File : Type 0} → (File → Option (List ℕ)) → (Word → SessionFact) → Invocation → Streams → ℕ → Type 0
 Runs bytes RunAt (batch script) streams status = RunsOver bytes (RunsBatch RunAt script.database script.mode) script.file streams status
+Runs bytes RunAt (check file) streams status = RunsOver bytes RunsCheck file streams status
 Runs bytes RunAt (replay file) streams status = RunsOver bytes RunsReplay file streams status
 Runs bytes RunAt asked streams status = ⊥
 
@@ -91,6 +102,7 @@ LeavesInputFor (Some path) input0 input = input ≡ input0
 
 abbrev pub LeavesInput : Invocation → Option (List ℕ) → Option (List ℕ) → Type 0
 LeavesInput (batch script) input0 input = LeavesInputFor script.file input0 input
+LeavesInput (check file) input0 input = LeavesInputFor file input0 input
 LeavesInput (replay file) input0 input = LeavesInputFor file input0 input
 LeavesInput asked input0 input = input ≡ input0
 

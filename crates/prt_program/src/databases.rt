@@ -1,6 +1,7 @@
 //! Databases that are opened by their paths.
 ghost use Rattle.std.specs.Prelude.{IfErr, IfOk};
-ghost use Rattle.prt_program.specs.Databases.{IsOpenOn, IsOpenRefusal};
+ghost use Rattle.prt_addr.specs.Opening.{IsOpenRefusal};
+ghost use Rattle.prt_session.specs.Open.{IsOpenOn};
 ghost use Rattle.prt_version.specs.State.{State};
 
 use prt_session::{Desk, Refusal};
@@ -15,7 +16,7 @@ pub trait Databases {
     /// A desk over an open database.
     type Opened: Desk + Drop;
 
-    /// The error of a file that could not be opened.
+    /// The error of a file that could not be opened or closed.
     type Error: Display + Drop;
 
     /// The states that the database at a path may hold.
@@ -43,7 +44,11 @@ pub trait Databases {
         ensures opens { IfOk result (λ desk. opens self.old self.new path.now desk) }
         ensures reason { IfErr result (λ refused. IsOpenRefusal refused.0) };
 
-    /// Closes a database, so that its file alone has all of it. A fault of closing loses nothing that was acknowledged.
-    fn close(&mut self, desk: Self::Opened)
+    /// Closes a database, so that its file alone has all of it.
+    ///
+    /// # Errors
+    ///
+    /// Why its log could not be moved into the file. Nothing that was acknowledged is lost then: it stands in the log.
+    fn close(&mut self, desk: Self::Opened) -> Result<(), Self::Error>
         ensures { closed self.old self.new desk };
 }

@@ -5,10 +5,12 @@ mod databases;
 mod host;
 mod messages;
 mod next;
+mod noting;
 mod prt;
 
 pub use databases::Databases;
-pub use messages::cause_message;
+pub use messages::{cause_message, log_message};
 pub use next::Next;
+pub use noting::Noting;
 pub use prt::program;
 pub use prt_session::{Desk, Refusal, ScriptEnd};

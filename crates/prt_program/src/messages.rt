@@ -1,8 +1,12 @@
 //! What is told on standard error while a script is run.
-ghost use Rattle.std.specs.Prelude.{◌≡◌, ◌≢◌, ◌<◌, IfOk, map, string_bytes};
-ghost use Rattle.prt_program.specs.Messages.{complaint, lines_text, location, progress_message, refused_message, shown, total_message};
+ghost use Rattle.std.specs.Prelude.{◌≡◌, ◌≢◌, ◌<◌, ◌∷◌, IfOk, IfSome, List, Some, codes, map, option_map, string_bytes, ℕ};
+ghost use Rattle.prt_command.specs.Reading.{words};
+ghost use Rattle.prt_program.specs.Messages.{blame, complaint, failed_call, lines_text, location, progress_message, quoted, refused_message, shown, told_word, total_message};
 ghost use Rattle.prt_words.specs.Faults.{fault_status};
 
+use crate::noting::Noting;
+use prt_command::{fault_word, is, next_word};
+use prt_replay::call_name;
 use prt_session::{Observer, Refusal, Reply};
 use prt_words::{DONE, Fault, report};
 use std::alloc::{AllocError, Global};
@@ -46,13 +50,80 @@ fn location(alloc: Global, file: &str, line: u64) -> Result<String, AllocError>
     Ok(text)
 }
 
-/// Makes the text of what is wrong with a line.
-fn complaint(alloc: Global, refusal: Refusal, text: &[u8]) -> Result<String, AllocError>
-    ensures { IfOk result (λ made. string_bytes made ≡ complaint refusal text.now) }
+/// Makes the text of which call of the store failed, which is empty where none did.
+fn failed_call(alloc: Global, refusal: Refusal) -> Result<String, AllocError>
+    ensures { IfOk result (λ made. string_bytes made ≡ failed_call refusal) }
+{
+    match refusal {
+        Refusal::StoreFailed(call) => {
+            let name = call_name(call);
+            format!(in alloc; " in {name}")
+        }
+        _ => Ok(String::new(alloc)),
+    }
+}
+
+/// Finds the word that the refusal of a line is about, as far as there is one.
+///
+/// None of a line that was not read whole, since its text alone could have another fault.
+fn told_word(refusal: Refusal, text: &[u8]) -> Option<&[u8]>
+    ensures { option_map (λ word. word.now) result ≡ told_word refusal text.now }
+{
+    match refusal {
+        Refusal::LineTooLong | Refusal::ReadFault => None,
+        _ => {
+            let at = fault_word(text)?;
+            Some(&text[at.start..at.end])
+        }
+    }
+}
+
+/// Finds the word that the refusal of an event is about, where that is `submit` with a command: as of the command.
+fn told_event_word(refusal: Refusal, text: &[u8]) -> Option<&[u8]>
+    ensures { IfSome result (λ word. (command : List ℕ) × (words text.now ≡ codes "submit" ∷ words command) × (told_word refusal command ≡ Some word.now)) }
+{
+    let (event, command) = next_word(text)?;
+    if !is(event, b"submit") {
+        return None;
+    }
+    told_word(refusal, command)
+}
+
+/// Puts a word in quotes, after a space; without one the text is empty.
+fn quoted(alloc: Global, word: Option<&[u8]>) -> Result<String, AllocError>
+    ensures { IfOk result (λ made. string_bytes made ≡ quoted (option_map (λ word. word.now) word.entry)) }
+{
+    match word {
+        Some(word) => {
+            let word = shown_text(alloc, word)?;
+            format!(in alloc; " '{word}'")
+        }
+        None => Ok(String::new(alloc)),
+    }
+}
+
+/// Makes the text of why a line is refused, with the word that is wrong.
+fn blame(alloc: Global, refusal: Refusal, word: Option<&[u8]>) -> Result<String, AllocError>
+    ensures { IfOk result (λ made. string_bytes made ≡ blame refusal (option_map (λ word. word.now) word.entry)) }
 {
     let reason = refusal.to_string(alloc)?;
+    let call = failed_call(alloc, refusal)?;
+    let word = quoted(alloc, word)?;
+    format!(in alloc; "{reason}{call}{word}")
+}
+
+/// Makes the text of what is wrong with a line.
+fn complaint(
+    alloc: Global,
+    refusal: Refusal,
+    word: Option<&[u8]>,
+    text: &[u8],
+) -> Result<String, AllocError>
+    ensures { IfOk result (λ made. string_bytes made ≡ complaint refusal (option_map (λ word. word.now) word.entry) text.now) }
+{
+    let blame = blame(alloc, refusal, word)?;
     let text = shown_text(alloc, text)?;
-    format!(in alloc; "{reason}: {text}")
+    format!(in alloc; "{blame}: {text}")
 }
 
 /// Makes the message of a refused line.
@@ -61,12 +132,13 @@ fn refused_message(
     file: &str,
     line: u64,
     refusal: Refusal,
+    word: Option<&[u8]>,
     text: &[u8],
 ) -> Result<String, AllocError>
-    ensures { IfOk result (λ message. string_bytes message ≡ refused_message file.now line refusal text.now) }
+    ensures { IfOk result (λ message. string_bytes message ≡ refused_message file.now line refusal (option_map (λ word. word.now) word.entry) text.now) }
 {
     let location = location(alloc, file, line)?;
-    let complaint = complaint(alloc, refusal, text)?;
+    let complaint = complaint(alloc, refusal, word, text)?;
     format!(in alloc; "{location}: {complaint}\n")
 }
 
@@ -107,6 +179,21 @@ pub fn cause_message<P: Display, D: Display>(
     format!(in alloc; "prt: {place}: {reason}\n")
 }
 
+/// Makes the message of why the log of a database could not be moved into its file.
+///
+/// # Errors
+///
+/// `AllocError`, where memory is refused.
+pub fn log_message<D: Display>(
+    alloc: Global,
+    path: &str,
+    reason: &D,
+) -> Result<String, AllocError> {
+    format!(in alloc;
+        "prt: {path}-wal: {reason}: the log is not in {path}, and has to stay beside it\n"
+    )
+}
+
 /// What is told of a run.
 #[derive(Clone, Copy)]
 enum Telling {
@@ -118,7 +205,16 @@ enum Telling {
     ShowingProgress,
 }
 
-/// Looks on at a run, and tells of it on standard error once it is turned on.
+/// What the lines of a run are.
+#[derive(Clone, Copy)]
+enum Language {
+    /// Lines of the command language, whose first fault may be about a word.
+    Commands,
+    /// Events of a replay.
+    Events,
+}
+
+/// Looks on at a run, and tells of it on standard error once it is turned on. Why a file failed it always tells.
 ///
 /// A fault of the clock, of memory or of writing loses a message and changes nothing else.
 #[derive(Drop)]
@@ -131,6 +227,7 @@ pub(crate) struct Messages<'a, E: Write + Drop, K: Clock + Drop> {
     cause: Option<String>,
     /// The name of the script.
     file: &'a str,
+    language: Language,
     /// When the run began; none where no progress is told.
     begun: Option<Instant>,
     /// How many whole seconds had passed when progress was told last.
@@ -149,6 +246,7 @@ impl<'a, E: Write + Drop, K: Clock + Drop> Messages<'a, E, K> {
             telling: Telling::Off,
             cause: None,
             file: "",
+            language: Language::Commands,
             begun: None,
             seconds: 0,
             lines: 0,
@@ -178,11 +276,15 @@ impl<'a, E: Write + Drop, K: Clock + Drop> Messages<'a, E, K> {
         }
     }
 
+    /// Begins to look on at a replay of the file of this name, of which at most the refused line is told.
+    pub(crate) fn begin_replay(&mut self, file: &'a str) {
+        self.file = file;
+        self.language = Language::Events;
+    }
+
     /// Keeps why a file could not be opened.
     pub(crate) fn keep_cause<D: Display>(&mut self, path: &str, reason: &D) {
-        if self.is_on() {
-            self.cause = cause_message(self.alloc, &path, reason).ok();
-        }
+        self.cause = cause_message(self.alloc, &path, reason).ok();
     }
 
     /// Tells why a file could not be opened, if that was kept.
@@ -200,6 +302,22 @@ impl<'a, E: Write + Drop, K: Clock + Drop> Messages<'a, E, K> {
         let status = report(fault, output, &mut self.errors);
         self.tell_cause();
         status
+    }
+
+    /// Tells why a file could not be read to its end, if it failed.
+    pub(crate) fn tell_failure<S>(&mut self, file: &str, stream: &Noting<S>) {
+        if let Some(error) = stream.error() {
+            self.wipe();
+            self.write(cause_message(self.alloc, &file, error));
+        }
+    }
+
+    /// Tells why the log of the database at a path could not be moved into its file, if that failed.
+    pub(crate) fn tell_closing<D: Display>(&mut self, path: &str, closed: &Result<(), D>) {
+        if let Err(reason) = closed {
+            self.wipe();
+            self.write(log_message(self.alloc, path, reason));
+        }
     }
 
     /// Writes a message, if there was memory for it.
@@ -221,7 +339,11 @@ impl<'a, E: Write + Drop, K: Clock + Drop> Messages<'a, E, K> {
     fn tell_refused(&mut self, line: u64, refusal: Refusal, text: &[u8]) {
         self.refused = self.refused.saturating_add(1);
         self.wipe();
-        self.write(refused_message(self.alloc, self.file, line, refusal, text));
+        let word = match self.language {
+            Language::Commands => told_word(refusal, text),
+            Language::Events => told_event_word(refusal, text),
+        };
+        self.write(refused_message(self.alloc, self.file, line, refusal, word, text));
     }
 
     /// Gives the whole seconds since the run began; 0 where no progress is told.

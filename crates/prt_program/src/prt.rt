@@ -1,9 +1,11 @@
 //! The runs of the program.
 ghost use Rattle.std.specs.Prelude.{◌≡◌, ◌≢◌, ◌⊎◌, IfErr, IfOk, MatchResult, OnErr, None, option_map};
-ghost use Rattle.prt_addr.specs.declared.refusal.Refusal.TheVariants.{ReadFault};
-ghost use Rattle.prt_program.specs.Databases.{IsOpenOn, IsOpenRefusal};
+ghost use Rattle.std.specs.Io.Buffered.{reader_remaining};
+ghost use Rattle.prt_addr.specs.Opening.{IsOpenRefusal};
+ghost use Rattle.prt_addr.specs.declared.refusal.Refusal.TheVariants.{NoMemory, ReadFault};
 ghost use Rattle.prt_program.specs.Faults.{IsDatabaseFault, IsFault, IsOpening, IsScriptFault};
-ghost use Rattle.prt_program.specs.Program.{IfExit, IfServe, LeavesDatabases, LeavesInput, LeavesInputFor, Runs, RunsAt, RunsBatch, RunsNothing, RunsOn, RunsOver, RunsReplay, exit_status, streams_of};
+ghost use Rattle.prt_program.specs.Program.{IfExit, IfServe, LeavesDatabases, LeavesInput, LeavesInputFor, Runs, RunsAt, RunsBatch, RunsCheck, RunsNothing, RunsOn, RunsOver, RunsReplay, exit_status, streams_of};
+ghost use Rattle.prt_session.specs.Open.{IsOpenOn};
 ghost use Rattle.prt_version.specs.State.{State};
 ghost use Rattle.prt_words.specs.CommandLine.{IsServing};
 ghost use Rattle.prt_words.specs.Invocation.{arguments, invocation, serve};
@@ -13,8 +15,11 @@ use crate::databases::Databases;
 use crate::host::{Host, HostOf, Surroundings};
 use crate::messages::Messages;
 use crate::next::Next;
+use crate::noting::Noting;
 use prt_replay::run_replay;
-use prt_session::{Desk, ListDesk, Observer, OnRefusal, Refusal, ScriptEnd, run_script};
+use prt_session::{
+    Desk, ListDesk, Observer, OnRefusal, Refusal, ScriptEnd, check_lines, run_script,
+};
 use prt_words::{Batch, DONE, FAULT, Fault, STANDARD_INPUT, Task, read_words};
 use std::alloc::Global;
 use std::fs::{self, Files};
@@ -74,6 +79,21 @@ fn open_database<D: Databases, E: Write + Drop, K: Clock + Drop>(
     }
 }
 
+/// Puts a block buffer round an input, of which a session takes its bytes one by one.
+///
+/// # Errors
+///
+/// `Opening` with `NoMemory`.
+fn buffered<R: Read + Drop>(alloc: Global, input: R) -> Result<BufReader<R>, Fault>
+    ensures bytes { IfOk result (λ reader. reader_remaining R.remaining reader ≡ R.remaining input) }
+    ensures fault { IfErr result (λ fault. fault ≡ Opening NoMemory) }
+{
+    match BufReader::new(alloc, input) {
+        Ok(reader) => Ok(reader),
+        Err(_) => Err(Fault::Opening(Refusal::NoMemory)),
+    }
+}
+
 /// Runs a script over the database that is asked for, and gives the exit status of the session.
 fn run_batch<H: Host, R: Read + Drop>(
     around: &mut Surroundings<'_, '_, H>,
@@ -90,16 +110,13 @@ fn run_batch<H: Host, R: Read + Drop>(
     ensures same { (around.new.databases.ghost_name ≡ around.old.databases.ghost_name) × (around.new.output.ghost_name ≡ around.old.output.ghost_name) }
 {
     let alloc = around.alloc;
-    // A session takes its bytes one by one; the buffer takes them from the input in blocks.
-    let mut reader = match BufReader::new(alloc, input) {
-        Ok(reader) => reader,
-        Err(_) => return Err(Fault::Opening(Refusal::NoMemory)),
-    };
+    let mut reader = buffered(alloc, input)?;
     match database {
         Some(path) => {
             let mut desk = open_database(alloc, around.databases, path, messages)?;
             let status = run_over(alloc, &mut desk, &mut reader, around.output, mode, messages);
-            around.databases.close(desk);
+            let closed = around.databases.close(desk);
+            messages.tell_closing(path, &closed);
             Ok(status)
         }
         None => {
@@ -109,11 +126,31 @@ fn run_batch<H: Host, R: Read + Drop>(
     }
 }
 
+/// Checks a script, and gives the exit status.
+fn check<R: Read + Drop, W: Write, O: Observer>(
+    alloc: Global,
+    input: R,
+    output: &mut W,
+    observer: &mut O,
+) -> Result<u8, Fault>
+    ensures run { IfOk result (RunsCheck (streams_of (R.remaining input) (W.contents output.old) (W.contents output.new))) }
+    ensures fault { IfErr result (λ fault. fault ≡ Opening NoMemory) }
+    ensures unwritten { OnErr result (W.contents output.new ≡ W.contents output.old) }
+{
+    let mut reader = buffered(alloc, input)?;
+    Ok(exit_status(check_lines(&mut reader, output, observer)))
+}
+
 /// Replays a list of events, and gives the exit status.
-fn replay<R: Read, W: Write>(alloc: Global, input: &mut R, output: &mut W) -> u8
+fn replay<R: Read, W: Write, O: Observer>(
+    alloc: Global,
+    input: &mut R,
+    output: &mut W,
+    observer: &mut O,
+) -> u8
     ensures { RunsReplay (streams_of (R.remaining input.old) (W.contents output.old) (W.contents output.new)) result }
 {
-    exit_status(run_replay(alloc, input, output))
+    exit_status(run_replay(alloc, input, output, observer))
 }
 
 /// Opens the file of this path.
@@ -156,8 +193,10 @@ fn run_script_of<'a, H: Host, R: Read>(
     messages.begin(batch.file.unwrap_or(STANDARD_INPUT), &*around.output);
     let status = match batch.file {
         Some(path) => {
-            let file = open_file(around.files, path, messages)?;
-            run_batch(around, database, file, mode, messages)?
+            let mut file = Noting::new(open_file(around.files, path, messages)?);
+            let status = run_batch(around, database, &mut file, mode, messages)?;
+            messages.tell_failure(path, &file);
+            status
         }
         None => run_batch(around, database, input, mode, messages)?,
     };
@@ -165,12 +204,41 @@ fn run_script_of<'a, H: Host, R: Read>(
     Ok(status)
 }
 
-/// Replays the events that are asked for, of a file or of the input.
-fn replay_of<H: Host, R: Read>(
+/// Checks the script that is asked for, of a file or of the input.
+fn check_of<'a, H: Host, R: Read>(
     around: &mut Surroundings<'_, '_, H>,
-    path: Option<&str>,
+    path: Option<&'a str>,
     input: &mut R,
-    messages: &mut Messages<'_, H::Errors, H::Clock>,
+    messages: &mut Messages<'a, H::Errors, H::Clock>,
+) -> Result<u8, Fault>
+    ensures run { IfOk result (RunsOver H.Files.File.remaining RunsCheck (option_map (λ path. path.now) path.entry)
+        (streams_of (R.remaining input.old) (H.Output.contents around.old.output.now) (H.Output.contents around.new.output.now))) }
+    ensures unread { LeavesInputFor (option_map (λ path. path.now) path.entry) (R.remaining input.old) (R.remaining input.new) }
+    ensures fault { IfErr result (IsOpening (IsScriptFault None)) }
+    ensures unopened { around.new.databases.now ≡ around.old.databases.now }
+    ensures unwritten { OnErr result (H.Output.contents around.new.output.now ≡ H.Output.contents around.old.output.now) }
+    ensures same { (around.new.databases.ghost_name ≡ around.old.databases.ghost_name) × (around.new.output.ghost_name ≡ around.old.output.ghost_name) }
+{
+    messages.begin(path.unwrap_or(STANDARD_INPUT), &*around.output);
+    let status = match path {
+        Some(path) => {
+            let mut script = Noting::new(open_file(around.files, path, messages)?);
+            let status = check(around.alloc, &mut script, around.output, messages)?;
+            messages.tell_failure(path, &script);
+            status
+        }
+        None => check(around.alloc, input, around.output, messages)?,
+    };
+    messages.finish();
+    Ok(status)
+}
+
+/// Replays the events that are asked for, of a file or of the input.
+fn replay_of<'a, H: Host, R: Read>(
+    around: &mut Surroundings<'_, '_, H>,
+    path: Option<&'a str>,
+    input: &mut R,
+    messages: &mut Messages<'a, H::Errors, H::Clock>,
 ) -> Result<u8, Fault>
     ensures run { IfOk result (RunsOver H.Files.File.remaining RunsReplay (option_map (λ path. path.now) path.entry)
         (streams_of (R.remaining input.old) (H.Output.contents around.old.output.now) (H.Output.contents around.new.output.now))) }
@@ -180,12 +248,15 @@ fn replay_of<H: Host, R: Read>(
     ensures unwritten { OnErr result (H.Output.contents around.new.output.now ≡ H.Output.contents around.old.output.now) }
     ensures same { (around.new.databases.ghost_name ≡ around.old.databases.ghost_name) × (around.new.output.ghost_name ≡ around.old.output.ghost_name) }
 {
+    messages.begin_replay(path.unwrap_or(STANDARD_INPUT));
     match path {
         Some(path) => {
-            let mut file = open_file(around.files, path, messages)?;
-            Ok(replay(around.alloc, &mut file, around.output))
+            let mut events = Noting::new(open_file(around.files, path, messages)?);
+            let status = replay(around.alloc, &mut events, around.output, messages);
+            messages.tell_failure(path, &events);
+            Ok(status)
         }
-        None => Ok(replay(around.alloc, input, around.output)),
+        None => Ok(replay(around.alloc, input, around.output, messages)),
     }
 }
 
@@ -211,6 +282,10 @@ fn run_words<'a, H: Host, R: Read>(
             let status = run_script_of(around, batch, input, messages)?;
             Ok(Next::Exit(status))
         }
+        Task::Check(path) => {
+            let status = check_of(around, path, input, messages)?;
+            Ok(Next::Exit(status))
+        }
         Task::Replay(path) => {
             let status = replay_of(around, path, input, messages)?;
             Ok(Next::Exit(status))
@@ -221,9 +296,10 @@ fn run_words<'a, H: Host, R: Read>(
 
 /// Runs the program with these words, the first of which is its own name, and gives its exit status.
 ///
-/// `batch [--force] [--db PATH] [--verbose] [FILE]` runs a script over the database at PATH or a new one in memory, and
-/// `replay [FILE]` replays a list of events. Where a FILE is named, `input` is not read. Of `serve` the words are read
-/// and handed back; nothing is written then, and no database touched.
+/// `batch [--force] [--db PATH] [--verbose] [FILE]` runs a script over the database at PATH or a new one in memory.
+/// `check [FILE]` says which of its lines would be refused as they stand, and `replay [FILE]` replays a list of events.
+/// Where a FILE is named, `input` is not read. Of `serve` the words are read and handed back; nothing is written then,
+/// and no database touched.
 ///
 /// Without `--db` no database is opened. With it the one at PATH is opened, closed as the session left it, and nothing
 /// else is done to any database; what a refused opening makes of them is left open.

@@ -34,14 +34,14 @@ pub allowed : (published : State) (command : Command) (made : Change) → check 
 allowed published command made makes = ap result_err makes
 
 -- What is known of a prepared command when it is committed under the number after this one.
-pub record CanCommit {S : Type 0} (g : Ghosts S) (format_1 : Bool) (tables : Held S) (published : State) (plan : Plan) (number : ℕ) : Type 0 where
+pub record CanCommit {S : Type 0} (g : Ghosts S) (ours_first : Bool) (tables : Held S) (published : State) (plan : Plan) (number : ℕ) : Type 0 where
   pub planned : IsPlan published plan
   pub next : IsNext published plan.change (number + 1)
-  pub kept : IsKnown g format_1 tables → IsStored g tables published
+  pub kept : IsKnown g ours_first tables → IsStored g tables published
 
-pub can_commit : {S : Type 0} (g : Ghosts S) (format_1 : Bool) (tables : Held S) (published : State) (at : Step) (plan : Plan) (number : ℕ) → at ≡ step.Prepared plan → number ≡ published.count → IsStep published at
-    → (IsKnown g format_1 tables → Agrees g (phase_of at) (command_of at) published tables) → CanCommit g format_1 tables published plan number
-can_commit g format_1 tables published at plan number is counted kept agrees =
+pub can_commit : {S : Type 0} (g : Ghosts S) (ours_first : Bool) (tables : Held S) (published : State) (at : Step) (plan : Plan) (number : ℕ) → at ≡ step.Prepared plan → number ≡ published.count → IsStep published at
+    → (IsKnown g ours_first tables → Agrees g (phase_of at) (command_of at) published tables) → CanCommit g ours_first tables published plan number
+can_commit g ours_first tables published at plan number is counted kept agrees =
     let planned : IsPlan published plan = subst (IsStep published) is kept in
     record {
       planned = planned;

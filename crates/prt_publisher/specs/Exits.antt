@@ -58,8 +58,8 @@ pub record IsNotStored {S : Type 0} (g : Ghosts S) (old : Standing (Held S)) (co
   pub call : StoreCall
   pub why_is : why ≡ reason.StoreFailed call
   pub left : new ≡ record old { phase = Closed; command = None; tables = new.tables }
-  pub now : IsKnown g new.format_1 new.tables → IsTrue (state g new.tables).is_open → Stores (state g new.tables).now (line_state old.line)
-  pub leaves : IsKnown g new.format_1 new.tables → (state : State) → MayLeave g new.tables state → (state ≡ line_state old.line) ⊎ ((why ≡ reason.StoreFailed Commit) × (state ≡ apply (line_state old.line) command))
+  pub now : IsKnown g new.ours_first new.tables → IsTrue (state g new.tables).is_open → Stores (state g new.tables).now (line_state old.line)
+  pub leaves : IsKnown g new.ours_first new.tables → (state : State) → MayLeave g new.tables state → (state ≡ line_state old.line) ⊎ ((why ≡ reason.StoreFailed Commit) × (state ≡ apply (line_state old.line) command))
 
 -- The front refused the publication: closed, with the command stored.
 pub record IsNotPublished {S : Type 0} (g : Ghosts S) (old : Standing (Held S)) (command : Command) (why : Refusal) (new : Standing (Held S)) : Type 0 where
@@ -78,4 +78,4 @@ HasCommitted g old command new =
 
 -- the other tables of the file stay, where that can be seen
 abbrev pub Spares : {S : Type 0} → Ghosts S → Standing (Held S) → Standing (Held S) → Type 0
-Spares g old new = IsKnown g new.format_1 new.tables → (new.phase ≡ Closed → IsTrue (state g new.tables).is_open) → SparesOthers (state g old.tables).now (state g new.tables).now
+Spares g old new = IsKnown g new.ours_first new.tables → (new.phase ≡ Closed → IsTrue (state g new.tables).is_open) → SparesOthers (state g old.tables).now (state g new.tables).now

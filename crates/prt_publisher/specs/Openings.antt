@@ -3,29 +3,29 @@ use Rattle.std.specs.Prelude.{◌≡◌, IsTrue}
 use Rattle.sqlite.specs.Held.{Held, state}
 use Rattle.sqlite.specs.State.{HasCleanDisk, Survives}
 use Rattle.sqlite.specs.Store.{Ghosts}
+use Rattle.prt_addr.specs.Opening.{IsOpenRefusal}
 use Rattle.prt_addr.specs.declared.refusal.Refusal.{Refusal}
 use Rattle.prt_addr.specs.declared.refusal.Refusal.TheVariants.{Damaged}
-use Rattle.prt_rows.specs.Format.{BeginsFormat1}
+use Rattle.prt_rows.specs.Format.{BeginsFormat2}
 use Rattle.prt_store.specs.Adopted.{Adopts, AdoptsPart, LeavesPart}
 use Rattle.prt_store.specs.Exits.{IsStored, Spells}
-use Rattle.prt_store.specs.Loaded.{IsLoadRefusal}
 use Rattle.prt_version.specs.Sound.{IsSound}
 use Rattle.prt_version.specs.State.{State}
 
 -- a crash leaves what it could leave before, or what a stopped opening leaves
 abbrev pub Lasts : {S : Type 0} → Ghosts S → Held S → Held S → Type 0
-Lasts g was left = (HasCleanDisk (state g was) → BeginsFormat1 (state g was).now.schema) → Survives (state g was) (state g left) (LeavesPart (state g was).now)
+Lasts g was left = (HasCleanDisk (state g was) → BeginsFormat2 (state g was).now.schema) → Survives (state g was) (state g left) (LeavesPart (state g was).now)
 
 -- The tables were adopted, and this state is stored in them; tables that spelled a state spelled this one.
 pub record HasOpened {S : Type 0} (g : Ghosts S) (was made : Held S) (opened : State) : Type 0 where
   pub sound : IsSound opened
-  pub adopts : HasCleanDisk (state g made) → BeginsFormat1 (state g was).now.schema → Adopts (state g was).now (state g made).now × IsStored g made opened
-  pub found : HasCleanDisk (state g made) → IsTrue (state g was).is_open → (stored : State) → Spells (state g was).now.trees stored → BeginsFormat1 (state g was).now.schema × (opened ≡ stored)
+  pub adopts : HasCleanDisk (state g made) → BeginsFormat2 (state g was).now.schema → Adopts (state g was).now (state g made).now × IsStored g made opened
+  pub found : HasCleanDisk (state g made) → IsTrue (state g was).is_open → (stored : State) → Spells (state g was).now.trees stored → BeginsFormat2 (state g was).now.schema × (opened ≡ stored)
   pub lasts : Lasts g was made
 
 -- Nothing was opened: `Damaged` only where the tables spelled no state, and they are at most adopted in part.
 pub record HasRefused {S : Type 0} (g : Ghosts S) (was left : Held S) (reason : Refusal) : Type 0 where
-  pub why : IsLoadRefusal reason
+  pub why : IsOpenRefusal reason
   pub damaged : reason ≡ Damaged → HasCleanDisk (state g left) → IsTrue (state g was).is_open → (stored : State) → Spells (state g was).now.trees stored → ⊥
-  pub part : HasCleanDisk (state g left) → IsTrue (state g left).is_open → BeginsFormat1 (state g was).now.schema → AdoptsPart (state g was).now (state g left).now
+  pub part : HasCleanDisk (state g left) → IsTrue (state g left).is_open → BeginsFormat2 (state g was).now.schema → AdoptsPart (state g was).now (state g left).now
   pub lasts : Lasts g was left

@@ -21,14 +21,14 @@ pub record Standing (T : Type 0) : Type 0 where
   pub phase : Phase
   pub line : Line
   pub command : Option Command
-  pub format_1 : Bool
+  pub ours_first : Bool
   pub tables : T
 
 abbrev pub standing_code : {T : Type 0} → Coded T → Coded (Standing T)
 standing_code {T} tables =
     code_by (Phase × (Line × (Option Command × (Bool × T)))) (coded× phase.the_row.coded (coded× known.the_row.coded (coded× (coded_option command.the_row.coded) (coded× coded_bool tables))))
-    (λ s. (s.phase, (s.line, (s.command, (s.format_1, s.tables)))))
-    (λ p. record { phase = p.0; line = p.1.0; command = p.1.1.0; format_1 = p.1.1.1.0; tables = p.1.1.1.1 })
+    (λ s. (s.phase, (s.line, (s.command, (s.ours_first, s.tables)))))
+    (λ p. record { phase = p.0; line = p.1.0; command = p.1.1.0; ours_first = p.1.1.1.0; tables = p.1.1.1.1 })
     (λ _. refl)
 
 -- no command is under way
@@ -73,4 +73,4 @@ Agrees g Closed (Some command) published tables = IsStored g tables (apply publi
 
 -- what stands in the tables of a file that is known
 abbrev pub Stands : {S : Type 0} → Ghosts S → Standing (Held S) → Type 0
-Stands g s = IsKnown g s.format_1 s.tables → Agrees g s.phase s.command (line_state s.line) s.tables
+Stands g s = IsKnown g s.ours_first s.tables → Agrees g s.phase s.command (line_state s.line) s.tables

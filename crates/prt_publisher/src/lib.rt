@@ -1,6 +1,7 @@
 //! The publisher: a command is checked, committed, published and noted, and only then acknowledged.
 #![tactic(auto)]
 
+mod connected;
 mod opening;
 mod phase;
 mod plan;
@@ -8,6 +9,7 @@ mod publisher;
 mod receipt;
 mod seats;
 
+pub use connected::publisher_over;
 pub use phase::Phase;
 pub use publisher::Publisher;
 pub use receipt::Receipt;

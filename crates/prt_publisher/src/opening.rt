@@ -5,7 +5,7 @@ ghost use Rattle.sqlite.specs.Held.{state};
 ghost use Rattle.prt_addr.specs.declared.refusal.Refusal.TheVariants.{NoMemory};
 ghost use Rattle.prt_publisher.specs.Openings.{HasOpened, HasRefused};
 ghost use Rattle.prt_front.specs.Line.{line_state};
-ghost use Rattle.prt_rows.specs.Format.{BeginsFormat1};
+ghost use Rattle.prt_rows.specs.Format.{BeginsFormat2};
 ghost use Rattle.prt_version.specs.Accepted.{IsAccepted};
 
 use crate::Seats;
@@ -13,7 +13,7 @@ use crate::plan::owners;
 use prt_command::Refusal;
 use prt_front::Front;
 use prt_grace::{Domain, Keeper};
-use prt_rows::begins_format_1;
+use prt_rows::begins_format_2;
 use prt_store::Store;
 use prt_version::Version;
 use sqlite::{Alter, Connection};
@@ -24,7 +24,7 @@ use std::sync::{Arc, Wait};
 #[derive(Drop)]
 struct Loaded<S: Alter + Drop> {
     store: Store<S>,
-    is_format_1: bool,
+    ours_first: bool,
     version: Version,
 }
 
@@ -42,7 +42,7 @@ pub(crate) struct Begun<R: Wait + Drop> {
 #[derive(Drop)]
 pub(crate) struct Opened<S: Alter + Drop, R: Wait + Drop> {
     pub(crate) store: Store<S>,
-    pub(crate) is_format_1: bool,
+    pub(crate) ours_first: bool,
     pub(crate) begun: Begun<R>,
 }
 
@@ -55,22 +55,22 @@ fn adopt_and_load<S: Alter + Drop>(
     alloc: Global,
     conn: Connection<S>,
 ) -> Result<Loaded<S>, (Refusal, Connection<S>)>
-    ensures format { IfOk result (λ loaded. (loaded.is_format_1 ≡ true) ↔ BeginsFormat1 (state S.Store conn).now.schema) }
+    ensures format { IfOk result (λ loaded. (loaded.ours_first ≡ true) ↔ BeginsFormat2 (state S.Store conn).now.schema) }
     ensures opened { IfOk result (λ loaded. HasOpened S.Store conn loaded.store.conn loaded.version) }
     ensures refused { IfErr result (λ refused. HasRefused S.Store conn refused.1 refused.0) }
 {
-    let is_format_1 = begins_format_1(conn.schema());
+    let ours_first = begins_format_2(conn.schema());
     let mut store = match Store::adopt(conn) {
         Ok(store) => store,
         Err(refused) => return Err(refused),
     };
     match store.load(alloc) {
         Ok(version) => {
-            // Says that the version is sound.
+            // Recalls that the version is sound.
             let _number = version.number();
             Ok(Loaded {
                 store,
-                is_format_1,
+                ours_first,
                 version,
             })
         }
@@ -114,7 +114,7 @@ pub(crate) fn open<S: Alter + Drop, R: Wait + Drop>(
     ensures begun { IfOk result (λ opened. (opened.begun.front.list ≡ []) × IsAccepted opened.begun.front.base opened.begun.front.list
         × (arc_value opened.begun.version ≡ line_state opened.begun.front) × (opened.begun.keeper.noted ≡ (arc_value opened.begun.version).count)) }
     ensures seats { IfOk result (λ opened. opened.begun.seats ≡ opened.begun.front) }
-    ensures format { IfOk result (λ opened. (opened.is_format_1 ≡ true) ↔ BeginsFormat1 (state S.Store conn).now.schema) }
+    ensures format { IfOk result (λ opened. (opened.ours_first ≡ true) ↔ BeginsFormat2 (state S.Store conn).now.schema) }
     ensures opened { IfOk result (λ opened. HasOpened S.Store conn opened.store.conn (line_state opened.begun.front)) }
     ensures refused { IfErr result (λ refused. HasRefused S.Store conn refused.1 refused.0) }
 {
@@ -125,7 +125,7 @@ pub(crate) fn open<S: Alter + Drop, R: Wait + Drop>(
     match begin(rt, alloc, loaded.version) {
         Ok(begun) => Ok(Opened {
             store: loaded.store,
-            is_format_1: loaded.is_format_1,
+            ours_first: loaded.ours_first,
             begun,
         }),
         Err(reason) => Err((reason, loaded.store.release())),

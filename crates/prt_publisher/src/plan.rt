@@ -7,9 +7,8 @@ ghost use Rattle.prt_publisher.specs.Step.{IsPlan};
 ghost use Rattle.prt_version.specs.Change.{IsChecked, check};
 
 use prt_command::{Command, Refusal};
-use prt_version::owners::{first_owner, share};
 use prt_version::{Change, Version};
-use std::alloc::Global;
+use std::alloc::{AllocError, Global};
 use std::sync::Arc;
 
 /// A command, the change that it makes, and the version after it in the hands of three owners: the publisher, the front
@@ -23,21 +22,16 @@ pub(crate) struct Plan {
     pub(crate) noted: Arc<Version>,
 }
 
-/// Three owners of a version.
-///
-/// # Errors
-///
-/// `NoMemory`.
+/// Makes three owners of a version.
 pub(crate) fn owners(
     alloc: Global,
     version: Version,
-) -> Result<(Arc<Version>, Arc<Version>, Arc<Version>), Refusal>
-    ensures owners { IfOk result (λ three. (arc_value three.0 ≡ version) × (arc_value three.1 ≡ version) × (arc_value three.2 ≡ version)) }
-    ensures reason { IfErr result (λ reason. reason ≡ NoMemory) }
+) -> Result<(Arc<Version>, Arc<Version>, Arc<Version>), AllocError>
+    ensures { IfOk result (λ three. (arc_value three.0 ≡ version) × (arc_value three.1 ≡ version) × (arc_value three.2 ≡ version)) }
 {
-    let first = first_owner(alloc, version)?;
-    let second = share(&first)?;
-    let third = share(&first)?;
+    let first = Arc::new(alloc, version)?;
+    let second = Arc::try_clone(&first)?;
+    let third = Arc::try_clone(&first)?;
     Ok((first, second, third))
 }
 
@@ -59,7 +53,7 @@ pub(crate) fn make_plan(
     ensures command { IfOk result (λ plan. plan.command ≡ command.now) }
     ensures reason { IfErr result (λ reason. reason ≡ NoMemory) }
 {
-    // Says that the version is sound.
+    // Recalls that the version is sound.
     let _number = version.number();
     let (next, shown, noted) = owners(alloc, version.next(&change)?)?;
     Ok(Plan {

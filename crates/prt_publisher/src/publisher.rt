@@ -2,6 +2,7 @@
 ghost use Rattle.std.specs.Prelude.{◌≡◌, ◌⊎◌, ◌+◌, ◌<◌, ◌↔◌, [], length, None, Some, IfErr, IfOk, IsSomeAnd, IsTrue, OnErr, OnOk, true};
 ghost use Rattle.sqlite.specs.Held.{state};
 ghost use Rattle.sqlite.specs.State.{HasCleanDisk, Survives};
+ghost use Rattle.prt_addr.specs.Opening.{IsOpenRefusal};
 ghost use Rattle.prt_addr.specs.declared.refusal.Refusal.TheVariants.{Damaged, NoMemory, NotPublished, StoreFailed};
 ghost use Rattle.prt_addr.specs.declared.refusal.StoreCall.{StoreCall};
 ghost use Rattle.prt_addr.specs.declared.refusal.StoreCall.TheVariants.{Commit};
@@ -11,10 +12,9 @@ ghost use Rattle.prt_grace.specs.Registry.{noted_by, reclaimed};
 ghost use Rattle.prt_grace.specs.declared.limits.TheConstants.{MOST_RETIRED};
 ghost use Rattle.prt_publisher.specs.Exits.{HasCommitted, IsAllowed, IsNotAcknowledged, IsNotAdmitted, IsNotPrepared, Spares, Takes, line_after, state_after};
 ghost use Rattle.prt_publisher.specs.Standing.{IsQuiet, Stands, unnoted};
-ghost use Rattle.prt_rows.specs.Format.{BeginsFormat1};
+ghost use Rattle.prt_rows.specs.Format.{BeginsFormat2};
 ghost use Rattle.prt_store.specs.Adopted.{Adopts, AdoptsPart, LeavesPart};
 ghost use Rattle.prt_store.specs.Exits.{IsKnown, IsStored, MayLeave, Opens, Spells};
-ghost use Rattle.prt_store.specs.Loaded.{IsLoadRefusal};
 ghost use Rattle.prt_store.specs.Stored.{Stores};
 ghost use Rattle.prt_version.specs.Sound.{IsSound};
 ghost use Rattle.prt_version.specs.State.{State};
@@ -57,7 +57,7 @@ enum Step {
 pub struct Publisher<S: Alter + Drop, R: Wait + Drop> {
     store: Store<S>,
     /// Whether our tables are the first of their file: of other files nothing is known.
-    is_format_1: bool,
+    ours_first: bool,
     version: Arc<Version>,
     front: Front<R>,
     /// Readers of the front, until a service takes them.
@@ -80,11 +80,11 @@ impl<S: Alter + Drop, R: Wait + Drop> Model for Publisher<S, R> {
 
     ghost coded = { standing_code (held_code S.code) };
 
-    ghost view = { λ p. record { phase = phase_of p.step; line = p.front; command = command_of p.step; format_1 = p.is_format_1; tables = p.store.conn } };
+    ghost view = { λ p. record { phase = phase_of p.step; line = p.front; command = command_of p.step; ours_first = p.ours_first; tables = p.store.conn } };
 
     ghost invariant = { λ p. (arc_value p.version ≡ line_state p.front) × (p.keeper.noted + unnoted (phase_of p.step) ≡ (arc_value p.version).count) × IsAccepted p.front.base p.front.list
         × IsStep (line_state p.front) p.step
-        × (IsKnown S.Store p.is_format_1 p.store.conn → Agrees S.Store (phase_of p.step) (command_of p.step) (line_state p.front) p.store.conn)
+        × (IsKnown S.Store p.ours_first p.store.conn → Agrees S.Store (phase_of p.step) (command_of p.step) (line_state p.front) p.store.conn)
         × (p.seats.book ≡ p.front.book) × (p.seats.base ≡ p.front.base) };
 }
 
@@ -106,21 +106,21 @@ impl<S: Alter + Drop, R: Wait + Drop> Publisher<S, R> {
     ) -> Result<(Publisher<S, R>, Domain), (Refusal, Connection<S>)>
         ensures ready { IfOk result (λ made. (made.0.phase ≡ Phase.Ready) × (made.0.command ≡ None) × (made.0.line.list ≡ [])) }
         ensures sound { IfOk result (λ made. IsSound (line_state made.0.line)) }
-        ensures reason { IfErr result (λ refused. IsLoadRefusal refused.0) }
+        ensures reason { IfErr result (λ refused. IsOpenRefusal refused.0) }
         ensures damaged { IfErr result (λ refused. refused.0 ≡ Damaged → HasCleanDisk (state S.Store refused.1) → IsTrue (state S.Store conn).is_open → (stored : State) →
             Spells (state S.Store conn).now.trees stored → ⊥) }
         ensures stands { IfOk result (λ made. Stands S.Store made.0) }
-        ensures format { IfOk result (λ made. (made.0.format_1 ≡ true) ↔ BeginsFormat1 (state S.Store conn).now.schema) }
-        ensures adopts { IfOk result (λ made. IsKnown S.Store made.0.format_1 made.0.tables → Opens (state S.Store conn).now (line_state made.0.line)) }
-        ensures own { IfOk result (λ made. IsKnown S.Store made.0.format_1 made.0.tables →
+        ensures format { IfOk result (λ made. (made.0.ours_first ≡ true) ↔ BeginsFormat2 (state S.Store conn).now.schema) }
+        ensures adopts { IfOk result (λ made. IsKnown S.Store made.0.ours_first made.0.tables → Opens (state S.Store conn).now (line_state made.0.line)) }
+        ensures own { IfOk result (λ made. IsKnown S.Store made.0.ours_first made.0.tables →
             Adopts (state S.Store conn).now (state S.Store made.0.tables).now × Stores (state S.Store made.0.tables).now (line_state made.0.line)) }
         ensures found { IfOk result (λ made. HasCleanDisk (state S.Store made.0.tables) → IsTrue (state S.Store conn).is_open → (stored : State) →
-            Spells (state S.Store conn).now.trees stored → (made.0.format_1 ≡ true) × (line_state made.0.line ≡ stored)) }
+            Spells (state S.Store conn).now.trees stored → (made.0.ours_first ≡ true) × (line_state made.0.line ≡ stored)) }
         ensures err { IfErr result (λ refused. HasCleanDisk (state S.Store refused.1) → IsTrue (state S.Store refused.1).is_open →
-            BeginsFormat1 (state S.Store conn).now.schema → AdoptsPart (state S.Store conn).now (state S.Store refused.1).now) }
-        ensures survives_ok { IfOk result (λ made. (HasCleanDisk (state S.Store conn) → BeginsFormat1 (state S.Store conn).now.schema) →
+            BeginsFormat2 (state S.Store conn).now.schema → AdoptsPart (state S.Store conn).now (state S.Store refused.1).now) }
+        ensures survives_ok { IfOk result (λ made. (HasCleanDisk (state S.Store conn) → BeginsFormat2 (state S.Store conn).now.schema) →
             Survives (state S.Store conn) (state S.Store made.0.tables) (LeavesPart (state S.Store conn).now)) }
-        ensures crash_err { IfErr result (λ refused. (HasCleanDisk (state S.Store conn) → BeginsFormat1 (state S.Store conn).now.schema) →
+        ensures crash_err { IfErr result (λ refused. (HasCleanDisk (state S.Store conn) → BeginsFormat2 (state S.Store conn).now.schema) →
             Survives (state S.Store conn) (state S.Store refused.1) (LeavesPart (state S.Store conn).now)) }
     {
         let opened = match open(rt, alloc, conn) {
@@ -130,7 +130,7 @@ impl<S: Alter + Drop, R: Wait + Drop> Publisher<S, R> {
         Ok((
             Publisher {
                 store: opened.store,
-                is_format_1: opened.is_format_1,
+                ours_first: opened.ours_first,
                 version: opened.begun.version,
                 front: opened.begun.front,
                 seats: opened.begun.seats,
@@ -141,7 +141,7 @@ impl<S: Alter + Drop, R: Wait + Drop> Publisher<S, R> {
         ))
     }
 
-    /// How far it is with a command.
+    /// Tells how far it is with a command.
     pub fn phase(&self) -> Phase
         ensures value { result ≡ self.now.phase }
         ensures stands { Stands S.Store self.now }
@@ -156,14 +156,14 @@ impl<S: Alter + Drop, R: Wait + Drop> Publisher<S, R> {
         }
     }
 
-    /// The version that was published last; at first the one that was stored.
+    /// Gives the version that was published last; at first the one that was stored.
     pub fn published(&self) -> &Version
         ensures { result.now ≡ line_state self.now.line }
     {
         &self.version
     }
 
-    /// The number of the version that was noted last: the published one but for the moment before it is noted.
+    /// Gives the number of the version that was noted last: the published one but for the moment before it is noted.
     pub fn noted(&self) -> u64
         ensures { result + unnoted self.now.phase ≡ (line_state self.now.line).count }
     {
@@ -264,9 +264,9 @@ impl<S: Alter + Drop, R: Wait + Drop> Publisher<S, R> {
         ensures clean { HasCleanDisk (state S.Store self.new.tables) → HasCleanDisk (state S.Store self.old.tables) }
         ensures stands { Stands S.Store self.new }
         ensures others { Spares S.Store self.old self.new }
-        ensures left { IsKnown S.Store self.new.format_1 self.new.tables → IfErr result (λ reason. (left : State) → MayLeave S.Store self.new.tables left →
+        ensures left { IsKnown S.Store self.new.ours_first self.new.tables → IfErr result (λ reason. (left : State) → MayLeave S.Store self.new.tables left →
             (left ≡ line_state self.old.line) ⊎ ((reason ≡ StoreFailed Commit) × (Some left ≡ state_after (line_state self.old.line) self.old.command))) }
-        ensures now { IsKnown S.Store self.new.format_1 self.new.tables → IsTrue (state S.Store self.new.tables).is_open →
+        ensures now { IsKnown S.Store self.new.ours_first self.new.tables → IsTrue (state S.Store self.new.tables).is_open →
             OnErr result (Stores (state S.Store self.new.tables).now (line_state self.old.line)) }
         ensures ran { HasCleanDisk (state S.Store self.new.tables) →
             OnOk result (IsSomeAnd self.old.command (λ command. HasCommitted S.Store self.old command self.new.tables)) }
@@ -296,7 +296,7 @@ impl<S: Alter + Drop, R: Wait + Drop> Publisher<S, R> {
         ensures reason { IfErr result (λ reason. reason ≡ NotPublished) }
         ensures stands { Stands S.Store self.new }
     {
-        // Says how many commands there can be.
+        // Recalls how many commands there can be.
         let _most = self.version.number();
         match mem::replace(&mut self.step, Step::Closed(None)) {
             Step::Committed(plan, stamp) => {
@@ -410,7 +410,7 @@ impl<S: Alter + Drop, R: Wait + Drop> Publisher<S, R> {
         ensures stands { Stands S.Store self.new }
         ensures ran { HasCleanDisk (state S.Store self.new.tables) → OnOk result (HasCommitted S.Store self.old command.now self.new.tables) }
     {
-        // Says what is stored.
+        // Recalls what is stored.
         let _phase = self.phase();
         if let Err(reason) = self.prepare(rt, domain, command) {
             return Err(reason);

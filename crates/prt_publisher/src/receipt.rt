@@ -33,7 +33,7 @@ impl Receipt {
         Receipt { number, told }
     }
 
-    /// The number of commands that had been accepted with this one, from 1 to 10^15.
+    /// Gives the number of commands that had been accepted with this one, from 1 to 10^15.
     pub fn number(&self) -> u64
         ensures value { result ≡ self.now.base.count + length self.now.list }
         ensures count { result ≡ (line_state self.now).count }
@@ -41,7 +41,7 @@ impl Receipt {
         self.number
     }
 
-    /// The list that ends with the command.
+    /// Gives the list that ends with the command.
     pub fn told(&self) -> &Known
         ensures { result.now ≡ self.now }
     {

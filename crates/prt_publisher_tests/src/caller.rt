@@ -9,7 +9,7 @@ use sqlite::{Alter, Connection};
 use std::alloc::Global;
 use std::sync::Wait;
 
-/// A publisher over the database of a connection, and its domain.
+/// Makes a publisher over the database of a connection, and its domain.
 pub fn adopted<S: Alter + Drop, H: Wait + Drop>(
     rt: H,
     alloc: Global,
@@ -23,7 +23,7 @@ pub fn adopted<S: Alter + Drop, H: Wait + Drop>(
     }
 }
 
-/// The number of the state that is stored in the database of a connection, and the connection.
+/// Gives the number of the state that is stored in the database of a connection, and the connection.
 pub fn stored_number<S: Alter + Drop, H: Wait + Drop>(
     rt: H,
     alloc: Global,

@@ -70,7 +70,7 @@ fn look_around<S: Alter + Drop, H: Wait + Drop>(
     }))
 }
 
-/// The store that adopts a connection, in which a version is published.
+/// Gives the store that adopts a connection, in which a version is published.
 fn look_over<S: Alter + Drop, H: Wait + Drop>(
     rt: H,
     alloc: Global,

@@ -1,5 +1,5 @@
 -- The events of a replay file, or the refusal of its first refused line.
-use Rattle.std.specs.Prelude.{ℕ, ◌-◌, ◌==◌, nat_lt, if◌then◌else◌, List, [], ◌∷◌, length, map, Option, Some, None, Result, Ok, Err, bytes_eq, codes}
+use Rattle.std.specs.Prelude.{ℕ, ◌+◌, ◌-◌, ◌==◌, nat_lt, if◌then◌else◌, List, [], ◌∷◌, length, map, Option, Some, None, Result, Ok, Err, bytes_eq, codes}
 use Rattle.std.specs.Option.{ok_or}
 use Rattle.prt_addr.specs.Decimal.{at_most}
 use Rattle.prt_addr.specs.Number.{number}
@@ -125,6 +125,16 @@ events_of_lines lines left (line ∷ others) =
     refuse_if (lines == 0) TooManyLines >>= λ _.
     line_event line >>= λ event.
     and_events left event (λ left. events_of_lines (lines - 1) left others)
+
+-- this line, if it is refused by itself, or what there is after it
+abbrev pub refused_or : {X : Type 0} → ℕ → List ℕ → Result X Refusal → Option (ℕ × List ℕ) → Option (ℕ × List ℕ)
+refused_or number line (Ok event) after = after
+refused_or number line (Err reason) after = Some (number, line)
+
+-- the first of these lines that is refused by itself, with its number; that of the first line is given
+abbrev pub refused_from : ℕ → List (List ℕ) → Option (ℕ × List ℕ)
+refused_from number [] = None
+refused_from number (line ∷ others) = refused_or number line (line_event line) (refused_from (number + 1) others)
 
 -- the lines of a file, without their newlines
 abbrev pub contents : List ℕ → List (List ℕ)

@@ -19,5 +19,5 @@ pub use prt_session::{Refusal, ScriptEnd};
 pub use prt_world::{Event, Outcome};
 pub use replay::run_replay;
 pub use replay_file::{LONGEST_REPLAY, MOST_EVENTS, read_events};
-pub use text::trace_text;
+pub use text::{call_name, trace_text};
 pub use trace::Trace;

@@ -1,15 +1,14 @@
 //! The lookers of a replay, each with its place in the registry.
-ghost use Rattle.std.specs.Prelude.{◌≡◌, ◌<◌, ◌≤◌, ◌+◌, ◌++◌, ◌∷◌, [], OnOk, true, None, Some, IfErr, IfNone, IfOk, IfSome, IsSome, is_some, length, nat_lt, option_map, slice_get};
+ghost use Rattle.std.specs.Prelude.{◌≡◌, ◌<◌, ◌≤◌, ◌+◌, ◌++◌, ◌∷◌, [], OnOk, true, None, Some, IfNone, IfOk, IfSome, IsSome, is_some, length, nat_lt, option_map, slice_get};
 ghost use Rattle.std.specs.Arc.{arc_value};
-ghost use Rattle.prt_addr.specs.declared.refusal.Refusal.TheVariants.{NoMemory};
 ghost use Rattle.prt_grace.specs.Registry.{new_registry, reclaimed, with_noted};
 ghost use Rattle.prt_grace.specs.declared.limits.TheConstants.{MOST_RETIRED, PLACES};
 ghost use Rattle.prt_replay.specs.Machine.{announceable, announced_at, can_announce, hold, new_lookers, seat_of, sit, with_registry};
 
 use prt_grace::{PLACES, Place, Registry};
 use prt_version::Version;
-use prt_world::{LookerNumber, Refusal};
-use std::alloc::Global;
+use prt_world::LookerNumber;
+use std::alloc::{AllocError, Global};
 use std::marker::Model;
 use std::sync::Arc;
 
@@ -71,13 +70,8 @@ fn seat_index(looker: LookerNumber) -> usize
 
 impl Lookers {
     /// Makes all lookers, offline, beside a registry in which this version is noted.
-    ///
-    /// # Errors
-    ///
-    /// `NoMemory` alone.
-    pub(crate) fn new(alloc: Global, version: Arc<Version>) -> Result<Lookers, Refusal>
-        ensures value { IfOk result (λ lookers. lookers ≡ new_lookers (arc_value version)) }
-        ensures reason { IfErr result (λ reason. reason ≡ NoMemory) }
+    pub(crate) fn new(alloc: Global, version: Arc<Version>) -> Result<Lookers, AllocError>
+        ensures { IfOk result (λ lookers. lookers ≡ new_lookers (arc_value version)) }
     {
         let mut registry = Registry::new(version);
         let mut seats = Vec::new(alloc);
@@ -185,12 +179,11 @@ impl Lookers {
 }
 
 /// Appends a looker's seat.
-fn push(seats: &mut Vec<Seat>, seat: Seat) -> Result<(), Refusal>
-    ensures value { OnOk result (seats.new.items ≡ seats.old.items ++ seat ∷ []) }
-    ensures reason { IfErr result (λ reason. reason ≡ NoMemory) }
+fn push(seats: &mut Vec<Seat>, seat: Seat) -> Result<(), AllocError>
+    ensures { OnOk result (seats.new.items ≡ seats.old.items ++ seat ∷ []) }
 {
     match seats.push(seat) {
         Ok(()) => Ok(()),
-        Err(_) => Err(Refusal::NoMemory),
+        Err(_) => Err(AllocError),
     }
 }

@@ -1,7 +1,6 @@
 //! A replay: real versions and the real registry, with a version in memory as the disk.
-ghost use Rattle.std.specs.Prelude.{◌≡◌, IfErr, IfOk, Ok, true};
+ghost use Rattle.std.specs.Prelude.{◌≡◌, IfOk, Ok, true};
 ghost use Rattle.std.specs.Arc.{arc_value};
-ghost use Rattle.prt_addr.specs.declared.refusal.Refusal.TheVariants.{NoMemory};
 ghost use Rattle.prt_version.specs.Change.{IsChecked, put};
 ghost use Rattle.prt_version.specs.State.{opening_state};
 ghost use Rattle.prt_addr.specs.declared.refusal.StoreCall.TheVariants.{Commit};
@@ -11,20 +10,21 @@ ghost use Rattle.prt_world.specs.declared.phase.Phase.TheVariants.{Prepared, Rea
 ghost use Rattle.prt_replay.specs.Machine.{acknowledge_by, announce_by, announced_at, call_by, can_announce, fail_by, fail_publication_by, fetch_by, in_phase, left_by, look_by, machine_step, note_by, offline_by, online_by, opened, prepare_next, publish_by, reclaim_by, reopen_by, running_step, seat_of, stop_by, submit_by};
 
 use crate::lookers::Lookers;
-use prt_version::owners::{first_owner, share};
 use prt_version::{Change, Version};
 use prt_world::{Command, Event, Fate, LookerNumber, Outcome, Packet, Phase, Refusal, StoreCall};
-use std::alloc::Global;
+use std::alloc::{AllocError, Global};
 use std::marker::Model;
 use std::sync::Arc;
 
 /// Makes the first owner of the version after a change.
-fn next_owner(alloc: Global, version: &Version, change: &Change) -> Result<Arc<Version>, Refusal>
+fn next_owner(alloc: Global, version: &Version, change: &Change) -> Result<Arc<Version>, AllocError>
     requires { IsChecked version.now change.now }
-    ensures value { IfOk result (λ next. arc_value next ≡ put version.now change.now) }
-    ensures reason { IfErr result (λ reason. reason ≡ NoMemory) }
+    ensures { IfOk result (λ next. arc_value next ≡ put version.now change.now) }
 {
-    first_owner(alloc, version.next(change)?)
+    let Ok(next) = version.next(change) else {
+        return Err(AllocError);
+    };
+    Ok(Arc::new(alloc, next)?)
 }
 
 /// What the service, its disk and its lookers hold.
@@ -49,13 +49,12 @@ impl Model for Machine {
 
 impl Machine {
     /// Opens a database with this version on its disk.
-    fn opened(alloc: Global, disk: Arc<Version>) -> Result<Machine, Refusal>
-        ensures value { IfOk result (λ machine. machine ≡ opened (arc_value disk)) }
-        ensures reason { IfErr result (λ reason. reason ≡ NoMemory) }
+    fn opened(alloc: Global, disk: Arc<Version>) -> Result<Machine, AllocError>
+        ensures { IfOk result (λ machine. machine ≡ opened (arc_value disk)) }
     {
-        let noted = share(&disk)?;
-        let published = share(&disk)?;
-        let next = share(&disk)?;
+        let noted = Arc::try_clone(&disk)?;
+        let published = Arc::try_clone(&disk)?;
+        let next = Arc::try_clone(&disk)?;
         Ok(Machine {
             lookers: Lookers::new(alloc, noted)?,
             published,
@@ -66,22 +65,18 @@ impl Machine {
     }
 
     /// Makes a new database, opened.
-    ///
-    /// # Errors
-    ///
-    /// `NoMemory` alone.
-    pub(crate) fn new(alloc: Global) -> Result<Machine, Refusal>
-        ensures value { IfOk result (λ machine. machine ≡ opened opening_state) }
-        ensures reason { IfErr result (λ reason. reason ≡ NoMemory) }
+    pub(crate) fn new(alloc: Global) -> Result<Machine, AllocError>
+        ensures { IfOk result (λ machine. machine ≡ opened opening_state) }
     {
-        let version = Version::opening(alloc)?;
-        Machine::opened(alloc, first_owner(alloc, version)?)
+        let Ok(version) = Version::opening(alloc) else {
+            return Err(AllocError);
+        };
+        Machine::opened(alloc, Arc::new(alloc, version)?)
     }
 
     /// Checks a command where none is under way.
-    fn submit(&mut self, alloc: Global, command: &Command) -> Result<Outcome, Refusal>
-        ensures value { IfOk result (λ outcome. record { machine = self.new; outcome = outcome } ≡ submit_by self.old command.now self.old.phase) }
-        ensures reason { IfErr result (λ reason. reason ≡ NoMemory) }
+    fn submit(&mut self, alloc: Global, command: &Command) -> Result<Outcome, AllocError>
+        ensures { IfOk result (λ outcome. record { machine = self.new; outcome = outcome } ≡ submit_by self.old command.now self.old.phase) }
     {
         match self.phase {
             Phase::Ready => self.prepare(alloc, command),
@@ -91,10 +86,9 @@ impl Machine {
     }
 
     /// Makes the version after a command, unless that is refused or there is no room.
-    fn prepare(&mut self, alloc: Global, command: &Command) -> Result<Outcome, Refusal>
+    fn prepare(&mut self, alloc: Global, command: &Command) -> Result<Outcome, AllocError>
         requires { self.old.phase ≡ Ready }
-        ensures value { IfOk result (λ outcome. record { machine = self.new; outcome = outcome } ≡ submit_by self.old command.now Ready) }
-        ensures reason { IfErr result (λ reason. reason ≡ NoMemory) }
+        ensures { IfOk result (λ outcome. record { machine = self.new; outcome = outcome } ≡ submit_by self.old command.now Ready) }
     {
         match self.published.check(command) {
             Ok(change) if self.lookers.has_room() => self.prepare_next(alloc, command, &change),
@@ -109,10 +103,9 @@ impl Machine {
         alloc: Global,
         command: &Command,
         change: &Change,
-    ) -> Result<Outcome, Refusal>
+    ) -> Result<Outcome, AllocError>
         requires { IsChecked self.old.published change.now }
-        ensures value { IfOk result (λ outcome. record { machine = self.new; outcome = outcome } ≡ prepare_next self.old command.now (Ok change.now) true) }
-        ensures reason { IfErr result (λ reason. reason ≡ NoMemory) }
+        ensures { IfOk result (λ outcome. record { machine = self.new; outcome = outcome } ≡ prepare_next self.old command.now (Ok change.now) true) }
     {
         self.next = next_owner(alloc, &self.published, change)?;
         self.phase = Phase::Prepared(*command, StoreCall::Begin);
@@ -128,19 +121,17 @@ impl Machine {
     }
 
     /// Lets the commit call succeed.
-    fn commit(&mut self, command: Command) -> Result<Outcome, Refusal>
-        ensures value { IfOk result (λ outcome. record { machine = self.new; outcome = outcome } ≡ call_by self.old (Prepared command Commit)) }
-        ensures reason { IfErr result (λ reason. reason ≡ NoMemory) }
+    fn commit(&mut self, command: Command) -> Result<Outcome, AllocError>
+        ensures { IfOk result (λ outcome. record { machine = self.new; outcome = outcome } ≡ call_by self.old (Prepared command Commit)) }
     {
-        self.disk = share(&self.next)?;
+        self.disk = Arc::try_clone(&self.next)?;
         self.phase = Phase::Committed(command);
         Ok(Outcome::Called(StoreCall::Commit))
     }
 
     /// Lets the next store call succeed.
-    fn call(&mut self) -> Result<Outcome, Refusal>
-        ensures value { IfOk result (λ outcome. record { machine = self.new; outcome = outcome } ≡ call_by self.old self.old.phase) }
-        ensures reason { IfErr result (λ reason. reason ≡ NoMemory) }
+    fn call(&mut self) -> Result<Outcome, AllocError>
+        ensures { IfOk result (λ outcome. record { machine = self.new; outcome = outcome } ≡ call_by self.old self.old.phase) }
     {
         match self.phase {
             Phase::Prepared(command, StoreCall::Begin) => {
@@ -158,20 +149,18 @@ impl Machine {
     }
 
     /// Gives what a failure or a stop leaves on the disk.
-    fn left(&self, fate: Fate) -> Result<Arc<Version>, Refusal>
-        ensures value { IfOk result (λ disk. arc_value disk ≡ left_by self.now fate self.now.phase) }
-        ensures reason { IfErr result (λ reason. reason ≡ NoMemory) }
+    fn left(&self, fate: Fate) -> Result<Arc<Version>, AllocError>
+        ensures { IfOk result (λ disk. arc_value disk ≡ left_by self.now fate self.now.phase) }
     {
         match (fate, self.phase) {
-            (Fate::Kept, Phase::Prepared(_, StoreCall::Commit)) => share(&self.next),
-            _ => share(&self.disk),
+            (Fate::Kept, Phase::Prepared(_, StoreCall::Commit)) => Arc::try_clone(&self.next),
+            _ => Arc::try_clone(&self.disk),
         }
     }
 
     /// Lets the next store call fail.
-    fn fail(&mut self, fate: Fate) -> Result<Outcome, Refusal>
-        ensures value { IfOk result (λ outcome. record { machine = self.new; outcome = outcome } ≡ fail_by self.old fate self.old.phase) }
-        ensures reason { IfErr result (λ reason. reason ≡ NoMemory) }
+    fn fail(&mut self, fate: Fate) -> Result<Outcome, AllocError>
+        ensures { IfOk result (λ outcome. record { machine = self.new; outcome = outcome } ≡ fail_by self.old fate self.old.phase) }
     {
         let Phase::Prepared(_, call) = self.phase else {
             return Ok(Outcome::Nothing);
@@ -182,9 +171,8 @@ impl Machine {
     }
 
     /// Stops everything.
-    fn stop(&mut self, fate: Fate) -> Result<Outcome, Refusal>
-        ensures value { IfOk result (λ outcome. record { machine = self.new; outcome = outcome } ≡ stop_by self.old fate) }
-        ensures reason { IfErr result (λ reason. reason ≡ NoMemory) }
+    fn stop(&mut self, fate: Fate) -> Result<Outcome, AllocError>
+        ensures { IfOk result (λ outcome. record { machine = self.new; outcome = outcome } ≡ stop_by self.old fate) }
     {
         self.disk = self.left(fate)?;
         self.phase = Phase::Stopped;
@@ -192,9 +180,8 @@ impl Machine {
     }
 
     /// Opens the database again after a stop or a failure.
-    fn reopen(&mut self, alloc: Global) -> Result<Outcome, Refusal>
-        ensures value { IfOk result (λ outcome. record { machine = self.new; outcome = outcome } ≡ reopen_by self.old self.old.phase) }
-        ensures reason { IfErr result (λ reason. reason ≡ NoMemory) }
+    fn reopen(&mut self, alloc: Global) -> Result<Outcome, AllocError>
+        ensures { IfOk result (λ outcome. record { machine = self.new; outcome = outcome } ≡ reopen_by self.old self.old.phase) }
     {
         match self.phase {
             Phase::Closed | Phase::Stopped => self.open_again(alloc),
@@ -203,23 +190,21 @@ impl Machine {
     }
 
     /// Opens the database with what is on its disk.
-    fn open_again(&mut self, alloc: Global) -> Result<Outcome, Refusal>
-        ensures value { IfOk result (λ outcome. record { machine = self.new; outcome = outcome } ≡ reopen_by self.old Stopped) }
-        ensures reason { IfErr result (λ reason. reason ≡ NoMemory) }
+    fn open_again(&mut self, alloc: Global) -> Result<Outcome, AllocError>
+        ensures { IfOk result (λ outcome. record { machine = self.new; outcome = outcome } ≡ reopen_by self.old Stopped) }
     {
-        *self = Machine::opened(alloc, share(&self.disk)?)?;
+        *self = Machine::opened(alloc, Arc::try_clone(&self.disk)?)?;
         Ok(Outcome::Reopened(self.disk.number()))
     }
 
     /// Publishes the version of the committed command.
-    fn publish(&mut self) -> Result<Outcome, Refusal>
-        ensures value { IfOk result (λ outcome. record { machine = self.new; outcome = outcome } ≡ publish_by self.old self.old.phase) }
-        ensures reason { IfErr result (λ reason. reason ≡ NoMemory) }
+    fn publish(&mut self) -> Result<Outcome, AllocError>
+        ensures { IfOk result (λ outcome. record { machine = self.new; outcome = outcome } ≡ publish_by self.old self.old.phase) }
     {
         let Phase::Committed(command) = self.phase else {
             return Ok(Outcome::Nothing);
         };
-        self.published = share(&self.disk)?;
+        self.published = Arc::try_clone(&self.disk)?;
         self.phase = Phase::Published(command);
         Ok(Outcome::Published(self.published.number()))
     }
@@ -236,9 +221,8 @@ impl Machine {
     }
 
     /// Notes the published version, for which its submission left room.
-    fn note(&mut self) -> Result<Outcome, Refusal>
-        ensures value { IfOk result (λ outcome. record { machine = self.new; outcome = outcome } ≡ note_by self.old self.old.phase) }
-        ensures reason { IfErr result (λ reason. reason ≡ NoMemory) }
+    fn note(&mut self) -> Result<Outcome, AllocError>
+        ensures { IfOk result (λ outcome. record { machine = self.new; outcome = outcome } ≡ note_by self.old self.old.phase) }
     {
         let Phase::Published(command) = self.phase else {
             return Ok(Outcome::Nothing);
@@ -247,7 +231,7 @@ impl Machine {
         if !self.lookers.has_room() || number <= self.lookers.noted() {
             return Ok(Outcome::Nothing);
         }
-        self.lookers.note(share(&self.published)?);
+        self.lookers.note(Arc::try_clone(&self.published)?);
         self.phase = Phase::Noted(command);
         Ok(Outcome::Noted(number))
     }
@@ -274,14 +258,13 @@ impl Machine {
     }
 
     /// Lets an online looker take hold of the published version.
-    fn fetch(&mut self, looker: LookerNumber) -> Result<Outcome, Refusal>
-        ensures value { IfOk result (λ outcome. record { machine = self.new; outcome = outcome } ≡ fetch_by self.old looker (announced_at self.old.lookers looker)) }
-        ensures reason { IfErr result (λ reason. reason ≡ NoMemory) }
+    fn fetch(&mut self, looker: LookerNumber) -> Result<Outcome, AllocError>
+        ensures { IfOk result (λ outcome. record { machine = self.new; outcome = outcome } ≡ fetch_by self.old looker (announced_at self.old.lookers looker)) }
     {
         if !self.lookers.is_online(looker) {
             return Ok(Outcome::Nothing);
         }
-        let version = share(&self.published)?;
+        let version = Arc::try_clone(&self.published)?;
         self.lookers.hold(looker, version);
         Ok(Outcome::Fetched(looker, self.published.number()))
     }
@@ -325,9 +308,8 @@ impl Machine {
     }
 
     /// Does a looker's event, a reclaim or a stop, while nothing has stopped.
-    fn step_running(&mut self, event: &Event) -> Result<Outcome, Refusal>
-        ensures value { IfOk result (λ outcome. record { machine = self.new; outcome = outcome } ≡ running_step self.old event.now) }
-        ensures reason { IfErr result (λ reason. reason ≡ NoMemory) }
+    fn step_running(&mut self, event: &Event) -> Result<Outcome, AllocError>
+        ensures { IfOk result (λ outcome. record { machine = self.new; outcome = outcome } ≡ running_step self.old event.now) }
     {
         match event {
             Event::Online(looker) => Ok(self.online(*looker)),
@@ -345,10 +327,9 @@ impl Machine {
     ///
     /// # Errors
     ///
-    /// `NoMemory` alone; what the machine keeps then is of no use any more.
-    pub(crate) fn step(&mut self, alloc: Global, event: &Event) -> Result<Outcome, Refusal>
-        ensures value { IfOk result (λ outcome. record { machine = self.new; outcome = outcome } ≡ machine_step self.old event.now) }
-        ensures reason { IfErr result (λ reason. reason ≡ NoMemory) }
+    /// Memory was refused; what the machine keeps then is of no use any more.
+    pub(crate) fn step(&mut self, alloc: Global, event: &Event) -> Result<Outcome, AllocError>
+        ensures { IfOk result (λ outcome. record { machine = self.new; outcome = outcome } ≡ machine_step self.old event.now) }
     {
         match event {
             Event::Submit(command) => self.submit(alloc, command),

@@ -17,7 +17,7 @@ fn play_on(alloc: Global, machine: &mut Machine, events: &[Event]) -> Result<Tra
     for event in events {
         match machine.step(alloc, event) {
             Ok(outcome) => trace.push(outcome)?,
-            Err(reason) => return Err(reason),
+            Err(_) => return Err(Refusal::NoMemory),
         }
     }
     Ok(trace)

@@ -6,9 +6,10 @@ ghost use Rattle.prt_replay.specs.Replay.{answer_to};
 ghost use Rattle.prt_world.specs.declared.event.Event.{Event};
 
 use crate::play::play_events;
-use crate::replay_file::{LONGEST_REPLAY, read_events};
+use crate::replay_file::{LONGEST_REPLAY, first_refused, read_events};
 use crate::text::trace_text;
-use prt_session::{Refusal, Reply, ScriptEnd, Text, write_reply};
+use prt_command::LONGEST_LINE;
+use prt_session::{Observer, Refusal, Reply, ScriptEnd, Text, write_reply};
 use std::alloc::Global;
 use std::io::{Read, Write};
 
@@ -36,19 +37,42 @@ fn read_file<R: Read>(alloc: Global, reader: &mut R) -> Result<Vec<u8>, Refusal>
     Ok(bytes)
 }
 
+/// Tells an observer of the line for which a file was refused.
+///
+/// Where there are too many lines or events, or memory was refused, it is no line's own fault, and none is told.
+fn tell_refused<O: Observer>(bytes: &[u8], refusal: Refusal, observer: &mut O) {
+    if let Refusal::TooManyLines | Refusal::NoMemory = refusal {
+        return;
+    }
+    if let Some((number, line)) = first_refused(bytes) {
+        let text = &line[..line.len().min(LONGEST_LINE)];
+        observer.after(number, text, &Reply::Refused(refusal));
+    }
+}
+
 /// Makes the text of the trace of a replay file.
 ///
 /// # Errors
 ///
 /// `TooManyLines` where the file is too long, `ReadFault` where it can't be read to its end, the refusal of its first
 /// refused line, or `NoMemory`.
-fn trace_of<R: Read>(alloc: Global, reader: &mut R) -> Result<Vec<u8>, Refusal>
+fn trace_of<R: Read, O: Observer>(
+    alloc: Global,
+    reader: &mut R,
+    observer: &mut O,
+) -> Result<Vec<u8>, Refusal>
     ensures { MatchResult result
         (λ text. (events : List Event) × Finds (R.remaining reader.old) (Ok events) × (text.items ≡ answer_to (Ok events)))
         (λ reason. Finds (R.remaining reader.old) (Err reason)) }
 {
     let bytes = read_file(alloc, reader)?;
-    let events = read_events(alloc, bytes.as_slice())?;
+    let events = match read_events(alloc, bytes.as_slice()) {
+        Ok(events) => events,
+        Err(refusal) => {
+            tell_refused(bytes.as_slice(), refusal, observer);
+            return Err(refusal);
+        }
+    };
     let trace = play_events(alloc, events.as_slice())?;
     trace_text(alloc, &trace)
 }
@@ -72,10 +96,17 @@ fn end_with(answer: &Result<Vec<u8>, Refusal>) -> ScriptEnd
 /// a line that is refused, and want of memory are answered by the one line `error C NAME` in place of the trace.
 /// `refused` says that there is such an answer, `fault` is `ReadFault` in its place where the reader failed, and
 /// `WriteFault` where the writer failed: then a part of the answer was written.
-pub fn run_replay<R: Read, W: Write>(alloc: Global, reader: &mut R, writer: &mut W) -> ScriptEnd
+///
+/// The observer is told of the refused line, if there is one, before the answer is written.
+pub fn run_replay<R: Read, W: Write, O: Observer>(
+    alloc: Global,
+    reader: &mut R,
+    writer: &mut W,
+    observer: &mut O,
+) -> ScriptEnd
     ensures { ReplayIs (R.remaining reader.old) (W.contents writer.old) (W.contents writer.new) result }
 {
-    let answer = trace_of(alloc, reader);
+    let answer = trace_of(alloc, reader, observer);
     let end = end_with(&answer);
     let reply = match answer {
         Ok(text) => Reply::Answered(Text::new(text)),

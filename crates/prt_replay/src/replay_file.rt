@@ -1,7 +1,7 @@
 //! The events of a replay file.
-ghost use Rattle.std.specs.Prelude.{◌≡◌, ◌<◌, ◌≤◌, ◌+◌, ◌==◌, ◌⊎◌, ℕ, List, [], ◌∷◌, ◌++◌, Err, IfErr, MatchOption, MatchResult, Ok, OnOk, length, position};
+ghost use Rattle.std.specs.Prelude.{◌≡◌, ◌<◌, ◌≤◌, ◌+◌, ◌==◌, ◌⊎◌, ℕ, List, [], ◌∷◌, ◌++◌, Err, IfErr, IfSome, MatchOption, MatchResult, Ok, OnOk, Some, length, position};
 ghost use Rattle.prt_addr.specs.declared.refusal.Refusal.TheVariants.{NoMemory, TooManyLines};
-ghost use Rattle.prt_replay.specs.ReadEvents.{contents, events_of};
+ghost use Rattle.prt_replay.specs.ReadEvents.{contents, events_of, refused_from};
 ghost use Rattle.prt_replay.specs.ReadSteps.{with_lines};
 
 use crate::Event;
@@ -59,6 +59,27 @@ fn add_line(events: &mut Vec<Event>, line: &[u8]) -> Result<(), Refusal>
         Ok(None) => Ok(()),
         Err(refusal) => Err(refusal),
     }
+}
+
+/// Finds the first line of a replay file that is refused by itself: its number, from 1, and the line.
+///
+/// None where none of the first `MOST_LINES` lines is.
+pub(crate) fn first_refused(bytes: &[u8]) -> Option<(u64, &[u8])>
+    ensures { IfSome result (λ found. refused_from 1 (contents bytes.now) ≡ Some (found.0, found.1.now)) }
+{
+    let mut rest = bytes;
+    for number in 1..=MOST_LINES as u64 {
+        match next_line(rest) {
+            Some((line, after)) => {
+                if read_event_line(line).is_err() {
+                    return Some((number, line));
+                }
+                rest = after;
+            }
+            None => return None,
+        }
+    }
+    None
 }
 
 /// Reads the events of a replay file, one a line.

@@ -8,30 +8,26 @@ use itoa::Buffer;
 use prt_addr::{Refusal, StoreCall};
 use prt_listing::{answer_text, refusal_text};
 use prt_world::{LookerNumber, Outcome};
-use std::alloc::Global;
+use std::alloc::{AllocError, Global};
 
 /// Appends a text; where memory is refused, none of it.
-fn push_text(out: &mut Vec<u8>, text: &str) -> Result<(), Refusal>
-    ensures ok { OnOk result (out.new.items ≡ out.old.items ++ text.now) }
-    ensures reason { IfErr result (λ e. e ≡ NoMemory) }
+fn push_text(out: &mut Vec<u8>, text: &str) -> Result<(), AllocError>
+    ensures { OnOk result (out.new.items ≡ out.old.items ++ text.now) }
 {
-    out.extend_from_slice(text.as_bytes())?;
-    Ok(())
+    out.extend_from_slice(text.as_bytes())
 }
 
 /// Appends a space and a number.
-fn push_number(out: &mut Vec<u8>, number: u64) -> Result<(), Refusal>
-    ensures ok { OnOk result (out.new.items ≡ out.old.items ++ codes " " ++ decimal number) }
-    ensures reason { IfErr result (λ e. e ≡ NoMemory) }
+fn push_number(out: &mut Vec<u8>, number: u64) -> Result<(), AllocError>
+    ensures { OnOk result (out.new.items ≡ out.old.items ++ codes " " ++ decimal number) }
 {
     push_text(out, " ")?;
     push_text(out, Buffer::new().format(number))
 }
 
 /// Appends a word and a number.
-fn push_numbered(out: &mut Vec<u8>, word: &str, number: u64) -> Result<(), Refusal>
-    ensures ok { OnOk result (out.new.items ≡ out.old.items ++ numbered word.now number) }
-    ensures reason { IfErr result (λ e. e ≡ NoMemory) }
+fn push_numbered(out: &mut Vec<u8>, word: &str, number: u64) -> Result<(), AllocError>
+    ensures { OnOk result (out.new.items ≡ out.old.items ++ numbered word.now number) }
 {
     push_text(out, word)?;
     push_number(out, number)
@@ -43,16 +39,15 @@ fn push_of_looker(
     word: &str,
     looker: LookerNumber,
     number: u64,
-) -> Result<(), Refusal>
-    ensures ok { OnOk result (out.new.items ≡ out.old.items ++ of_looker word.now looker number) }
-    ensures reason { IfErr result (λ e. e ≡ NoMemory) }
+) -> Result<(), AllocError>
+    ensures { OnOk result (out.new.items ≡ out.old.items ++ of_looker word.now looker number) }
 {
     push_numbered(out, word, u64::from(looker.get()))?;
     push_number(out, number)
 }
 
 /// Gives the word for a store call.
-fn call_name(call: StoreCall) -> &'static str
+pub fn call_name(call: StoreCall) -> &'static str
     ensures { result.now ≡ call_name call }
 {
     match call {
@@ -64,14 +59,13 @@ fn call_name(call: StoreCall) -> &'static str
 }
 
 /// Appends the line of an outcome, without its newline.
-fn push_outcome(out: &mut Vec<u8>, outcome: &Outcome) -> Result<(), Refusal>
-    ensures ok { OnOk result (out.new.items ≡ out.old.items ++ outcome_text outcome.now) }
-    ensures reason { IfErr result (λ e. e ≡ NoMemory) }
+fn push_outcome(out: &mut Vec<u8>, outcome: &Outcome) -> Result<(), AllocError>
+    ensures { OnOk result (out.new.items ≡ out.old.items ++ outcome_text outcome.now) }
 {
     match outcome {
         Outcome::Nothing => push_text(out, "none"),
         Outcome::Prepared(number) => push_numbered(out, "prepared", *number),
-        Outcome::Refused(refusal) => refusal_text(out, refusal),
+        Outcome::Refused(refusal) => refusal_text(out, refusal).or(Err(AllocError)),
         Outcome::Called(call) => push_text(out, call_name(*call)),
         Outcome::Published(number) => push_numbered(out, "published", *number),
         Outcome::Noted(number) => push_numbered(out, "noted", *number),
@@ -80,7 +74,7 @@ fn push_outcome(out: &mut Vec<u8>, outcome: &Outcome) -> Result<(), Refusal>
         Outcome::Fetched(looker, number) => push_of_looker(out, "fetch", *looker, *number),
         Outcome::Announced(looker, number) => push_of_looker(out, "announce", *looker, *number),
         Outcome::Offline(looker) => push_numbered(out, "offline", u64::from(looker.get())),
-        Outcome::Answered(answer) => answer_text(out, answer),
+        Outcome::Answered(answer) => answer_text(out, answer).or(Err(AllocError)),
         Outcome::Reclaimed(count) => push_numbered(out, "reclaim", *count),
         Outcome::Stopped => push_text(out, "stop"),
         Outcome::Reopened(number) => push_numbered(out, "reopen", *number),
@@ -88,9 +82,8 @@ fn push_outcome(out: &mut Vec<u8>, outcome: &Outcome) -> Result<(), Refusal>
 }
 
 /// Appends the line of an outcome.
-fn push_line(out: &mut Vec<u8>, outcome: &Outcome) -> Result<(), Refusal>
-    ensures ok { OnOk result (out.new.items ≡ out.old.items ++ (outcome_text outcome.now ++ codes "\n")) }
-    ensures reason { IfErr result (λ e. e ≡ NoMemory) }
+fn push_line(out: &mut Vec<u8>, outcome: &Outcome) -> Result<(), AllocError>
+    ensures { OnOk result (out.new.items ≡ out.old.items ++ (outcome_text outcome.now ++ codes "\n")) }
 {
     push_outcome(out, outcome)?;
     push_text(out, "\n")

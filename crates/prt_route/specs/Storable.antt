@@ -1,5 +1,5 @@
 -- Which routes a table may hold.
-use Rattle.std.specs.Prelude.{◌≡◌, ◌≤◌, ◌<◌, ◌^◌, Bool, true, ◌&&◌, ◌||◌, ◌==◌, is_none, is_some}
+use Rattle.std.specs.Prelude.{◌^◌, Bool, ◌&&◌, ◌||◌, ◌==◌, nat_le, nat_lt, is_none, is_some}
 use Rattle.prt_route.specs.Names.{global_scope}
 use Rattle.prt_route.specs.declared.kind.Kind.{Kind}
 use Rattle.prt_route.specs.declared.kind.Kind.TheVariants.{Unicast}
@@ -19,7 +19,5 @@ suits Unicast route = has_next_hop route
 suits _ route = is_bare route
 
 -- a route of a table from 1 on that has what its kind asks for
-pub record IsStorableRoute (route : Route) : Type 0 where
-  pub table : 1 ≤ route.table
-  pub fits : route.table < 2 ^ 32
-  pub suits : suits route.kind route ≡ true
+abbrev pub is_storable_route : Route → Bool
+is_storable_route route = nat_le 1 route.table && nat_lt route.table (2 ^ 32) && suits route.kind route

@@ -6,7 +6,7 @@ use crate::{Addr, Dev, Kind, Prefix, Route};
 use prt_addr::{agrees, agrees_there};
 
 /// Which prefixes a command on several routes takes (`ip-route(8)`, `show`).
-#[derive(Clone, Copy, Debug, PartialEq, Eq)]
+#[derive(Clone, Copy, PartialEq)]
 pub enum Range {
     /// Each prefix.
     All,
@@ -35,7 +35,7 @@ impl Range {
 /// The routes that `show` and `flush` are about: all that agree with what is given (`ip-route(8)`).
 ///
 /// With None a part is not given.
-#[derive(Clone, Copy, Debug, PartialEq, Eq)]
+#[derive(Clone, Copy, PartialEq)]
 pub struct Selector {
     /// The number of the table, from 1 on; None for all tables.
     pub table: Option<u32>,
@@ -54,7 +54,7 @@ pub struct Selector {
 /// What `del` says of the route that it removes: its table and prefix, and what else is given (`ip-route(8)`).
 ///
 /// With None a part is not given.
-#[derive(Clone, Copy, Debug, PartialEq, Eq)]
+#[derive(Clone, Copy, PartialEq)]
 pub struct RouteChoice {
     /// The number of the table, from 1 on.
     pub table: u32,

@@ -1,7 +1,7 @@
 use crate::{Route, RouteKey, Selector};
 
 /// A change of the list of routes.
-#[derive(Clone, Copy, Debug, PartialEq, Eq)]
+#[derive(Clone, Copy)]
 pub enum RouteEdit {
     /// Put this route in its place in the order of listings, without the one that has its key.
     Put(Route),

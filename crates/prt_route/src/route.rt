@@ -1,7 +1,8 @@
 ghost use Rattle.std.specs.Prelude.{◌≡◌};
 ghost use Rattle.prt_route.specs.Route.{key_of, is_better};
+ghost use Rattle.prt_route.specs.Storable.{is_storable_route};
 
-use crate::{Addr, Dev, Kind, Prefix};
+use crate::{Addr, Dev, GLOBAL_SCOPE, Kind, Prefix};
 
 /// What tells a route from the others: no two routes have the same key.
 #[derive(Clone, Copy, Debug, PartialEq, Eq)]
@@ -61,6 +62,23 @@ impl Route {
             self.prefix.len(),
             self.metric,
         )
+    }
+
+    /// Tells whether a table may hold the route (`ip-route(8)`).
+    ///
+    /// Its table is one from 1 on. A unicast route has a gateway or an interface; a route of another kind has neither, no
+    /// source and scope global.
+    pub fn is_storable(&self) -> bool
+        ensures { result ≡ is_storable_route self.now }
+    {
+        let suits = match self.kind {
+            Kind::Unicast => self.via.is_some() || self.dev.is_some(),
+            Kind::Blackhole | Kind::Unreachable | Kind::Prohibit | Kind::Throw => {
+                let is_bare = self.via.is_none() && self.dev.is_none() && self.src.is_none();
+                is_bare && self.scope == GLOBAL_SCOPE
+            }
+        };
+        self.table > 0 && suits
     }
 
     /// Tells whether this route is better than the other one of its table for an address in both.

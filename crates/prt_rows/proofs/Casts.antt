@@ -12,10 +12,11 @@ use Rattle.prt_addr.specs.Word.{Word}
 use Rattle.prt_route.specs.declared.route.Route.{Route}
 use Rattle.prt_rule.specs.declared.rule.Rule.{Rule}
 use Rattle.prt_rows.specs.Cell.{flag, number, optional_name, optional_number}
-use Rattle.prt_rows.specs.Kept.{kept_count, kept_route, kept_rule}
+use Rattle.prt_rows.specs.Kept.{kept_count, kept_length, kept_route, kept_rule}
 use Rattle.prt_rows.specs.RouteRow.{kind_code}
 use Rattle.prt_rows.specs.RuleRow.{action_code, action_table, mark_of, mask_of}
-use Rattle.prt_rows.specs.Tables.{meta_table, route_table, rule_table}
+use Rattle.prt_rows.specs.Tables.{meta_table, route_table, rule_table, suppress_table}
+use Rattle.prt_rows.specs.declared.suppress_row.RuleLength.{RuleLength}
 use Rattle.std.specs.Prelude.{⊤, option_map}
 
 either : (b : Bool) (x : Value) → cond b x x ≡ x
@@ -67,4 +68,7 @@ pub cast_route : (rowid : Value) (route : Route) → cast kind.Integer rowid ≡
 cast_route rowid route given = row_kept route_table rowid _ given (cast_number route.table, (cast_number route.prefix.bits, (cast_number route.prefix.len, (cast_number route.metric, (cast_number (kind_code route.kind), (cast_optional (option_map (λ addr. addr.0) route.via), (cast_name route.dev, (cast_optional (option_map (λ addr. addr.0) route.src), (cast_number route.proto, (cast_number route.scope, tt))))))))))
 
 pub cast_count : (count : ℕ) → cast_row meta_table (kept_count count) ≡ kept_count count
-cast_count count = row_kept meta_table _ _ (cast_number 1) (cast_null, (cast_number 1, (cast_number count, tt)))
+cast_count count = row_kept meta_table _ _ (cast_number 1) (cast_null, (cast_number 2, (cast_number count, tt)))
+
+pub cast_length : (length : RuleLength) → cast_row suppress_table (kept_length length) ≡ kept_length length
+cast_length length = row_kept suppress_table _ _ (cast_number length.rule) (cast_null, (cast_number length.len, tt))

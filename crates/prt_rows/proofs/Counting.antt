@@ -62,7 +62,7 @@ module _ (tables : List Table) (indexes : List Index) (views : List View) (other
       let trees : w.0.trees ≡ written.0 = ap (λ (it : Written). it.trees) (same_value written.2) in
       let now = w.2 ∙ ap (λ (t : Trees). record { schema = schema; trees = t }) trees in
       let edit = edit_of db meta_table (ids_of given.0) Given 1 given.0 in
-      let step = one_step schema (mode_of old).keys db written.0 edit (no_works 3 tables indexes views others.meta others.elsewhere (mode_of old).keys (taken_by db edit) edit.news) written.1 in
+      let step = one_step schema (mode_of old).keys db written.0 edit (no_works 3 tables indexes views others.meta others.elsewhere (mode_of old).keys refl 0 (taken_by db edit) edit.news) written.1 in
       let answer = one_row db before count given.0 row (given.1.answer Null) in
       let same = tied_itself value_cmp_total (Int (pos 1)) in
       let made : edited db edit ≡ kept_count count ∷ [] = ap (λ rows. edited db (edit_of db meta_table (ids_of rows) Given 1 rows)) answer ∙ rw (row, same, cast_count count) in

@@ -16,11 +16,11 @@ use Rattle.sqlite_resolve.specs.declared.compiled.Compiled.{Compiled}
 use Rattle.sqlite_resolve.specs.declared.error.CompileError.{CompileError}
 use Rattle.sqlite_tied.specs.Compute.{everything}
 use Rattle.prt_addr.specs.Word.{Word}
-use Rattle.prt_rows.proofs.Texts.{IsCommand, Means, means, meta_is, route_is, rule_is}
+use Rattle.prt_rows.proofs.Texts.{IsCommand, Means, means, meta_is, route_is, rule_is, suppress_is}
 use Rattle.prt_rows.proofs.Writing.{same_value, went}
 use Rattle.prt_rows.specs.Effects.{Makes}
-use Rattle.prt_rows.specs.Statements.{create_meta, create_route, create_rule}
-use Rattle.prt_rows.specs.Tables.{meta_table, no_tables, route_table, rule_and_route, rule_alone, rule_table, schema_with}
+use Rattle.prt_rows.specs.Statements.{create_meta, create_route, create_rule, create_suppress}
+use Rattle.prt_rows.specs.Tables.{format_1_alone, meta_table, no_tables, route_table, rule_and_route, rule_alone, rule_table, schema_with, suppress_table}
 
 -- a text that makes a table under this schema
 module _ (sql : Word) (from : Schema) (defined : Table) (means : Means from sql CreateTable) (text : statement_of sql (understood from sql) ≡ sql) (is : table_defined_by sql ≡ Ok defined) (after : Schema)
@@ -70,6 +70,10 @@ meta_made : Means rule_and_route create_meta CreateTable × (statement_of create
 unfolding everything
 meta_made = made rule_and_route create_meta ((refl, (refl, refl)), refl)
 
+suppress_made : Means format_1_alone create_suppress CreateTable × (statement_of create_suppress (understood format_1_alone create_suppress) ≡ create_suppress)
+unfolding everything
+suppress_made = made format_1_alone create_suppress ((refl, (refl, refl)), refl)
+
 -- its index is named after it
 route_becomes : created rule_alone (record route_table { tree = 0 }) ≡ rule_and_route
 unfolding everything
@@ -82,5 +86,8 @@ module _ (old new : State) (count : ℕ) where
   pub makes_route : old.now.schema ≡ rule_alone → Executes create_route [] old new (Ok count) → Makes rule_and_route 1 old.now new.now
   makes_route = makes create_route rule_alone (record route_table { tree = 0 }) route_made.0 route_made.1 route_is rule_and_route route_becomes 1 refl refl old new count
 
-  pub makes_meta : old.now.schema ≡ rule_and_route → Executes create_meta [] old new (Ok count) → Makes (schema_with [] [] []) 3 old.now new.now
-  makes_meta = makes create_meta rule_and_route (record meta_table { tree = 0 }) meta_made.0 meta_made.1 meta_is (schema_with [] [] []) refl 3 refl refl old new count
+  pub makes_meta : old.now.schema ≡ rule_and_route → Executes create_meta [] old new (Ok count) → Makes format_1_alone 3 old.now new.now
+  makes_meta = makes create_meta rule_and_route (record meta_table { tree = 0 }) meta_made.0 meta_made.1 meta_is format_1_alone refl 3 refl refl old new count
+
+  pub makes_suppress : old.now.schema ≡ format_1_alone → Executes create_suppress [] old new (Ok count) → Makes (schema_with [] [] []) 4 old.now new.now
+  makes_suppress = makes create_suppress format_1_alone (record suppress_table { tree = 0 }) suppress_made.0 suppress_made.1 suppress_is (schema_with [] [] []) refl 4 refl refl old new count

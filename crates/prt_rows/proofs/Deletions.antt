@@ -34,7 +34,7 @@ use Rattle.prt_rows.specs.Effects.{Deletes, IsKeyed, passes}
 use Rattle.prt_rows.specs.Meanings.{deletion, rowid_term}
 
 -- the rowids of the rows that pass are taken out, so those rows are
-module _ (tests : List Term) (params : Row) (rows found : List Row) (keyed : IsKeyed rows) (finds : Finds tests (rowid_term ∷ []) rows params found) where
+module _ (tests more : List Term) (params : Row) (rows found : List Row) (keyed : IsKeyed rows) (finds : Finds tests (rowid_term ∷ more) rows params found) where
   id_of : (x : Row) → Has rows x → rowid x ≡ Int (id_in (rowid x))
   id_of x there = int_is (rowid x) (keyed.ints x there)
 
@@ -80,7 +80,7 @@ module _ (schema : Schema) (place : ℕ) (table : Table) (there : slice_get sche
       let finds = finds_passing tree tests (rowid_term ∷ []) _ params given.0 shown given.1 in
       record {
         only = changes_only schema table old.now new.now written.0 has now step.tables;
-        sound = λ x stays. none_passes tests params (db tree) given.0 keyed finds x (subst (λ l. Has l x) rows stays);
-        complete = λ x was fails. subst (λ l. Has l x) (sym rows) (others_stay tests params (db tree) given.0 keyed finds x was fails);
+        sound = λ x stays. none_passes tests [] params (db tree) given.0 keyed finds x (subst (λ l. Has l x) rows stays);
+        complete = λ x was fails. subst (λ l. Has l x) (sym rows) (others_stay tests [] params (db tree) given.0 keyed finds x was fails);
         keyed = subst IsKeyed (sym rows) (keyed-without_all (ids_of given.0) (db tree) keyed);
       }

@@ -1,5 +1,5 @@
--- Tables that refer to none of ours set off no action where rows of ours are changed.
-use Rattle.std.proofs.Common.{◌≡◌, ℕ, false, List, [], ◌∷◌, length, flat_map, Option, Some, None, inl, inr, refl, sym, ap, ◌∙◌}
+-- Which actions a change of rows of ours sets off: the deletion of rules takes lengths along, and nothing else does.
+use Rattle.std.proofs.Common.{◌≡◌, ℕ, false, true, List, [], ◌∷◌, length, flat_map, Option, Some, None, inl, inr, refl, sym, ap, ◌∙◌}
 use Rattle.std.specs.Prelude.{◌==◌, find, option_and_then, option_map}
 use Rattle.std.specs.List.{filter_map}
 use Rattle.sqlite.specs.Schema.{Schema}
@@ -16,8 +16,17 @@ use Rattle.sqlite_rules.specs.Action.{works, work_for, work_by, deed_for, pairs}
 use Rattle.sqlite_rules.specs.Lists.{Has}
 use Rattle.sqlite_rules.specs.declared.action.Deed.{Deed}
 use Rattle.sqlite_rules.proofs.ListLemmas.{has_found}
+use Rattle.sqlite_tied.specs.Compute.{everything}
 use Rattle.prt_rows.specs.Others.{IsElsewhere}
-use Rattle.prt_rows.specs.Tables.{schema_with}
+use Rattle.prt_rows.specs.Tables.{schema_with, suppress_table, to_rule}
+
+-- the ids of rules are in the default order
+abbrev pub order : Order
+order = record { digits = 0 }
+
+-- the reference of `suppress` points to them
+abbrev pub rule_key : ParentKey
+rule_key = (0, 0 ∷ [], order)
 
 module _ (tree : ℕ) where
   key_of_table : (table : Table) (places : Option (List ℕ)) (key : ParentKey) → (table.tree == tree) ≡ false → option_and_then (key_in table) places ≡ Some key → (key.0 == tree) ≡ false
@@ -40,7 +49,7 @@ module _ (tree : ℕ) (tables : List Table) (indexes : List Index) (views : List
   schema = schema_with tables indexes views
 
   key_apart : (reference : Reference) (k : ParentKey) → IsElsewhere reference → parent_key schema.tables reference ≡ Some k → (k.0 == tree) ≡ false
-  key_apart reference k none is = go (find (λ (t : Table). same_name t.name reference.parent) tables) refl (rw (none.rule, none.route, none.meta) at is)
+  key_apart reference k none is = go (find (λ (t : Table). same_name t.name reference.parent) tables) refl (rw (none.rule, none.route, none.meta, none.suppress) at is)
     where
       go : (found : Option Table) → find (λ (t : Table). same_name t.name reference.parent) tables ≡ found → option_and_then (λ t. option_and_then (key_in t) (key_places t reference.parent_columns)) found ≡ Some k
           → (k.0 == tree) ≡ false
@@ -59,5 +68,25 @@ module _ (tree : ℕ) (tables : List Table) (indexes : List Index) (views : List
   of_all depth olds news [] none = refl
   of_all depth olds news (table ∷ all) none = rw (of_child depth olds news table table.references (none table (inl refl))) (of_all depth olds news all (λ t there. none t (inr there)))
 
-  pub no_works : (olds news : List Row) → works schema keys 0 tree olds news ≡ []
-  no_works olds news = of_all 0 olds news tables elsewhere
+  pub of_others : (depth : ℕ) (olds news : List Row) → flat_map (λ child. filter_map (work_for schema keys depth tree olds news child) child.references) tables ≡ []
+  of_others depth olds news = of_all depth olds news tables elsewhere
+
+  -- a change of another table than that of rules
+  pub no_works : (0 == tree) ≡ false → (depth : ℕ) (olds news : List Row) → works schema keys depth tree olds news ≡ []
+  unfolding everything
+  no_works not_rules depth olds news =
+      rw (
+        no_work tree depth (pairs olds news) suppress_table to_rule (deed_for keys (length news == 0) to_rule) (Some rule_key) (λ k is. (let same : rule_key ≡ k = cc in ap (λ (j : ParentKey). j.0 == tree) (sym same) ∙ not_rules)),
+        of_others depth olds news,
+      ) refl
+
+module _ (tables : List Table) (indexes : List Index) (views : List View) (apart : (table : Table) → Has tables table → (table.tree == 0) ≡ false)
+    (elsewhere : (table : Table) → Has tables table → (reference : Reference) → Has table.references reference → IsElsewhere reference) (keys : Keys) where
+  nothing_lost : (news : List Row) (deed : Option Deed) → work_by 0 0 (pairs [] news) suppress_table to_rule deed (Some rule_key) ≡ None
+  nothing_lost news None = refl
+  nothing_lost news (Some deed) = refl
+
+  -- rules that are put beside others
+  pub no_works_of_new : (news : List Row) → works (schema_with tables indexes views) keys 0 0 [] news ≡ []
+  unfolding everything
+  no_works_of_new news = rw (nothing_lost news (deed_for keys (length news == 0) to_rule), of_others 0 tables indexes views apart elsewhere keys 0 [] news) refl

@@ -10,8 +10,8 @@ use Rattle.sqlite_schema.specs.declared.schema.Index.{Index}
 use Rattle.sqlite_schema.specs.declared.schema.View.{View}
 use Rattle.sqlite_tied.specs.Compute.{everything}
 use Rattle.prt_rows.specs.Effects.{AreEmpty, KeepsTables, Makes}
-use Rattle.prt_rows.specs.Format.{BeginsFormat1, BeginsWithRoutes, BeginsWithRules, IsFormat1, has_table}
-use Rattle.prt_rows.specs.Tables.{meta_table, no_tables, our_tables, route_table, rule_alone, rule_and_route, rule_table, schema_with}
+use Rattle.prt_rows.specs.Format.{BeginsFormat2, BeginsWithMeta, BeginsWithRoutes, BeginsWithRules, IsFormat2, has_table}
+use Rattle.prt_rows.specs.Tables.{format_1_alone, meta_table, no_tables, our_tables, route_table, rule_alone, rule_and_route, rule_table, schema_with, suppress_table}
 
 pub keeps_itself : (db : Database) → KeepsTables db db
 keeps_itself db = record { kept = λ table there. (there, refl); made = λ table there. inl there }
@@ -66,8 +66,8 @@ module _ (old new : Database) where
     | inr more ↦ elim more [ inl is ↦ inr is | inr none ↦ absurd none ]
   ]) old new
 
-  pub keeps_rules_and_routes : old.schema ≡ rule_and_route → Makes (schema_with [] [] []) 3 old new → KeepsTables old new
-  keeps_rules_and_routes = keeps_made rule_and_route (schema_with [] [] []) meta_table (inr (inr (inl refl))) (λ table there. elim there [
+  pub keeps_rules_and_routes : old.schema ≡ rule_and_route → Makes format_1_alone 3 old new → KeepsTables old new
+  keeps_rules_and_routes = keeps_made rule_and_route format_1_alone meta_table (inr (inr (inl refl))) (λ table there. elim there [
     | inl is ↦ inl is
     | inr more ↦ elim more [ inl is ↦ inr (inl is) | inr none ↦ absurd none ]
   ]) (λ table there. elim there [
@@ -78,13 +78,31 @@ module _ (old new : Database) where
     ]
   ]) old new
 
-pub format_made : (schema : Schema) → schema ≡ schema_with [] [] [] → IsFormat1 schema
+  pub keeps_format_1 : old.schema ≡ format_1_alone → Makes (schema_with [] [] []) 4 old new → KeepsTables old new
+  keeps_format_1 = keeps_made format_1_alone (schema_with [] [] []) suppress_table (inr (inr (inr (inl refl)))) (λ table there. elim there [
+    | inl is ↦ inl is
+    | inr more ↦ elim more [
+      | inl is ↦ inr (inl is)
+      | inr last ↦ elim last [ inl is ↦ inr (inr (inl is)) | inr none ↦ absurd none ]
+    ]
+  ]) (λ table there. elim there [
+    | inl is ↦ inl (inl is)
+    | inr more ↦ elim more [
+      | inl is ↦ inl (inr (inl is))
+      | inr rest ↦ elim rest [
+        | inl is ↦ inl (inr (inr (inl is)))
+        | inr last ↦ elim last [ inl is ↦ inr is | inr none ↦ absurd none ]
+      ]
+    ]
+  ]) old new
+
+pub format_made : (schema : Schema) → schema ≡ schema_with [] [] [] → IsFormat2 schema
 format_made schema is = record {
   tables = [];
   indexes = [];
   views = [];
   is = is;
-  others = record { rule = λ table none. absurd none; route = λ table none. absurd none; meta = λ table none. absurd none; elsewhere = λ table none. absurd none };
+  others = record { rule = λ table none. absurd none; route = λ table none. absurd none; meta = λ table none. absurd none; suppress = λ table none. absurd none; elsewhere = λ table none. absurd none };
   free = λ index none. absurd none;
 }
 
@@ -110,6 +128,22 @@ no_meta_yet : has_table (codes "meta") rule_and_route ≡ false
 unfolding everything
 no_meta_yet = refl
 
+rule_is_in_format_1 : has_table (codes "rule") format_1_alone ≡ true
+unfolding everything
+rule_is_in_format_1 = refl
+
+route_is_in_format_1 : has_table (codes "route") format_1_alone ≡ true
+unfolding everything
+route_is_in_format_1 = refl
+
+meta_is_in_format_1 : has_table (codes "meta") format_1_alone ≡ true
+unfolding everything
+meta_is_in_format_1 = refl
+
+no_lengths_in_format_1 : has_table (codes "suppress") format_1_alone ≡ false
+unfolding everything
+no_lengths_in_format_1 = refl
+
 module _ (tables : List Table) (indexes : List Index) (views : List View) where
   rule_is_first : has_table (codes "rule") (schema_with tables indexes views) ≡ true
   unfolding everything
@@ -123,6 +157,10 @@ module _ (tables : List Table) (indexes : List Index) (views : List View) where
   unfolding everything
   meta_is_third = refl
 
+  suppress_is_fourth : has_table (codes "suppress") (schema_with tables indexes views) ≡ true
+  unfolding everything
+  suppress_is_fourth = refl
+
 module _ (schema : Schema) where
   none_of : (name : List ℕ) (other : Schema) → schema ≡ other → has_table name other ≡ false → has_table name schema ≡ true → ⊥
   none_of name other is none there = true≢false (sym there ∙ ap (has_table name) is ∙ none)
@@ -130,15 +168,16 @@ module _ (schema : Schema) where
   one_of : (name : List ℕ) (other : Schema) → schema ≡ other → has_table name other ≡ true → has_table name schema ≡ false → ⊥
   one_of name other is there none = true≢false (sym there ∙ ap (has_table name) (sym is) ∙ none)
 
-  pub rules_there : BeginsFormat1 schema → has_table (codes "rule") schema ≡ true → BeginsWithRules schema
+  pub rules_there : BeginsFormat2 schema → has_table (codes "rule") schema ≡ true → BeginsWithRules schema
   rules_there (inl is) there = absurd (none_of (codes "rule") no_tables is refl there)
   rules_there (inr more) there = more
 
-  pub rules_missing : BeginsFormat1 schema → has_table (codes "rule") schema ≡ false → schema ≡ no_tables
+  pub rules_missing : BeginsFormat2 schema → has_table (codes "rule") schema ≡ false → schema ≡ no_tables
   rules_missing (inl is) none = is
   rules_missing (inr (inl is)) none = absurd (one_of (codes "rule") rule_alone is rule_is_alone none)
   rules_missing (inr (inr (inl is))) none = absurd (one_of (codes "rule") rule_and_route is rule_is_with_route none)
-  rules_missing (inr (inr (inr t))) none = absurd (one_of (codes "rule") (schema_with t.tables t.indexes t.views) t.is (rule_is_first t.tables t.indexes t.views) none)
+  rules_missing (inr (inr (inr (inl is)))) none = absurd (one_of (codes "rule") format_1_alone is rule_is_in_format_1 none)
+  rules_missing (inr (inr (inr (inr t)))) none = absurd (one_of (codes "rule") (schema_with t.tables t.indexes t.views) t.is (rule_is_first t.tables t.indexes t.views) none)
 
   pub routes_there : BeginsWithRules schema → has_table (codes "route") schema ≡ true → BeginsWithRoutes schema
   routes_there (inl is) there = absurd (none_of (codes "route") rule_alone is no_route_alone there)
@@ -147,12 +186,22 @@ module _ (schema : Schema) where
   pub routes_missing : BeginsWithRules schema → has_table (codes "route") schema ≡ false → schema ≡ rule_alone
   routes_missing (inl is) none = is
   routes_missing (inr (inl is)) none = absurd (one_of (codes "route") rule_and_route is route_is_with_rule none)
-  routes_missing (inr (inr t)) none = absurd (one_of (codes "route") (schema_with t.tables t.indexes t.views) t.is (route_is_second t.tables t.indexes t.views) none)
+  routes_missing (inr (inr (inl is))) none = absurd (one_of (codes "route") format_1_alone is route_is_in_format_1 none)
+  routes_missing (inr (inr (inr t))) none = absurd (one_of (codes "route") (schema_with t.tables t.indexes t.views) t.is (route_is_second t.tables t.indexes t.views) none)
 
-  pub meta_there : BeginsWithRoutes schema → has_table (codes "meta") schema ≡ true → IsFormat1 schema
+  pub meta_there : BeginsWithRoutes schema → has_table (codes "meta") schema ≡ true → BeginsWithMeta schema
   meta_there (inl is) there = absurd (none_of (codes "meta") rule_and_route is no_meta_yet there)
-  meta_there (inr all) there = all
+  meta_there (inr more) there = more
 
   pub meta_missing : BeginsWithRoutes schema → has_table (codes "meta") schema ≡ false → schema ≡ rule_and_route
   meta_missing (inl is) none = is
-  meta_missing (inr t) none = absurd (one_of (codes "meta") (schema_with t.tables t.indexes t.views) t.is (meta_is_third t.tables t.indexes t.views) none)
+  meta_missing (inr (inl is)) none = absurd (one_of (codes "meta") format_1_alone is meta_is_in_format_1 none)
+  meta_missing (inr (inr t)) none = absurd (one_of (codes "meta") (schema_with t.tables t.indexes t.views) t.is (meta_is_third t.tables t.indexes t.views) none)
+
+  pub suppress_there : BeginsWithMeta schema → has_table (codes "suppress") schema ≡ true → IsFormat2 schema
+  suppress_there (inl is) there = absurd (none_of (codes "suppress") format_1_alone is no_lengths_in_format_1 there)
+  suppress_there (inr all) there = all
+
+  pub suppress_missing : BeginsWithMeta schema → has_table (codes "suppress") schema ≡ false → schema ≡ format_1_alone
+  suppress_missing (inl is) none = is
+  suppress_missing (inr t) none = absurd (one_of (codes "suppress") (schema_with t.tables t.indexes t.views) t.is (suppress_is_fourth t.tables t.indexes t.views) none)

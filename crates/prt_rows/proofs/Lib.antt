@@ -4,6 +4,7 @@ pub mod Columns
 pub mod Codes
 pub mod RouteRows
 pub mod RuleRows
+pub mod SuppressRows
 pub mod Texts
 pub mod Writing
 pub mod Foreign
@@ -29,3 +30,7 @@ pub mod Formats
 pub mod Opening
 pub mod Quiet
 mod Changing
+pub mod Cascade
+pub mod Children
+pub mod RuleDeletions
+pub mod Migrating

@@ -12,9 +12,9 @@ use Rattle.sqlite_schema.specs.declared.schema.View.{View}
 use Rattle.sqlite_value.specs.Order.{Row}
 use Rattle.prt_addr.specs.Word.{Word}
 use Rattle.prt_rows.proofs.Found.{Finds, finds_passing, projection}
-use Rattle.prt_rows.proofs.Texts.{Asks, look_at_meta_is, look_at_routes_is, look_at_rules_is}
+use Rattle.prt_rows.proofs.Texts.{Asks, look_at_meta_is, look_at_routes_is, look_at_rules_is, look_at_suppress_is}
 use Rattle.prt_rows.specs.Meanings.{look_at, rowid_term}
-use Rattle.prt_rows.specs.Statements.{look_at_meta, look_at_routes, look_at_rules}
+use Rattle.prt_rows.specs.Statements.{look_at_meta, look_at_routes, look_at_rules, look_at_suppress}
 use Rattle.prt_rows.specs.Tables.{schema_with}
 
 -- what is found tells whether there is a row
@@ -22,7 +22,7 @@ pub record Looks (rows found : List Row) : Type 0 where
   pub none : found ≡ [] → rows ≡ []
   pub some : rows ≡ [] → found ≡ []
 
-no_members : (rows : List Row) → ((row : Row) → Has rows row → ⊥) → rows ≡ []
+pub no_members : (rows : List Row) → ((row : Row) → Has rows row → ⊥) → rows ≡ []
 no_members [] none = refl
 no_members (row ∷ rows) none = absurd (none row (inl refl))
 
@@ -50,3 +50,6 @@ module _ (tables : List Table) (indexes : List Index) (views : List View) where
 
     pub looks_at_meta : Shown look_at_meta [] old new found → Looks (old.now.trees 3) found
     looks_at_meta = looked look_at_meta (codes "id") 3 schema (look_at_meta_is tables indexes views) old new has found refl
+
+    pub looks_at_suppress : Shown look_at_suppress [] old new found → Looks (old.now.trees 4) found
+    looks_at_suppress = looked look_at_suppress (codes "rule") 4 schema (look_at_suppress_is tables indexes views) old new has found refl

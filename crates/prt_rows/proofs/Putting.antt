@@ -60,7 +60,7 @@ module _ (tables : List Table) (indexes : List Index) (views : List View) (other
     put_in w none puts =
         let e = went puts in
         let edit = edit_of db route_table [] Given 0 (new ∷ []) in
-        let step = one_step schema Enforced db e.0 edit (no_works 1 tables indexes views others.route others.elsewhere Enforced (taken_by db edit) edit.news) e.1 in
+        let step = one_step schema Enforced db e.0 edit (no_works 1 tables indexes views others.route others.elsewhere Enforced refl 0 (taken_by db edit) edit.news) e.1 in
         let trees : w.trees ≡ e.0 = ap (λ (it : Written). it.trees) (same_value e.2) in
         subst Made (sym trees) (puts_new tables indexes views free route db e.0 routes distinct id none step, λ other among apart. all_has _ schema.tables other step.tables among apart)
 
@@ -75,7 +75,7 @@ module _ (tables : List Table) (indexes : List Index) (views : List View) (other
         let e = went queried.2 in
         let found = finds_passing 1 same_rowid replaced_terms (record { schema = schema; trees = db }) (update_values route (rowid there) id) queried.0 refl queried.1 in
         let edit = edit_of db route_table (ids_of queried.0) Given 1 queried.0 in
-        let step = one_step schema Enforced db e.0 edit (no_works 1 tables indexes views others.route others.elsewhere Enforced (taken_by db edit) edit.news) e.1 in
+        let step = one_step schema Enforced db e.0 edit (no_works 1 tables indexes views others.route others.elsewhere Enforced refl 0 (taken_by db edit) edit.news) e.1 in
         let trees : w.trees ≡ e.0 = ap (λ (it : Written). it.trees) (same_value e.2) in
         let finds = subst (λ (t : Row). Finds same_rowid replaced_terms (db 1) (update_values route (rowid t) id) queried.0) it.3 found in
         subst Made (sym trees) (

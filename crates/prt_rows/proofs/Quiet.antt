@@ -17,7 +17,7 @@ use Rattle.sqlite_resolve.specs.Scope.{Name}
 use Rattle.sqlite_syntax.specs.declared.statement.Parsed.{Parsed}
 use Rattle.sqlite_tied.specs.Compute.{everything}
 use Rattle.prt_addr.specs.Word.{Word}
-use Rattle.prt_rows.specs.Statements.{look_at_meta, look_at_routes, look_at_rules}
+use Rattle.prt_rows.specs.Statements.{look_at_meta, look_at_routes, look_at_rules, look_at_suppress, read_meta}
 
 -- if it is understood, it shows no rows of a write and does not read the time
 abbrev pub IsQuiet : Result Compiled CompileError → Type 0
@@ -70,7 +70,7 @@ pub quiet_query : (schema : Schema) (text : Word) → IsQuery (first text) → I
 unfolding understood
 quiet_query schema text query = either (reads_listing schema text) _ _ (quiet_listing (compiled listing_schema text) (quiet_compiled listing_schema text query)) (quiet_compiled schema text query)
 
--- ---- the statements that look whether a table has rows
+-- ---- the statements that look whether a table has rows, and at the format
 
 looks_at_rules : IsQuery (first look_at_rules)
 unfolding everything
@@ -84,6 +84,14 @@ looks_at_meta : IsQuery (first look_at_meta)
 unfolding everything
 looks_at_meta = (tt, refl)
 
+looks_at_suppress : IsQuery (first look_at_suppress)
+unfolding everything
+looks_at_suppress = (tt, refl)
+
+reads_meta : IsQuery (first read_meta)
+unfolding everything
+reads_meta = (tt, refl)
+
 module _ (schema : Schema) where
   pub quiet_rules : IsQuiet (understood schema look_at_rules)
   quiet_rules = quiet_query schema look_at_rules looks_at_rules
@@ -93,6 +101,12 @@ module _ (schema : Schema) where
 
   pub quiet_meta : IsQuiet (understood schema look_at_meta)
   quiet_meta = quiet_query schema look_at_meta looks_at_meta
+
+  pub quiet_suppress : IsQuiet (understood schema look_at_suppress)
+  quiet_suppress = quiet_query schema look_at_suppress looks_at_suppress
+
+  pub quiet_read_meta : IsQuiet (understood schema read_meta)
+  quiet_read_meta = quiet_query schema read_meta reads_meta
 
 -- ---- what such a query does
 

@@ -29,14 +29,15 @@ use Rattle.prt_addr.specs.Word.{Word}
 use Rattle.prt_rows.proofs.Found.{has_permuted, projection}
 use Rattle.prt_rows.proofs.Keyed.{keyed-permutation}
 use Rattle.prt_rows.proofs.Rising.{NeverFall, keyed_if_rising, rises_if_keyed}
-use Rattle.prt_rows.proofs.Texts.{Asks, read_meta_is, read_routes_is, read_rules_is}
+use Rattle.prt_rows.proofs.Texts.{Asks, read_meta_is, read_routes_is, read_rules_is, read_suppress_is}
 use Rattle.prt_rows.specs.Effects.{IsKeyed, has_same_rowid}
-use Rattle.prt_rows.specs.Meanings.{listing, names_of, read_meta_terms, read_route_terms, read_rule_terms, rowid_term}
+use Rattle.prt_rows.specs.Meanings.{listing, names_of, read_meta_terms, read_route_terms, read_rule_terms, read_suppress_terms, rowid_term}
 use Rattle.prt_rows.specs.MetaRow.{meta_columns}
 use Rattle.prt_rows.specs.RouteRow.{route_columns}
 use Rattle.prt_rows.specs.Rowids.{rowids_rise}
 use Rattle.prt_rows.specs.RuleRow.{rule_columns}
-use Rattle.prt_rows.specs.Statements.{read_meta, read_routes, read_rules}
+use Rattle.prt_rows.specs.SuppressRow.{suppress_columns}
+use Rattle.prt_rows.specs.Statements.{read_meta, read_routes, read_rules, read_suppress}
 use Rattle.prt_rows.specs.Tables.{schema_with}
 
 -- SELECT of the rowid and of these terms, in the order of the rowids
@@ -144,3 +145,6 @@ module _ (tables : List Table) (indexes : List Index) (views : List View) (old n
 
   pub reads_meta : Shown read_meta [] old new rows → Lists 3 read_meta_terms (old.now.trees 3) rows
   reads_meta = listed read_meta 3 read_meta_terms (names_of meta_columns) _ (read_meta_is tables indexes views) old new has rows refl
+
+  pub reads_suppress : Shown read_suppress [] old new rows → Lists 4 read_suppress_terms (old.now.trees 4) rows
+  reads_suppress = listed read_suppress 4 read_suppress_terms (names_of suppress_columns) _ (read_suppress_is tables indexes views) old new has rows refl

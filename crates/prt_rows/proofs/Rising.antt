@@ -47,7 +47,7 @@ through : (a b c : ℤ) → int_lt a b ≡ true → int_lt b c ≡ true → int_
 through a b c first second = grind (arith, common_steps)
 
 -- each of them is above the last one
-above_all : (last : ℤ) (rows : List Row) → rise_from (Some last) rows ≡ true → (x : Row) → Has rows x → int_lt last (id_in (rowid x)) ≡ true
+pub above_all : (last : ℤ) (rows : List Row) → rise_from (Some last) rows ≡ true → (x : Row) → Has rows x → int_lt last (id_in (rowid x)) ≡ true
 above_all last [] rise x there = absurd there
 above_all last (y ∷ rows) rise x (inl is) = ap (λ r. int_lt last (id_in (rowid r))) is ∙ next_is_above (Some last) (rowid y) (and_parts _ _ rise).0
 above_all last (y ∷ rows) rise x (inr later) =

@@ -77,7 +77,7 @@ not_other Less is = absurd (cc)
 not_other Equal is = refl
 not_other Greater is = absurd (cc)
 
-eq_ints : (m n : ℤ) → is_true (binary (Compare Eq Binary) (Int m) (Int n)) ≡ is_eq (value_cmp (Int m) (Int n))
+pub eq_ints : (m n : ℤ) → is_true (binary (Compare Eq Binary) (Int m) (Int n)) ≡ is_eq (value_cmp (Int m) (Int n))
 unfolding binary
 eq_ints m n = truth_again _
 

@@ -1,5 +1,5 @@
 -- A row spells at most one rule.
-use Rattle.std.proofs.Common.{◌≡◌, ap, Option, Some, None, refl}
+use Rattle.std.proofs.Common.{◌≡◌, ap, Option, Some, None, refl, sym, ◌∙◌}
 use Rattle.sqlite_value.specs.Order.{Row, column}
 use Rattle.prt_rule.specs.declared.rule.Mark.{Mark}
 use Rattle.prt_rule.specs.declared.rule.Rule.{Rule}
@@ -30,4 +30,5 @@ same_rule last rule other left right is =
       iif = same_optional_name rule.iif other.iif left.iif right.iif (ap (at 7) is) i;
       mark = same_mark rule.mark other.mark mark mask i;
       action = same_action rule.action other.action (same_number _ _ (ap (at 10) is)) (same_number _ _ (ap (at 11) is)) i;
+      suppress = (left.plain ∙ sym right.plain) i;
     }

@@ -22,8 +22,8 @@ use Rattle.sqlite_value.specs.Order.{Row, column}
 use Rattle.prt_rows.proofs.Found.{projection}
 use Rattle.prt_rows.proofs.Reading.{Lists}
 use Rattle.prt_rows.specs.Kept.{with_key_column}
-use Rattle.prt_rows.specs.Meanings.{read_meta_terms, read_route_terms, read_rule_terms, rowid_term}
-use Rattle.prt_rows.specs.Tables.{meta_table, route_table, rule_table, schema_with}
+use Rattle.prt_rows.specs.Meanings.{read_meta_terms, read_route_terms, read_rule_terms, read_suppress_terms, rowid_term}
+use Rattle.prt_rows.specs.Tables.{meta_table, route_table, rule_table, schema_with, suppress_table}
 
 -- ---- how many values
 
@@ -109,6 +109,11 @@ module _ (schema : Schema) (db : Trees) where
       let it = parts meta_table row typed present in
       whole_row (Some 0) meta_table.columns row it.0 (not-true _ it.1) ∙ ap (λ v. rowid row ∷ v ∷ cells 2 2 row) (key_is_null meta_table.columns row it.0)
 
+  suppress_as_shown : (row : Row) → passes Datatype schema db suppress_table row ≡ true → passes NotNull schema db suppress_table row ≡ true → row ≡ with_key_column (projection (rowid_term ∷ read_suppress_terms) [] row)
+  suppress_as_shown row typed present =
+      let it = parts suppress_table row typed present in
+      whole_row (Some 0) suppress_table.columns row it.0 (not-true _ it.1) ∙ ap (λ v. rowid row ∷ v ∷ cells 2 1 row) (key_is_null suppress_table.columns row it.0)
+
   -- the rows of a table whose rows are what is kept of what they show
   table_as_shown : (table : Table) (shows : List Term) (keep : Row → Row) (rows : List Row) → ((row : Row) → passes Datatype schema db table row ≡ true → passes NotNull schema db table row ≡ true → row ≡ keep (projection shows [] row))
       → AllByRecursion (λ row. passes Datatype schema db table row ≡ true) rows → AllByRecursion (λ row. passes NotNull schema db table row ≡ true) rows → rows ≡ map keep (map (projection shows []) rows)
@@ -137,4 +142,9 @@ module _ (tables : List Table) (indexes : List Index) (views : List View) (db : 
   pub meta_is_read : Lists 3 read_meta_terms (db.trees 3) rows → IsPermutation (db.trees 3) (map with_key_column rows)
   meta_is_read lists =
       let same = table_as_shown schema db.trees meta_table (rowid_term ∷ read_meta_terms) with_key_column (db.trees 3) (meta_as_shown schema db.trees) (obeys.rules Datatype).1.1.0 (obeys.rules NotNull).1.1.0 in
+      subst (λ table. IsPermutation table (map with_key_column rows)) (sym same) (IsPermutation-map with_key_column _ rows lists.same)
+
+  pub suppress_is_read : Lists 4 read_suppress_terms (db.trees 4) rows → IsPermutation (db.trees 4) (map with_key_column rows)
+  suppress_is_read lists =
+      let same = table_as_shown schema db.trees suppress_table (rowid_term ∷ read_suppress_terms) with_key_column (db.trees 4) (suppress_as_shown schema db.trees) (obeys.rules Datatype).1.1.1.0 (obeys.rules NotNull).1.1.1.0 in
       subst (λ table. IsPermutation table (map with_key_column rows)) (sym same) (IsPermutation-map with_key_column _ rows lists.same)

@@ -14,9 +14,9 @@ use Rattle.sqlite_schema.specs.declared.schema.Index.{Index}
 use Rattle.sqlite_schema.specs.declared.schema.View.{View}
 use Rattle.sqlite_tied.specs.Compute.{everything}
 use Rattle.prt_addr.specs.Word.{Word}
-use Rattle.prt_rows.specs.Meanings.{flush_routes_command, insert_meta_command, delete_route_command, delete_rule_command, flush_rules_command, insert_rule_command, look_at, put_route_command, read_meta_command, read_routes_command, read_rules_command, set_count_command}
-use Rattle.prt_rows.specs.Statements.{flush_routes, insert_meta, create_meta, create_route, create_rule, delete_route, delete_rule, flush_rules, insert_rule, look_at_meta, look_at_routes, look_at_rules, put_route, read_meta, read_routes, read_rules, set_count}
-use Rattle.prt_rows.specs.Tables.{meta_table, route_table, rule_table, schema_with}
+use Rattle.prt_rows.specs.Meanings.{flush_routes_command, insert_meta_command, delete_route_command, delete_rule_command, flush_rules_command, insert_rule_command, insert_suppress_command, look_at, migrate_command, put_route_command, read_meta_command, read_routes_command, read_rules_command, read_suppress_command, set_count_command}
+use Rattle.prt_rows.specs.Statements.{flush_routes, insert_meta, create_meta, create_route, create_rule, create_suppress, delete_route, delete_rule, flush_rules, insert_rule, insert_suppress, look_at_meta, look_at_routes, look_at_rules, look_at_suppress, migrate, put_route, read_meta, read_routes, read_rules, read_suppress, set_count}
+use Rattle.prt_rows.specs.Tables.{meta_table, route_table, rule_table, schema_with, suppress_table}
 
 -- the text is understood as the command, without more
 abbrev pub Means : Schema → Word → Command → Type 0
@@ -55,6 +55,10 @@ pub meta_is : table_defined_by create_meta ≡ Ok (record meta_table { tree = 0 
 unfolding everything
 meta_is = refl
 
+pub suppress_is : table_defined_by create_suppress ≡ Ok (record suppress_table { tree = 0 })
+unfolding everything
+suppress_is = refl
+
 module _ (tables : List Table) (indexes : List Index) (views : List View) where
   abbrev schema : Schema
   schema = schema_with tables indexes views
@@ -83,6 +87,14 @@ module _ (tables : List Table) (indexes : List Index) (views : List View) where
   unfolding everything
   look_at_meta_is = asks schema look_at_meta (look_at 3 (codes "id")) (refl, (refl, refl))
 
+  pub look_at_suppress_is : Asks schema look_at_suppress (look_at 4 (codes "rule"))
+  unfolding everything
+  look_at_suppress_is = asks schema look_at_suppress (look_at 4 (codes "rule")) (refl, (refl, refl))
+
+  pub migrate_is : Means schema migrate migrate_command
+  unfolding everything
+  migrate_is = means schema migrate migrate_command (refl, (refl, refl))
+
   pub put_route_is : Means schema put_route put_route_command
   unfolding everything
   put_route_is = means schema put_route put_route_command (refl, (refl, refl))
@@ -98,6 +110,14 @@ module _ (tables : List Table) (indexes : List Index) (views : List View) where
   pub insert_meta_is : Means schema insert_meta insert_meta_command
   unfolding everything
   insert_meta_is = means schema insert_meta insert_meta_command (refl, (refl, refl))
+
+  pub read_suppress_is : Asks schema read_suppress read_suppress_command
+  unfolding everything
+  read_suppress_is = asks schema read_suppress read_suppress_command (refl, (refl, refl))
+
+  pub insert_suppress_is : Means schema insert_suppress insert_suppress_command
+  unfolding everything
+  insert_suppress_is = means schema insert_suppress insert_suppress_command (refl, (refl, refl))
 
   pub insert_rule_is : Means schema insert_rule insert_rule_command
   unfolding everything

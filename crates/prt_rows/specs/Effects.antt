@@ -13,10 +13,11 @@ use Rattle.sqlite_rules.specs.Lists.{Has}
 use Rattle.sqlite_value.specs.Order.{Row, value_cmp}
 use Rattle.prt_route.specs.Route.{key_of}
 use Rattle.prt_route.specs.declared.route.Route.{Route}
-use Rattle.prt_rows.specs.Kept.{key_values}
+use Rattle.prt_rows.specs.Kept.{kept_count, kept_count_1, key_values}
 use Rattle.prt_rows.specs.Meanings.{has_key}
+use Rattle.prt_rows.specs.MetaRow.{IsCount}
 use Rattle.prt_rows.specs.RouteRow.{route_row}
-use Rattle.prt_rows.specs.Tables.{our_tables, route_table}
+use Rattle.prt_rows.specs.Tables.{meta_table, our_tables, route_table, rule_table, suppress_table}
 
 abbrev pub has_same_rowid : Row → Row → Bool
 has_same_rowid a b = is_eq (value_cmp (rowid a) (rowid b))
@@ -42,6 +43,25 @@ pub record Deletes (table : Table) (tests : List Term) (params : Row) (old new :
   pub complete : (row : Row) → Has (old.trees table.tree) row → passes tests params row ≡ false → Has (new.trees table.tree) row
   pub keyed : IsKeyed (new.trees table.tree)
 
+-- all but these two tables stay as they were
+pub record ChangesTwo (one two : Table) (old new : Database) : Type 0 where
+  pub schema : new.schema ≡ old.schema
+  pub others : (other : Table) → Has old.schema.tables other → other.tree ≢ one.tree → other.tree ≢ two.tree → new.trees other.tree ≡ old.trees other.tree
+
+-- no rule that passes has this length
+abbrev pub IsOfNone : List Term → Row → List Row → Row → Type 0
+IsOfNone tests params rules length = (rule : Row) → Has rules rule → has_same_rowid length rule ≡ true → passes tests params rule ≡ false
+
+-- exactly the rules that pass are gone, and exactly their lengths
+pub record DeletesRules (tests : List Term) (params : Row) (old new : Database) : Type 0 where
+  pub only : ChangesTwo rule_table suppress_table old new
+  pub sound : (row : Row) → Has (new.trees rule_table.tree) row → Has (old.trees rule_table.tree) row × (passes tests params row ≡ false)
+  pub complete : (row : Row) → Has (old.trees rule_table.tree) row → passes tests params row ≡ false → Has (new.trees rule_table.tree) row
+  pub keyed : IsKeyed (new.trees rule_table.tree)
+  pub lengths_sound : (row : Row) → Has (new.trees suppress_table.tree) row → Has (old.trees suppress_table.tree) row × IsOfNone tests params (old.trees rule_table.tree) row
+  pub lengths_complete : (row : Row) → Has (old.trees suppress_table.tree) row → IsOfNone tests params (old.trees rule_table.tree) row → Has (new.trees suppress_table.tree) row
+  pub lengths_keyed : IsKeyed (new.trees suppress_table.tree)
+
 -- this row is there beside the others
 pub record Adds (table : Table) (row : Row) (old new : Database) : Type 0 where
   pub only : ChangesOnly table old new
@@ -55,6 +75,17 @@ pub record Sets (table : Table) (row : Row) (old new : Database) : Type 0 where
   pub only : ChangesOnly table old new
   pub alone : new.trees table.tree ≡ row ∷ []
 
+-- The file has a table `meta` with the row of format 1 and this count, and no lengths.
+pub record IsOfFormat1 (db : Database) (count : ℕ) : Type 0 where
+  pub there : Has db.schema.tables meta_table
+  pub fits : IsCount count
+  pub row : db.trees meta_table.tree ≡ kept_count_1 count ∷ []
+  pub none : Has db.schema.tables suppress_table → db.trees suppress_table.tree ≡ []
+
+-- Where the file was of format 1 its row of `meta` is now that of format 2, with the count that it had. Otherwise nothing has changed.
+abbrev pub Migrates : Database → Database → Type 0
+Migrates old new = (((count : ℕ) → IsOfFormat1 old count → ⊥) × (new ≡ old)) ⊎ ((count : ℕ) × IsOfFormat1 old count × Sets meta_table (kept_count count) old new)
+
 -- a table was made: the schema is this one, its tree is empty, and each table that was there keeps its rows
 pub record Makes (after : Schema) (tree : ℕ) (old new : Database) : Type 0 where
   pub sound : IsDatabase new
@@ -67,7 +98,7 @@ pub record KeepsTables (old new : Database) : Type 0 where
   pub kept : (table : Table) → Has old.schema.tables table → Has new.schema.tables table × (new.trees table.tree ≡ old.trees table.tree)
   pub made : (table : Table) → Has new.schema.tables table → Has old.schema.tables table ⊎ (Has our_tables table × (new.trees table.tree ≡ []))
 
--- the three tables, as far as they are there, have no rows
+-- the four tables, as far as they are there, have no rows
 abbrev pub AreEmpty : Database → Type 0
 AreEmpty db = (table : Table) → Has our_tables table → Has db.schema.tables table → db.trees table.tree ≡ []
 

@@ -4,6 +4,7 @@ pub mod Columns
 pub mod RouteRow
 pub mod RuleRow
 pub mod MetaRow
+pub mod SuppressRow
 pub mod Tables
 pub mod Statements
 pub mod Meanings

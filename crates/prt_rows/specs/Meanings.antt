@@ -22,6 +22,7 @@ use Rattle.prt_rows.specs.Columns.{Column}
 use Rattle.prt_rows.specs.MetaRow.{meta_columns}
 use Rattle.prt_rows.specs.RouteRow.{route_columns}
 use Rattle.prt_rows.specs.RuleRow.{rule_columns}
+use Rattle.prt_rows.specs.SuppressRow.{suppress_columns}
 use Rattle.prt_rows.specs.Tables.{key_places}
 
 -- SELECT shows FROM the tree WHERE tests
@@ -101,6 +102,12 @@ rule_terms = col 0 0 ∷ lit Null ∷ col 0 1 ∷ col 0 2 ∷ col 0 3 ∷ col 0 
 abbrev pub insert_rule_command : Command
 insert_rule_command = Insert 0 (Values rule_terms 13)
 
+abbrev pub suppress_terms : List Term
+suppress_terms = col 0 0 ∷ lit Null ∷ col 0 1 ∷ []
+
+abbrev pub insert_suppress_command : Command
+insert_suppress_command = Insert 3 (Values suppress_terms 3)
+
 abbrev pub meta_terms : List Term
 meta_terms = col 0 0 ∷ lit Null ∷ col 0 1 ∷ col 0 2 ∷ []
 
@@ -125,6 +132,17 @@ put_route_command = InsertOr 1 Abort (Values route_terms 11) (on_key ∷ [])
 abbrev pub set_count_command : Command
 set_count_command = Update 2 (program 3 [] (col 1 0 ∷ col 1 0 ∷ lit Null ∷ col 1 2 ∷ col 0 0 ∷ []))
 
+-- the rows of format 1
+abbrev pub is_of_format_1 : List Term
+is_of_format_1 = op2 (Compare Eq Binary) (col 1 2) (lit (Int (pos 1))) ∷ []
+
+-- its rowid, twice, and the row with format 2
+abbrev pub migrated_terms : List Term
+migrated_terms = col 1 0 ∷ col 1 0 ∷ lit Null ∷ lit (Int (pos 2)) ∷ col 1 3 ∷ []
+
+abbrev pub migrate_command : Command
+migrate_command = Update 2 (program 3 is_of_format_1 migrated_terms)
+
 -- the names of columns
 abbrev pub names_of : {X : Type 0} → List (Column X) → List Word
 names_of columns = map (λ column. column.0) columns
@@ -146,6 +164,12 @@ read_route_terms = col 1 1 ∷ col 1 2 ∷ col 1 3 ∷ col 1 4 ∷ col 1 5 ∷ c
 
 abbrev pub read_meta_terms : List Term
 read_meta_terms = col 1 2 ∷ col 1 3 ∷ []
+
+abbrev pub read_suppress_terms : List Term
+read_suppress_terms = col 1 2 ∷ []
+
+abbrev pub read_suppress_command : Command
+read_suppress_command = Select (listing 4 read_suppress_terms) (names_of suppress_columns)
 
 abbrev pub read_rules_command : Command
 read_rules_command = Select (listing 0 read_rule_terms) (names_of rule_columns)

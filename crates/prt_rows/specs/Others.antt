@@ -13,12 +13,14 @@ pub record IsElsewhere (reference : Reference) : Type 0 where
   pub rule : same_name (codes "rule") reference.parent ≡ false
   pub route : same_name (codes "route") reference.parent ≡ false
   pub meta : same_name (codes "meta") reference.parent ≡ false
+  pub suppress : same_name (codes "suppress") reference.parent ≡ false
 
 -- the table keeps its rows apart from ours, and refers to none of our tables
 pub record IsOther (table : Table) : Type 0 where
   pub rule : (table.tree == 0) ≡ false
   pub route : (table.tree == 1) ≡ false
   pub meta : (table.tree == 3) ≡ false
+  pub suppress : (table.tree == 4) ≡ false
   pub elsewhere : (reference : Reference) → Has table.references reference → IsElsewhere reference
 
 -- these tables keep their rows apart from ours, and refer to none of our tables
@@ -26,6 +28,7 @@ pub record AreOthers (tables : List Table) : Type 0 where
   pub rule : (table : Table) → Has tables table → (table.tree == 0) ≡ false
   pub route : (table : Table) → Has tables table → (table.tree == 1) ≡ false
   pub meta : (table : Table) → Has tables table → (table.tree == 3) ≡ false
+  pub suppress : (table : Table) → Has tables table → (table.tree == 4) ≡ false
   pub elsewhere : (table : Table) → Has tables table → (reference : Reference) → Has table.references reference → IsElsewhere reference
 
 -- none of these indexes is a unique one of the table of routes

@@ -3,7 +3,6 @@ use Rattle.std.specs.Prelude.{ℕ, List, [], ◌∷◌, codes}
 use Rattle.sqlite.specs.Kind.TheVariants.{Integer, Text}
 use Rattle.sqlite_value.specs.Order.{Row}
 use Rattle.prt_addr.specs.Sound.{IsPrefix}
-use Rattle.prt_route.specs.Storable.{IsStorableRoute}
 use Rattle.prt_route.specs.declared.kind.Kind.{Kind}
 use Rattle.prt_route.specs.declared.kind.Kind.TheVariants.{Unicast, Blackhole, Unreachable, Prohibit, Throw}
 use Rattle.prt_route.specs.declared.route.Route.{Route}
@@ -44,8 +43,3 @@ pub record IsInRange (route : Route) : Type 0 where
   pub src : IsOptionalAddr route.src
   pub proto : IsByte route.proto
   pub scope : IsByte route.scope
-
--- a route that a row may spell
-pub record IsRoute (route : Route) : Type 0 where
-  pub in_range : IsInRange route
-  pub storable : IsStorableRoute route

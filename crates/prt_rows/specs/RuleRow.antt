@@ -1,10 +1,9 @@
 -- The table of rules.
-use Rattle.std.specs.Prelude.{ℕ, List, [], ◌∷◌, Option, IfSome, codes, option_map}
+use Rattle.std.specs.Prelude.{◌≡◌, ℕ, List, [], ◌∷◌, Option, None, IfSome, codes, option_map}
 use Rattle.sqlite.specs.Kind.TheVariants.{Integer, Text}
 use Rattle.sqlite_value.specs.declared.value.Value.{Value}
 use Rattle.sqlite_value.specs.Order.{Row}
 use Rattle.prt_addr.specs.Sound.{IsPrefix}
-use Rattle.prt_rule.specs.Storable.{IsStorableAction}
 use Rattle.prt_rule.specs.declared.rule.Action.{Action}
 use Rattle.prt_rule.specs.declared.rule.Action.TheVariants.{Lookup, Blackhole, Unreachable, Prohibit}
 use Rattle.prt_rule.specs.declared.rule.Mark.{Mark}
@@ -59,9 +58,9 @@ action_cells action = number (action_code action) ∷ number (action_table actio
 abbrev pub IsOptionalMark : Option Mark → Type 0
 IsOptionalMark mark = IfSome (mark_of mark) IsNumber × IfSome (mask_of mark) IsNumber
 
-pub record IsAction (action : Action) : Type 0 where
-  pub table : IsNumber (action_table action)
-  pub storable : IsStorableAction action
+-- a table of 32 bits
+abbrev pub IsAction : Action → Type 0
+IsAction action = IsNumber (action_table action)
 
 -- a rule that a row may spell, where `last` is the greatest id that was given
 pub record IsRule (last : ℕ) (rule : Rule) : Type 0 where
@@ -72,3 +71,5 @@ pub record IsRule (last : ℕ) (rule : Rule) : Type 0 where
   pub iif : IsOptionalName rule.iif
   pub mark : IsOptionalMark rule.mark
   pub action : IsAction rule.action
+  -- no column keeps a suppressed length
+  pub plain : rule.suppress ≡ None

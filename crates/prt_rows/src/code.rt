@@ -49,13 +49,11 @@ pub(crate) fn action_codes(action: Action) -> (u32, u32)
     }
 }
 
-/// The action that a code and a table stand for, if they stand for one: there is a table exactly where one is looked
-/// up.
+/// The action that a code and a table stand for, if they stand for one: the table is 0 where none is looked up.
 pub(crate) fn action_of_codes(code: u32, table: u32) -> Option<Action>
     ensures { Decodes action_cells IsAction (number code ∷ number table ∷ []) result }
 {
     match (code, table) {
-        (1, 0) => None,
         (1, table) => Some(Action::Lookup(table)),
         (6, 0) => Some(Action::Blackhole),
         (7, 0) => Some(Action::Unreachable),

@@ -52,3 +52,13 @@ pub(crate) enum MetaColumn {
 
 /// How many columns the table `meta` has.
 pub(crate) const META_COLUMNS: usize = 3;
+
+/// A column of the table `suppress`, in their order.
+#[derive(Clone, Copy)]
+pub(crate) enum SuppressColumn {
+    Rule,
+    Len,
+}
+
+/// How many columns the table `suppress` has.
+pub(crate) const SUPPRESS_COLUMNS: usize = 2;

@@ -1,19 +1,19 @@
-//! Whether a file has the tables of format 1.
+//! Whether a file has the tables of format 2.
 
-ghost use Rattle.std.specs.Prelude.{◌≡◌, ◌↔◌, [], ◌∷◌, Some, true, false, map, IsTrue};
+ghost use Rattle.std.specs.Prelude.{◌≡◌, ◌↔◌, [], ◌∷◌, Some, true, false, codes, map, IsTrue};
 ghost use Rattle.sqlite_schema.specs.Names.{same_name};
 ghost use Rattle.sqlite_rules.specs.Lists.{Has};
 ghost use Rattle.sqlite_schema.specs.Rules.{guards};
 ghost use Rattle.sqlite_schema.specs.declared.schema.Reference.{Reference as Referring};
 ghost use Rattle.sqlite.specs.Table.{Table as Declared};
-ghost use Rattle.prt_rows.specs.Format.{BeginsFormat1, HasFormat1, IsFormat1, SuitsFormat1, SuitsName, has_table};
+ghost use Rattle.prt_rows.specs.Format.{BeginsFormat2, HasFormat2, IsFormat2, SuitsFormat2, SuitsName, has_table};
 ghost use Rattle.prt_rows.specs.Others.{AreNotOfRoutes, AreOthers, IsElsewhere, IsOther};
-ghost use Rattle.prt_rows.specs.Tables.{key_places, meta_table, no_tables, plain_table, route_key, route_table, rule_alone, rule_and_route, rule_table, strict_column};
+ghost use Rattle.prt_rows.specs.Tables.{format_1_alone, key_places, meta_table, no_tables, plain_table, route_key, route_table, rule_alone, rule_and_route, rule_table, strict_column, suppress_table, to_rule};
 
 use sqlite_schema::names::same_name;
-use sqlite_schema::schema::{Column, Index, Kind, Reference, Schema, Table};
+use sqlite_schema::schema::{Action, Column, Index, Kind, Reference, Schema, Table};
 use sqlite_value::keys::Collation;
-use sqlite_value::value::Value;
+use sqlite_value::value::{Bytes, Value};
 
 /// The name and the type of each column of `rule`.
 const RULE: [(&str, Kind); 12] = [
@@ -52,6 +52,9 @@ const META: [(&str, Kind); 3] = [
     ("count", Kind::Integer),
 ];
 
+/// The same of `suppress`.
+const SUPPRESS: [(&str, Kind); 2] = [("rule", Kind::Integer), ("len", Kind::Integer)];
+
 /// Tells whether it is a column of this name and type of a STRICT table, and takes no NULL.
 fn is_column(column: &Column, name: &str, kind: Kind) -> bool
     ensures { IsTrue result ↔ (column.now ≡ strict_column name.now kind) }
@@ -80,17 +83,62 @@ fn are_columns(columns: &[Column], wanted: &[(&str, Kind)]) -> bool
     true
 }
 
-/// Tells whether nothing is said of the table but its name, columns and keys.
-fn is_plain(table: &Table) -> bool
-    ensures { IsTrue result ↔ (table.now ≡ record table.now { checks = []; references = []; computed = []; stamps = record { places = []; terms = []; formats = [] }; is_counted = false }) }
+/// Tells whether nothing is said of the table but its name, columns, keys and references.
+fn is_unchecked(table: &Table) -> bool
+    ensures { IsTrue result ↔ (table.now ≡ record table.now { checks = []; computed = []; stamps = record { places = []; terms = []; formats = [] }; is_counted = false }) }
 {
     table.checks.roots.is_empty()
-        && table.references.is_empty()
         && table.computed.is_empty()
         && table.stamps.places.is_empty()
         && table.stamps.terms.roots.is_empty()
         && table.stamps.formats.is_empty()
         && !table.is_counted
+}
+
+/// Tells whether nothing is said of the table but its name, columns and keys.
+fn is_plain(table: &Table) -> bool
+    ensures { IsTrue result ↔ (table.now ≡ record table.now { checks = []; references = []; computed = []; stamps = record { places = []; terms = []; formats = [] }; is_counted = false }) }
+{
+    table.references.is_empty() && is_unchecked(table)
+}
+
+/// Tells whether it is the name of the column `id`.
+fn is_id(name: &Bytes) -> bool
+    ensures { IsTrue result ↔ (name.now ≡ codes "id") }
+{
+    name.as_slice() == b"id".as_slice()
+}
+
+/// Tells whether the names are that of the column `id` alone.
+fn are_id_alone(names: &[Bytes]) -> bool
+    ensures { IsTrue result ↔ (names.now ≡ codes "id" ∷ []) }
+{
+    match names {
+        [name] => is_id(name),
+        _ => false,
+    }
+}
+
+/// Tells whether the reference is that of a row of `suppress` to the rule that it goes with.
+fn is_to_rule(reference: &Reference) -> bool
+    ensures { IsTrue result ↔ (reference.now ≡ to_rule) }
+{
+    reference.columns.as_slice() == [0usize].as_slice()
+        && reference.parent.as_slice() == b"rule".as_slice()
+        && are_id_alone(reference.parent_columns.as_slice())
+        && reference.on_delete == Action::Cascade
+        && reference.on_update == Action::NoAction
+        && !reference.is_deferred
+}
+
+/// Tells whether the only reference of the table is that one.
+fn refers_to_rule(table: &Table) -> bool
+    ensures { IsTrue result ↔ (table.now ≡ record table.now { references = to_rule ∷ [] }) }
+{
+    match table.references.as_slice() {
+        [reference] => is_to_rule(reference),
+        _ => false,
+    }
 }
 
 /// Tells whether the primary key of the table is its first column, and it has no other key.
@@ -125,6 +173,17 @@ fn is_meta_table(table: &Table) -> bool
     ensures { IsTrue result ↔ (table.now ≡ record meta_table { tree = table.now.tree }) }
 {
     is_table_by_id(table, "meta", &META)
+}
+
+/// Tells whether it is the table `suppress`, in whatever tree.
+fn is_suppress_table(table: &Table) -> bool
+    ensures { IsTrue result ↔ (table.now ≡ record suppress_table { tree = table.now.tree }) }
+{
+    table.name.as_slice() == b"suppress".as_slice()
+        && are_columns(table.columns.as_slice(), &SUPPRESS)
+        && is_keyed_by_first(table)
+        && refers_to_rule(table)
+        && is_unchecked(table)
 }
 
 /// Tells whether the places are those of table, address, length and metric.
@@ -168,7 +227,7 @@ fn is_route_index(index: &Index) -> bool
         && index.is_unique
 }
 
-/// Tells whether the reference names none of the three tables.
+/// Tells whether the reference names none of the four tables.
 fn is_elsewhere(reference: &Reference) -> bool
     ensures { IsTrue result ↔ IsElsewhere reference.now }
 {
@@ -176,9 +235,10 @@ fn is_elsewhere(reference: &Reference) -> bool
     !same_name(b"rule".as_slice(), parent)
         && !same_name(b"route".as_slice(), parent)
         && !same_name(b"meta".as_slice(), parent)
+        && !same_name(b"suppress".as_slice(), parent)
 }
 
-/// Tells whether none of the references names one of the three tables.
+/// Tells whether none of the references names one of the four tables.
 fn are_elsewhere(references: &[Reference]) -> bool
     ensures { IsTrue result ↔ ((reference : Referring) → Has references.now reference → IsElsewhere reference) }
 {
@@ -190,17 +250,18 @@ fn are_elsewhere(references: &[Reference]) -> bool
     true
 }
 
-/// Tells whether the table is apart from the three tables, and refers to none of them.
+/// Tells whether the table is apart from the four tables, and refers to none of them.
 fn is_other(table: &Table) -> bool
     ensures { IsTrue result ↔ IsOther table.now }
 {
     table.tree != 0
         && table.tree != 1
         && table.tree != 3
+        && table.tree != 4
         && are_elsewhere(table.references.as_slice())
 }
 
-/// Tells whether each of the tables is apart from the three tables, and refers to none of them.
+/// Tells whether each of the tables is apart from the four tables, and refers to none of them.
 fn are_others(tables: &[Table]) -> bool
     ensures { IsTrue result ↔ AreOthers tables.now }
 {
@@ -245,31 +306,47 @@ fn is_route_in_place(table: &Table) -> bool
     table.tree == 1 && is_route_table(table)
 }
 
-/// Tells whether they are the three tables and the index of the key of routes, each in its place.
-fn are_ours(rule: &Table, route: &Table, meta: &Table, key: &Index) -> bool
+/// Tells whether it is the table `meta`, in its place.
+fn is_meta_in_place(table: &Table) -> bool
+    ensures { IsTrue result ↔ (table.now ≡ meta_table) }
+{
+    table.tree == 3 && is_meta_table(table)
+}
+
+/// Tells whether it is the table `suppress`, in its place.
+fn is_suppress_in_place(table: &Table) -> bool
+    ensures { IsTrue result ↔ (table.now ≡ suppress_table) }
+{
+    table.tree == 4 && is_suppress_table(table)
+}
+
+/// Tells whether they are the first three tables and the index of the key of routes, each in its place.
+fn are_first(rule: &Table, route: &Table, meta: &Table, key: &Index) -> bool
     ensures { IsTrue result ↔ ((rule.now ≡ rule_table) × (route.now ≡ route_table) × (meta.now ≡ meta_table) × (key.now ≡ route_key)) }
 {
     is_rule_in_place(rule)
         && is_route_in_place(route)
-        && meta.tree == 3
-        && is_meta_table(meta)
+        && is_meta_in_place(meta)
         && is_route_index(key)
 }
 
-/// Tells whether the first tables of the file are those of format 1 (`docs/STORE.md`), as the first opening makes them
+/// Tells whether the first tables of the file are those of format 2 (`docs/STORE.md`), as the first opening makes them
 /// in an empty file, and no other table refers to them and no other unique index is on the table of routes.
-pub fn is_format_1(schema: &Schema) -> bool
-    ensures { IsTrue result ↔ IsFormat1 schema.now }
+pub fn is_format_2(schema: &Schema) -> bool
+    ensures { IsTrue result ↔ IsFormat2 schema.now }
 {
     let tables = schema.tables.as_slice();
     let indexes = schema.indexes.as_slice();
-    if tables.len() < 3 || indexes.is_empty() {
+    if tables.len() < 4 || indexes.is_empty() {
         return false;
     }
-    if !are_ours(&tables[0], &tables[1], &tables[2], &indexes[0]) {
+    if !are_first(&tables[0], &tables[1], &tables[2], &indexes[0]) {
         return false;
     }
-    if !are_others(&tables[3..]) {
+    if !is_suppress_in_place(&tables[3]) {
+        return false;
+    }
+    if !are_others(&tables[4..]) {
         return false;
     }
     are_not_of_routes(&indexes[1..])
@@ -307,15 +384,27 @@ fn has_rule_and_route(schema: &Schema) -> bool
     }
 }
 
+/// Tells whether the file has the tables of format 1 alone: rules, routes and `meta`.
+fn has_format_1_alone(schema: &Schema) -> bool
+    ensures { IsTrue result ↔ (schema.now ≡ format_1_alone) }
+{
+    match (schema.tables.as_slice(), schema.indexes.as_slice()) {
+        ([rule, route, meta], [key]) => are_first(rule, route, meta, key)
+            && schema.views.is_empty(),
+        _ => false,
+    }
+}
+
 /// Tells whether the file has no tables, those that an opening of an empty file had made when it was stopped, or those
 /// of format 1 first.
-pub fn begins_format_1(schema: &Schema) -> bool
-    ensures { IsTrue result ↔ BeginsFormat1 schema.now }
+pub fn begins_format_2(schema: &Schema) -> bool
+    ensures { IsTrue result ↔ BeginsFormat2 schema.now }
 {
     has_no_tables(schema)
         || has_rule_alone(schema)
         || has_rule_and_route(schema)
-        || is_format_1(schema)
+        || has_format_1_alone(schema)
+        || is_format_2(schema)
 }
 
 /// Tells whether the file has a table of this name, in whatever case of ASCII letters, as SQLite compares names.
@@ -336,16 +425,17 @@ fn suits(table: &Table, name: &str, is_ours: bool) -> bool
     is_ours || !same_name(name.as_bytes(), table.name.as_slice())
 }
 
-/// Tells whether a table that has the name of one of the three tables is that one, in whatever tree.
+/// Tells whether a table that has the name of one of the four tables is that one, in whatever tree.
 fn suits_name(table: &Table) -> bool
     ensures { IsTrue result ↔ SuitsName table.now }
 {
     suits(table, "rule", is_rule_table(table))
         && suits(table, "route", is_route_table(table))
         && suits(table, "meta", is_meta_table(table))
+        && suits(table, "suppress", is_suppress_table(table))
 }
 
-/// Tells whether each of the tables that has the name of one of the three tables is that one.
+/// Tells whether each of the tables that has the name of one of the four tables is that one.
 fn suit_names(tables: &[Table]) -> bool
     ensures { IsTrue result ↔ ((table : Declared) → Has tables.now table → SuitsName table) }
 {
@@ -357,21 +447,22 @@ fn suit_names(tables: &[Table]) -> bool
     true
 }
 
-/// Tells whether each table of the file that has the name of one of the three tables has its columns too, in whatever
+/// Tells whether each table of the file that has the name of one of the four tables has its columns too, in whatever
 /// tree. A file without tables has no other columns.
-pub fn suits_format_1(schema: &Schema) -> bool
-    ensures { IsTrue result ↔ SuitsFormat1 schema.now }
+pub fn suits_format_2(schema: &Schema) -> bool
+    ensures { IsTrue result ↔ SuitsFormat2 schema.now }
 {
     suit_names(schema.tables.as_slice())
 }
 
-/// Tells whether the file has the three tables of format 1 (`docs/STORE.md`), column by column, in whatever trees and
+/// Tells whether the file has the four tables of format 2 (`docs/STORE.md`), column by column, in whatever trees and
 /// order.
-pub fn has_format_1(schema: &Schema) -> bool
-    ensures { IsTrue result ↔ HasFormat1 schema.now }
+pub fn has_format_2(schema: &Schema) -> bool
+    ensures { IsTrue result ↔ HasFormat2 schema.now }
 {
     has_table(schema, "rule")
         && has_table(schema, "route")
         && has_table(schema, "meta")
-        && suits_format_1(schema)
+        && has_table(schema, "suppress")
+        && suits_format_2(schema)
 }

@@ -9,25 +9,27 @@ ghost use Rattle.prt_route.specs.declared.choice.Selector.{Selector};
 ghost use Rattle.prt_route.specs.declared.route.Route.{Route};
 ghost use Rattle.prt_route.specs.declared.route.RouteKey.{RouteKey};
 ghost use Rattle.prt_rule.specs.declared.rule.Rule.{Rule};
-ghost use Rattle.prt_rows.specs.Changing.{AddsRule, DeletesRows, PutsRoute, SetsCount};
+ghost use Rattle.prt_rows.specs.Changing.{AddsLength, AddsRule, DeletesRows, DeletesTheRules, PutsRoute, SetsCount, SetsFormat};
 ghost use Rattle.prt_rows.specs.Decodes.{ReadsBack};
 ghost use Rattle.prt_rows.specs.Effects.{passes};
 ghost use Rattle.prt_rows.specs.Kept.{id_values, kept_route, kept_rule, key_values};
 ghost use Rattle.prt_rows.specs.Meanings.{has_id, has_key, has_priority, is_flushed};
 ghost use Rattle.prt_rows.specs.MetaRow.{IsCount, meta_rows};
-ghost use Rattle.prt_rows.specs.RouteRow.{IsRoute, route_row};
+ghost use Rattle.prt_rows.specs.RouteRow.{IsInRange, route_row};
 ghost use Rattle.prt_rows.specs.RuleRow.{IsRule, rule_row};
 ghost use Rattle.prt_rows.specs.Selecting.{IsSelector, selector_row};
-ghost use Rattle.prt_rows.specs.Statements.{delete_route, delete_rule, flush_routes, flush_rules, insert_rule, put_route, set_count};
-ghost use Rattle.prt_rows.specs.Tables.{route_table, rule_table};
+ghost use Rattle.prt_rows.specs.Statements.{delete_route, delete_rule, flush_routes, flush_rules, insert_rule, insert_suppress, migrate, put_route, set_count};
+ghost use Rattle.prt_rows.specs.SuppressRow.{IsLength, suppress_row};
+ghost use Rattle.prt_rows.specs.Tables.{route_table};
 
 use sqlite::Alter;
 
 /// The row that is written for a value is read back as that value.
 pub fn rows_read_back()
-    ensures route { ReadsBack route_row IsRoute }
+    ensures route { ReadsBack route_row IsInRange }
     ensures rule { (last : ℕ) → ReadsBack rule_row (IsRule last) }
     ensures count { ReadsBack meta_rows IsCount }
+    ensures length { (last : ℕ) → ReadsBack suppress_row (IsLength last) }
 {}
 
 /// The rows that the statement deletes by a selector are those of the routes that the selector takes (`ip-route(8)`).
@@ -43,13 +45,15 @@ pub fn rows_named()
     ensures priority { (rule : Rule) → passes has_priority [] (kept_rule rule) ≡ not (rule.priority == 0) }
 {}
 
-/// What each statement that writes does to the rows of a file whose first tables are those of format 1.
+/// What each statement that writes does to the rows of a file whose first tables are those of format 2.
 pub fn statements_write<S: Alter>()
     ensures delete_route { DeletesRows S.Store delete_route route_table has_key }
     ensures flush_routes { DeletesRows S.Store flush_routes route_table is_flushed }
-    ensures delete_rule { DeletesRows S.Store delete_rule rule_table has_id }
-    ensures flush_rules { DeletesRows S.Store flush_rules rule_table has_priority }
+    ensures delete_rule { DeletesTheRules S.Store delete_rule has_id }
+    ensures flush_rules { DeletesTheRules S.Store flush_rules has_priority }
     ensures put_route { PutsRoute S.Store put_route }
     ensures insert_rule { AddsRule S.Store insert_rule }
+    ensures insert_suppress { AddsLength S.Store insert_suppress }
     ensures set_count { SetsCount S.Store set_count }
+    ensures migrate { SetsFormat S.Store migrate }
 {}

@@ -1,5 +1,5 @@
-//! The rows of the database file, format 1: what stands in the tables `rule`, `route` and `meta`, written and read
-//! back.
+//! The rows of the database file, format 2: what stands in the tables `rule`, `route`, `meta` and `suppress`, written and
+//! read back.
 #![tactic(auto)]
 
 mod cell;
@@ -12,12 +12,14 @@ mod route_row;
 mod rows;
 mod rule_row;
 mod selector;
+mod suppress_row;
 mod value;
 
-pub use format::{begins_format_1, has_format_1, has_table, is_format_1, suits_format_1};
+pub use format::{begins_format_2, has_format_2, has_table, is_format_2, suits_format_2};
 pub use laws::{rows_named, rows_read_back, rows_selected, statements_write};
-pub use meta_row::{count_of_rows, meta_values};
+pub use meta_row::{count_in_format_1, count_of_rows, meta_values};
 pub use route_row::{route_of_row, route_values};
-pub use rows::{routes_of_rows, rules_of_rows};
+pub use rows::{lengths_of_rows, routes_of_rows, rules_of_rows};
 pub use rule_row::{rule_of_row, rule_values};
 pub use selector::selector_values;
+pub use suppress_row::{RuleLength, length_of_row, length_values};

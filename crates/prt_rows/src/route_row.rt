@@ -1,17 +1,16 @@
 //! The row of a route.
 
-ghost use Rattle.std.specs.Prelude.{◌≡◌, ◌↔◌, ⊤, IsTrue, drop};
+ghost use Rattle.std.specs.Prelude.{◌≡◌, ⊤, drop};
 ghost use Rattle.sqlite.specs.Values.{bound};
 ghost use Rattle.sqlite_value.specs.Order.{column};
-ghost use Rattle.prt_route.specs.Storable.{IsStorableRoute};
 ghost use Rattle.prt_rows.specs.Decodes.{Decodes};
 ghost use Rattle.prt_rows.specs.Cell.{number};
-ghost use Rattle.prt_rows.specs.RouteRow.{IsInRange, IsRoute, kind_code, route_row};
+ghost use Rattle.prt_rows.specs.RouteRow.{IsInRange, kind_code, route_row};
 
 use crate::code::{kind_code, kind_of_code};
 use crate::column::{ROUTE_COLUMNS, RouteColumn as At};
 use crate::{cell, value};
-use prt_route::{GLOBAL_SCOPE, Kind, Route};
+use prt_route::{Kind, Route};
 use sqlite::Row;
 use sqlite::types::ValueRef;
 
@@ -22,22 +21,11 @@ fn kind(row: &Row, at: usize) -> Option<Kind>
     kind_of_code(cell::number(row, at)?)
 }
 
-/// Tells whether a table may hold the route.
-fn is_storable(route: &Route) -> bool
-    ensures { IsTrue result ↔ IsStorableRoute route.now }
-{
-    let suits = match route.kind {
-        Kind::Unicast => route.via.is_some() || route.dev.is_some(),
-        Kind::Blackhole | Kind::Unreachable | Kind::Prohibit | Kind::Throw => {
-            let is_bare = route.via.is_none() && route.dev.is_none() && route.src.is_none();
-            is_bare && route.scope == GLOBAL_SCOPE
-        }
-    };
-    route.table > 0 && suits
-}
-
-/// The route that the cells after the rowid spell, whether a table may hold it or not.
-fn route_of_cells(row: &Row) -> Option<Route>
+/// The route that a row of the table `route`, its rowid first, spells, if it spells one.
+///
+/// The ten cells after the rowid stand in the order of the columns, each in its range (`docs/STORE.md`). Whether a table
+/// may hold the route says `Route::is_storable`.
+pub fn route_of_row(row: &Row) -> Option<Route>
     ensures { Decodes route_row IsInRange (drop 1 row.now) result }
 {
     if row.column_count() != ROUTE_COLUMNS + 1 {
@@ -54,23 +42,6 @@ fn route_of_cells(row: &Row) -> Option<Route>
         proto: cell::byte(row, At::Proto as usize)?,
         scope: cell::byte(row, At::Scope as usize)?,
     })
-}
-
-/// The route that a row of the table `route`, its rowid first, spells, if it spells one.
-///
-/// The ten cells after the rowid stand in the order of the columns, each in its range (`docs/STORE.md`), and the route
-/// has what its kind asks for (`ip-route(8)`): a unicast route a gateway or an interface, a route of another kind
-/// neither, no source and scope global.
-#[tactic(auto, using(crate::proofs::RouteRows::same_route))]
-pub fn route_of_row(row: &Row) -> Option<Route>
-    ensures { Decodes route_row IsRoute (drop 1 row.now) result }
-{
-    let route = route_of_cells(row)?;
-    if is_storable(&route) {
-        Some(route)
-    } else {
-        None
-    }
 }
 
 /// The values of the row of a route, in the order of the columns (`docs/STORE.md`), to be bound to a statement. The

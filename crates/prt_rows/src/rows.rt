@@ -3,12 +3,13 @@
 ghost use Rattle.std.specs.Prelude.{◌≡◌, IsTrue, drop, map, All, IfOk, IfErr, Some};
 ghost use Rattle.sqlite_value.specs.Order.{Row as Values};
 ghost use Rattle.prt_rows.specs.Decodes.{Decodes};
-ghost use Rattle.prt_rows.specs.RouteRow.{IsRoute, route_row};
+ghost use Rattle.prt_rows.specs.RouteRow.{IsInRange, route_row};
 ghost use Rattle.prt_rows.specs.Rowids.{FailsToRead, is_above, rowids_rise};
 ghost use Rattle.prt_rows.specs.RuleRow.{IsRule, rule_row};
+ghost use Rattle.prt_rows.specs.SuppressRow.{IsLength, suppress_row};
 
 use crate::column::ROWID;
-use crate::{cell, route_of_row, rule_of_row};
+use crate::{RuleLength, cell, length_of_row, route_of_row, rule_of_row};
 use prt_addr::Refusal;
 use prt_route::Route;
 use prt_rule::Rule;
@@ -67,7 +68,7 @@ impl RowReader for RouteReader {
 
     ghost row_of = { route_row };
 
-    ghost Fits = { λ _. IsRoute };
+    ghost Fits = { λ _. IsInRange };
 
     ghost part = { drop 1 };
 
@@ -93,6 +94,26 @@ impl RowReader for RuleReader {
 
     fn value_of_row(&self, row: &Row) -> Option<Rule> {
         rule_of_row(row, self.last)
+    }
+}
+
+/// Reads the table `suppress`, with rules of ids of 1 to `last`.
+#[derive(Clone, Copy)]
+struct LengthReader {
+    last: u64,
+}
+
+impl RowReader for LengthReader {
+    type Value = RuleLength;
+
+    ghost row_of = { suppress_row };
+
+    ghost Fits = { λ reader. IsLength reader.last };
+
+    ghost part = { λ row. row };
+
+    fn value_of_row(&self, row: &Row) -> Option<RuleLength> {
+        length_of_row(row, self.last)
     }
 }
 
@@ -127,8 +148,8 @@ fn values_of_rows<R: RowReader>(
 /// memory is refused.
 pub fn routes_of_rows(alloc: Global, rows: &[Row]) -> Result<Vec<Route>, Refusal>
     ensures rise { IfOk result (λ _. IsTrue (rowids_rise rows.now)) }
-    ensures ok { IfOk result (λ routes. Decodes (map route_row) (All IsRoute) (map (drop 1) rows.now) (Some routes.items)) }
-    ensures err { IfErr result (FailsToRead route_row IsRoute (drop 1) rows.now) }
+    ensures ok { IfOk result (λ routes. Decodes (map route_row) (All IsInRange) (map (drop 1) rows.now) (Some routes.items)) }
+    ensures err { IfErr result (FailsToRead route_row IsInRange (drop 1) rows.now) }
 {
     values_of_rows(alloc, rows, &RouteReader)
 }
@@ -145,4 +166,18 @@ pub fn rules_of_rows(alloc: Global, rows: &[Row], last: u64) -> Result<Vec<Rule>
     ensures err { IfErr result (FailsToRead rule_row (IsRule last) (λ row. row) rows.now) }
 {
     values_of_rows(alloc, rows, &RuleReader { last })
+}
+
+/// The lengths that the rows of the table `suppress` spell, in the order of the ids of their rules.
+///
+/// # Errors
+///
+/// `Damaged` only where the ids aren't integers that rise, or one of the rows spells no length of a rule with an id of 1
+/// to `last`. `NoMemory` where memory is refused.
+pub fn lengths_of_rows(alloc: Global, rows: &[Row], last: u64) -> Result<Vec<RuleLength>, Refusal>
+    ensures rise { IfOk result (λ _. IsTrue (rowids_rise rows.now)) }
+    ensures ok { IfOk result (λ lengths. Decodes (map suppress_row) (All (IsLength last)) rows.now (Some lengths.items)) }
+    ensures err { IfErr result (FailsToRead suppress_row (IsLength last) (λ row. row) rows.now) }
+{
+    values_of_rows(alloc, rows, &LengthReader { last })
 }

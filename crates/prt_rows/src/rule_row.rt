@@ -42,10 +42,11 @@ fn action(row: &Row, act_at: usize, table_at: usize) -> Option<Action>
     action_of_codes(cell::number(row, act_at)?, cell::number(row, table_at)?)
 }
 
-/// The rule that a row of the table `rule` spells, if it spells one with an id of 1 to `last`.
+/// The rule that a row of the table `rule` spells, if it spells one with an id of 1 to `last`. It suppresses nothing.
 ///
-/// Its twelve cells stand in the order of the columns, each in its range (`docs/STORE.md`); mark and mask are there
-/// together or not at all, and there is a table to look up exactly where the action is to look one up (`ip-rule(8)`).
+/// Its twelve cells stand in the order of the columns, each in its range (`docs/STORE.md`). Mark and mask are there
+/// together or not at all, and no table stands beside an action that looks up none. Whether a database may hold the rule
+/// says `Rule::is_storable`.
 pub fn rule_of_row(row: &Row, last: u64) -> Option<Rule>
     ensures { Decodes rule_row (IsRule last) row.now result }
 {
@@ -61,6 +62,7 @@ pub fn rule_of_row(row: &Row, last: u64) -> Option<Rule>
         iif: cell::optional_name(row, At::Iif as usize)?,
         mark: mark(row, At::Mark as usize, At::Mask as usize)?,
         action: action(row, At::Act as usize, At::Tbl as usize)?,
+        suppress: None,
     })
 }
 

@@ -28,7 +28,7 @@ pub(crate) struct Bounds {
     inside: u32,
 }
 
-/// The last address of a prefix.
+/// Gives the last address of a prefix.
 fn last_addr(block: &Prefix) -> u64
     ensures value { result ≡ block.now.bits + (2 ^ (32 - block.now.len) - 1) }
     ensures fits { result < 2 ^ 63 }
@@ -36,7 +36,7 @@ fn last_addr(block: &Prefix) -> u64
     u64::from(block.bits()) + ((1u64 << (32 - block.len())) - 1)
 }
 
-/// The bounds of the prefixes of a range.
+/// Gives the bounds of the prefixes of a range.
 fn bounds_of(range: &Range) -> Bounds
     ensures value { result ≡ bounds_of range.now }
     ensures fits { result.high < 2 ^ 63 }
@@ -74,7 +74,7 @@ fn bounds_of(range: &Range) -> Bounds
     }
 }
 
-/// The cell of a kind that may be left out: -1 where it is.
+/// Gives the cell of a kind that may be left out: -1 where it is.
 fn optional_kind(kind: Option<Kind>) -> ValueRef<'static>
     ensures { bound_value (owned result) ≡ optional_number (option_map kind_code kind) }
 {
@@ -84,7 +84,7 @@ fn optional_kind(kind: Option<Kind>) -> ValueRef<'static>
     }
 }
 
-/// The cell of a number of 8 bits that may be left out: -1 where it is.
+/// Gives the cell of a number of 8 bits that may be left out: -1 where it is.
 fn optional_byte(n: Option<u8>) -> ValueRef<'static>
     ensures { bound_value (owned result) ≡ optional_number n }
 {
@@ -94,7 +94,7 @@ fn optional_byte(n: Option<u8>) -> ValueRef<'static>
     }
 }
 
-/// The values that tell the statement that deletes routes by a selector which ones to delete, in the order of its
+/// Gives the values that tell the statement that deletes routes by a selector which ones to delete, in the order of its
 /// parameters.
 ///
 /// These are the table, the least and the greatest address, the shortest and the longest length in bits, an address

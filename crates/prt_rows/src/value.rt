@@ -10,14 +10,14 @@ use prt_addr::Addr;
 use prt_route::Dev;
 use sqlite::types::ValueRef;
 
-/// The cell of a number.
+/// Gives the cell of a number.
 pub(crate) fn number(n: u32) -> ValueRef<'static>
     ensures { bound_value (owned result) ≡ number n }
 {
     ValueRef::Int(i64::from(n))
 }
 
-/// The cell of a number below 2^63.
+/// Gives the cell of a number below 2^63.
 pub(crate) fn large_number(n: u64) -> ValueRef<'static>
     requires { n < 2 ^ 63 }
     ensures { bound_value (owned result) ≡ number n }
@@ -25,7 +25,7 @@ pub(crate) fn large_number(n: u64) -> ValueRef<'static>
     ValueRef::Int(n as i64)
 }
 
-/// The cell of a number that may be absent: -1 where it is.
+/// Gives the cell of a number that may be absent: -1 where it is.
 pub(crate) fn optional_number(n: Option<u32>) -> ValueRef<'static>
     ensures { bound_value (owned result) ≡ optional_number n }
 {
@@ -35,35 +35,35 @@ pub(crate) fn optional_number(n: Option<u32>) -> ValueRef<'static>
     }
 }
 
-/// The cell of an address that may be absent: -1 where it is.
+/// Gives the cell of an address that may be absent: -1 where it is.
 pub(crate) fn optional_addr(addr: Option<Addr>) -> ValueRef<'static>
     ensures { bound_value (owned result) ≡ optional_addr addr }
 {
     optional_number(addr.map(|addr| addr.0))
 }
 
-/// Says that the bytes of a `Dev` are a name, which its type keeps.
-fn has_name(dev: Dev)
+/// Recalls that the bytes of a `Dev` are a name, which its type keeps.
+fn recall_name(dev: Dev)
     ensures { is_name dev ≡ true }
 {
     let _dev = dev;
 }
 
-/// The cell of a name that may be absent: the empty text where it is, which is no name.
+/// Gives the cell of a name that may be absent: the empty text where it is, which is no name.
 pub(crate) fn optional_name(dev: &Option<Dev>) -> ValueRef<'_>
     ensures value { bound_value (owned result) ≡ optional_name dev.now }
     ensures name { IsOptionalName dev.now }
 {
     match dev {
         Some(name) => {
-            has_name(*name);
+            recall_name(*name);
             ValueRef::Text(name.as_bytes())
         }
         None => ValueRef::Text(&[]),
     }
 }
 
-/// The cell of a flag: 1 where it is set, and 0 where it is not.
+/// Gives the cell of a flag: 1 where it is set, and 0 where it is not.
 pub(crate) fn flag(is_set: bool) -> ValueRef<'static>
     ensures { bound_value (owned result) ≡ flag is_set }
 {

@@ -1,6 +1,6 @@
 -- The test of two rules decides whether they are equal in all but their ids.
 use Rattle.std.proofs.Common.{◌≡◌, ℕ, Bool, true, false, Option, Some, None, refl, sym, ap, ◌∙◌}
-use Rattle.std.specs.Prelude.{bytes_eq}
+use Rattle.std.specs.Prelude.{◌==◌, bytes_eq}
 use Rattle.std.specs.Option.{option_eq}
 use Rattle.std.specs.Bool.{Decides}
 use Rattle.std.proofs.lemmas.Bool.Decides.{same_from_decides, Decides-eqb, Decides-and, Decides-like}
@@ -51,19 +51,21 @@ selectors a b =
     (options is_same_mark marks a.mark b.mark)
 
 abbrev rule_by_parts : Rule → Rule
-rule_by_parts b = record { id = b.id; priority = b.priority; inverted = b.inverted; from = b.from; to = b.to; iif = b.iif; mark = b.mark; action = b.action }
+rule_by_parts b = record { id = b.id; priority = b.priority; inverted = b.inverted; from = b.from; to = b.to; iif = b.iif; mark = b.mark; action = b.action; suppress = b.suppress }
 
 -- equal parts make equal rules, but for the id
-equal : (a b : Rule) → a.priority ≡ b.priority → a.inverted ≡ b.inverted → a.from ≡ b.from → a.to ≡ b.to → a.iif ≡ b.iif → a.mark ≡ b.mark → a.action ≡ b.action → record a { id = b.id } ≡ b
-equal a b priority inverted from to iif mark action = let e : record a { id = b.id } ≡ rule_by_parts b = cc in e
+equal : (a b : Rule) → a.priority ≡ b.priority → a.inverted ≡ b.inverted → a.from ≡ b.from → a.to ≡ b.to → a.iif ≡ b.iif → a.mark ≡ b.mark → a.action ≡ b.action → a.suppress ≡ b.suppress → record a { id = b.id } ≡ b
+equal a b priority inverted from to iif mark action suppress = let e : record a { id = b.id } ≡ rule_by_parts b = cc in e
 
 -- the test decides it
 pub rules_same : (a b : Rule) → Decides (is_same_rule a b) (record a { id = b.id } ≡ b)
 rules_same a b =
     Decides-like (is_same_rule a b)
-    (λ h. equal a b h.0.0.0 h.0.0.1 h.0.1.0.0.0 h.0.1.0.0.1 h.0.1.0.1 h.0.1.1 h.1)
-    (λ e. (((ap (λ x. x.priority) e, ap (λ x. x.inverted) e), (((ap (λ x. x.from) e, ap (λ x. x.to) e), ap (λ x. x.iif) e), ap (λ x. x.mark) e)), ap (λ x. x.action) e))
+    (λ h. equal a b h.0.0.0.0 h.0.0.0.1 h.0.0.1.0.0.0 h.0.0.1.0.0.1 h.0.0.1.0.1 h.0.0.1.1 h.0.1 h.1)
+    (λ e. ((((ap (λ x. x.priority) e, ap (λ x. x.inverted) e), (((ap (λ x. x.from) e, ap (λ x. x.to) e), ap (λ x. x.iif) e), ap (λ x. x.mark) e)), ap (λ x. x.action) e), ap (λ x. x.suppress) e))
+    (Decides-and _ _
     (Decides-and _ _ (Decides-and _ _ (Decides-and _ _ (Decides-eqb a.priority b.priority) (flags a.inverted b.inverted)) (selectors a b)) (actions a.action b.action))
+    (options (λ m n. m == n) Decides-eqb a.suppress b.suppress))
 
 abbrev with_id : ℕ → Rule → Rule
 with_id id rule = record rule { id = id }

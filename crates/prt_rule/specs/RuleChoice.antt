@@ -16,3 +16,4 @@ is_named choice rule =
     && agrees_there bytes_eq choice.iif rule.iif
     && agrees_there is_same_mark choice.mark rule.mark
     && agrees is_same_action choice.action rule.action
+    && agrees_there (λ a b. a == b) choice.suppress rule.suppress

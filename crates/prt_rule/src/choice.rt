@@ -7,7 +7,7 @@ use prt_addr::{agrees, agrees_there};
 /// What `del` says of the rule that it removes: all that is given (`ip-rule(8)`).
 ///
 /// With None a part is not given.
-#[derive(Clone, Copy, Debug, PartialEq, Eq)]
+#[derive(Clone, Copy, PartialEq)]
 pub struct RuleChoice {
     /// The priority.
     pub priority: Option<u32>,
@@ -23,6 +23,8 @@ pub struct RuleChoice {
     pub mark: Option<Mark>,
     /// What becomes of the packets.
     pub action: Option<Action>,
+    /// The length up to which prefixes are suppressed.
+    pub suppress: Option<u8>,
 }
 
 impl RuleChoice {
@@ -39,5 +41,6 @@ impl RuleChoice {
             && agrees_there(&self.iif, &rule.iif)
             && agrees_there(&self.mark, &rule.mark)
             && agrees(&self.action, &rule.action)
+            && agrees_there(&self.suppress, &rule.suppress)
     }
 }

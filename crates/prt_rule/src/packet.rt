@@ -1,7 +1,7 @@
 use crate::{Addr, Dev};
 
 /// What rules look at of a packet.
-#[derive(Clone, Copy, Debug, PartialEq, Eq)]
+#[derive(Clone, Copy, PartialEq)]
 pub struct Packet {
     /// The destination.
     pub dst: Addr,

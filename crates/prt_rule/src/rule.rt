@@ -1,3 +1,6 @@
+ghost use Rattle.std.specs.Prelude.{◌≡◌};
+ghost use Rattle.prt_rule.specs.Storable.{is_storable_rule};
+
 use crate::{Dev, Prefix};
 
 /// A firewall mark and the bits of it that count (`ip-rule(8)`, `fwmark`).
@@ -41,4 +44,22 @@ pub struct Rule {
     pub mark: Option<Mark>,
     /// What becomes of the packets that it matches.
     pub action: Action,
+    /// The length, 0 to 32, up to which prefixes are suppressed (`suppress_prefixlength`); with None none are. Where the
+    /// lookup finds a unicast route of that length or less, the rule says nothing.
+    pub suppress: Option<u8>,
+}
+
+impl Rule {
+    /// Tells whether a database may hold the rule (`ip-rule(8)`).
+    ///
+    /// A table that it looks up is one from 1 on. Only a rule that looks up a table suppresses prefixes, of up to 32 bits.
+    pub fn is_storable(&self) -> bool
+        ensures { result ≡ is_storable_rule self.now.action self.now.suppress }
+    {
+        match (self.action, self.suppress) {
+            (Action::Lookup(table), Some(len)) => table > 0 && len <= 32,
+            (Action::Lookup(table), None) => table > 0,
+            (_, suppress) => suppress.is_none(),
+        }
+    }
 }

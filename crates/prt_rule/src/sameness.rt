@@ -12,6 +12,7 @@ pub fn same(rule: &Rule, other: &Rule) -> bool
         && rule.inverted == other.inverted
         && is_same_selector(rule, other)
         && rule.action == other.action
+        && rule.suppress == other.suppress
 }
 
 /// Tells whether the rules select by the same sources, destinations, interface and mark.

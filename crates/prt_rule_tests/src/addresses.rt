@@ -3,7 +3,7 @@ use prt_addr::{
     read_prefix,
 };
 
-/// The first of these words that is read as another address than it spells.
+/// Gives the first of these words that is read as another address than it spells.
 fn misread_address() -> Option<&'static str> {
     for (word, addr) in [
         ("192.0.2.1", Ok(Addr(0xc000_0201))),
@@ -18,7 +18,7 @@ fn misread_address() -> Option<&'static str> {
     None
 }
 
-/// The first of these words that is read as another prefix than it spells.
+/// Gives the first of these words that is read as another prefix than it spells.
 fn misread_prefix() -> Option<&'static str> {
     for (word, prefix) in [
         ("any", Ok(Prefix::masked(0, 0))),
@@ -34,7 +34,7 @@ fn misread_prefix() -> Option<&'static str> {
     None
 }
 
-/// The first of these words that is read as another number than it spells.
+/// Gives the first of these words that is read as another number than it spells.
 fn misread_number() -> Option<&'static str> {
     for (word, number) in [
         ("4294967295", Ok(u32::MAX)),
@@ -57,7 +57,7 @@ fn reads_words(rt: HostRuntime) {
     assert!(rt; read_net(b"10.0.0.1/8") == Ok(Prefix::masked(0x0a00_0000, 8)));
 }
 
-/// The first of these texts that its prefix is not shown by.
+/// Gives the first of these texts that its prefix is not shown by.
 fn misshown_prefix() -> Option<&'static str> {
     for (bits, len, text) in [
         (0x0a00_0000, 8, "10.0.0.0/8"),

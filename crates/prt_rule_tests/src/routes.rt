@@ -5,7 +5,7 @@ use prt_route::{
     read_scope, read_table, scope_name, table_name,
 };
 
-/// The first of these words that is read as the name of an interface, and is none.
+/// Gives the first of these words that is read as the name of an interface, and is none.
 fn accepted_name() -> Option<&'static str> {
     for word in ["", "..", "a/b", "a:1", "a\tb", "sixteen-bytes-xy"] {
         if read_dev(word.as_bytes()) != Err(Refusal::BadName) {
@@ -15,7 +15,7 @@ fn accepted_name() -> Option<&'static str> {
     None
 }
 
-/// The first of these words that is read as another table than it spells.
+/// Gives the first of these words that is read as another table than it spells.
 fn misread_table() -> Option<&'static str> {
     for (word, table) in [
         ("main", Ok(MAIN_TABLE)),
@@ -30,7 +30,7 @@ fn misread_table() -> Option<&'static str> {
     None
 }
 
-/// The first of these words that is read as another protocol or scope than it spells.
+/// Gives the first of these words that is read as another protocol or scope than it spells.
 fn misread_number() -> Option<&'static str> {
     for (word, protocol, scope) in [
         ("rip", Ok(189), Err(Refusal::BadNumber)),

@@ -56,6 +56,13 @@ fn compares_rules(rt: HostRuntime) {
             },
             false,
         ),
+        (
+            Rule {
+                suppress: Some(0),
+                ..one
+            },
+            false,
+        ),
     ] {
         assert_eq!(rt; same(&one, &other), equal);
     }
@@ -80,6 +87,7 @@ const ANY: RuleChoice = RuleChoice {
     iif: None,
     mark: None,
     action: None,
+    suppress: None,
 };
 
 /// Chooses a rule by its sources and its mark.
@@ -110,9 +118,14 @@ fn chooses_rules(rt: HostRuntime) {
         inverted: true,
         ..ANY
     };
+    let suppressing = RuleChoice {
+        suppress: Some(0),
+        ..ANY
+    };
     for (choice, agreed) in [
         (ANY, true),
         (of_priority, false),
+        (suppressing, false),
         (inverted, false),
         (from_marked(any, 0x10, 0xf0), true),
         (from_marked(any, 0x10, 0xff), false),

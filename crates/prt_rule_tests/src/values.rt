@@ -8,14 +8,14 @@ use prt_rule::{Action, Mark, Packet, Rule};
 /// 192.0.2.1, the gateway and the source of what is made here.
 pub const GATEWAY: Addr = Addr(0xc000_0201);
 
-/// The prefix of this length that begins with the octets 10 and 1.
+/// Gives the prefix of this length that begins with the octets 10 and 1.
 pub fn ten_one(len: u8) -> Prefix
     requires { len ≤ 32 }
 {
     Prefix::masked(0x0a01_0000, len)
 }
 
-/// A unicast route of table main through the gateway.
+/// Makes a unicast route of table main through the gateway.
 pub fn route(prefix: Prefix, metric: u32) -> Route {
     Route {
         table: MAIN_TABLE,
@@ -30,7 +30,7 @@ pub fn route(prefix: Prefix, metric: u32) -> Route {
     }
 }
 
-/// A rule for all packets that looks up table main.
+/// Makes a rule for all packets that looks up table main.
 pub fn rule(id: u64, priority: u32) -> Rule
     ensures id { result.id ≡ id }
     ensures priority { result.priority ≡ priority }
@@ -44,10 +44,11 @@ pub fn rule(id: u64, priority: u32) -> Rule
         iif: None,
         mark: None,
         action: Action::Lookup(MAIN_TABLE),
+        suppress: None,
     }
 }
 
-/// The rule for packets from and to these prefixes.
+/// Gives the rule for packets from and to these prefixes.
 pub fn between(from: Prefix, to: Prefix, iif: Option<Dev>) -> Rule {
     Rule {
         from,
@@ -57,7 +58,7 @@ pub fn between(from: Prefix, to: Prefix, iif: Option<Dev>) -> Rule {
     }
 }
 
-/// The rule for packets with this mark.
+/// Gives the rule for packets with this mark.
 pub fn marked(mark: u32, mask: u32) -> Rule {
     Rule {
         mark: Some(Mark { mark, mask }),
@@ -65,7 +66,7 @@ pub fn marked(mark: u32, mask: u32) -> Rule {
     }
 }
 
-/// A packet from 192.0.2.1 to 10.1.2.3 that came in by `lo`.
+/// Makes a packet from 192.0.2.1 to 10.1.2.3 that came in by `lo`.
 pub fn packet(mark: u32) -> Packet {
     Packet {
         dst: Addr(0x0a01_0203),

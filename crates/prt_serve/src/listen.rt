@@ -126,7 +126,7 @@ impl<
     T: Read + Write + Drop,
 > Worker<'a, H, S, B, J, G, T> {
     /// Serves jobs until the channel is closed.
-    fn run(self) {
+    fn serve(self) {
         if let Err(reason) = work(self.rt, self.alloc, self.service, &self.jobs, self.gate) {
             *self.refused.lock(self.rt) = Some(reason);
         }
@@ -166,7 +166,7 @@ fn accept_among_workers<
                 jobs,
                 refused,
             };
-            if scope.spawn(move || worker.run()).is_err() {
+            if scope.spawn(move || worker.serve()).is_err() {
                 return Accepting::Failed;
             }
         }

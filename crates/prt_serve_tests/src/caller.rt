@@ -9,7 +9,7 @@ use sqlite::{Alter, Connection};
 use std::alloc::Global;
 use std::sync::Wait;
 
-/// A publisher over the database of a connection, and its domain.
+/// Makes a publisher over the database of a connection, and its domain.
 pub fn adopted<S: Alter + Drop, H: Wait + Drop>(
     rt: H,
     alloc: Global,

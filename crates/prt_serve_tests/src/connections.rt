@@ -85,7 +85,7 @@ impl OpenListener for Queue {
     }
 }
 
-/// One worker, and so many sessions.
+/// Gives one worker, and so many sessions.
 fn limited_to(sessions: u64) -> Limits {
     Limits {
         workers: 1,
@@ -94,7 +94,7 @@ fn limited_to(sessions: u64) -> Limits {
     }
 }
 
-/// Which sessions are handed over, and whether accepting ended by itself.
+/// Tells which sessions are handed over, and whether accepting ended by itself.
 fn handed_over<H: Wait>(
     rt: &H,
     alloc: Global,

@@ -16,7 +16,7 @@ use std::sync::Wait;
 use std::test::Fail;
 use std::thread::Threads;
 
-/// What a client reads that sends these lines and then waits for the end, and whether the listener ended with it.
+/// Tells what a client reads that sends these lines and then waits for the end, and whether the listener ended with it.
 ///
 /// The lines and the replies fit into what the system keeps for a connection, so client and server take turns in one
 /// thread, with one worker beside it.

@@ -35,7 +35,7 @@ impl HeldVersion {
         HeldVersion { version, known }
     }
 
-    /// The version.
+    /// Gives the version.
     pub(crate) fn version(&self) -> &Version
         ensures { result.now ≡ line_state self.now }
     {

@@ -54,7 +54,7 @@ impl Looker {
         self.held.is_some()
     }
 
-    /// The version that it holds, until it refreshes or rests. It is online.
+    /// Gives the version that it holds, until it refreshes or rests. It is online.
     pub fn version(&self) -> &Version
         requires { IsSome self.now.held }
         ensures { IfSome self.now.held (λ line. result.now ≡ line_state line) }
@@ -65,8 +65,8 @@ impl Looker {
         }
     }
 
-    /// What becomes of a packet by the version that it holds, and the number of that version. It is online. Takes no lock
-    /// and no memory.
+    /// Tells what becomes of a packet by the version that it holds, and the number of that version. It is online. Takes
+    /// no lock and no memory.
     pub fn look(&self, packet: &Packet) -> Answer
         requires { IsSome self.now.held }
         ensures number { IfSome self.now.held (λ line. result.number ≡ (line_state line).count) }

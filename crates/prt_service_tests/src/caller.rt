@@ -9,7 +9,7 @@ use sqlite::{Alter, Connection};
 use std::alloc::Global;
 use std::sync::Wait;
 
-/// A publisher over the database of a connection, and its domain.
+/// Makes a publisher over the database of a connection, and its domain.
 pub fn adopted<S: Alter + Drop, H: Wait + Drop>(
     rt: H,
     alloc: Global,
@@ -34,7 +34,7 @@ pub fn submit_one<S: Alter + Drop, R: Wait + Drop, J: Naming, H: Wait>(
     }
 }
 
-/// A packet to 10.1.0.0.
+/// Makes a packet to 10.1.0.0.
 pub fn packet() -> Packet {
     Packet {
         dst: Addr(0x0a01_0000),

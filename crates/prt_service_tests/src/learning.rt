@@ -17,12 +17,12 @@ use std::test::Fail;
 /// The number of a version, and over which next hop a packet to 10.1.0.0 goes by it.
 type Seen = (u64, Option<Addr>);
 
-/// What the answer says.
+/// Tells what the answer says.
 fn seen(answer: &Answer) -> Seen {
     (answer.number, next_hop(&answer.verdict))
 }
 
-/// The next hop of the route that was found.
+/// Gives the next hop of the route that was found.
 fn next_hop(verdict: &Verdict) -> Option<Addr> {
     match verdict {
         Verdict::Route(_, route) => route.via,

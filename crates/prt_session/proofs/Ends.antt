@@ -1,20 +1,21 @@
 -- A line that was read and answered: how the session ends with it, or goes on.
-use Rattle.std.proofs.Common.{◌≡◌, ◌≢◌, ℕ, ◌-◌, ◌<◌, ◌≤◌, Bool, true, false, List, [], ◌∷◌, ◌++◌, length, Option, None, Some, inl, inr, refl, sym, ◌∙◌, ap, arith, append_assoc}
+use Rattle.std.proofs.Common.{◌≡◌, ◌≢◌, ℕ, ◌+◌, ◌-◌, ◌<◌, ◌≤◌, Bool, true, false, List, [], ◌∷◌, ◌++◌, length, Option, None, Some, inl, inr, refl, sym, ◌∙◌, ap, arith, append_assoc, length-append}
 use Rattle.std.proofs.lemmas.Bool.Decides.{nat_tests}
 use Rattle.std.proofs.lemmas.List.{map-append}
 use Rattle.std.specs.Io.KnownBytes.{Consumes, Appends, IsAtEnd}
 use Rattle.std.specs.Prelude.{if◌then◌else◌}
 use Rattle.prt_addr.specs.declared.refusal.Refusal.TheVariants.{LineTooLong, ReadFault, TooManyLines, WriteFault}
 use Rattle.prt_command.specs.Lines.{limits, lines_of}
-use Rattle.prt_session.proofs.Known.{append_none, left_of, consumes_more, appends_more, gives_rest, gives_beyond, gives_all}
+use Rattle.prt_session.proofs.Known.{append_none, left_of, consumes_more, gives_rest, gives_beyond, gives_all}
 use Rattle.prt_session.proofs.Paths.{mishaps_of, path_append}
-use Rattle.prt_session.proofs.Replies.{after_exchanges, text_append, refused_append, fault_append, one_text, one_refused, one_fault}
-use Rattle.prt_session.proofs.Served.{Moment, moment, GoesOn, Served, Closes, ClosesAlone, cut_from, ran_from, ran_to_end}
+use Rattle.prt_session.proofs.Replies.{after_exchanges, refused_append, fault_append, one_refused, one_fault}
+use Rattle.prt_session.proofs.Served.{Moment, moment, GoesOn, Served, Closes, ClosesAlone, cut_from, ran_from, ran_to_end, reply_written}
 use Rattle.prt_session.proofs.SessionSteps.{too_many, goes_on_after, stops_there, ends_endless, ends_in_fault, ends_unended}
-use Rattle.prt_session.specs.Reply.{reply_text, replies_text}
-use Rattle.prt_session.specs.Run.{RunIs, refused_in, fault_in, refused_after, fault_after}
+use Rattle.prt_session.specs.Form.{reply_in}
+use Rattle.prt_session.specs.Run.{RunsIn, refused_in, fault_in, refused_after, fault_after}
 use Rattle.prt_session.specs.Session.{TurnsOf, Mishaps, LineMay, Exchange, end_of_input, read_fault, Session, ends, after_exchange, exchange_of, session_lines, line_turn, stops_after, replies, replies_of}
 use Rattle.prt_session.specs.Steps.{ByteIs, EndsBy, EndsAfterLast, HasNoNewline, LineIs, AnswerIs, StopIs, Written, newline_read, is_nothing, is_nothing_by, ends_after}
+use Rattle.prt_session.specs.declared.form.Form.{Form}
 use Rattle.prt_session.specs.declared.input.ByteRead.{ByteRead}
 use Rattle.prt_session.specs.declared.input.ByteRead.TheVariants as bytes
 use Rattle.prt_session.specs.declared.input.LineRead.{LineRead}
@@ -23,7 +24,7 @@ use Rattle.prt_session.specs.declared.input.Stop.TheVariants as stops
 use Rattle.prt_session.specs.declared.reply.Reply.{Reply}
 use Rattle.prt_session.specs.declared.reply.Reply.TheVariants.{Refused, Silent}
 use Rattle.prt_addr.specs.declared.on_refusal.OnRefusal.{OnRefusal}
-use Rattle.prt_session.specs.declared.script.ScriptEnd.{ScriptEnd}
+use Rattle.prt_session.specs.declared.script_end.ScriptEnd.{ScriptEnd}
 
 -- From now to later a line was read to there, and answered.
 pub record LineAnswered {D M : Type 0} (turn : TurnsOf D M) (may : Mishaps D M) (now later : Moment D) (stop : Stop) (content : List ℕ) (reply : Reply) : Type 0 where
@@ -204,22 +205,22 @@ module _ {D M : Type 0} (turn : TurnsOf D M) (may : Mishaps D M) (mode : OnRefus
   unfolding session_lines lines_of
   fault_closes left read = record { more = []; ending = read_fault; exchanges = []; last = Refused ReadFault ∷ []; unread = []; beyond = left_of later.reader; law = rw same; are = refl; path = same; gives = gives_beyond now.reader later.reader [] read; whole = fault_is_no_end (left_of later.reader) }
 
-module _ {D M : Type 0} (turn : TurnsOf D M) (may : Mishaps D M) (mode : OnRefusal) (start now : Moment D) (end : ScriptEnd) (served : Served turn may mode start now 0 end) (reader writer : Option (List ℕ)) (end' : ScriptEnd) where
+module _ {D M : Type 0} (form : Form) (turn : TurnsOf D M) (may : Mishaps D M) (mode : OnRefusal) (start now : Moment D) (end : ScriptEnd) (served : Served form turn may mode start now 0 end) (reader writer : Option (List ℕ)) (end' : ScriptEnd) where
   abbrev later : Moment D
   later = moment now.desk reader writer
 
-  ends_with : (reply : Reply) (whole : Bool) → Closes turn may mode 0 now later (reply ∷ []) → ClosesAlone turn may mode 0 now later reply → reply ≢ Silent → Written whole now.writer writer (reply_text reply) → end'.refused ≡ refused_after end.refused reply → end'.fault ≡ (if whole then fault_after end.fault reply else Some WriteFault) →
-      RunIs turn may mode start.desk now.desk start.reader reader start.writer writer end'
-  ends_with reply true closes alone told wrote refused_is fault_is = ran_from turn may mode start now later 0 end served end' reply closes wrote refused_is fault_is
-  ends_with reply false closes alone told wrote refused_is fault_is = cut_from turn may mode start now later 0 end served end' reply alone told wrote refused_is fault_is
+  ends_with : (reply : Reply) (whole : Bool) → Closes turn may mode 0 now later (reply ∷ []) → ClosesAlone turn may mode 0 now later reply → reply ≢ Silent → Written whole now.writer writer (reply_in form (limits.lines + 1) reply) → end'.refused ≡ refused_after end.refused reply → end'.fault ≡ (if whole then fault_after end.fault reply else Some WriteFault) →
+      RunsIn form turn may mode start.desk now.desk start.reader reader start.writer writer end'
+  ends_with reply true closes alone told wrote refused_is fault_is = ran_from form turn may mode start now later 0 end served end' (limits.lines + 1) reply refl closes wrote refused_is fault_is
+  ends_with reply false closes alone told wrote refused_is fault_is = cut_from form turn may mode start now later 0 end served end' (limits.lines + 1) reply refl alone told wrote refused_is fault_is
 
-  ends_by : (byte : ByteRead) → ByteIs byte now.reader reader → EndsBy byte now.writer writer end end' → RunIs turn may mode start.desk now.desk start.reader reader start.writer writer end'
+  ends_by : (byte : ByteRead) → ByteIs byte now.reader reader → EndsBy form byte now.writer writer end end' → RunsIn form turn may mode start.desk now.desk start.reader reader start.writer writer end'
   ends_by (bytes.Byte b) read over = ends_with (Refused TooManyLines) over.whole (too_many_closes turn may mode now later refl b read) (too_many_alone turn may mode now later refl b read) (λ e. cc) over.wrote over.refused_is over.fault_is
-  ends_by bytes.End read over = rw (over.0, over.1) (ran_to_end turn may mode start now 0 end reader served read.0 read.1)
+  ends_by bytes.End read over = rw (over.0, over.1) (ran_to_end form turn may mode start now 0 end reader served read.0 read.1)
   ends_by bytes.Fault read over = ends_with (Refused ReadFault) over.whole (fault_closes turn may mode now later refl 0 read) (fault_alone turn may mode now later refl 0 read) (λ e. cc) over.wrote over.refused_is over.fault_is
 
   -- where no line may follow
-  pub after_last : EndsAfterLast now.reader reader now.writer writer end end' → RunIs turn may mode start.desk now.desk start.reader reader start.writer writer end'
+  pub after_last : EndsAfterLast form now.reader reader now.writer writer end end' → RunsIn form turn may mode start.desk now.desk start.reader reader start.writer writer end'
   after_last over = ends_by over.byte over.read over.ends
 
 -- ---- a line after which the session goes on
@@ -242,12 +243,12 @@ replies_more : {M : Type 0} (exchanges : List (Exchange M)) (x : Exchange M) (re
 replies_more {M} exchanges x reply e = map-append (λ (y : Exchange M). y.reply) exchanges (x ∷ []) ∙ ap (λ r. replies_of exchanges ++ (r ∷ [])) (sym e)
 
 -- one more line is served
-pub line_served : {D M : Type 0} (turn : TurnsOf D M) (may : Mishaps D M) (mode : OnRefusal) (left : ℕ) (start now later : Moment D) (end end' : ScriptEnd) (reply : Reply) (stop : Stop) (content : List ℕ) → 0 < left → Served turn may mode start now left end → LineAnswered turn may now later stop content reply → ends_after mode stop reply ≡ false → Appends now.writer later.writer (reply_text reply) →
-    end'.refused ≡ refused_after end.refused reply → end'.fault ≡ fault_after end.fault reply → Served turn may mode start later (left - 1) end'
-line_served turn may mode left start now later end end' reply stops.End content some_left s line over wrote refused_is fault_is = absurd (cc)
-line_served turn may mode left start now later end end' reply stops.Fault content some_left s line over wrote refused_is fault_is = absurd (cc)
-line_served turn may mode left start now later end end' reply stops.Endless content some_left s line over wrote refused_is fault_is = absurd (cc)
-line_served {D} {M} turn may mode left start now later end end' reply stops.Newline content some_left s line over wrote refused_is fault_is =
+pub line_served : {D M : Type 0} (form : Form) (turn : TurnsOf D M) (may : Mishaps D M) (mode : OnRefusal) (left : ℕ) (start now later : Moment D) (end end' : ScriptEnd) (line : ℕ) (reply : Reply) (stop : Stop) (content : List ℕ) → 0 < left → line + left ≡ limits.lines + 1 → Served form turn may mode start now left end → LineAnswered turn may now later stop content reply → ends_after mode stop reply ≡ false → Appends now.writer later.writer (reply_in form line reply) →
+    end'.refused ≡ refused_after end.refused reply → end'.fault ≡ fault_after end.fault reply → Served form turn may mode start later (left - 1) end'
+line_served form turn may mode left start now later end end' number reply stops.End content some_left next s line over wrote refused_is fault_is = absurd (cc)
+line_served form turn may mode left start now later end end' number reply stops.Fault content some_left next s line over wrote refused_is fault_is = absurd (cc)
+line_served form turn may mode left start now later end end' number reply stops.Endless content some_left next s line over wrote refused_is fault_is = absurd (cc)
+line_served {D} {M} form turn may mode left start now later end end' number reply stops.Newline content some_left next s line over wrote refused_is fault_is =
     let x : Exchange M = exchange_of turn now.desk content line.answer.0 in
     let told = replies_of s.exchanges in
     let all = replies_more s.exchanges x reply line.answer.2 in
@@ -255,7 +256,8 @@ line_served {D} {M} turn may mode left start now later end end' reply stops.Newl
       bytes = s.bytes ++ (content ++ (10 ∷ []));
       exchanges = s.exchanges ++ (x ∷ []);
       read = consumes_more start.reader now.reader later.reader s.bytes (content ++ (10 ∷ [])) s.read line.read;
-      wrote = rw all (rw (text_append told (reply ∷ []), one_text reply) (appends_more start.writer now.writer later.writer (replies_text told) (reply_text reply) s.wrote wrote));
+      wrote = rw all (reply_written form turn may mode start now later left end s number reply next wrote);
+      counted = let before = s.counted in rw all (simp length-append (omega arith));
       goes_on = goes_on_more turn mode left start.desk now.desk later.desk s.bytes s.exchanges content line.answer.0 some_left s.goes_on line.bare line.stopped line.answer.3 (ap (stops_after mode) (sym line.answer.2) ∙ over);
       path = path_append turn may start.desk now.desk later.desk s.exchanges (x ∷ []) s.path (line.answer.1, refl, line.answer.3);
       refused_is = rw all (refused_is ∙ ap (λ had. refused_after had reply) s.refused_is ∙ sym (one_refused (refused_in false told) reply) ∙ sym (refused_append told (reply ∷ []) false));
@@ -265,15 +267,15 @@ line_served {D} {M} turn may mode left start now later end end' reply stops.Newl
 -- ---- the desks that may stand before and after a line
 
 -- from a desk that may have stood at first, lines were served up to this one
-abbrev pub ServedTo : {D M : Type 0} → TurnsOf D M → Mishaps D M → OnRefusal → (D → Type 0) → (reader0 reader writer0 writer : Option (List ℕ)) → ℕ → ScriptEnd → D → Type 0
-ServedTo {D} {M} turn may mode stood reader0 reader writer0 writer left end desk = (first : D) × stood first × Served turn may mode (moment first reader0 writer0) (moment desk reader writer) left end
+abbrev pub ServedTo : {D M : Type 0} → Form → TurnsOf D M → Mishaps D M → OnRefusal → (D → Type 0) → (reader0 reader writer0 writer : Option (List ℕ)) → ℕ → ScriptEnd → D → Type 0
+ServedTo {D} {M} form turn may mode stood reader0 reader writer0 writer left end desk = (first : D) × stood first × Served form turn may mode (moment first reader0 writer0) (moment desk reader writer) left end
 
 -- the run is one from a desk that may have stood at first
-abbrev pub RunTo : {D M : Type 0} → TurnsOf D M → Mishaps D M → OnRefusal → (D → Type 0) → (reader0 reader writer0 writer : Option (List ℕ)) → ScriptEnd → D → Type 0
-RunTo {D} {M} turn may mode stood reader0 reader writer0 writer end desk = (first : D) × stood first × RunIs turn may mode first desk reader0 reader writer0 writer end
+abbrev pub RunTo : {D M : Type 0} → Form → TurnsOf D M → Mishaps D M → OnRefusal → (D → Type 0) → (reader0 reader writer0 writer : Option (List ℕ)) → ScriptEnd → D → Type 0
+RunTo {D} {M} form turn may mode stood reader0 reader writer0 writer end desk = (first : D) × stood first × RunsIn form turn may mode first desk reader0 reader writer0 writer end
 
-module _ {D M : Type 0} (turn : TurnsOf D M) (may : Mishaps D M) (mode : OnRefusal) (stood stands : D → Type 0) (reader0 reader reader' writer0 writer writer' : Option (List ℕ)) (left : ℕ) (some_left : 0 < left) (end : ScriptEnd)
-    (served : (desk : D) → stands desk → ServedTo turn may mode stood reader0 reader writer0 writer left end desk)
+module _ {D M : Type 0} (form : Form) (turn : TurnsOf D M) (may : Mishaps D M) (mode : OnRefusal) (stood stands : D → Type 0) (reader0 reader reader' writer0 writer writer' : Option (List ℕ)) (left : ℕ) (some_left : 0 < left) (number : ℕ) (next : number + left ≡ limits.lines + 1) (end : ScriptEnd)
+    (served : (desk : D) → stands desk → ServedTo form turn may mode stood reader0 reader writer0 writer left end desk)
     (kept : List ℕ) (line : LineRead) (is : LineIs reader reader' kept line) (something : is_nothing line ≡ false) (reply : Reply) (after : D)
     (answer : (before : D) × stands before × AnswerIs turn may before line.stop is.content reply after) (end' : ScriptEnd) where
   abbrev first_moment : D → Moment D
@@ -289,21 +291,21 @@ module _ {D M : Type 0} (turn : TurnsOf D M) (may : Mishaps D M) (mode : OnRefus
   answered = answered_line turn may this_moment next_moment kept line reply is something answer.2
 
   -- where the reply could not be written
-  pub ends_cut : reply ≢ Silent → Written false writer writer' (reply_text reply) → end'.refused ≡ refused_after end.refused reply → end'.fault ≡ Some WriteFault → RunTo turn may mode stood reader0 reader' writer0 writer' end' after
+  pub ends_cut : reply ≢ Silent → Written false writer writer' (reply_in form number reply) → end'.refused ≡ refused_after end.refused reply → end'.fault ≡ Some WriteFault → RunTo form turn may mode stood reader0 reader' writer0 writer' end' after
   ends_cut told written refused_is fault_is =
       let before = served answer.0 answer.1 in
       let alone = closes_alone turn may mode left some_left this_moment next_moment reply line.stop is.content answered in
-      (before.0, before.1, cut_from turn may mode (first_moment before.0) this_moment next_moment left end before.2 end' reply alone told written refused_is fault_is)
+      (before.0, before.1, cut_from form turn may mode (first_moment before.0) this_moment next_moment left end before.2 end' number reply next alone told written refused_is fault_is)
 
   -- where the session ends with the reply
-  pub ends_there : ends_after mode line.stop reply ≡ true → Appends writer writer' (reply_text reply) → end'.refused ≡ refused_after end.refused reply → end'.fault ≡ fault_after end.fault reply → RunTo turn may mode stood reader0 reader' writer0 writer' end' after
+  pub ends_there : ends_after mode line.stop reply ≡ true → Appends writer writer' (reply_in form number reply) → end'.refused ≡ refused_after end.refused reply → end'.fault ≡ fault_after end.fault reply → RunTo form turn may mode stood reader0 reader' writer0 writer' end' after
   ends_there over wrote refused_is fault_is =
       let before = served answer.0 answer.1 in
       let last = closes turn may mode left some_left this_moment next_moment reply line.stop is.content answered over in
-      (before.0, before.1, ran_from turn may mode (first_moment before.0) this_moment next_moment left end before.2 end' reply last wrote refused_is fault_is)
+      (before.0, before.1, ran_from form turn may mode (first_moment before.0) this_moment next_moment left end before.2 end' number reply next last wrote refused_is fault_is)
 
   -- where it goes on
-  pub goes_on : ends_after mode line.stop reply ≡ false → Appends writer writer' (reply_text reply) → end'.refused ≡ refused_after end.refused reply → end'.fault ≡ fault_after end.fault reply → ServedTo turn may mode stood reader0 reader' writer0 writer' (left - 1) end' after
+  pub goes_on : ends_after mode line.stop reply ≡ false → Appends writer writer' (reply_in form number reply) → end'.refused ≡ refused_after end.refused reply → end'.fault ≡ fault_after end.fault reply → ServedTo form turn may mode stood reader0 reader' writer0 writer' (left - 1) end' after
   goes_on over wrote refused_is fault_is =
       let before = served answer.0 answer.1 in
-      (before.0, before.1, line_served turn may mode left (first_moment before.0) this_moment next_moment end end' reply line.stop is.content some_left before.2 answered over wrote refused_is fault_is)
+      (before.0, before.1, line_served form turn may mode left (first_moment before.0) this_moment next_moment end end' number reply line.stop is.content some_left next before.2 answered over wrote refused_is fault_is)

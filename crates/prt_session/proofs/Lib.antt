@@ -4,7 +4,6 @@ pub mod Length
 pub mod Lines
 pub mod LongLine
 pub mod Paths
-pub mod RefusalText
 pub mod Replies
 pub mod Served
 pub mod SessionSteps

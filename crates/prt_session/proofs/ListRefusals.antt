@@ -33,11 +33,11 @@ use Rattle.prt_version.specs.declared.limits.TheConstants.{MOST_COMMANDS, MOST_R
 
 -- ---- a line
 
-refuse_fine : (refused : Bool) (e : Refusal) → code_of e ≤ 17 → Fine (refuse_if refused e)
+refuse_fine : (refused : Bool) (e : Refusal) → code_of e ≤ 18 → Fine (refuse_if refused e)
 refuse_fine true e low = fine_err e low
 refuse_fine false e low = fine_ok tt
 
-fine_by : (r : Result (Option Request) Refusal) → IfErr r (λ e. code_of e ≤ 17) → Fine r
+fine_by : (r : Result (Option Request) Refusal) → IfErr r (λ e. code_of e ≤ 18) → Fine r
 fine_by (Ok request) low = fine_ok request
 fine_by (Err e) low = fine_err e low
 
@@ -50,8 +50,8 @@ words_fine line =
 reading_fine : (line : List ℕ) → Fine (reading line)
 reading_fine line = then_fine _ _ (words_fine line) (λ ws. fine_by (words_request ws) (text_is ws (words_request ws) refl).1)
 
--- the first seventeen refusals are of lines
-line_within : (reason : Refusal) → code_of reason ≤ 17 → is_beyond_lists reason ≡ false
+-- the first eighteen refusals are of lines
+line_within : (reason : Refusal) → code_of reason ≤ 18 → is_beyond_lists reason ≡ false
 line_within Closed low = absurd (omega arith)
 line_within Busy low = absurd (omega arith)
 line_within (StoreFailed call) low = absurd (omega arith)

@@ -1,6 +1,9 @@
 pub mod Reply
+pub mod Form
 pub mod Session
+pub mod Check
 pub mod Desk
+pub mod Open
 pub mod Stands
 pub mod Preorder
 pub mod Run

@@ -1,14 +1,16 @@
 -- What a run over a reader and a writer does: the session on what is read.
-use Rattle.std.specs.Prelude.{◌≡◌, ◌≢◌, ℕ, ◌||◌, ◌⊎◌, Bool, true, false, not, List, [], ◌∷◌, ◌++◌, Option, Some, None, IfSome, fold, if◌then◌else◌}
+use Rattle.std.specs.Prelude.{◌≡◌, ◌≢◌, ℕ, ◌+◌, ◌||◌, ◌⊎◌, Bool, true, false, not, List, [], ◌∷◌, ◌++◌, Option, Some, None, IfSome, fold, length, if◌then◌else◌}
 use Rattle.std.specs.Io.KnownBytes.{Consumes, Appends, IsAtEnd}
 use Rattle.prt_addr.specs.declared.refusal.Refusal.{Refusal}
 use Rattle.prt_addr.specs.declared.refusal.Refusal.TheVariants.{StoreFailed, NotPublished, ReadFault, WriteFault}
-use Rattle.prt_session.specs.Reply.{reply_text, replies_text}
+use Rattle.prt_session.specs.Form.{replies_in, reply_in}
 use Rattle.prt_session.specs.Session.{TurnsOf, Mishaps, Path, Input, end_of_input, read_fault, Session, session, replies}
+use Rattle.prt_session.specs.declared.form.Form.{Form}
+use Rattle.prt_session.specs.declared.form.Form.TheVariants.{Plain}
 use Rattle.prt_session.specs.declared.reply.Reply.{Reply}
 use Rattle.prt_session.specs.declared.reply.Reply.TheVariants.{Silent, Refused}
 use Rattle.prt_addr.specs.declared.on_refusal.OnRefusal.{OnRefusal}
-use Rattle.prt_session.specs.declared.script.ScriptEnd.{ScriptEnd}
+use Rattle.prt_session.specs.declared.script_end.ScriptEnd.{ScriptEnd}
 
 -- a failed commit or publication, or a fault of the reader or the writer
 abbrev pub is_fault_refusal : Refusal → Bool
@@ -34,17 +36,17 @@ refused_in had replies = fold refused_after had replies
 unfoldable pub fault_in : Option Refusal → List Reply → Option Refusal
 fault_in last replies = fold fault_after last replies
 
--- The writer got all replies of the session on all that the reader had, up to its fault if one came; what the session leaves unread is still to be read.
-pub record Ran {D M : Type 0} (input : Input) (session : Session D M) (reader0 reader writer0 writer : Option (List ℕ)) (fault : Option Refusal) : Type 0 where
+-- The writer got all replies of the session, in this form, on all that the reader had, up to its fault if one came; what the session leaves unread is still to be read.
+pub record RanWhole {D M : Type 0} (form : Form) (input : Input) (session : Session D M) (reader0 reader writer0 writer : Option (List ℕ)) (fault : Option Refusal) : Type 0 where
   pub beyond : List ℕ
   pub bytes_before : IfSome reader0 (λ bytes. bytes ≡ input.bytes ++ beyond)
   pub whole : input.ending ≡ end_of_input → beyond ≡ []
   pub bytes_left : IfSome reader0 (λ _. reader ≡ Some (session.unread ++ beyond))
-  pub wrote : Appends writer0 writer (replies_text (replies session))
+  pub wrote : Appends writer0 writer (replies_in form (replies session))
   pub fault_is : fault ≡ fault_in None (replies session)
 
 -- After a fault of the writer: of the last reply of the session on what was read a part was written, perhaps none or all of it. The other session is the one in which the reader fails at that place.
-pub record Cut {D M : Type 0} (input : Input) (session faulty : Session D M) (reader0 reader writer0 writer : Option (List ℕ)) (fault : Option Refusal) : Type 0 where
+pub record Cut {D M : Type 0} (form : Form) (input : Input) (session faulty : Session D M) (reader0 reader writer0 writer : Option (List ℕ)) (fault : Option Refusal) : Type 0 where
   pub told : List Reply
   pub last : Reply
   pub part : List ℕ
@@ -56,16 +58,20 @@ pub record Cut {D M : Type 0} (input : Input) (session faulty : Session D M) (re
   pub is_written : last ≢ Silent
   -- it was due by then: the input was at its end, or a fault of the reader there would not have changed it
   pub is_due : IsAtEnd reader ⊎ ((more : List Reply) × (replies faulty ≡ told ++ last ∷ more))
-  pub last_text : reply_text last ≡ part ++ cut_off
-  pub wrote : Appends writer0 writer (replies_text told ++ part)
+  pub last_text : reply_in form (length told + 1) last ≡ part ++ cut_off
+  pub wrote : Appends writer0 writer (replies_in form told ++ part)
   pub fault_is : fault ≡ Some WriteFault
 
--- A run is the session on what was read, where what befell each line may befall it, and it went on to the session's end or was cut off by a fault of the writer.
-pub record RunIs {D M : Type 0} (turn : TurnsOf D M) (may : Mishaps D M) (mode : OnRefusal) (desk0 desk : D) (reader0 reader writer0 writer : Option (List ℕ)) (end : ScriptEnd) : Type 0 where
+-- A run is the session on what was read, with its replies in this form, where what befell each line may befall it, and it went on to the session's end or was cut off by a fault of the writer.
+pub record RunsIn {D M : Type 0} (form : Form) (turn : TurnsOf D M) (may : Mishaps D M) (mode : OnRefusal) (desk0 desk : D) (reader0 reader writer0 writer : Option (List ℕ)) (end : ScriptEnd) : Type 0 where
   pub input : Input
   pub mishaps : List (Option M)
   pub leaves : desk ≡ (session turn desk0 input mode mishaps).desk
   pub path : Path turn may desk0 (session turn desk0 input mode mishaps).exchanges desk
   pub refused_is : end.refused ≡ refused_in false (replies (session turn desk0 input mode mishaps))
-  pub ended : Ran input (session turn desk0 input mode mishaps) reader0 reader writer0 writer end.fault
-      ⊎ Cut input (session turn desk0 input mode mishaps) (session turn desk0 (record input { ending = read_fault }) mode mishaps) reader0 reader writer0 writer end.fault
+  pub ended : RanWhole form input (session turn desk0 input mode mishaps) reader0 reader writer0 writer end.fault
+      ⊎ Cut form input (session turn desk0 input mode mishaps) (session turn desk0 (record input { ending = read_fault }) mode mishaps) reader0 reader writer0 writer end.fault
+
+-- a run whose replies are written as they are
+abbrev pub RunIs : {D M : Type 0} → TurnsOf D M → Mishaps D M → OnRefusal → D → D → (reader0 reader writer0 writer : Option (List ℕ)) → ScriptEnd → Type 0
+RunIs {D} {M} turn may mode desk0 desk reader0 reader writer0 writer end = RunsIn Plain turn may mode desk0 desk reader0 reader writer0 writer end

@@ -5,5 +5,5 @@ abbrev pub Explained : {X D : Type 0} → (X → D → Type 0) → X → X → (
 Explained {X} {D} stands old new Leads = (after : D) → stands new after → (before : D) × stands old before × Leads before after
 
 -- there is a state that it may stand for
-abbrev pub Stands : {X D : Type 0} → (X → D → Type 0) → X → Type 0
-Stands {X} {D} stands value = (state : D) × stands value state
+abbrev pub StandsForSome : {X D : Type 0} → (X → D → Type 0) → X → Type 0
+StandsForSome {X} {D} stands value = (state : D) × stands value state

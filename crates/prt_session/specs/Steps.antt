@@ -7,9 +7,10 @@ use Rattle.prt_command.specs.Lines.{limits}
 use Rattle.prt_command.specs.declared.request.Command.{Command}
 use Rattle.prt_command.specs.declared.request.Request.{Request}
 use Rattle.prt_session.specs.Desk.{DeskState, Mishap, command_turn}
-use Rattle.prt_session.specs.Reply.{reply_text}
+use Rattle.prt_session.specs.Form.{reply_in}
 use Rattle.prt_session.specs.Run.{fault_after, refused_after}
 use Rattle.prt_session.specs.Session.{Turn, TurnsOf, Mishaps, LineMay, line_turn, stops_after}
+use Rattle.prt_session.specs.declared.form.Form.{Form}
 use Rattle.prt_session.specs.declared.input.ByteRead.{ByteRead}
 use Rattle.prt_session.specs.declared.input.ByteRead.TheVariants as bytes
 use Rattle.prt_session.specs.declared.input.LineRead.{LineRead}
@@ -18,7 +19,7 @@ use Rattle.prt_session.specs.declared.input.Stop.TheVariants as stops
 use Rattle.prt_session.specs.declared.reply.Reply.{Reply}
 use Rattle.prt_session.specs.declared.reply.Reply.TheVariants.{Accepted, Refused}
 use Rattle.prt_addr.specs.declared.on_refusal.OnRefusal.{OnRefusal}
-use Rattle.prt_session.specs.declared.script.ScriptEnd.{ScriptEnd}
+use Rattle.prt_session.specs.declared.script_end.ScriptEnd.{ScriptEnd}
 
 -- one read of one byte, at a reader that has these bytes left before and after
 abbrev pub ByteIs : ByteRead → Option (List ℕ) → Option (List ℕ) → Type 0
@@ -102,21 +103,21 @@ ends_after mode stops.End reply = true
 ends_after mode stops.Fault reply = true
 ends_after mode stops.Endless reply = true
 
--- A session ends with this reply: all of it was written, or else a part of it.
-pub record EndsWith (reply : Reply) (writer0 writer : Option (List ℕ)) (end0 end : ScriptEnd) : Type 0 where
+-- A session ends with this reply, in place of one to the line of this number: all of it was written, or else a part of it.
+pub record EndsWith (form : Form) (line : ℕ) (reply : Reply) (writer0 writer : Option (List ℕ)) (end0 end : ScriptEnd) : Type 0 where
   pub whole : Bool
-  pub wrote : Written whole writer0 writer (reply_text reply)
+  pub wrote : Written whole writer0 writer (reply_in form line reply)
   pub refused_is : end.refused ≡ refused_after end0.refused reply
   pub fault_is : end.fault ≡ (if whole then fault_after end0.fault reply else Some WriteFault)
 
 -- a session ends where no line may follow, by what is read there
-abbrev pub EndsBy : ByteRead → Option (List ℕ) → Option (List ℕ) → ScriptEnd → ScriptEnd → Type 0
-EndsBy (bytes.Byte b) writer0 writer end0 end = EndsWith (Refused TooManyLines) writer0 writer end0 end
-EndsBy bytes.End writer0 writer end0 end = (writer ≡ writer0) × (end ≡ end0)
-EndsBy bytes.Fault writer0 writer end0 end = EndsWith (Refused ReadFault) writer0 writer end0 end
+abbrev pub EndsBy : Form → ByteRead → Option (List ℕ) → Option (List ℕ) → ScriptEnd → ScriptEnd → Type 0
+EndsBy form (bytes.Byte b) writer0 writer end0 end = EndsWith form (limits.lines + 1) (Refused TooManyLines) writer0 writer end0 end
+EndsBy form bytes.End writer0 writer end0 end = (writer ≡ writer0) × (end ≡ end0)
+EndsBy form bytes.Fault writer0 writer end0 end = EndsWith form (limits.lines + 1) (Refused ReadFault) writer0 writer end0 end
 
 -- One byte was read where no line may follow, and the session ends.
-pub record EndsAfterLast (reader0 reader writer0 writer : Option (List ℕ)) (end0 end : ScriptEnd) : Type 0 where
+pub record EndsAfterLast (form : Form) (reader0 reader writer0 writer : Option (List ℕ)) (end0 end : ScriptEnd) : Type 0 where
   pub byte : ByteRead
   pub read : ByteIs byte reader0 reader
-  pub ends : EndsBy byte writer0 writer end0 end
+  pub ends : EndsBy form byte writer0 writer end0 end

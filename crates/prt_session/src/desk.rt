@@ -9,7 +9,7 @@ pub trait Desk {
     ghost use Rattle.prt_listing.specs.QueryText.{query_text};
     ghost use Rattle.prt_session.specs.Desk.{DeskState, Mishap, no_memory};
     ghost use Rattle.prt_session.specs.Preorder.{IsPreorder};
-    ghost use Rattle.prt_session.specs.Stands.{Explained, Stands};
+    ghost use Rattle.prt_session.specs.Stands.{Explained, StandsForSome};
     ghost use Rattle.prt_session.specs.Steps.{CommandGives};
 
     /// The states that the desk may stand for: more than one where it can't be known which is stored.
@@ -30,7 +30,7 @@ pub trait Desk {
     fn command(&mut self, command: &Command) -> Result<u64, Refusal>
         requires { IsStorable command.now }
         ensures turn { Explained stands self.old self.new (λ before after. CommandGives may before command.now result after) }
-        ensures left { Stands stands self.old → Stands stands self.new }
+        ensures left { StandsForSome stands self.old → StandsForSome stands self.new }
         ensures keeps { keeps self.old self.new };
 
     /// Appends the lines of the answer to `out`, and leaves the desk as it was. A closed desk answers too.
@@ -41,7 +41,7 @@ pub trait Desk {
     fn answer(&mut self, query: &Query, out: &mut Vec<u8>) -> Result<(), Refusal>
         ensures turn { Explained stands self.old self.new (λ before after. (after ≡ before)
             × OnOk result (out.new.items ≡ out.old.items ++ query_text before.published query.now)) }
-        ensures left { Stands stands self.old → Stands stands self.new }
+        ensures left { StandsForSome stands self.old → StandsForSome stands self.new }
         ensures keeps { keeps self.old self.new }
         ensures err { IfErr result (λ e. (e ≡ Refusal.NoMemory) × may no_memory) }
         ensures unchanged { OnErr result (out.new.items ≡ out.old.items) };

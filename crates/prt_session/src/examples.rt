@@ -1,6 +1,6 @@
 //! Scripts with their replies, computed with the definitions alone.
 ghost use Rattle.std.specs.Prelude.{◌≡◌, ◌∷◌, [], ◌++◌, None, Some, codes, length, replicate, true};
-ghost use Rattle.prt_session.specs.Example.{replies_to, session_on};
+ghost use Rattle.prt_session.specs.Example.{refusals_of, replies_to, session_on};
 ghost use Rattle.prt_session.specs.Desk.{commit_kept, no_memory, publication_fails};
 ghost use Rattle.prt_session.specs.Session.{end_of_input, read_fault};
 ghost use Rattle.prt_addr.specs.declared.on_refusal.OnRefusal.TheVariants.{GoOn, Stop};
@@ -8,6 +8,13 @@ ghost use Rattle.prt_addr.specs.declared.on_refusal.OnRefusal.TheVariants.{GoOn,
 /// What stands after a refused line is left unread.
 pub fn unread_rest()
     ensures { (session_on Stop (codes "route add 10/8 via 192.0.2.1\nroute add 10/8 via 192.0.2.2\nroute show\n") end_of_input []).unread ≡ codes "route show\n" }
+{}
+
+/// What a check writes of some lines: a blank one counts, and what a command would be refused for is not seen.
+pub fn checked_lines()
+    ensures refusals { refusals_of (codes "route add 10/8 via 192.0.2.1\n\nroute add 10/8 via 192.0.2.2\nroute add 10/8 mtu 9\n# end\nlink\nrule show") end_of_input
+        ≡ codes "4: error 5 UnknownWord\n6: error 3 UnknownObject\n" }
+    ensures read_fault { refusals_of (codes "route get\nroute get 1") read_fault ≡ codes "1: error 14 MissingDestination\n2: error 32 ReadFault\n" }
 {}
 
 /// A reader that fails, memory that is refused, and a store that fails.

@@ -11,7 +11,7 @@ pub trait Executor<C> {
     ghost use Rattle.prt_command.specs.declared.request.Request.{Request};
     ghost use Rattle.prt_session.specs.Preorder.{IsPreorder};
     ghost use Rattle.prt_session.specs.Session.{Turn};
-    ghost use Rattle.prt_session.specs.Stands.{Explained, Stands};
+    ghost use Rattle.prt_session.specs.Stands.{Explained, StandsForSome};
     ghost use Rattle.prt_session.specs.Steps.{Gives};
 
     /// What it may stand for.
@@ -41,7 +41,7 @@ pub trait Executor<C> {
         requires storable { IsStorableRequest request.now }
         ensures fits { fits self.new }
         ensures turn { Explained stands self.old self.new (λ before after. Gives turn may before request.now result after) }
-        ensures left { Stands stands self.old → Stands stands self.new }
+        ensures left { StandsForSome stands self.old → StandsForSome stands self.new }
         ensures keeps { keeps self.old self.new };
 
     /// So it stays over any number of requests.

@@ -1,18 +1,22 @@
-//! Sessions: the replies to a script, and the desk that executes its commands.
+//! Sessions: the replies to a script, and the desk that executes its commands. Checks, which execute nothing.
 #![tactic(auto)]
 
+mod check;
 mod desk;
 pub mod examples;
 mod executor;
+mod form;
 mod input;
 mod laws;
 mod list_desk;
 mod observer;
 mod reply;
 mod script;
+mod script_end;
 pub mod scripts;
 mod session;
 
+pub use check::check_lines;
 pub use desk::Desk;
 pub use executor::Executor;
 pub use laws::{closed_replies, list_replies, session_ends};
@@ -21,5 +25,6 @@ pub use observer::{Observer, Unobserved};
 pub use prt_addr::OnRefusal;
 pub use prt_command::{Command, Query, Refusal};
 pub use reply::{Reply, Text, write_reply};
-pub use script::{ScriptEnd, run_script};
+pub use script::run_script;
+pub use script_end::ScriptEnd;
 pub use session::run_session;

@@ -8,7 +8,8 @@ ghost use Rattle.prt_version.specs.State.{opening_state};
 
 use crate::desk::Desk;
 use crate::observer::Observer;
-use crate::script::{ScriptEnd, run_script};
+use crate::script::run_script;
+use crate::script_end::ScriptEnd;
 use prt_addr::OnRefusal;
 use prt_command::{Command, Query, Refusal};
 use prt_listing::query_text;

@@ -66,16 +66,10 @@ fn accepted_line(number: u64) -> ArrayString<32>
 }
 
 /// Makes the line `error C NAME`.
-#[tactic(auto, using(crate::proofs::RefusalText::code_short, crate::proofs::RefusalText::name_short))]
-fn refused_line(refusal: Refusal) -> ArrayString<32>
+pub(crate) fn refused_line(refusal: Refusal) -> ArrayString<32>
     ensures { result.bytes ≡ refusal_text refusal ++ codes "\n" }
 {
-    let mut digits = Buffer::new();
-    let mut line = ArrayString::new();
-    line.push_str("error ");
-    line.push_str(digits.format(refusal.code()));
-    line.push_str(" ");
-    line.push_str(refusal.name());
+    let mut line = refusal.text();
     line.push_str("\n");
     line
 }
@@ -93,7 +87,7 @@ fn write_some<W: Write>(writer: &mut W, bytes: &[u8]) -> Option<usize>
 }
 
 /// Writes these bytes and flushes; tells whether all of it went well.
-fn write_bytes<W: Write>(writer: &mut W, bytes: &[u8]) -> bool
+pub(crate) fn write_bytes<W: Write>(writer: &mut W, bytes: &[u8]) -> bool
     ensures { Written result (W.contents writer.old) (W.contents writer.new) bytes.now }
 {
     let mut written = 0;

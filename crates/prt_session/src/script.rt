@@ -1,68 +1,17 @@
-ghost use Rattle.std.specs.Prelude.{◌≡◌, Some};
 ghost use Rattle.prt_session.specs.Desk.{Befalls, request_turn};
-ghost use Rattle.prt_session.specs.Run.{RunIs, fault_after, refused_after};
-ghost use Rattle.prt_session.specs.Stands.{Explained, Stands};
+ghost use Rattle.prt_session.specs.Run.{RunIs};
+ghost use Rattle.prt_session.specs.Stands.{Explained, StandsForSome};
 
 use crate::desk::Desk;
 use crate::executor::Executor;
 use crate::observer::Observer;
 use crate::reply::{Reply, Text};
+use crate::script_end::ScriptEnd;
 use crate::session::run_session;
 use prt_addr::OnRefusal;
-use prt_command::{Refusal, Request};
+use prt_command::Request;
 use std::alloc::Global;
 use std::io::{Read, Write};
-
-/// How a session ended.
-#[derive(Clone, Copy, Debug, PartialEq, Eq)]
-pub struct ScriptEnd {
-    /// Whether a line was refused for another reason than a fault.
-    pub refused: bool,
-    /// The last fault: of the store, the publication, the reader or the writer.
-    pub fault: Option<Refusal>,
-}
-
-impl ScriptEnd {
-    /// No reply yet.
-    pub(crate) const OPENING: ScriptEnd = ScriptEnd {
-        refused: false,
-        fault: None,
-    };
-
-    /// Takes in one more reply.
-    pub(crate) fn with_reply(self, reply: &Reply) -> ScriptEnd
-        ensures refused { result.refused ≡ refused_after self.refused reply.now }
-        ensures fault { result.fault ≡ fault_after self.fault reply.now }
-    {
-        match reply {
-            Reply::Refused(refusal) => match refusal {
-                Refusal::StoreFailed(_)
-                | Refusal::NotPublished
-                | Refusal::ReadFault
-                | Refusal::WriteFault => ScriptEnd {
-                    refused: self.refused,
-                    fault: Some(*refusal),
-                },
-                _ => ScriptEnd {
-                    refused: true,
-                    fault: self.fault,
-                },
-            },
-            _ => self,
-        }
-    }
-
-    /// Takes in a fault of the writer, in the place of any fault before it.
-    pub fn with_write_fault(self) -> ScriptEnd
-        ensures refused { result.refused ≡ self.refused }
-        ensures fault { result.fault ≡ Some Refusal.WriteFault }
-    {
-        ScriptEnd {
-            refused: self.refused,
-            fault: Some(Refusal::WriteFault),
-        }
-    }
-}
 
 /// A desk executes requests in memory from an allocator.
 impl<D: Desk> Executor<Global> for D {
@@ -115,7 +64,7 @@ pub fn run_script<D: Desk, R: Read, W: Write, O: Observer>(
 ) -> ScriptEnd
     ensures run { Explained D.stands desk.old desk.new (λ before after. RunIs request_turn (Befalls D.may) mode before after
         (R.remaining reader.old) (R.remaining reader.new) (W.contents writer.old) (W.contents writer.new) result) }
-    ensures left { Stands D.stands desk.old → Stands D.stands desk.new }
+    ensures left { StandsForSome D.stands desk.old → StandsForSome D.stands desk.new }
     ensures keeps { D.keeps desk.old desk.new }
 {
     run_session(&alloc, desk, reader, writer, mode, observer)

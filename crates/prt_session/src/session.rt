@@ -1,15 +1,16 @@
 //! The loop over the lines of a session.
 ghost use Rattle.std.specs.Prelude.{◌≡◌, ◌≤◌, ℕ, List, length};
-ghost use Rattle.prt_session.specs.Run.{RunIs};
+ghost use Rattle.prt_session.specs.Run.{RunIs, RunsIn};
 ghost use Rattle.prt_session.specs.Session.{stops_after};
-ghost use Rattle.prt_session.specs.Stands.{Explained, Stands};
+ghost use Rattle.prt_session.specs.Stands.{Explained, StandsForSome};
 ghost use Rattle.prt_session.specs.Steps.{AnswerIs, EndsAfterLast, EndsWith, LineGives, ends_after, is_nothing};
 
 use crate::executor::Executor;
+use crate::form::Form;
 use crate::input::{ByteRead, LineRead, Stop, next_byte, next_line};
 use crate::observer::Observer;
-use crate::reply::{Reply, write_reply};
-use crate::script::ScriptEnd;
+use crate::reply::Reply;
+use crate::script_end::ScriptEnd;
 use arrayvec::ArrayVec;
 use prt_addr::OnRefusal;
 use prt_command::{LONGEST_LINE, MOST_LINES, Refusal, read_line};
@@ -21,7 +22,7 @@ fn execute_line<C, E: Executor<C>>(context: &C, executor: &mut E, line: &[u8]) -
     requires { E.fits executor.old }
     ensures fits { E.fits executor.new }
     ensures turn { Explained E.stands executor.old executor.new (λ before after. LineGives E.turn E.may before line.now result after) }
-    ensures left { Stands E.stands executor.old → Stands E.stands executor.new }
+    ensures left { StandsForSome E.stands executor.old → StandsForSome E.stands executor.new }
     ensures keeps { E.keeps executor.old executor.new }
 {
     match read_line(line) {
@@ -42,7 +43,7 @@ fn reply_to_whole<C, E: Executor<C>>(
     ensures fits { E.fits executor.new }
     ensures turn { (content : List ℕ) → length content ≡ count → (count ≤ LONGEST_LINE → line.now ≡ content) →
         Explained E.stands executor.old executor.new (λ before after. LineGives E.turn E.may before content result after) }
-    ensures left { Stands E.stands executor.old → Stands E.stands executor.new }
+    ensures left { StandsForSome E.stands executor.old → StandsForSome E.stands executor.new }
     ensures keeps { E.keeps executor.old executor.new }
 {
     let is_long = count > LONGEST_LINE;
@@ -58,7 +59,7 @@ fn reply_to<C, E: Executor<C>>(context: &C, executor: &mut E, read: LineRead, li
     ensures fits { E.fits executor.new }
     ensures turn { (content : List ℕ) → length content ≡ read.length → (read.length ≤ LONGEST_LINE → line.now ≡ content) →
         Explained E.stands executor.old executor.new (λ before after. AnswerIs E.turn E.may before read.stop content result after) }
-    ensures left { Stands E.stands executor.old → Stands E.stands executor.new }
+    ensures left { StandsForSome E.stands executor.old → StandsForSome E.stands executor.new }
     ensures keeps { E.keeps executor.old executor.new }
 {
     match read.stop {
@@ -100,47 +101,61 @@ fn is_last(mode: OnRefusal, read: LineRead, reply: &Reply) -> bool
     }
 }
 
-/// Writes the last reply of a session, and takes it in.
-fn write_last<W: Write>(writer: &mut W, reply: &Reply, end: ScriptEnd) -> ScriptEnd
-    ensures { EndsWith reply.now (W.contents writer.old) (W.contents writer.new) end result }
+/// Writes the last reply of a session, in place of one to the line of this number, and takes it in.
+fn write_last<W: Write>(
+    writer: &mut W,
+    form: Form,
+    line: u64,
+    reply: &Reply,
+    end: ScriptEnd,
+) -> ScriptEnd
+    ensures { EndsWith form line reply.now (W.contents writer.old) (W.contents writer.new) end result }
 {
     let end = end.with_reply(reply);
-    if write_reply(writer, reply) {
+    if form.write(writer, line, reply) {
         return end;
     }
     end.with_write_fault()
 }
 
 /// Ends a session after as many lines as it may have: with the input, or at the first byte too many or a fault.
-fn end_after_last<R: Read, W: Write>(reader: &mut R, writer: &mut W, end: ScriptEnd) -> ScriptEnd
-    ensures { EndsAfterLast (R.remaining reader.old) (R.remaining reader.new) (W.contents writer.old) (W.contents writer.new) end result }
+fn end_after_last<R: Read, W: Write>(
+    reader: &mut R,
+    writer: &mut W,
+    form: Form,
+    end: ScriptEnd,
+) -> ScriptEnd
+    ensures { EndsAfterLast form (R.remaining reader.old) (R.remaining reader.new) (W.contents writer.old) (W.contents writer.new) end result }
 {
     let refusal = match next_byte(reader) {
         ByteRead::End => return end,
         ByteRead::Byte(_) => Refusal::TooManyLines,
         ByteRead::Fault => Refusal::ReadFault,
     };
-    write_last(writer, &Reply::Refused(refusal), end)
+    let line = MOST_LINES as u64 + 1;
+    write_last(writer, form, line, &Reply::Refused(refusal), end)
 }
 
 /// Runs a session: does what each line asks for, and replies to it before the next is read.
 ///
 /// The session ends with the input, after a refused line under `OnRefusal::Stop`, at a fault of the reader or the
 /// writer, of any kind, and at the first byte after `MOST_LINES` lines or after `LONGEST_UNENDED` bytes of a line. A
-/// line of more than `LONGEST_LINE` bytes is refused. The observer is called before and after each line.
-pub fn run_session<C, E: Executor<C>, R: Read, W: Write, O: Observer>(
+/// line of more than `LONGEST_LINE` bytes is refused. The observer is called before and after each line. The replies
+/// are written in the given form.
+pub(crate) fn run_session_in<C, E: Executor<C>, R: Read, W: Write, O: Observer>(
     context: &C,
     executor: &mut E,
     reader: &mut R,
     writer: &mut W,
+    form: Form,
     mode: OnRefusal,
     observer: &mut O,
 ) -> ScriptEnd
     requires { E.fits executor.old }
     ensures fits { E.fits executor.new }
-    ensures run { Explained E.stands executor.old executor.new (λ before after. RunIs E.turn E.may mode before after
+    ensures run { Explained E.stands executor.old executor.new (λ before after. RunsIn form E.turn E.may mode before after
         (R.remaining reader.old) (R.remaining reader.new) (W.contents writer.old) (W.contents writer.new) result) }
-    ensures left { Stands E.stands executor.old → Stands E.stands executor.new }
+    ensures left { StandsForSome E.stands executor.old → StandsForSome E.stands executor.new }
     ensures keeps { E.keeps executor.old executor.new }
 {
     let mut line = ArrayVec::<u8, LONGEST_LINE>::new();
@@ -155,7 +170,7 @@ pub fn run_session<C, E: Executor<C>, R: Read, W: Write, O: Observer>(
         let text = line.as_slice();
         let reply = reply_to(context, executor, read, text);
         end = end.with_reply(&reply);
-        let is_written = write_reply(writer, &reply);
+        let is_written = form.write(writer, number, &reply);
         observer.after(number, text, &reply);
         if !is_written {
             return end.with_write_fault();
@@ -164,5 +179,32 @@ pub fn run_session<C, E: Executor<C>, R: Read, W: Write, O: Observer>(
             return end;
         }
     }
-    end_after_last(reader, writer, end)
+    end_after_last(reader, writer, form, end)
+}
+
+/// Runs a session as `run_session_in` does, and writes each reply as it is.
+pub fn run_session<C, E: Executor<C>, R: Read, W: Write, O: Observer>(
+    context: &C,
+    executor: &mut E,
+    reader: &mut R,
+    writer: &mut W,
+    mode: OnRefusal,
+    observer: &mut O,
+) -> ScriptEnd
+    requires { E.fits executor.old }
+    ensures fits { E.fits executor.new }
+    ensures run { Explained E.stands executor.old executor.new (λ before after. RunIs E.turn E.may mode before after
+        (R.remaining reader.old) (R.remaining reader.new) (W.contents writer.old) (W.contents writer.new) result) }
+    ensures left { StandsForSome E.stands executor.old → StandsForSome E.stands executor.new }
+    ensures keeps { E.keeps executor.old executor.new }
+{
+    run_session_in(
+        context,
+        executor,
+        reader,
+        writer,
+        Form::Plain,
+        mode,
+        observer,
+    )
 }

@@ -9,6 +9,7 @@ use Rattle.sqlite.specs.Schema.{Schema}
 use Rattle.sqlite.specs.State.{State as Conn, Executes}
 use Rattle.sqlite.specs.Tree.{rowid}
 use Rattle.sqlite_rules.proofs.ListLemmas.{all_has, some_from}
+use Rattle.sqlite_rules.proofs.ProbeLemmas.{has_mapped, mapped_has}
 use Rattle.sqlite_rules.proofs.TableLemmas.{int_is}
 use Rattle.sqlite_rules.specs.Lists.{Has}
 use Rattle.sqlite_schema.specs.Rules.{agree, clashes, differ}
@@ -23,24 +24,26 @@ use Rattle.prt_rows.proofs.RouteKeys.{agree_is, same_key, split, tied_if_same}
 use Rattle.prt_rows.proofs.RouteRows.{same_route}
 use Rattle.prt_rows.proofs.Texts.{set_count_is}
 use Rattle.prt_rows.specs.Effects.{IsKeyed, has_same_rowid}
-use Rattle.prt_rows.specs.Kept.{count_values, kept_route, kept_rule}
+use Rattle.prt_rows.specs.Kept.{count_values, kept_length, kept_route, kept_rule}
 use Rattle.prt_rows.specs.Meanings.{set_count_command}
 use Rattle.prt_rows.specs.RouteRow.{route_row}
 use Rattle.prt_rows.specs.Statements.{set_count}
-use Rattle.prt_rows.specs.Tables.{key_places, route_table, rule_table, schema_with}
+use Rattle.prt_rows.specs.Tables.{key_places, route_table, rule_table, schema_with, suppress_table}
 use Rattle.prt_version.specs.State.{State}
-use Rattle.prt_rows.specs.Format.{IsFormat1}
+use Rattle.prt_rows.specs.Format.{IsFormat2}
 use Rattle.prt_store.specs.Next.{MakesNext}
 use Rattle.prt_store.specs.Stored.{FitsTables, Stores}
 use Rattle.prt_store.proofs.Changes.{IsChanged, among_others, keyed_rules}
 use Rattle.prt_store.proofs.Once.{IsOnce, once_mapped}
-use Rattle.prt_store.proofs.Spelling.{Covers, IsRouteRow, IsRuleRow, map_id, same_if_covers}
+use Rattle.prt_store.proofs.Spelling.{Covers, IsLengthRow, IsRouteRow, IsRuleRow, map_id, same_if_covers, same_rows}
+use Rattle.prt_store.proofs.Lengths.{keyed_lengths}
+use Rattle.prt_store.specs.Lengths.{lengths_of}
 
 same_itself : (route : Route) → same_key route route ≡ true
 same_itself route = and_from _ _ (and_from _ _ (eq-eqb route.table route.table refl) (and_from _ _ (eq-eqb route.prefix.bits route.prefix.bits refl) (eq-eqb route.prefix.len route.prefix.len refl))) (eq-eqb route.metric route.metric refl)
 
 -- rows with the values of one route are one row, since its key is unique
-pub route_alone : (db : Database) → IsFormat1 db.schema → IsDatabase db → IsKeyed (db.trees 1) → (route : Route) (row other : Row) → Has (db.trees 1) row → Has (db.trees 1) other → IsRouteRow route row → IsRouteRow route other → row ≡ other
+pub route_alone : (db : Database) → IsFormat2 db.schema → IsDatabase db → IsKeyed (db.trees 1) → (route : Route) (row other : Row) → Has (db.trees 1) row → Has (db.trees 1) other → IsRouteRow route row → IsRouteRow route other → row ≡ other
 route_alone db tables sound keyed route row other there also is too =
     let obeys = subst (λ (s : Schema). IsDatabase (record { schema = s; trees = db.trees })) tables.is sound in
     let unique = all_has _ (db.trees 1) other (obeys.obeys.rules Unique).1.0 also in
@@ -53,7 +56,7 @@ route_alone db tables sound keyed route row other there also is too =
     alone (db.trees 1) keyed row other there also (tied_if_same (rowid row) (rowid other) _ _ (int_is (rowid row) (keyed.ints row there)) (int_is (rowid other) (keyed.ints other also)) apart)
 
 -- no two rows are those of one route, and no two routes are one
-routes_spell : (db : Database) → IsFormat1 db.schema → IsDatabase db → IsKeyed (db.trees 1) → (state : State) → FitsTables state → Covers IsRouteRow (db.trees 1) state.routes
+routes_spell : (db : Database) → IsFormat2 db.schema → IsDatabase db → IsKeyed (db.trees 1) → (state : State) → FitsTables state → Covers IsRouteRow (db.trees 1) state.routes
     → IsPermutation (map (drop 1) (db.trees 1)) (map route_row state.routes)
 routes_spell db tables sound keyed state storable covers = same_if_covers route_row (drop 1) (db.trees 1) state.routes covers
     (once_mapped (drop 1) has_same_rowid (db.trees 1) keyed.once (λ row other there also same.
@@ -61,7 +64,7 @@ routes_spell db tables sound keyed state storable covers = same_if_covers route_
     let one : row ≡ other = route_alone db tables sound keyed route.0 row other there also route.2 (sym same ∙ route.2) in
     ap (λ x. has_same_rowid row x) (sym one) ∙ ap is_eq (tied_itself value_cmp_total (rowid row))))
     (once_mapped route_row same_key state.routes (rising_keys state.routes storable.sound.routes_rise) (λ route other there also same.
-    let one : route ≡ other = same_route route other (storable.routes route there).in_range (storable.routes other also).in_range same in
+    let one : route ≡ other = same_route route other (storable.routes route there) (storable.routes other also) same in
     ap (λ x. same_key route x) (sym one) ∙ same_itself route))
 
 rules_spell : (rows : List Row) → IsKeyed rows → (state : State) → FitsTables state → Covers IsRuleRow rows state.rules → IsPermutation rows (map kept_rule state.rules)
@@ -71,9 +74,20 @@ rules_spell rows keyed state storable covers =
     (subst IsOnce (map_id (map kept_rule state.rules))
     (once_mapped (λ row. row) has_same_rowid (map kept_rule state.rules) (keyed_rules state.rules storable.sound.distinct_ids).once (λ row other there also same. ap (λ x. has_same_rowid row x) (sym same) ∙ ap is_eq (tied_itself value_cmp_total (rowid row))))))
 
+lengths_spell : (rows : List Row) → IsKeyed rows → (state : State) → FitsTables state → Covers IsLengthRow rows (lengths_of state.rules) → IsPermutation rows (map kept_length (lengths_of state.rules))
+lengths_spell rows keyed state storable covers = same_rows rows (map kept_length (lengths_of state.rules)) keyed (keyed_lengths state.rules storable.sound.distinct_ids) (record {
+  sound = λ row there.
+      let value = covers.sound row there in
+      subst (Has (map kept_length (lengths_of state.rules))) (sym value.2) (mapped_has kept_length (lengths_of state.rules) value.0 value.1);
+  complete = λ row there.
+      let m = has_mapped kept_length (lengths_of state.rules) row there in
+      let kept = covers.complete m.0 m.1 in
+      subst (Has rows) (kept.2 ∙ sym m.2) kept.1;
+})
+
 module _ (old mid last : Conn) (state next : State) (held : Stores old.now state) (made : IsChanged old.now mid.now next) (storable : FitsTables next) where
-  tables_kept : IsFormat1 mid.now.schema
-  tables_kept = subst IsFormat1 (sym made.schema) held.tables
+  tables_kept : IsFormat2 mid.now.schema
+  tables_kept = subst IsFormat2 (sym made.schema) held.tables
 
   -- the count of the next state makes the tables spell it
   pub counted : (rows : ℕ) → Executes set_count (count_values next.count) mid last (Ok rows) → MakesNext old.now next last.now
@@ -82,9 +96,10 @@ module _ (old mid last : Conn) (state next : State) (held : Stores old.now state
       let is = set_count_is t.tables t.indexes t.views in
       let w = runs_as set_count (count_values next.count) mid last (schema_with t.tables t.indexes t.views) t.is set_count_command is.0 is.1 rows ran in
       let set = sets_count t.tables t.indexes t.views t.others mid last state.count next.count rows t.is (made.count ∙ held.count) ran in
-      let tables : IsFormat1 last.now.schema = subst IsFormat1 (sym set.only.schema) t in
+      let tables : IsFormat2 last.now.schema = subst IsFormat2 (sym set.only.schema) t in
       let rules : last.now.trees 0 ≡ mid.now.trees 0 = set.only.others rule_table (subst (λ (s : Schema). Has s.tables rule_table) (sym t.is) (inl refl)) (λ e. absurd (cc)) in
       let routes : last.now.trees 1 ≡ mid.now.trees 1 = set.only.others route_table (subst (λ (s : Schema). Has s.tables route_table) (sym t.is) (inr (inl refl))) (λ e. absurd (cc)) in
+      let lengths : last.now.trees 4 ≡ mid.now.trees 4 = set.only.others suppress_table (subst (λ (s : Schema). Has s.tables suppress_table) (sym t.is) (inr (inr (inr (inl refl))))) (λ e. absurd (cc)) in
       let keyed : IsKeyed (last.now.trees 1) = subst IsKeyed (sym routes) made.routes_keyed in
       record {
         sound = w.sound;
@@ -93,6 +108,7 @@ module _ (old mid last : Conn) (state next : State) (held : Stores old.now state
           keyed = keyed;
           rules = rules_spell (last.now.trees 0) (subst IsKeyed (sym rules) made.rules_keyed) next storable (subst (λ rows. Covers IsRuleRow rows next.rules) (sym rules) made.rules);
           routes = routes_spell last.now tables w.sound keyed next storable (subst (λ rows. Covers IsRouteRow rows next.routes) (sym routes) made.routes);
+          lengths = lengths_spell (last.now.trees 4) (subst IsKeyed (sym lengths) made.lengths_keyed) next storable (subst (λ rows. Covers IsLengthRow rows (lengths_of next.rules)) (sym lengths) made.lengths);
           count = set.alone;
           fits = storable;
         };
@@ -101,5 +117,5 @@ module _ (old mid last : Conn) (state next : State) (held : Stores old.now state
             let other = among_others old.now.schema held.tables table there not_ours in
             let apart = held.tables.others in
             let no_count = set.only.others table (subst (λ (s : Schema). Has s.tables table) (sym made.schema) there) (eqb-false table.tree 3 (apart.meta table other)) in
-            no_count ∙ made.others table there (eqb-false table.tree 0 (apart.rule table other)) (eqb-false table.tree 1 (apart.route table other));
+            no_count ∙ made.others table there (eqb-false table.tree 0 (apart.rule table other)) (eqb-false table.tree 1 (apart.route table other)) (eqb-false table.tree 4 (apart.suppress table other));
       }

@@ -12,14 +12,12 @@ use Rattle.sqlite_rules.specs.Lists.{Has}
 use Rattle.prt_addr.specs.declared.refusal.Refusal.{Refusal}
 use Rattle.prt_addr.specs.declared.refusal.Refusal.TheVariants.{StoreFailed}
 use Rattle.prt_addr.specs.declared.refusal.StoreCall.TheVariants.{Commit}
-use Rattle.prt_rows.specs.Effects.{IsKeyed, KeepsTables}
-use Rattle.prt_rows.specs.Format.{BeginsFormat1, IsFormat1}
-use Rattle.prt_rows.specs.Kept.{kept_count, kept_rule}
-use Rattle.prt_rows.specs.RouteRow.{route_row}
-use Rattle.prt_rows.specs.Tables.{meta_table, route_table, rule_table}
+use Rattle.prt_rows.specs.Format.{BeginsFormat2, IsFormat2}
 use Rattle.prt_version.specs.Change.{put}
 use Rattle.prt_version.specs.State.{State}
 use Rattle.prt_version.specs.declared.change.Change.{Change}
+use Rattle.prt_store.proofs.Adoptions.{stored_still}
+use Rattle.prt_store.proofs.Openings.{part_of}
 use Rattle.prt_store.proofs.Spelled.{database, spelled_once, stored_once, stored_there}
 use Rattle.prt_store.specs.Adopted.{Adopts, AdoptsPart, IsSettled, LeavesPart}
 use Rattle.prt_store.specs.Exits.{IsKnown, IsStored, MayLeave, Opens, SparesOthers, Spells}
@@ -29,17 +27,17 @@ use Rattle.prt_store.specs.Stored.{Stores}
 
 -- ---- adopted, and then loaded
 
-module _ {S : Type 0} (g : Ghosts S) (begins : Bool) (found adopted loaded : Held S) (version : State) (is : begins ≡ true → BeginsFormat1 (state g found).now.schema)
-    (adopts : HasCleanDisk (state g adopted) → BeginsFormat1 (state g found).now.schema → Adopts (state g found).now (state g adopted).now)
-    (spells : HasCleanDisk (state g loaded) → IsFormat1 (state g adopted).now.schema → Stores (state g adopted).now version)
-    (quiet : (HasCleanDisk (state g adopted) → IsFormat1 (state g adopted).now.schema) → Survives (state g adopted) (state g loaded) (λ _. ⊥)) where
+module _ {S : Type 0} (g : Ghosts S) (begins : Bool) (found adopted loaded : Held S) (version : State) (is : begins ≡ true → BeginsFormat2 (state g found).now.schema)
+    (adopts : HasCleanDisk (state g adopted) → BeginsFormat2 (state g found).now.schema → Adopts (state g found).now (state g adopted).now)
+    (spells : HasCleanDisk (state g loaded) → IsFormat2 (state g adopted).now.schema → Stores (state g adopted).now version)
+    (quiet : (HasCleanDisk (state g adopted) → IsFormat2 (state g adopted).now.schema) → Survives (state g adopted) (state g loaded) (λ _. ⊥)) where
   survives : begins ≡ true → Survives (state g adopted) (state g loaded) (λ _. ⊥)
   survives ours = quiet (λ clean. (adopts clean (is ours)).tables)
 
   clean_then : IsKnown g begins loaded → HasCleanDisk (state g adopted)
   clean_then known = omega (arith, (survives known.0).clean, known.1)
 
-  tables : IsKnown g begins loaded → IsFormat1 (state g adopted).now.schema
+  tables : IsKnown g begins loaded → IsFormat2 (state g adopted).now.schema
   tables known = (adopts (clean_then known) (is known.0)).tables
 
   -- the version is that of what the opening made of the file
@@ -47,9 +45,9 @@ module _ {S : Type 0} (g : Ghosts S) (begins : Bool) (found adopted loaded : Hel
   opens known = ((state g adopted).now, adopts (clean_then known) (is known.0), spells known.1 (tables known))
 
   -- and it is stored
-  pub is_stored : (HasCleanDisk (state g loaded) → IsFormat1 (state g adopted).now.schema → IsUnchanged (state g adopted) (state g loaded))
-      → (HasCleanDisk (state g adopted) → BeginsFormat1 (state g found).now.schema → (trees : Trees) → (state g adopted).may_leave trees → trees ≡ (state g adopted).now.trees)
-      → (HasCleanDisk (state g loaded) → IsFormat1 (state g adopted).now.schema → IsDatabase (state g loaded).now)
+  pub is_stored : (HasCleanDisk (state g loaded) → IsFormat2 (state g adopted).now.schema → IsUnchanged (state g adopted) (state g loaded))
+      → (HasCleanDisk (state g adopted) → BeginsFormat2 (state g found).now.schema → (trees : Trees) → (state g adopted).may_leave trees → trees ≡ (state g adopted).now.trees)
+      → (HasCleanDisk (state g loaded) → IsFormat2 (state g adopted).now.schema → IsDatabase (state g loaded).now)
       → IsKnown g begins loaded → IsStored g loaded version
   is_stored same leaves sound known =
       let held = spells known.1 (tables known) in
@@ -67,28 +65,22 @@ module _ {S : Type 0} (g : Ghosts S) (begins : Bool) (found adopted loaded : Hel
       }
 
   -- in tables that the opening adopted
-  pub is_opened : (HasCleanDisk (state g loaded) → IsFormat1 (state g adopted).now.schema → IsUnchanged (state g adopted) (state g loaded))
-      → (HasCleanDisk (state g adopted) → BeginsFormat1 (state g found).now.schema → (trees : Trees) → (state g adopted).may_leave trees → trees ≡ (state g adopted).now.trees)
-      → (HasCleanDisk (state g loaded) → IsFormat1 (state g adopted).now.schema → IsDatabase (state g loaded).now)
+  pub is_opened : (HasCleanDisk (state g loaded) → IsFormat2 (state g adopted).now.schema → IsUnchanged (state g adopted) (state g loaded))
+      → (HasCleanDisk (state g adopted) → BeginsFormat2 (state g found).now.schema → (trees : Trees) → (state g adopted).may_leave trees → trees ≡ (state g adopted).now.trees)
+      → (HasCleanDisk (state g loaded) → IsFormat2 (state g adopted).now.schema → IsDatabase (state g loaded).now)
       → IsKnown g begins loaded → Adopts (state g found).now (state g loaded).now × IsStored g loaded version
   is_opened same leaves sound known =
       let unchanged : (state g loaded).now ≡ (state g adopted).now = (same known.1 (tables known)).0.now_is in
       (subst (λ (db : Database). Adopts (state g found).now db) (sym unchanged) (adopts (clean_then known) (is known.0)), is_stored same leaves sound known)
 
-part_of : (old new : Database) → Adopts old new → AdoptsPart old new
-part_of old new adopts = record {
-  tables = inr (inr (inr adopts.tables));
-  rows = elim adopts.rows [ inl kept ↦ inl kept.1 | inr filled ↦ inr filled ];
-}
-
 -- a crash leaves what it could leave before, or what an opening leaves that is stopped
 abbrev Lasts : {S : Type 0} → Ghosts S → Held S → Held S → Type 0
-Lasts g was left = (HasCleanDisk (state g was) → BeginsFormat1 (state g was).now.schema) → Survives (state g was) (state g left) (LeavesPart (state g was).now)
+Lasts g was left = (HasCleanDisk (state g was) → BeginsFormat2 (state g was).now.schema) → Survives (state g was) (state g left) (LeavesPart (state g was).now)
 
 module _ {S : Type 0} (g : Ghosts S) (found adopted loaded : Held S)
-    (adopts : HasCleanDisk (state g adopted) → BeginsFormat1 (state g found).now.schema → Adopts (state g found).now (state g adopted).now) (crash : Lasts g found adopted)
-    (quiet : (HasCleanDisk (state g adopted) → IsFormat1 (state g adopted).now.schema) → Survives (state g adopted) (state g loaded) (λ _. ⊥)) where
-  tables_there : (HasCleanDisk (state g found) → BeginsFormat1 (state g found).now.schema) → HasCleanDisk (state g adopted) → IsFormat1 (state g adopted).now.schema
+    (adopts : HasCleanDisk (state g adopted) → BeginsFormat2 (state g found).now.schema → Adopts (state g found).now (state g adopted).now) (crash : Lasts g found adopted)
+    (quiet : (HasCleanDisk (state g adopted) → IsFormat2 (state g adopted).now.schema) → Survives (state g adopted) (state g loaded) (λ _. ⊥)) where
+  tables_there : (HasCleanDisk (state g found) → BeginsFormat2 (state g found).now.schema) → HasCleanDisk (state g adopted) → IsFormat2 (state g adopted).now.schema
   tables_there begins clean = (adopts clean (begins (omega (arith, (crash begins).clean, clean)))).tables
 
   -- a load adds nothing to what a crash may leave
@@ -98,69 +90,35 @@ module _ {S : Type 0} (g : Ghosts S) (found adopted loaded : Held S)
       (crash begins) (quiet (tables_there begins))
 
   -- a load that is refused changes no rows
-  pub left_in_part : (HasCleanDisk (state g adopted) → BeginsFormat1 (state g found).now.schema → IsSettled g adopted)
-      → (HasCleanDisk (state g loaded) → IsFormat1 (state g adopted).now.schema → IsTrue (state g loaded).is_open → IsSettled g adopted → StaysSettled g adopted loaded)
-      → HasCleanDisk (state g loaded) → IsTrue (state g loaded).is_open → BeginsFormat1 (state g found).now.schema → AdoptsPart (state g found).now (state g loaded).now
+  pub left_in_part : (HasCleanDisk (state g adopted) → BeginsFormat2 (state g found).now.schema → IsSettled g adopted)
+      → (HasCleanDisk (state g loaded) → IsFormat2 (state g adopted).now.schema → IsTrue (state g loaded).is_open → IsSettled g adopted → StaysSettled g adopted loaded)
+      → HasCleanDisk (state g loaded) → IsTrue (state g loaded).is_open → BeginsFormat2 (state g found).now.schema → AdoptsPart (state g found).now (state g loaded).now
   left_in_part settled stays clean is_open begins =
       let before : HasCleanDisk (state g adopted) = omega (arith, (quiet (tables_there (λ _. begins))).clean, clean) in
       let made = adopts before begins in
       let unchanged : (state g loaded).now ≡ (state g adopted).now = (stays clean made.tables is_open (settled before begins)).1 in
       subst (λ (db : Database). AdoptsPart (state g found).now db) (sym unchanged) (part_of (state g found).now (state g adopted).now made)
 
--- ---- tables that spell a state already
-
-module _ (found db : Database) (stored : State) (tables : IsFormat1 found.schema) where
-  has_rules : Has found.schema.tables rule_table
-  has_rules = subst (λ (s : Schema). Has s.tables rule_table) (sym tables.is) (inl refl)
-
-  has_routes : Has found.schema.tables route_table
-  has_routes = subst (λ (s : Schema). Has s.tables route_table) (sym tables.is) (inr (inl refl))
-
-  has_meta : Has found.schema.tables meta_table
-  has_meta = subst (λ (s : Schema). Has s.tables meta_table) (sym tables.is) (inr (inr (inl refl)))
-
-  -- tables that are kept spell what they spelt
-  still_stored : KeepsTables found db → IsFormat1 db.schema → Stores found stored → Stores db stored
-  still_stored keeps now held =
-      let rules = (keeps.kept rule_table has_rules).1 in
-      let routes = (keeps.kept route_table has_routes).1 in
-      record {
-        tables = now;
-        rules = subst (λ (rows : _). IsPermutation rows (map kept_rule stored.rules)) (sym rules) held.rules;
-        routes = subst (λ (rows : _). IsPermutation (map (drop 1) rows) (map route_row stored.routes)) (sym routes) held.routes;
-        keyed = subst IsKeyed (sym routes) held.keyed;
-        count = (keeps.kept meta_table has_meta).1 ∙ held.count;
-        fits = held.fits;
-      }
-
 -- an opening changes no tables that spell a state
 pub found_is : (found : Database) (version stored : State) → Opens found version → IsDatabase found → Spells found.trees stored → version ≡ stored
 found_is found version stored opens sound spells =
     let db = opens.0 in
-    let adopted = opens.1 in
-    let held = stored_there found stored sound spells in
-    elim adopted.rows [
-      | inl kept ↦ stored_once db.schema db.schema db.trees version stored opens.2 (still_stored found db stored held.tables kept.1 adopted.tables held)
-      | inr filled ↦
-          let none = filled.empty meta_table (inr (inr (inl refl))) (has_meta found db stored held.tables) in
-          let row : kept_count stored.count ∷ [] ≡ [] = sym held.count ∙ none in
-          absurd (let e = row in cc)
-    ]
+    stored_once db.schema db.schema db.trees version stored opens.2 (stored_still found db stored opens.1 (stored_there found stored sound spells))
 
 -- ---- a commit
 
 pub next_spelled : (old : Database) (next : State) (schema : Schema) (trees : Trees) → MakesNext old next (database schema trees) → Spells trees next
 next_spelled old next schema trees makes = record { schema = schema; sound = makes.sound; stores = makes.stores }
 
-module _ {S : Type 0} (g : Ghosts S) (format_1 : Bool) (old new : Held S) (published : State) (made : Change) (number : ℕ) (next : IsNext published made number)
-    (clean : HasCleanDisk (state g new) → HasCleanDisk (state g old)) (kept : IsKnown g format_1 old → IsStored g old published) where
-  held : IsKnown g format_1 new → IsStored g old published
+module _ {S : Type 0} (g : Ghosts S) (ours_first : Bool) (old new : Held S) (published : State) (made : Change) (number : ℕ) (next : IsNext published made number)
+    (clean : HasCleanDisk (state g new) → HasCleanDisk (state g old)) (kept : IsKnown g ours_first old → IsStored g old published) where
+  held : IsKnown g ours_first new → IsStored g old published
   held known = kept (known.0, clean known.1)
 
   -- the next state is stored
   pub stored_after : (HasCleanDisk (state g new) → (before : State) → IsNext before made number → Stores (state g old).now before → MakesNext (state g old).now (put before made) (state g new).now)
       → (HasCleanDisk (state g new) → (trees : Trees) → (state g new).may_leave trees → trees ≡ (state g new).now.trees)
-      → IsKnown g format_1 new → IsStored g new (put published made)
+      → IsKnown g ours_first new → IsStored g new (put published made)
   stored_after makes leaves known =
       let after = makes known.1 published next (held known).now in
       record {
@@ -170,21 +128,21 @@ module _ {S : Type 0} (g : Ghosts S) (format_1 : Bool) (old new : Held S) (publi
 
   -- and the other tables stay
   pub spares_after : (HasCleanDisk (state g new) → (before : State) → IsNext before made number → Stores (state g old).now before → MakesNext (state g old).now (put before made) (state g new).now)
-      → IsKnown g format_1 new → SparesOthers (state g old).now (state g new).now
+      → IsKnown g ours_first new → SparesOthers (state g old).now (state g new).now
   spares_after makes known = let after = makes known.1 published next (held known).now in record { schema = after.schema; rows = after.others }
 
   module _ (reason : Refusal)
       (leaves : HasCleanDisk (state g new) → (before : State) → IsNext before made number → Stores (state g old).now before → (trees : Trees) → (state g new).may_leave trees
       → (state g old).may_leave trees ⊎ ((reason ≡ StoreFailed Commit) × MakesNext (state g old).now (put before made) (database (state g old).now.schema trees))) where
     -- whatever a crash leaves spells the state before or after
-    pub keeps_after : IsKnown g format_1 new → (trees : Trees) → (state g new).may_leave trees → (left : State) × Spells trees left
+    pub keeps_after : IsKnown g ours_first new → (trees : Trees) → (state g new).may_leave trees → (left : State) × Spells trees left
     keeps_after known trees may = elim (leaves known.1 published next (held known).now trees may) [
       | inl was ↦ (published, (held known).durable trees was)
       | inr more ↦ (put published made, next_spelled (state g old).now (put published made) (state g old).now.schema trees more.1)
     ]
 
     -- the state after only where the commit call failed
-    pub either_left : IsKnown g format_1 new → (left : State) → MayLeave g new left → (left ≡ published) ⊎ ((reason ≡ StoreFailed Commit) × (left ≡ put published made))
+    pub either_left : IsKnown g ours_first new → (left : State) → MayLeave g new left → (left ≡ published) ⊎ ((reason ≡ StoreFailed Commit) × (left ≡ put published made))
     either_left known left may =
         let trees = may.0 in
         elim (leaves known.1 published next (held known).now trees may.1) [

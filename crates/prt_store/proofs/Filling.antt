@@ -1,41 +1,37 @@
--- The rows that fill three empty tables spell the opening state.
+-- The rows that fill the empty tables spell the opening state.
 use Rattle.std.proofs.Common.{◌≡◌, ◌≤◌, inl, inr, ℕ, List, [], ◌∷◌, drop, map, IsPermutation, ◌==◌, refl, sym, ap, subst, ◌∙◌, arith}
 use Rattle.std.proofs.lemmas.Bool.{eqb-false}
-use Rattle.std.proofs.lemmas.Cmp.{tied_itself}
 use Rattle.std.proofs.lemmas.List.Sorted.{IsPermutation-refl, IsPermutation-sym}
 use Rattle.std.specs.List.{IsDistinct}
-use Rattle.std.specs.Ordering.{is_eq}
 use Rattle.sqlite.proofs.Callers.{one_permutation, runs_as}
 use Rattle.sqlite.specs.Effect.{Database, IsDatabase}
 use Rattle.sqlite.specs.Held.{Held, state}
 use Rattle.sqlite.specs.Schema.{Schema}
 use Rattle.sqlite.specs.Store.{Ghosts}
 use Rattle.sqlite.specs.Table.{Table}
-use Rattle.sqlite.specs.Tree.{rowid}
 use Rattle.sqlite_rules.specs.Lists.{Has}
-use Rattle.sqlite_value.proofs.OrderLemmas.{value_cmp_total}
 use Rattle.sqlite_value.specs.Order.{Row}
 use Rattle.prt_route.specs.Names.{default_table, local_table, main_table}
 use Rattle.prt_rows.proofs.Insertion.{adds_count, adds_rule}
 use Rattle.prt_rows.proofs.Opening.{keyed_empty, none_there, one_more_row, three_keyed, three_rules}
 use Rattle.prt_rows.proofs.Texts.{insert_meta_is}
 use Rattle.prt_rows.specs.Cell.{IsWithin}
-use Rattle.prt_rows.specs.Effects.{Adds, AreEmpty, ChangesOnly, HasSame, IsKeyed, has_same_rowid}
-use Rattle.prt_rows.specs.Format.{IsFormat1}
+use Rattle.prt_rows.specs.Effects.{Adds, AreEmpty, ChangesOnly, HasSame, IsKeyed}
+use Rattle.prt_rows.specs.Format.{IsFormat2}
 use Rattle.prt_rows.specs.Kept.{kept_count, kept_rule}
 use Rattle.prt_rows.specs.Meanings.{insert_meta_command}
 use Rattle.prt_rows.specs.MetaRow.{meta_row}
 use Rattle.prt_rows.specs.RuleRow.{IsRule}
 use Rattle.prt_rows.specs.Statements.{insert_meta}
-use Rattle.prt_rows.specs.Tables.{meta_table, our_tables, route_table, rule_table, schema_with}
+use Rattle.prt_rows.specs.Tables.{meta_table, our_tables, route_table, rule_table, schema_with, suppress_table}
 use Rattle.prt_rule.specs.declared.rule.Rule.{Rule}
 use Rattle.prt_version.proofs.Successor.{opens_sound}
 use Rattle.prt_version.specs.State.{opening_rules, opening_state, table_rule}
 use Rattle.prt_store.proofs.Changes.{among_others, keyed_rules}
-use Rattle.prt_store.proofs.Looks.{no_meta_rows, no_route_rows, no_rule_rows, our_table}
-use Rattle.prt_store.proofs.Once.{IsOnce, once_mapped, same_members}
-use Rattle.prt_store.proofs.Spelling.{map_id}
+use Rattle.prt_store.proofs.Looks.{no_length_rows, no_meta_rows, no_route_rows, no_rule_rows, our_table}
+use Rattle.prt_store.proofs.Spelling.{same_rows}
 use Rattle.prt_store.specs.Adopted.{IsFilled}
+use Rattle.prt_store.specs.Lengths.{plain}
 use Rattle.prt_store.specs.Openings.{Fills, HasDone, begun_from}
 use Rattle.prt_store.specs.Stored.{FitsTables, Stores}
 
@@ -44,24 +40,25 @@ use Rattle.prt_store.specs.Stored.{FitsTables, Stores}
 range : (low high n : ℕ) → low ≤ n → n ≤ high → IsWithin low high n
 range low high n least most = record { least = least; most = most }
 
-fits_rule : (id priority table : ℕ) → 1 ≤ id → id ≤ 3 → priority ≤ 4294967295 → 1 ≤ table → table ≤ 4294967295 → IsRule 3 (table_rule id priority table)
-fits_rule id priority table least most fits some few = record {
+fits_rule : (id priority table : ℕ) → 1 ≤ id → id ≤ 3 → priority ≤ 4294967295 → table ≤ 4294967295 → IsRule 3 (table_rule id priority table)
+fits_rule id priority table least most fits few = record {
   id = range 1 3 id least most;
   priority = range 0 4294967295 priority (omega arith) fits;
   from = record { short = omega arith; fits = omega arith; clear = refl };
   to = record { short = omega arith; fits = omega arith; clear = refl };
   iif = tt;
   mark = (tt, tt);
-  action = record { table = range 0 4294967295 table (omega arith) few; storable = some };
+  action = range 0 4294967295 table (omega arith) few;
+  plain = refl;
 }
 
-fits_opening : (rule : Rule) → Has opening_rules rule → IsRule 3 rule
+fits_opening : (rule : Rule) → Has opening_rules rule → IsRule 3 (plain rule)
 fits_opening rule there = elim there [
-  | inl is ↦ subst (IsRule 3) (sym is) (fits_rule 1 0 local_table (omega arith) (omega arith) (omega arith) (omega arith) (omega arith))
+  | inl is ↦ subst (λ r. IsRule 3 (plain r)) (sym is) (fits_rule 1 0 local_table (omega arith) (omega arith) (omega arith) (omega arith))
   | inr more ↦ elim more [
-    | inl is ↦ subst (IsRule 3) (sym is) (fits_rule 2 32766 main_table (omega arith) (omega arith) (omega arith) (omega arith) (omega arith))
+    | inl is ↦ subst (λ r. IsRule 3 (plain r)) (sym is) (fits_rule 2 32766 main_table (omega arith) (omega arith) (omega arith) (omega arith))
     | inr last ↦ elim last [
-      | inl is ↦ subst (IsRule 3) (sym is) (fits_rule 3 32767 default_table (omega arith) (omega arith) (omega arith) (omega arith) (omega arith))
+      | inl is ↦ subst (λ r. IsRule 3 (plain r)) (sym is) (fits_rule 3 32767 default_table (omega arith) (omega arith) (omega arith) (omega arith))
       | inr none ↦ absurd none
     ]
   ]
@@ -72,18 +69,13 @@ opening_fits = record {
   sound = opens_sound (table_rule 1 0 local_table) (table_rule 2 32766 main_table) (table_rule 3 32767 default_table) opening_rules [] refl refl refl refl refl;
   rules = fits_opening;
   routes = λ route none. absurd none;
+  storable = record { rules = (refl, (refl, (refl, tt))); routes = tt };
 }
 
 distinct_ids : IsDistinct (λ (rule other : Rule). rule.id == other.id) opening_rules
 distinct_ids = opening_fits.sound.distinct_ids
 
 -- ---- rows that are the same
-
-once_if_keyed : (rows : List Row) → IsKeyed rows → IsOnce rows
-once_if_keyed rows keyed = subst IsOnce (map_id rows) (once_mapped (λ row. row) has_same_rowid rows keyed.once (λ row other there also same. ap (λ x. has_same_rowid row x) (sym same) ∙ ap is_eq (tied_itself value_cmp_total (rowid row))))
-
-same_rows : (rows others : List Row) → IsKeyed rows → IsKeyed others → HasSame rows others → IsPermutation rows others
-same_rows rows others keyed also same = same_members rows others (once_if_keyed rows keyed) (once_if_keyed others also) same.sound same.complete
 
 -- the other way round
 turned : (a b c : Row) (rows : List Row) → HasSame rows (c ∷ b ∷ a ∷ []) → HasSame rows (a ∷ b ∷ c ∷ [])
@@ -123,7 +115,7 @@ module _ (a b c d e : Database) (one : ChangesOnly rule_table a b) (two : Change
       let in_d = subst (λ (s : Schema). Has s.tables table) (sym three.schema) in_c in
       four.others table in_d meta ∙ three.others table in_c rule ∙ two.others table in_b rule ∙ one.others table there rule
 
-module _ (a b c d e : Database) (tables : IsFormat1 a.schema) (empty : AreEmpty a) (one : Adds rule_table (kept_rule (table_rule 1 0 local_table)) a b) (two : Adds rule_table (kept_rule (table_rule 2 32766 main_table)) b c)
+module _ (a b c d e : Database) (tables : IsFormat2 a.schema) (empty : AreEmpty a) (one : Adds rule_table (kept_rule (table_rule 1 0 local_table)) a b) (two : Adds rule_table (kept_rule (table_rule 2 32766 main_table)) b c)
     (three : Adds rule_table (kept_rule (table_rule 3 32767 default_table)) c d) (four : Adds meta_table (kept_count 0) d e) where
   no_rules : a.trees 0 ≡ []
   no_rules = no_rule_rows a tables empty
@@ -147,14 +139,19 @@ module _ (a b c d e : Database) (tables : IsFormat1 a.schema) (empty : AreEmpty 
   routes_stay : e.trees 1 ≡ a.trees 1
   routes_stay = stays a b c d e one.only two.only three.only four.only route_table (our_table a.schema tables route_table (inr (inl refl))) (λ is. absurd (cc)) (λ is. absurd (cc))
 
+  no_lengths : e.trees 4 ≡ []
+  no_lengths =
+      stays a b c d e one.only two.only three.only four.only suppress_table (our_table a.schema tables suppress_table (inr (inr (inr (inl refl))))) (λ is. absurd (cc)) (λ is. absurd (cc)) ∙ no_length_rows a tables empty
+
   opened : Stores e opening_state
   opened = record {
-    tables = subst IsFormat1 (sym (schema_stays a b c d e one.only two.only three.only four.only)) tables;
+    tables = subst IsFormat2 (sym (schema_stays a b c d e one.only two.only three.only four.only)) tables;
     rules = subst (λ rows. IsPermutation rows (map kept_rule opening_rules)) (sym rules_stay)
         (same_rows (d.trees 0) (map kept_rule opening_rules) (three_keyed (table_rule 1 0 local_table) (table_rule 2 32766 main_table) (table_rule 3 32767 default_table) a b c d one two three no_rules) (keyed_rules opening_rules distinct_ids)
         (turned _ _ _ (d.trees 0) (three_rules (table_rule 1 0 local_table) (table_rule 2 32766 main_table) (table_rule 3 32767 default_table) a b c d one two three no_rules)));
     routes = subst (λ rows. IsPermutation (map (drop 1) rows) []) (sym (routes_stay ∙ no_routes)) (IsPermutation-refl []);
     keyed = keyed_empty (e.trees 1) (routes_stay ∙ no_routes);
+    lengths = subst (λ rows. IsPermutation rows []) (sym no_lengths) (IsPermutation-refl []);
     count = one_row 0 d e four (meta_stays ∙ no_count);
     fits = opening_fits;
   }
@@ -176,8 +173,8 @@ module _ (a b c d e : Database) (tables : IsFormat1 a.schema) (empty : AreEmpty 
 
 -- ---- the step that fills them
 
-pub fills : {S : Type 0} (g : Ghosts S) (old : Held S) (db : Database) → IsFormat1 (state g old).now.schema → AreEmpty (state g old).now → HasDone g (Fills g) old db
-    → IsDatabase db × IsFormat1 db.schema × IsFilled (state g old).now db
+pub fills : {S : Type 0} (g : Ghosts S) (old : Held S) (db : Database) → IsFormat2 (state g old).now.schema → AreEmpty (state g old).now → HasDone g (Fills g) old db
+    → IsDatabase db × IsFormat2 db.schema × IsFilled (state g old).now db
 fills g old db t empty done =
     let last = done.0 in
     let rules_in = done.1 in
@@ -199,4 +196,4 @@ fills g old db t empty done =
     let means = insert_meta_is t.tables t.indexes t.views in
     let w = runs_as insert_meta (meta_row 0) (state g third) (state g last) (schema_with t.tables t.indexes t.views) is_d insert_meta_command means.0 means.1 count.0 count.1 in
     let all = filled (state g old).now (state g one_mid).now (state g two_mid).now (state g third).now (state g last).now t empty one two three four in
-    subst (λ (d : Database). IsDatabase d × IsFormat1 d.schema × IsFilled (state g old).now d) (sym done.2) (w.sound, all.opening.tables, all)
+    subst (λ (d : Database). IsDatabase d × IsFormat2 d.schema × IsFilled (state g old).now d) (sym done.2) (w.sound, all.opening.tables, all)

@@ -1,6 +1,7 @@
 pub mod Members
 pub mod Once
 pub mod Spelling
+pub mod Lengths
 pub mod Changes
 pub mod Commits
 pub mod Nexts
@@ -10,6 +11,7 @@ pub mod Transactions
 pub mod Looks
 pub mod Filling
 pub mod Openings
+pub mod Migrations
 pub mod Adoptions
 pub mod Spelled
 pub mod Exits

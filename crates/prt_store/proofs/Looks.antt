@@ -15,24 +15,29 @@ use Rattle.sqlite.specs.declared.error.Error.{Error}
 use Rattle.sqlite_rules.specs.Lists.{Has}
 use Rattle.sqlite_value.specs.Order.{Row}
 use Rattle.prt_addr.specs.declared.refusal.Refusal.{Refusal}
-use Rattle.prt_rows.proofs.Looking.{Looks, looks_at_meta, looks_at_routes, looks_at_rules}
-use Rattle.prt_rows.proofs.Texts.{look_at_meta_is, look_at_routes_is, look_at_rules_is}
+use Rattle.prt_rows.proofs.Looking.{Looks, looks_at_meta, looks_at_routes, looks_at_rules, looks_at_suppress}
+use Rattle.prt_rows.proofs.Texts.{look_at_meta_is, look_at_routes_is, look_at_rules_is, look_at_suppress_is}
 use Rattle.prt_rows.specs.Effects.{AreEmpty}
-use Rattle.prt_rows.specs.Format.{IsFormat1}
-use Rattle.prt_rows.specs.Tables.{meta_table, our_tables, route_table, rule_table, schema_with}
+use Rattle.prt_rows.specs.Format.{IsFormat2}
+use Rattle.prt_rows.specs.Tables.{meta_table, our_tables, route_table, rule_table, schema_with, suppress_table}
 use Rattle.prt_store.proofs.Loads.{commits_nothing, failed_query, unchanged}
-use Rattle.prt_store.specs.Openings.{IsEmpty, Sees, look_at, table_of}
+use Rattle.prt_store.specs.Openings.{IsDue, IsEmpty, NamesFormat1, Sees, look_at, table_of}
 use Rattle.prt_store.specs.declared.opening.OurTable.{OurTable}
 use Rattle.prt_store.specs.declared.opening.OurTable.TheVariants as ours
 
 -- a query that fails leaves what was there, if the connection is still open
-still_there : (old new : Conn) → IsUnchanged old new ⊎ IsRolledBack old new → IsTrue new.is_open → (IsTrue old.is_open → old.now ≡ old.committed) → new.now ≡ old.now
+pub still_there : (old new : Conn) → IsUnchanged old new ⊎ IsRolledBack old new → IsTrue new.is_open → (IsTrue old.is_open → old.now ≡ old.committed) → new.now ≡ old.now
 still_there old new (inl same) still_open settled = same.0.now_is
 still_there old new (inr undone) still_open settled = (undone.undone still_open).0 ∙ sym (settled (undone.was_open still_open))
 
 pub no_length : (rows : List Row) → length rows ≡ 0 → rows ≡ []
 no_length [] none = refl
 no_length (row ∷ rows) none = absurd (omega (arith, none))
+
+-- whether anything was found
+pub none_found : (found : List Row) (n : ℕ) (b : Bool) → n ≡ length found → b ≡ (n == 0) → b ≡ true → found ≡ []
+none_found [] n b long is told = refl
+none_found (x ∷ found) n b long is told = absurd (true≢false (sym told ∙ is ∙ ap (λ n. n == 0) long ∙ ne_eqb (length (x ∷ found)) 0 (λ zero. absurd (omega (arith, zero)))))
 
 -- whether nothing was found says whether there are rows
 tells : (rows found : List Row) (n : ℕ) (b : Bool) → Looks rows found → n ≡ length found → b ≡ (n == 0) → MatchBool b (rows ≡ []) (rows ≡ [] → ⊥)
@@ -42,22 +47,24 @@ tells rows (x ∷ found) n b looks long is = subst (λ b. MatchBool b (rows ≡ 
 -- ---- one look
 
 -- the statement shows no rows of a write
-plain_look : (table : OurTable) (schema : Schema) → IsFormat1 schema → IsPlain (understood schema (look_at table))
+plain_look : (table : OurTable) (schema : Schema) → IsFormat2 schema → IsPlain (understood schema (look_at table))
 plain_look table schema t = subst (λ (s : Schema). IsPlain (understood s (look_at table))) (sym t.is) (plain table)
   where
     plain : (table : OurTable) → IsPlain (understood (schema_with t.tables t.indexes t.views) (look_at table))
     plain ours.Rule = (look_at_rules_is t.tables t.indexes t.views).1
     plain ours.Route = (look_at_routes_is t.tables t.indexes t.views).1
     plain ours.Meta = (look_at_meta_is t.tables t.indexes t.views).1
+    plain ours.Suppress = (look_at_suppress_is t.tables t.indexes t.views).1
 
-looks_at : (table : OurTable) (old new : Conn) → IsFormat1 old.now.schema → (found : List Row) → Shown (look_at table) [] old new found → Looks (old.now.trees (table_of table).tree) found
+looks_at : (table : OurTable) (old new : Conn) → IsFormat2 old.now.schema → (found : List Row) → Shown (look_at table) [] old new found → Looks (old.now.trees (table_of table).tree) found
 looks_at ours.Rule old new t found = looks_at_rules t.tables t.indexes t.views old new t.is found
 looks_at ours.Route old new t found = looks_at_routes t.tables t.indexes t.views old new t.is found
 looks_at ours.Meta old new t found = looks_at_meta t.tables t.indexes t.views old new t.is found
+looks_at ours.Suppress old new t found = looks_at_suppress t.tables t.indexes t.views old new t.is found
 
 -- what it tells of a table
 module _ {S : Type 0} (g : Ghosts S) (table : OurTable) (old new : Held S) (survives : Survives (state g old) (state g new) (CommitsShowing (look_at table) [] (state g old))) where
-  look_quiet : (HasCleanDisk (state g old) → IsFormat1 (state g old).now.schema) → Survives (state g old) (state g new) (λ _. ⊥)
+  look_quiet : (HasCleanDisk (state g old) → IsFormat2 (state g old).now.schema) → Survives (state g old) (state g new) (λ _. ⊥)
   look_quiet tables = commits_nothing (look_at table) (state g old) (state g new) (λ clean. plain_look table (state g old).now.schema (tables clean)) survives
 
   pub look_fails : (e : Error) (reason : Refusal) → (HasCleanDisk (state g new) → FailsToQuery (look_at table) [] (state g old) (state g new) e) → Sees g (IsEmpty table) old new (Err reason)
@@ -80,7 +87,7 @@ module _ {S : Type 0} (g : Ghosts S) (table : OurTable) (old new : Held S) (surv
 -- ---- one look after another
 
 module _ {S : Type 0} (g : Ghosts S) (P Q : Database → Type 0) (a b : Held S) where
-  pub sees_not : Sees g P a b (Ok false) → ((db : Database) → IsFormat1 db.schema → Q db → P db) → Sees g Q a b (Ok false)
+  pub sees_not : Sees g P a b (Ok false) → ((db : Database) → IsFormat2 db.schema → Q db → P db) → Sees g Q a b (Ok false)
   sees_not one only = record {
     ok = λ clean tables. let seen = one.ok clean tables in (λ it. seen.0 (only (state g a).now tables it), seen.1);
     err = λ clean tables still_open settled. tt;
@@ -91,22 +98,22 @@ module _ {S : Type 0} (g : Ghosts S) (P Q : Database → Type 0) (a b : Held S) 
   sees_fails reason (Ok x) bad one = absurd (true≢false (sym bad))
   sees_fails reason (Err other) bad one = record { ok = λ clean tables. tt; err = one.err; quiet = one.quiet }
 
-  pub sees_same : (result : Result Bool Refusal) → ((db : Database) → IsFormat1 db.schema → P db → Q db) → ((db : Database) → IsFormat1 db.schema → Q db → P db) → Sees g P a b result → Sees g Q a b result
+  pub sees_same : (result : Result Bool Refusal) → ((db : Database) → IsFormat2 db.schema → P db → Q db) → ((db : Database) → IsFormat2 db.schema → Q db → P db) → Sees g P a b result → Sees g Q a b result
   sees_same (Ok true) to back one = record { ok = λ clean tables. let seen = one.ok clean tables in (to (state g a).now tables seen.0, seen.1); err = one.err; quiet = one.quiet }
   sees_same (Ok false) to back one = sees_not one back
   sees_same (Err reason) to back one = sees_fails reason (Err reason) refl one
 
   module _ (c : Held S) (one : Sees g P a b (Ok true)) where
-    tables_then : (HasCleanDisk (state g a) → IsFormat1 (state g a).now.schema) → HasCleanDisk (state g b) → IsFormat1 (state g b).now.schema
+    tables_then : (HasCleanDisk (state g a) → IsFormat2 (state g a).now.schema) → HasCleanDisk (state g b) → IsFormat2 (state g b).now.schema
     tables_then tables clean =
         let had = tables (omega (arith, (one.quiet tables).clean)) in
-        subst (λ (d : Database). IsFormat1 d.schema) (sym (one.ok clean had).1.0.now_is) had
+        subst (λ (d : Database). IsFormat2 d.schema) (sym (one.ok clean had).1.0.now_is) had
 
     module _ (result : Result Bool Refusal) (two : Sees g Q b c result) where
-      clean_before : IsFormat1 (state g a).now.schema → HasCleanDisk (state g c) → HasCleanDisk (state g b)
+      clean_before : IsFormat2 (state g a).now.schema → HasCleanDisk (state g c) → HasCleanDisk (state g b)
       clean_before tables clean = omega (arith, (two.quiet (tables_then (λ _. tables))).clean)
 
-      quiet_then : (HasCleanDisk (state g a) → IsFormat1 (state g a).now.schema) → Survives (state g a) (state g c) (λ _. ⊥)
+      quiet_then : (HasCleanDisk (state g a) → IsFormat2 (state g a).now.schema) → Survives (state g a) (state g c) (λ _. ⊥)
       quiet_then tables = survives_then (state g a) (state g b) (state g c) _ _ (λ _. ⊥) (λ _ db none. none) (λ _ db none. none) (one.quiet tables) (two.quiet (tables_then tables))
 
     -- the second look is asked where the first one found it so
@@ -138,29 +145,49 @@ module _ {S : Type 0} (g : Ghosts S) (P Q : Database → Type 0) (a b : Held S) 
       quiet = quiet_then (Err reason) two;
     }
 
--- ---- the three tables
+-- ---- the four tables
 
 -- our tables are there
-pub our_table : (schema : Schema) → IsFormat1 schema → (table : Table) → Has our_tables table → Has schema.tables table
-our_table schema t table ours = subst (λ (s : Schema). Has s.tables table) (sym t.is) (first_three table ours)
+pub our_table : (schema : Schema) → IsFormat2 schema → (table : Table) → Has our_tables table → Has schema.tables table
+our_table schema t table ours = subst (λ (s : Schema). Has s.tables table) (sym t.is) (first_four table ours)
   where
-    first_three : (table : Table) → Has our_tables table → Has (rule_table ∷ route_table ∷ meta_table ∷ t.tables) table
-    first_three table (inl is) = inl is
-    first_three table (inr (inl is)) = inr (inl is)
-    first_three table (inr (inr (inl is))) = inr (inr (inl is))
-    first_three table (inr (inr (inr none))) = absurd none
+    first_four : (table : Table) → Has our_tables table → Has (rule_table ∷ route_table ∷ meta_table ∷ suppress_table ∷ t.tables) table
+    first_four table (inl is) = inl is
+    first_four table (inr (inl is)) = inr (inl is)
+    first_four table (inr (inr (inl is))) = inr (inr (inl is))
+    first_four table (inr (inr (inr (inl is)))) = inr (inr (inr (inl is)))
+    first_four table (inr (inr (inr (inr none)))) = absurd none
 
-pub no_meta_rows : (db : Database) → IsFormat1 db.schema → AreEmpty db → db.trees 3 ≡ []
-no_meta_rows db t empty = let ours : Has our_tables meta_table = inr (inr (inl refl)) in empty meta_table ours (our_table db.schema t meta_table ours)
+-- a table of ours that is empty has no rows
+no_rows : (db : Database) (table : Table) → Has our_tables table → IsFormat2 db.schema → AreEmpty db → db.trees table.tree ≡ []
+no_rows db table ours t empty = empty table ours (our_table db.schema t table ours)
 
-pub no_rule_rows : (db : Database) → IsFormat1 db.schema → AreEmpty db → db.trees 0 ≡ []
-no_rule_rows db t empty = let ours : Has our_tables rule_table = inl refl in empty rule_table ours (our_table db.schema t rule_table ours)
+pub no_rule_rows : (db : Database) → IsFormat2 db.schema → AreEmpty db → db.trees 0 ≡ []
+no_rule_rows db = no_rows db rule_table (inl refl)
 
-pub no_route_rows : (db : Database) → IsFormat1 db.schema → AreEmpty db → db.trees 1 ≡ []
-no_route_rows db t empty = let ours : Has our_tables route_table = inr (inl refl) in empty route_table ours (our_table db.schema t route_table ours)
+pub no_route_rows : (db : Database) → IsFormat2 db.schema → AreEmpty db → db.trees 1 ≡ []
+no_route_rows db = no_rows db route_table (inr (inl refl))
 
-pub all_empty : (db : Database) → (db.trees 3 ≡ []) × ((db.trees 0 ≡ []) × (db.trees 1 ≡ [])) → AreEmpty db
+pub no_meta_rows : (db : Database) → IsFormat2 db.schema → AreEmpty db → db.trees 3 ≡ []
+no_meta_rows db = no_rows db meta_table (inr (inr (inl refl)))
+
+pub no_length_rows : (db : Database) → IsFormat2 db.schema → AreEmpty db → db.trees 4 ≡ []
+no_length_rows db = no_rows db suppress_table (inr (inr (inr (inl refl))))
+
+pub all_empty : (db : Database) → (db.trees 3 ≡ []) × ((db.trees 0 ≡ []) × ((db.trees 1 ≡ []) × (db.trees 4 ≡ []))) → AreEmpty db
 all_empty db none table (inl is) there = subst (λ (t : Table). db.trees t.tree ≡ []) (sym is) none.1.0
-all_empty db none table (inr (inl is)) there = subst (λ (t : Table). db.trees t.tree ≡ []) (sym is) none.1.1
+all_empty db none table (inr (inl is)) there = subst (λ (t : Table). db.trees t.tree ≡ []) (sym is) none.1.1.0
 all_empty db none table (inr (inr (inl is))) there = subst (λ (t : Table). db.trees t.tree ≡ []) (sym is) none.0
-all_empty db none table (inr (inr (inr other))) there = absurd other
+all_empty db none table (inr (inr (inr (inl is)))) there = subst (λ (t : Table). db.trees t.tree ≡ []) (sym is) none.1.1.1
+all_empty db none table (inr (inr (inr (inr other)))) there = absurd other
+
+-- ---- the format
+
+-- the file is to be migrated where its `meta` names format 1 and it has no lengths
+pub is_due_if : (db : Database) → IsFormat2 db.schema → NamesFormat1 db × IsEmpty ours.Suppress db → IsDue db
+is_due_if db t found =
+    let named = found.0 in
+    (named.0, record { there = our_table db.schema t meta_table (inr (inr (inl refl))); fits = named.1; row = named.2; none = λ there. found.1 })
+
+pub named_if_due : (db : Database) → IsFormat2 db.schema → IsDue db → NamesFormat1 db × IsEmpty ours.Suppress db
+named_if_due db t due = ((due.0, due.1.fits, due.1.row), due.1.none (our_table db.schema t suppress_table (inr (inr (inr (inl refl))))))

@@ -1,7 +1,7 @@
 -- What a checked change makes of a state that may be stored may be stored too.
 use Rattle.std.proofs.Common.{◌≡◌, inl, inr, ℕ, ◌+◌, ◌≤◌, ◌<◌, ◌^◌, Bool, true, false, not, Option, Some, None, Result, Ok, Err, cond, refl, sym, ap, subst, ◌∙◌, arith}
-use Rattle.std.specs.Prelude.{◌==◌, IfOk, nat_lt, ok_or, option_map}
-use Rattle.sqlite_rules.proofs.ListLemmas.{all_has, has_filtered, has_found}
+use Rattle.std.specs.Prelude.{◌==◌, IfOk, IsTrue, nat_lt, ok_or, option_map}
+use Rattle.sqlite_rules.proofs.ListLemmas.{all_from, all_has, has_filtered, has_found}
 use Rattle.sqlite_rules.specs.Lists.{Has}
 use Rattle.prt_addr.specs.declared.refusal.Refusal.{Refusal}
 use Rattle.prt_addr.specs.declared.refusal.Refusal.TheVariants.{Exists, NoSuch, Full, CountFull}
@@ -11,14 +11,14 @@ use Rattle.prt_command.specs.declared.request.Command.TheVariants.{RouteAdd, Rou
 use Rattle.prt_route.specs.Edit.{has_key}
 use Rattle.prt_route.specs.Route.{is_listed_before, is_same_key, key_of}
 use Rattle.prt_route.specs.RouteChoice.{chosen_route, is_selected}
-use Rattle.prt_route.specs.Storable.{IsStorableRoute}
+use Rattle.prt_route.specs.Storable.{is_storable_route}
 use Rattle.prt_route.specs.declared.edit.RouteEdit.TheVariants.{Put, Remove, Flush}
 use Rattle.prt_route.specs.declared.route.Route.{Route}
-use Rattle.prt_rows.specs.RouteRow.{IsRoute}
+use Rattle.prt_rows.specs.RouteRow.{IsInRange}
 use Rattle.prt_rows.specs.RuleRow.{IsRule}
 use Rattle.prt_rule.specs.Rule.{is_before}
 use Rattle.prt_rule.specs.RuleChoice.{is_named}
-use Rattle.prt_rule.specs.Storable.{IsStorableAction}
+use Rattle.prt_rule.specs.Storable.{is_storable_rule}
 use Rattle.prt_rule.specs.declared.rule.Rule.{Rule}
 use Rattle.prt_version.proofs.Successor.{next_sound}
 use Rattle.prt_version.specs.Change.{change_of, check, has_rule, named_rule, put, rule_of, unless_count_full}
@@ -28,6 +28,7 @@ use Rattle.prt_version.specs.declared.change.Change.{Change}
 use Rattle.prt_version.specs.declared.change.Change.TheVariants as change
 use Rattle.prt_version.specs.declared.limits.TheConstants.{MOST_COMMANDS}
 use Rattle.prt_store.proofs.Members.{inserted_has}
+use Rattle.prt_store.specs.Lengths.{plain}
 use Rattle.prt_store.specs.Next.{IsNext}
 use Rattle.prt_store.specs.Stored.{FitsTables}
 use Rattle.prt_store.specs.Written.{HasStorableIds, IsTyped}
@@ -36,12 +37,28 @@ use Rattle.prt_store.specs.Written.{HasStorableIds, IsTyped}
 pub next_of : (before : State) (command : Command) (made : Change) (number : ℕ) → number ≡ before.count → IsSound before → IsStorable command → Ok made ≡ check before command → IsNext before made (number + 1)
 next_of before command made number is sound storable makes = record { sound = sound; command = command; storable = storable; makes = sym makes; counts = ap (λ n. n + 1) is }
 
+abbrev IsStorableRule : Rule → Type 0
+IsStorableRule rule = IsTrue (is_storable_rule rule.action rule.suppress)
+
+abbrev IsStorableRoute : Route → Type 0
+IsStorableRoute route = IsTrue (is_storable_route route)
+
 -- what a storable command puts may be stored, under the next id, and what it drops is there
 abbrev Suits : State → Change → Type 0
 Suits state (change.Route (Put route)) = IsStorableRoute route
-Suits state (change.RulePut rule) = IsStorableAction rule.action × (rule.id ≡ state.count + 4)
+Suits state (change.RulePut rule) = IsStorableRule rule × (rule.id ≡ state.count + 4)
 Suits state (change.RuleDrop id) = (rule : Rule) × Has state.rules rule × (rule.id ≡ id)
 Suits state _ = Unit {0}
+
+-- the rule that is put, if one is
+abbrev PutsRule : (Rule → Type 0) → Change → Type 0
+PutsRule P (change.RulePut rule) = P rule
+PutsRule P _ = Unit {0}
+
+-- the route that is put, if one is
+abbrev PutsRoute : (Route → Type 0) → Change → Type 0
+PutsRoute P (change.Route (Put route)) = P route
+PutsRoute P _ = Unit {0}
 
 if_either : (P : Change → Type 0) (b : Bool) (x y : Result Change Refusal) → IfOk x P → IfOk y P → IfOk (cond b x y) P
 if_either P true x y first second = first
@@ -72,7 +89,7 @@ counted_suits state count (Err reason) suits = tt
 -- ---- the next state
 
 up_to : (last most : ℕ) (rule : Rule) → rule.id ≤ most → IsRule last rule → IsRule most rule
-up_to last most rule within is = record { id = record { least = is.id.least; most = within }; priority = is.priority; from = is.from; to = is.to; iif = is.iif; mark = is.mark; action = is.action }
+up_to last most rule within is = record { id = record { least = is.id.least; most = within }; priority = is.priority; from = is.from; to = is.to; iif = is.iif; mark = is.mark; action = is.action; plain = is.plain }
 
 module _ (state : State) (made : Change) (number : ℕ) (next : IsNext state made number) where
   suits : Suits state made
@@ -113,31 +130,68 @@ module _ (state : State) (made : Change) (number : ℕ) (next : IsNext state mad
           omega (arith, fits.2, least, before)
       by_change change.RuleFlush fits = tt
 
+  -- what holds of each rule, and of the one that is put, holds of each rule of the next state
+  rules_after : (P : Rule → Type 0) (made : Change) → PutsRule P made → ((rule : Rule) → Has state.rules rule → P rule) → (rule : Rule) → Has (put state made).rules rule → P rule
+  rules_after P (change.Route edit) new each rule there = each rule there
+  rules_after P (change.RulePut put_rule) new each rule there = elim (inserted_has is_before put_rule state.rules rule there) [
+    | inl is ↦ subst P (sym is) new
+    | inr was ↦ each rule was
+  ]
+  rules_after P (change.RuleDrop id) new each rule there = each rule (has_filtered (λ rule. not (rule.id == id)) state.rules rule there).0
+  rules_after P change.RuleFlush new each rule there = each rule (has_filtered (λ rule. rule.priority == 0) state.rules rule there).0
+
+  -- the same of routes
+  routes_after : (P : Route → Type 0) (made : Change) → PutsRoute P made → ((route : Route) → Has state.routes route → P route) → (route : Route) → Has (put state made).routes route → P route
+  routes_after P (change.Route (Put put_route)) new each route there = elim (inserted_has is_listed_before put_route _ route there) [
+    | inl is ↦ subst P (sym is) new
+    | inr was ↦ each route (has_filtered (λ other. not (is_same_key (key_of other) (key_of put_route))) state.routes route was).0
+  ]
+  routes_after P (change.Route (Remove key)) new each route there = each route (has_filtered (λ other. not (is_same_key (key_of other) key)) state.routes route there).0
+  routes_after P (change.Route (Flush selector)) new each route there = each route (has_filtered (λ other. not (is_selected selector other)) state.routes route there).0
+  routes_after P (change.RulePut rule) new each route there = each route there
+  routes_after P (change.RuleDrop id) new each route there = each route there
+  routes_after P change.RuleFlush new each route there = each route there
+
+  -- what is put is in range, and a table may hold it
+  rule_in_range : (made : Change) → Suits state made → IsTyped made → PutsRule (λ rule. IsRule (state.count + 1 + 3) (plain rule)) made
+  rule_in_range (change.Route edit) fits typed = tt
+  rule_in_range (change.RulePut new) fits typed = up_to new.id (state.count + 1 + 3) (plain new) (omega (arith, fits.1)) (typed (omega (arith, fits.1)))
+  rule_in_range (change.RuleDrop id) fits typed = tt
+  rule_in_range change.RuleFlush fits typed = tt
+
+  route_in_range : (made : Change) → IsTyped made → PutsRoute IsInRange made
+  route_in_range (change.Route (Put route)) typed = typed
+  route_in_range (change.Route (Remove key)) typed = tt
+  route_in_range (change.Route (Flush selector)) typed = tt
+  route_in_range (change.RulePut rule) typed = tt
+  route_in_range (change.RuleDrop id) typed = tt
+  route_in_range change.RuleFlush typed = tt
+
+  rule_storable : (made : Change) → Suits state made → PutsRule IsStorableRule made
+  rule_storable (change.Route edit) fits = tt
+  rule_storable (change.RulePut rule) fits = fits.0
+  rule_storable (change.RuleDrop id) fits = tt
+  rule_storable change.RuleFlush fits = tt
+
+  route_storable : (made : Change) → Suits state made → PutsRoute IsStorableRoute made
+  route_storable (change.Route (Put route)) fits = fits
+  route_storable (change.Route (Remove key)) fits = tt
+  route_storable (change.Route (Flush selector)) fits = tt
+  route_storable (change.RulePut rule) fits = tt
+  route_storable (change.RuleDrop id) fits = tt
+  route_storable change.RuleFlush fits = tt
+
   module _ (storable : FitsTables state) (typed : IsTyped made) where
-    older_rules : (rule : Rule) → Has state.rules rule → IsRule (state.count + 1 + 3) rule
-    older_rules rule there = let is = storable.rules rule there in up_to (state.count + 3) (state.count + 1 + 3) rule (omega (arith, is.id.most)) is
-
-    pub rules_storable : (made : Change) → Suits state made → IsTyped made → (rule : Rule) → Has (put state made).rules rule → IsRule ((put state made).count + 3) rule
-    rules_storable (change.Route edit) fits typed rule there = older_rules rule there
-    rules_storable (change.RulePut new) fits typed rule there = elim (inserted_has is_before new state.rules rule there) [
-      | inl is ↦
-          let now : IsRule (state.count + 1 + 3) new = up_to new.id (state.count + 1 + 3) new (omega (arith, fits.1)) (typed (omega (arith, fits.1)) fits.0) in
-          subst (IsRule (state.count + 1 + 3)) (sym is) now
-      | inr was ↦ older_rules rule was
-    ]
-    rules_storable (change.RuleDrop id) fits typed rule there = older_rules rule (has_filtered (λ rule. not (rule.id == id)) state.rules rule there).0
-    rules_storable change.RuleFlush fits typed rule there = older_rules rule (has_filtered (λ rule. rule.priority == 0) state.rules rule there).0
-
-    routes_storable : (made : Change) → Suits state made → IsTyped made → (route : Route) → Has (put state made).routes route → IsRoute route
-    routes_storable (change.Route (Put new)) fits typed route there = elim (inserted_has is_listed_before new _ route there) [
-      | inl is ↦ subst IsRoute (sym is) (record { in_range = typed; storable = fits })
-      | inr was ↦ storable.routes route (has_filtered (λ other. not (is_same_key (key_of other) (key_of new))) state.routes route was).0
-    ]
-    routes_storable (change.Route (Remove key)) fits typed route there = storable.routes route (has_filtered (λ other. not (is_same_key (key_of other) key)) state.routes route there).0
-    routes_storable (change.Route (Flush selector)) fits typed route there = storable.routes route (has_filtered (λ other. not (is_selected selector other)) state.routes route there).0
-    routes_storable (change.RulePut rule) fits typed route there = storable.routes route there
-    routes_storable (change.RuleDrop id) fits typed route there = storable.routes route there
-    routes_storable change.RuleFlush fits typed route there = storable.routes route there
+    older_rules : (rule : Rule) → Has state.rules rule → IsRule (state.count + 1 + 3) (plain rule)
+    older_rules rule there = let is = storable.rules rule there in up_to (state.count + 3) (state.count + 1 + 3) (plain rule) (omega (arith, is.id.most)) is
 
     pub next_storable : FitsTables (put state made)
-    next_storable = record { sound = next_is_sound; rules = rules_storable made suits typed; routes = routes_storable made suits typed }
+    next_storable = record {
+      sound = next_is_sound;
+      rules = λ rule there. subst (λ n. IsRule (n + 3) (plain rule)) (sym (put_count made)) (rules_after (λ r. IsRule (state.count + 1 + 3) (plain r)) made (rule_in_range made suits typed) older_rules rule there);
+      routes = routes_after IsInRange made (route_in_range made typed) storable.routes;
+      storable = record {
+        rules = all_from IsStorableRule (put state made).rules (rules_after IsStorableRule made (rule_storable made suits) (λ rule there. all_has IsStorableRule state.rules rule storable.storable.rules there));
+        routes = all_from IsStorableRoute (put state made).routes (routes_after IsStorableRoute made (route_storable made suits) (λ route there. all_has IsStorableRoute state.routes route storable.storable.routes there));
+      };
+    }

@@ -1,28 +1,30 @@
 -- The steps of an opening, one after the other.
-use Rattle.std.proofs.Common.{◌≡◌, inl, inr, ℕ, Bool, true, false, not, [], Ok, Err, Result, IfErr, IsErr, IsTrue, OnErr, OnOk, true≢false, refl, sym, subst, ◌∙◌, arith}
-use Rattle.std.proofs.lemmas.Bool.{not-true}
+use Rattle.std.proofs.Common.{◌≡◌, ◌≢◌, ◌⊎◌, inl, inr, ℕ, Bool, true, false, [], ◌∷◌, Ok, Err, Result, IfErr, IsErr, IsTrue, OnErr, OnOk, true≢false, refl, sym, ap, subst, ◌∙◌, arith}
 use Rattle.std.proofs.lemmas.Result.{on_err_weaker, on_ok_weaker}
 use Rattle.std.specs.Result.{is_err, result_or}
 use Rattle.sqlite.proofs.StateLemmas.{survives_then, survives_weaker}
 use Rattle.sqlite.specs.Effect.{Database, IsDatabase}
 use Rattle.sqlite.specs.Held.{Held, state}
 use Rattle.sqlite.specs.Schema.{Schema}
-use Rattle.sqlite.specs.State.{HasCleanDisk, IsRolledBack, KeepsCounts, Shows, Survives}
+use Rattle.sqlite.specs.State.{HasCleanDisk, IsRolledBack, IsUnchanged, KeepsCounts, Shows, Survives}
 use Rattle.sqlite.specs.Steps.{FailsToCommit}
 use Rattle.sqlite.specs.Store.{Ghosts}
+use Rattle.sqlite.specs.Table.{Table}
 use Rattle.sqlite.specs.Tree.{Trees}
 use Rattle.sqlite.specs.declared.error.Error.{Error}
+use Rattle.sqlite_rules.specs.Lists.{Has}
 use Rattle.prt_addr.specs.declared.refusal.Refusal.{Refusal}
 use Rattle.prt_addr.specs.declared.refusal.Refusal.TheVariants.{OpenFailed}
-use Rattle.prt_rows.proofs.Creating.{makes_meta, makes_route, makes_rule}
-use Rattle.prt_rows.proofs.Keeping.{empty_after, empty_before, format_made, keeps_itself, keeps_none, keeps_rules, keeps_rules_and_routes, keeps_then, meta_missing, meta_there, routes_missing, routes_there, rules_missing, rules_there}
-use Rattle.prt_rows.specs.Effects.{AreEmpty, KeepsTables}
-use Rattle.prt_rows.specs.Format.{BeginsFormat1, BeginsWithRoutes, BeginsWithRules, IsFormat1, has_table}
-use Rattle.prt_rows.specs.Statements.{create_meta, create_route, create_rule}
-use Rattle.prt_rows.specs.Tables.{no_tables, rule_alone, rule_and_route}
+use Rattle.prt_rows.proofs.Creating.{makes_meta, makes_route, makes_rule, makes_suppress}
+use Rattle.prt_rows.proofs.Keeping.{empty_after, empty_before, format_made, keeps_format_1, keeps_itself, keeps_none, keeps_rules, keeps_rules_and_routes, keeps_then, meta_missing, meta_there, routes_missing, routes_there, rules_missing, rules_there, suppress_missing, suppress_there}
+use Rattle.prt_rows.specs.Effects.{AreEmpty, IsOfFormat1, KeepsTables, Migrates, Sets}
+use Rattle.prt_rows.specs.Format.{BeginsFormat2, BeginsWithMeta, BeginsWithRoutes, BeginsWithRules, IsFormat2, has_table}
+use Rattle.prt_rows.specs.Kept.{kept_count, kept_count_1}
+use Rattle.prt_rows.specs.Statements.{create_meta, create_route, create_rule, create_suppress}
+use Rattle.prt_rows.specs.Tables.{format_1_alone, meta_table, no_tables, our_tables, rule_alone, rule_and_route, suppress_table}
 use Rattle.prt_store.proofs.Filling.{fills}
 use Rattle.prt_store.proofs.Transactions.{committed, crash_after, left_alone, not_committed, stopped, survives_itself}
-use Rattle.prt_store.specs.Adopted.{Adopts, AdoptsPart, IsFilled, LeavesPart}
+use Rattle.prt_store.specs.Adopted.{Adopts, AdoptsPart, IsFilled, IsSettled, LeavesMigrated, LeavesPart, MigratesTables}
 use Rattle.prt_store.specs.Openings.{Advances, Commits, Fills, HasDone, HasLeft, MakesMissing, OpensTables, Ran, Sees, Takes, Works, begun_from, table_of}
 use Rattle.prt_store.specs.declared.opening.OurTable.{OurTable}
 use Rattle.prt_store.specs.declared.opening.OurTable.TheVariants as ours
@@ -31,6 +33,10 @@ use Rattle.prt_store.specs.declared.opening.Step.TheVariants as step
 pub on_any : {T E P : Type 0} (r : Result T E) → P → OnOk r P
 on_any (Ok x) it = it
 on_any (Err e) it = tt
+
+both_ok : {T E : Type 0} (P Q : Type 0) (r : Result T E) → OnOk r P → OnOk r Q → OnOk r (P × Q)
+both_ok P Q (Ok x) one two = (one, two)
+both_ok P Q (Err e) one two = tt
 
 on_err_any : {T E P : Type 0} (r : Result T E) → P → OnErr r P
 on_err_any (Ok x) it = tt
@@ -67,7 +73,7 @@ stops g Does old begun last end result was works settled survives undone = recor
 -- ---- what is left of an opening
 
 -- nothing was done yet
-nothing_done : (db : Database) → BeginsFormat1 db.schema → AdoptsPart db db
+nothing_done : (db : Database) → BeginsFormat2 db.schema → AdoptsPart db db
 nothing_done db tables = record { tables = tables; rows = inl (keeps_itself db) }
 
 pub filled_later : (old mid new : Database) → KeepsTables old mid → IsFilled mid new → IsFilled old new
@@ -84,10 +90,103 @@ filled_later old mid new keeps filled = record {
   ];
 }
 
+-- ---- a file of format 1
+
+-- it has a row
+pub not_empty : (db : Database) (count : ℕ) → IsOfFormat1 db count → AreEmpty db → ⊥
+not_empty db count was empty = let none : kept_count_1 count ∷ [] ≡ [] = sym was.row ∙ empty meta_table (inr (inr (inl refl))) was.there in cc
+
+-- tables that are made leave it one
+pub due_after : (old mid : Database) (count : ℕ) → KeepsTables old mid → IsOfFormat1 old count → IsOfFormat1 mid count
+due_after old mid count keeps was =
+    let meta = keeps.kept meta_table was.there in
+    record {
+      there = meta.0;
+      fits = was.fits;
+      row = meta.1 ∙ was.row;
+      none = λ there. elim (keeps.made suppress_table there) [ inl before ↦ (keeps.kept suppress_table before).1 ∙ was.none before | inr made ↦ made.1 ];
+    }
+
+-- and make none
+due_before : (old mid : Database) (count : ℕ) → KeepsTables old mid → IsOfFormat1 mid count → IsOfFormat1 old count
+due_before old mid count keeps is = elim (keeps.made meta_table is.there) [
+  | inl before ↦ record {
+    there = before;
+    fits = is.fits;
+    row = sym (keeps.kept meta_table before).1 ∙ is.row;
+    none = λ there. let now = keeps.kept suppress_table there in sym now.1 ∙ is.none now.0;
+  }
+  | inr made ↦ absurd (let none : kept_count_1 count ∷ [] ≡ [] = sym is.row ∙ made.1 in cc)
+]
+
+-- a table of ours is `meta` or keeps its rows apart from it
+apart_or_meta : (table : Table) → Has our_tables table → (table ≡ meta_table) ⊎ (table.tree ≢ 3)
+apart_or_meta table (inl is) = inr (λ tree. absurd (let e = sym (ap (λ (t : Table). t.tree) is) ∙ tree in cc))
+apart_or_meta table (inr (inl is)) = inr (λ tree. absurd (let e = sym (ap (λ (t : Table). t.tree) is) ∙ tree in cc))
+apart_or_meta table (inr (inr (inl is))) = inl is
+apart_or_meta table (inr (inr (inr (inl is)))) = inr (λ tree. absurd (let e = sym (ap (λ (t : Table). t.tree) is) ∙ tree in cc))
+apart_or_meta table (inr (inr (inr (inr none)))) = absurd none
+
+-- a table of ours that has no rows has none once the format is set
+still_empty : (mid new : Database) (migrated : MigratesTables mid new) (table : Table) → Has mid.schema.tables table → Has our_tables table → mid.trees table.tree ≡ [] → new.trees table.tree ≡ []
+still_empty mid new migrated table there ours empty = elim (apart_or_meta table ours) [
+  | inl is ↦ absurd (let none : kept_count_1 migrated.count ∷ [] ≡ [] = sym migrated.was.row ∙ subst (λ (t : Table). mid.trees t.tree ≡ []) is empty in cc)
+  | inr apart ↦ (migrated.kept table there apart).1 ∙ empty
+]
+
+-- tables were made, and then the format was set
+pub migrated_later : (old mid new : Database) → KeepsTables old mid → MigratesTables mid new → MigratesTables old new
+migrated_later old mid new keeps migrated = record {
+  count = migrated.count;
+  was = due_before old mid migrated.count keeps migrated.was;
+  row = migrated.row;
+  there = migrated.there;
+  kept = λ table there apart.
+      let first = keeps.kept table there in
+      let second = migrated.kept table first.0 apart in
+      (second.0, second.1 ∙ first.1);
+  made = λ table there. elim (migrated.made table there) [
+    | inl before ↦ elim (keeps.made table before) [
+      | inl was ↦ inl was
+      | inr one_of_ours ↦ inr (one_of_ours.0, still_empty mid new migrated table before one_of_ours.0 one_of_ours.1)
+    ]
+    | inr none ↦ inr none
+  ];
+}
+
+-- what the statement that sets the format does is a migration of the tables
+migrated_of : (mid new : Database) (count : ℕ) → IsOfFormat1 mid count → Sets meta_table (kept_count count) mid new → MigratesTables mid new
+migrated_of mid new count was set = record {
+  count = count;
+  was = was;
+  row = set.alone;
+  there = subst (λ (s : Schema). Has s.tables meta_table) (sym set.only.schema) was.there;
+  kept = λ table there apart. (subst (λ (s : Schema). Has s.tables table) (sym set.only.schema) there, set.only.others table there apart);
+  made = λ table there. inl (subst (λ (s : Schema). Has s.tables table) set.only.schema there);
+}
+
+-- what an opening leaves whose tables have rows
+adopts_of : (old mid new : Database) → KeepsTables old mid → IsFormat2 mid.schema → (AreEmpty mid → ⊥) → Migrates mid new → Adopts old new
+adopts_of old mid new keeps tables some (inl same) =
+    subst (Adopts old) (sym same.1) (record {
+      tables = tables;
+      rows = inl (record { some = λ empty. some (empty_after old mid keeps empty); not_due = λ count was. same.0 count (due_after old mid count keeps was); keeps = keeps });
+    })
+adopts_of old mid new keeps tables some (inr due) =
+    record { tables = subst IsFormat2 (sym due.2.only.schema) tables; rows = inr (inl (migrated_later old mid new keeps (migrated_of mid new due.0 due.1 due.2))) }
+
+pub part_of : (old new : Database) → Adopts old new → AdoptsPart old new
+part_of old new adopts = record { tables = inr (inr (inr (inr adopts.tables))); rows = elim adopts.rows [ inl kept ↦ inl kept.keeps | inr changed ↦ inr changed ] }
+
+-- ---- what was done after tables were made
+
 part_later : (old mid new : Database) → KeepsTables old mid → AdoptsPart mid new → AdoptsPart old new
 part_later old mid new keeps part = record {
   tables = part.tables;
-  rows = elim part.rows [ inl more ↦ inl (keeps_then old mid new keeps more) | inr filled ↦ inr (filled_later old mid new keeps filled) ];
+  rows = elim part.rows [
+    | inl more ↦ inl (keeps_then old mid new keeps more)
+    | inr changed ↦ elim changed [ inl migrated ↦ inr (inl (migrated_later old mid new keeps migrated)) | inr filled ↦ inr (inr (filled_later old mid new keeps filled)) ]
+  ];
 }
 
 leaves_later : (old mid : Database) (trees : Trees) → KeepsTables old mid → LeavesPart mid trees → LeavesPart old trees
@@ -104,7 +203,7 @@ opens_nothing g conn reason = record {
 -- ---- a table that is made where it is missing
 
 module _ {S : Type 0} (g : Ghosts S) (table : OurTable) (From To : Schema → Type 0) (from : Schema) (there : (schema : Schema) → From schema → has_table (table_of table).name schema ≡ true → To schema)
-    (missing : (schema : Schema) → From schema → has_table (table_of table).name schema ≡ false → schema ≡ from) (begins : (schema : Schema) → From schema → BeginsFormat1 schema) (goes_on : (schema : Schema) → To schema → BeginsFormat1 schema)
+    (missing : (schema : Schema) → From schema → has_table (table_of table).name schema ≡ false → schema ≡ from) (begins : (schema : Schema) → From schema → BeginsFormat2 schema) (goes_on : (schema : Schema) → To schema → BeginsFormat2 schema)
     (makes : (old : Held S) (db : Database) → (state g old).now.schema ≡ from → HasDone g (Takes g (step.Make table)) old db → IsDatabase db × To db.schema × KeepsTables (state g old).now db) where
   advances : (old new : Held S) (result : Result (Unit {0}) Refusal) → MakesMissing g table old new result → Advances g From To old new result
   advances old new result done = go (has_table (table_of table).name (state g old).now.schema) refl
@@ -148,21 +247,30 @@ module _ {S : Type 0} (g : Ghosts S) where
       let made = makes_route (state g (begun_from old)) (state g done.0) done.1.0 has done.1.1 in
       subst (λ (d : Database). IsDatabase d × BeginsWithRoutes d.schema × KeepsTables (state g old).now d) (sym done.2) (made.sound, inl made.schema, keeps_rules (state g old).now (state g done.0).now has made)
 
-  makes_all : (old : Held S) (db : Database) → (state g old).now.schema ≡ rule_and_route → HasDone g (Ran g create_meta []) old db → IsDatabase db × IsFormat1 db.schema × KeepsTables (state g old).now db
-  makes_all old db has done =
+  makes_first : (old : Held S) (db : Database) → (state g old).now.schema ≡ rule_and_route → HasDone g (Ran g create_meta []) old db → IsDatabase db × BeginsWithMeta db.schema × KeepsTables (state g old).now db
+  makes_first old db has done =
       let made = makes_meta (state g (begun_from old)) (state g done.0) done.1.0 has done.1.1 in
-      subst (λ (d : Database). IsDatabase d × IsFormat1 d.schema × KeepsTables (state g old).now d) (sym done.2)
-      (made.sound, format_made (state g done.0).now.schema made.schema, keeps_rules_and_routes (state g old).now (state g done.0).now has made)
+      subst (λ (d : Database). IsDatabase d × BeginsWithMeta d.schema × KeepsTables (state g old).now d) (sym done.2)
+      (made.sound, inl made.schema, keeps_rules_and_routes (state g old).now (state g done.0).now has made)
+
+  makes_all : (old : Held S) (db : Database) → (state g old).now.schema ≡ format_1_alone → HasDone g (Ran g create_suppress []) old db → IsDatabase db × IsFormat2 db.schema × KeepsTables (state g old).now db
+  makes_all old db has done =
+      let made = makes_suppress (state g (begun_from old)) (state g done.0) done.1.0 has done.1.1 in
+      subst (λ (d : Database). IsDatabase d × IsFormat2 d.schema × KeepsTables (state g old).now d) (sym done.2)
+      (made.sound, format_made (state g done.0).now.schema made.schema, keeps_format_1 (state g old).now (state g done.0).now has made)
 
   module _ (old new : Held S) (result : Result (Unit {0}) Refusal) where
-    pub rules_made : MakesMissing g ours.Rule old new result → Advances g BeginsFormat1 BeginsWithRules old new result
-    rules_made = advances g ours.Rule BeginsFormat1 BeginsWithRules no_tables rules_there rules_missing (λ schema tables. tables) (λ schema tables. inr tables) makes_rules old new result
+    pub rules_made : MakesMissing g ours.Rule old new result → Advances g BeginsFormat2 BeginsWithRules old new result
+    rules_made = advances g ours.Rule BeginsFormat2 BeginsWithRules no_tables rules_there rules_missing (λ schema tables. tables) (λ schema tables. inr tables) makes_rules old new result
 
     pub routes_made : MakesMissing g ours.Route old new result → Advances g BeginsWithRules BeginsWithRoutes old new result
     routes_made = advances g ours.Route BeginsWithRules BeginsWithRoutes rule_alone routes_there routes_missing (λ schema tables. inr tables) (λ schema tables. inr (inr tables)) makes_routes old new result
 
-    pub meta_made : MakesMissing g ours.Meta old new result → Advances g BeginsWithRoutes IsFormat1 old new result
-    meta_made = advances g ours.Meta BeginsWithRoutes IsFormat1 rule_and_route meta_there meta_missing (λ schema tables. inr (inr tables)) (λ schema tables. inr (inr (inr tables))) makes_all old new result
+    pub meta_made : MakesMissing g ours.Meta old new result → Advances g BeginsWithRoutes BeginsWithMeta old new result
+    meta_made = advances g ours.Meta BeginsWithRoutes BeginsWithMeta rule_and_route meta_there meta_missing (λ schema tables. inr (inr tables)) (λ schema tables. inr (inr (inr tables))) makes_first old new result
+
+    pub suppress_made : MakesMissing g ours.Suppress old new result → Advances g BeginsWithMeta IsFormat2 old new result
+    suppress_made = advances g ours.Suppress BeginsWithMeta IsFormat2 format_1_alone suppress_there suppress_missing (λ schema tables. inr (inr (inr tables))) (λ schema tables. inr (inr (inr (inr tables)))) makes_all old new result
 
 -- ---- one after the other
 
@@ -199,35 +307,33 @@ module _ {S : Type 0} (g : Ghosts S) (From Mid To : Schema → Type 0) (a b : He
 -- ---- the whole opening
 
 module _ {S : Type 0} (g : Ghosts S) (a b : Held S) where
-  pub opens_not : (reason other : Refusal) → Advances g BeginsFormat1 IsFormat1 a b (Err reason) → OpensTables g a b (Err other)
+  pub opens_not : (reason other : Refusal) → Advances g BeginsFormat2 IsFormat2 a b (Err reason) → OpensTables g a b (Err other)
   opens_not reason other one = record { ok = λ clean tables. tt; err = one.err; crash = one.crash }
 
   -- an opening that is refused at its end has done what one does that is not
   pub opened_in_part : (reason : Refusal) → OpensTables g a b (Ok tt) → OpensTables g a b (Err reason)
   opened_in_part reason opens = record {
     ok = λ clean tables. tt;
-    err = λ clean still_open tables.
-        let adopts = (opens.ok clean tables).0 in
-        record { tables = inr (inr (inr adopts.tables)); rows = elim adopts.rows [ inl kept ↦ inl kept.1 | inr filled ↦ inr filled ] };
+    err = λ clean still_open tables. part_of (state g a).now (state g b).now (opens.ok clean tables).0;
     crash = opens.crash;
   }
 
-  module _ (one : Advances g BeginsFormat1 IsFormat1 a b (Ok tt)) where
-    part_made : HasCleanDisk (state g b) → BeginsFormat1 (state g a).now.schema → AdoptsPart (state g a).now (state g b).now
-    part_made clean tables = let it = one.ok clean tables in record { tables = inr (inr (inr it.0)); rows = inl it.1 }
+  module _ (one : Advances g BeginsFormat2 IsFormat2 a b (Ok tt)) where
+    part_made : HasCleanDisk (state g b) → BeginsFormat2 (state g a).now.schema → AdoptsPart (state g a).now (state g b).now
+    part_made clean tables = let it = one.ok clean tables in record { tables = inr (inr (inr (inr it.0))); rows = inl it.1 }
 
     pub opens_refused : (other : Refusal) → OpensTables g a b (Err other)
     opens_refused other = record { ok = λ clean tables. tt; err = λ clean still_open tables. part_made clean tables; crash = one.crash }
 
     module _ (c : Held S) where
-      has_tables : (HasCleanDisk (state g a) → BeginsFormat1 (state g a).now.schema) → HasCleanDisk (state g b) → IsFormat1 (state g b).now.schema
+      has_tables : (HasCleanDisk (state g a) → BeginsFormat2 (state g a).now.schema) → HasCleanDisk (state g b) → IsFormat2 (state g b).now.schema
       has_tables tables clean = (one.ok clean (tables (omega (arith, (one.crash tables).clean)))).0
 
       module _ (found : Result Bool Refusal) (two : Sees g AreEmpty b c found) where
-        clean_before : BeginsFormat1 (state g a).now.schema → HasCleanDisk (state g c) → HasCleanDisk (state g b)
+        clean_before : BeginsFormat2 (state g a).now.schema → HasCleanDisk (state g c) → HasCleanDisk (state g b)
         clean_before tables clean = omega (arith, (two.quiet (has_tables (λ _. tables))).clean)
 
-        crash_then : (HasCleanDisk (state g a) → BeginsFormat1 (state g a).now.schema) → Survives (state g a) (state g c) (LeavesPart (state g a).now)
+        crash_then : (HasCleanDisk (state g a) → BeginsFormat2 (state g a).now.schema) → Survives (state g a) (state g c) (LeavesPart (state g a).now)
         crash_then tables =
             survives_then (state g a) (state g b) (state g c) (LeavesPart (state g a).now) (λ _. ⊥) (LeavesPart (state g a).now) (λ clean trees left. left) (λ clean trees none. absurd none) (one.crash tables)
             (two.quiet (has_tables tables))
@@ -242,32 +348,64 @@ module _ {S : Type 0} (g : Ghosts S) (a b : Held S) where
         crash = crash_then (Err reason) two;
       }
 
-      -- the tables have rows already
-      pub has_rows : Sees g AreEmpty b c (Ok false) → (autocommit : Bool) → autocommit ≡ true → autocommit ≡ not (state g b).in_transaction → (IsTrue (state g b).is_open → (state g b).now ≡ (state g b).committed) → OpensTables g a c (Ok tt)
-      has_rows two autocommit alone is settled = record {
-        ok = λ clean tables.
-            let before = clean_before (Ok false) two tables clean in
-            let first = one.ok before tables in
-            let seen = two.ok clean first.0 in
-            let same = seen.1.0 in
-            let some : AreEmpty (state g a).now → ⊥ = λ empty. seen.0 (empty_after (state g a).now (state g b).now first.1 empty) in (
-              subst (Adopts (state g a).now) (sym same.now_is) (record { tables = first.0; rows = inl (some, first.1) }),
-              record { is_open = same.is_open; autocommit = same.mode ∙ not-true _ (sym is ∙ alone); committed = same.now_is ∙ settled same.was_open ∙ sym same.committed_is },
-            );
-        err = λ clean still_open tables. tt;
-        crash = crash_then (Ok false) two;
-      }
+      -- the tables have rows already, and a file of format 1 is migrated
+      module _ (d : Held S) (result : Result (Unit {0}) Refusal) (two : Sees g AreEmpty b c (Ok false)) (alone : (state g b).in_transaction ≡ false) (settled : IsTrue (state g b).is_open → (state g b).now ≡ (state g b).committed)
+          (migrates : HasCleanDisk (state g d) → IsFormat2 (state g c).now.schema → OnOk result (Migrates (state g c).now (state g d).now))
+          (settles : HasCleanDisk (state g d) → IsFormat2 (state g c).now.schema → IsSettled g c → OnOk result (IsSettled g d))
+          (stays : HasCleanDisk (state g d) → IsTrue (state g d).is_open → IsFormat2 (state g c).now.schema → IsSettled g c → OnErr result ((state g d).now ≡ (state g c).now))
+          (crash : (HasCleanDisk (state g c) → IsFormat2 (state g c).now.schema) → Survives (state g c) (state g d) (LeavesMigrated (state g c).now)) where
+        module _ (tables : HasCleanDisk (state g a) → BeginsFormat2 (state g a).now.schema) (clean : HasCleanDisk (state g c)) where
+          clean_made : HasCleanDisk (state g b)
+          clean_made = omega (arith, (two.quiet (has_tables tables)).clean)
+
+          seen_rows : (AreEmpty (state g b).now → ⊥) × IsUnchanged (state g b) (state g c)
+          seen_rows = two.ok clean (has_tables tables clean_made)
+
+          tables_seen : IsFormat2 (state g c).now.schema
+          tables_seen = subst (λ (db : Database). IsFormat2 db.schema) (sym seen_rows.1.0.now_is) (has_tables tables clean_made)
+
+          settled_seen : IsSettled g c
+          settled_seen =
+              let same = seen_rows.1.0 in
+              record { is_open = same.is_open; autocommit = same.mode ∙ alone; committed = same.now_is ∙ settled same.was_open ∙ sym same.committed_is }
+
+          first_step : KeepsTables (state g a).now (state g b).now
+          first_step = (one.ok clean_made (tables (omega (arith, (one.crash tables).clean, clean_made)))).1
+
+          adopts_after : (db : Database) → Migrates (state g c).now db → Adopts (state g a).now db
+          adopts_after db it = adopts_of (state g a).now (state g b).now db first_step (has_tables tables clean_made) seen_rows.0 (subst (λ (was : Database). Migrates was db) seen_rows.1.0.now_is it)
+
+        clean_seen : (HasCleanDisk (state g a) → BeginsFormat2 (state g a).now.schema) → HasCleanDisk (state g d) → HasCleanDisk (state g c)
+        clean_seen tables clean = omega (arith, (crash (tables_seen tables)).clean, clean)
+
+        pub opens_migrated : OpensTables g a d result
+        opens_migrated = record {
+          ok = λ clean tables.
+              let late = clean_seen (λ _. tables) clean in
+              let has = tables_seen (λ _. tables) late in
+              both_ok (Adopts (state g a).now (state g d).now) (IsSettled g d) result (on_ok_weaker result (adopts_after (λ _. tables) late (state g d).now) (migrates clean has)) (settles clean has (settled_seen (λ _. tables) late));
+          err = λ clean still_open tables.
+              let late = clean_seen (λ _. tables) clean in
+              let same = (seen_rows (λ _. tables) late).1.0.now_is in
+              on_err_weaker result (λ is. subst (AdoptsPart (state g a).now) (sym (is ∙ same)) (part_made (clean_made (λ _. tables) late) tables))
+              (stays clean still_open (tables_seen (λ _. tables) late) (settled_seen (λ _. tables) late));
+          crash = λ tables.
+              survives_then (state g a) (state g c) (state g d) (LeavesPart (state g a).now) (LeavesMigrated (state g c).now) (LeavesPart (state g a).now) (λ clean trees left. left)
+              (λ clean trees left.
+              let late = clean_seen tables clean in
+              record { db = left.db; is = left.is; sound = left.sound; part = part_of (state g a).now left.db (adopts_after tables late left.db left.migrates) }) (crash_then (Ok false) two tables) (crash (tables_seen tables));
+        }
 
       module _ (d : Held S) (result : Result (Unit {0}) Refusal) (two : Sees g AreEmpty b c (Ok true)) (three : Commits g (Fills g) c d result) where
         clean_then : HasCleanDisk (state g d) → HasCleanDisk (state g c)
         clean_then clean = omega (arith, three.crash.clean)
 
-        filled_by : BeginsFormat1 (state g a).now.schema → HasCleanDisk (state g c) → (db : Database) → HasDone g (Fills g) c db → IsDatabase db × IsFormat1 db.schema × IsFilled (state g a).now db
+        filled_by : BeginsFormat2 (state g a).now.schema → HasCleanDisk (state g c) → (db : Database) → HasDone g (Fills g) c db → IsDatabase db × IsFormat2 db.schema × IsFilled (state g a).now db
         filled_by tables clean db done =
             let first = one.ok (clean_before (Ok true) two tables clean) tables in
             let seen = two.ok clean first.0 in
             let same = sym seen.1.0.now_is in
-            let it = fills g c db (subst (λ (d : Database). IsFormat1 d.schema) same first.0) (subst AreEmpty same seen.0) done in
+            let it = fills g c db (subst (λ (d : Database). IsFormat2 d.schema) same first.0) (subst AreEmpty same seen.0) done in
             (it.0, it.1, filled_later (state g a).now (state g b).now db first.1 (subst (λ (d : Database). IsFilled d db) (sym same) it.2))
 
         -- the tables have none, and are filled
@@ -275,7 +413,7 @@ module _ {S : Type 0} (g : Ghosts S) (a b : Held S) where
         opens_filled = record {
           ok = λ clean tables. on_ok_weaker result (λ it.
               let all = filled_by tables (clean_then clean) (state g d).committed it.0 in
-              (subst (Adopts (state g a).now) (sym it.1.committed) (record { tables = all.1; rows = inr all.2 }), it.1)) (three.ok clean);
+              (subst (Adopts (state g a).now) (sym it.1.committed) (record { tables = all.1; rows = inr (inr all.2) }), it.1)) (three.ok clean);
           err = λ clean still_open tables.
               let late = clean_then clean in
               let before = clean_before (Ok true) two tables late in
@@ -287,5 +425,5 @@ module _ {S : Type 0} (g : Ghosts S) (a b : Held S) where
               let late = clean_then clean in
               let had = tables (omega (arith, (crash_then (Ok true) two tables).clean)) in
               let it = filled_by had late left.0 left.1 in
-              record { db = left.0; is = left.2; sound = it.0; part = record { tables = inr (inr (inr it.1)); rows = inr it.2 } }) (crash_then (Ok true) two tables) three.crash;
+              record { db = left.0; is = left.2; sound = it.0; part = record { tables = inr (inr (inr (inr it.1))); rows = inr (inr it.2) } }) (crash_then (Ok true) two tables) three.crash;
         }

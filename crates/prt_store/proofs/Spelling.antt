@@ -1,19 +1,25 @@
 -- Rows that change change what they spell.
 use Rattle.std.proofs.Common.{◌≡◌, ◌⊎◌, inl, inr, Bool, true, false, not, List, [], ◌∷◌, drop, filter, map, IsPermutation, refl, sym, ap, subst, ◌∙◌}
 use Rattle.std.proofs.lemmas.Bool.{not-false}
+use Rattle.std.proofs.lemmas.Cmp.{tied_itself}
 use Rattle.std.proofs.lemmas.List.Sorted.{IsPermutation-sym}
+use Rattle.std.specs.Ordering.{is_eq}
+use Rattle.sqlite.specs.Tree.{rowid}
 use Rattle.sqlite_rules.proofs.ListLemmas.{has_filtered, has_kept}
 use Rattle.sqlite_rules.proofs.ProbeLemmas.{has_mapped, mapped_has}
 use Rattle.sqlite_rules.specs.Lists.{Has}
+use Rattle.sqlite_value.proofs.OrderLemmas.{value_cmp_total}
 use Rattle.sqlite_value.specs.Order.{Row}
 use Rattle.prt_addr.specs.Order.{insert_by}
 use Rattle.prt_route.specs.declared.route.Route.{Route}
 use Rattle.prt_rows.proofs.Found.{has_permuted}
-use Rattle.prt_rows.specs.Kept.{kept_rule}
+use Rattle.prt_rows.specs.Effects.{HasSame, IsKeyed, has_same_rowid}
+use Rattle.prt_rows.specs.Kept.{kept_length, kept_rule}
 use Rattle.prt_rows.specs.RouteRow.{route_row}
+use Rattle.prt_rows.specs.declared.suppress_row.RuleLength.{RuleLength}
 use Rattle.prt_rule.specs.declared.rule.Rule.{Rule}
 use Rattle.prt_store.proofs.Members.{has_itself, has_other, inserted_has}
-use Rattle.prt_store.proofs.Once.{IsOnce, same_members}
+use Rattle.prt_store.proofs.Once.{IsOnce, once_mapped, same_members}
 
 -- each row is that of one of the values, and each value has a row
 pub record Covers {X : Type 0} (IsRowOf : X → Row → Type 0) (rows : List Row) (values : List X) : Type 0 where
@@ -23,6 +29,10 @@ pub record Covers {X : Type 0} (IsRowOf : X → Row → Type 0) (rows : List Row
 -- the rowid of a rule is its id
 abbrev pub IsRuleRow : Rule → Row → Type 0
 IsRuleRow rule row = row ≡ kept_rule rule
+
+-- the rowid of a length is the id of its rule
+abbrev pub IsLengthRow : RuleLength → Row → Type 0
+IsLengthRow length row = row ≡ kept_length length
 
 -- a route has any rowid
 abbrev pub IsRouteRow : Route → Row → Type 0
@@ -94,3 +104,14 @@ module _ {X : Type 0} (IsRowOf : X → Row → Type 0) (olds news : List Row) (v
 pub filter_all : {X : Type 0} (xs : List X) → filter (λ _. true) xs ≡ xs
 filter_all [] = refl
 filter_all (x ∷ xs) = ap (λ ys. x ∷ ys) (filter_all xs)
+
+-- ---- rows that are the same
+
+once_if_keyed : (rows : List Row) → IsKeyed rows → IsOnce rows
+once_if_keyed rows keyed = subst IsOnce (map_id rows) (once_mapped (λ row. row) has_same_rowid rows keyed.once (λ row other there also same. ap (λ x. has_same_rowid row x) (sym same) ∙ ap is_eq (tied_itself value_cmp_total (rowid row))))
+
+pub same_rows : (rows others : List Row) → IsKeyed rows → IsKeyed others → HasSame rows others → IsPermutation rows others
+same_rows rows others keyed also same = same_members rows others (once_if_keyed rows keyed) (once_if_keyed others also) same.sound same.complete
+
+pub rows_of_permutation : (rows others : List Row) → IsPermutation rows others → HasSame rows others
+rows_of_permutation rows others same = record { sound = λ row there. has_permuted others rows row (IsPermutation-sym rows others same) there; complete = λ row there. has_permuted rows others row same there }

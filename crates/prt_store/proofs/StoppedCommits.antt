@@ -19,8 +19,8 @@ use Rattle.prt_version.specs.Change.{apply, check, put, put_if}
 use Rattle.prt_version.specs.State.{State}
 use Rattle.prt_version.specs.declared.change.Change.{Change}
 
-module _ {S : Type 0} (g : Ghosts S) (published : State) (format_1 : Bool) (tables now : Held S) (command : Command) (call : StoreCall) (made : Change) (storable : IsStorable command) (kept : IsKnown g format_1 tables → IsStored g tables published)
-    (makes : check published command ≡ Ok made) (stops : StoppedIn g made (published.count + 1) tables call now) (known : IsKnown g format_1 now) where
+module _ {S : Type 0} (g : Ghosts S) (published : State) (ours_first : Bool) (tables now : Held S) (command : Command) (call : StoreCall) (made : Change) (storable : IsStorable command) (kept : IsKnown g ours_first tables → IsStored g tables published)
+    (makes : check published command ≡ Ok made) (stops : StoppedIn g made (published.count + 1) tables call now) (known : IsKnown g ours_first now) where
   pub stopped_leaves : (left : State) → MayLeave g now left → (left ≡ published) ⊎ ((call ≡ Commit) × (left ≡ apply published command))
   stopped_leaves left may =
       let next = put published made in

@@ -18,11 +18,11 @@ use Rattle.prt_version.specs.Change.{put}
 use Rattle.prt_version.specs.declared.change.Change.{Change}
 use Rattle.prt_store.proofs.Calls.{makes_next}
 use Rattle.prt_store.proofs.Transactions.{of_ok, statement_works, survives_itself}
-use Rattle.prt_store.specs.Made.{MakesChange}
+use Rattle.prt_store.specs.Made.{MakesChange, WritesRows}
 use Rattle.prt_store.specs.Next.{MakesNext}
-use Rattle.prt_store.specs.Openings.{HasLeft, begun_from}
+use Rattle.prt_store.specs.Openings.{HasLeft, Works, begun_from}
 use Rattle.prt_store.specs.Stops.{Counts, LeavesAState, MakesCalls, MayCommit, RanInside, StoppedIn, Writes}
-use Rattle.prt_store.specs.Written.{CommitsNothing, IsTyped, RunsInside, text_of, values_of}
+use Rattle.prt_store.specs.Written.{CommitsNothing, IsTyped, RunsInside}
 
 -- one call after another, of which none commits
 pub quiet_then : {S : Type 0} (g : Ghosts S) (a b c : Held S) → CommitsNothing g a b → CommitsNothing g b c → CommitsNothing g a c
@@ -37,11 +37,11 @@ pub stopped_in_write : {S : Type 0} (g : Ghosts S) (old begun failed end : Held 
 stopped_in_write g old begun failed end was one two = subst (λ h. CommitsNothing g h end) was (quiet_then g begun failed end one two)
 
 module _ {S : Type 0} (g : Ghosts S) (made : Change) (number : ℕ) (old begun written : Held S) (first : Result ℕ Error) (was : begun ≡ begun_from old) (typed : IsTyped made) (fine : is_err first ≡ false)
-    (writes : RunsInside g (text_of made) (values_of made) begun written first) (quiet : CommitsNothing g begun written) where
+    (writes : Works g (WritesRows g made) begun written first) where
   wrote : HasCleanDisk (state g written) → Writes g made old written × IsTrue (state g written).in_transaction
   wrote clean =
-      let ran = ran_inside g (text_of made) (values_of made) begun written first fine writes quiet clean (rw was) in
-      ((typed, subst (λ h. RanInside g (text_of made) (values_of made) h written) was ran.0), ran.1)
+      let did = of_ok first fine (writes.done clean (rw was)) in
+      ((typed, subst (λ h. WritesRows g made h written × CommitsNothing g h written) was (did.0, writes.quiet)), did.1)
 
   pub stopped_in_count : (failed end : Held S) → CommitsNothing g written failed → CommitsNothing g failed end → HasCleanDisk (state g end) → StoppedIn g made number old Count end
   stopped_in_count failed end one two clean =

@@ -34,7 +34,7 @@ pub record IsStored {S : Type 0} (g : Ghosts S) (tables : Held S) (stored : Stat
 
 -- what is known of a file rests on this: its first tables are ours, and the disk has returned what was written
 abbrev pub IsKnown : {S : Type 0} → Ghosts S → Bool → Held S → Type 0
-IsKnown g format_1 tables = (format_1 ≡ true) × HasCleanDisk (state g tables)
+IsKnown g ours_first tables = (ours_first ≡ true) × HasCleanDisk (state g tables)
 
 -- the schema stays, and so do the rows of each table that is not ours
 pub record SparesOthers (old new : Database) : Type 0 where

@@ -1,3 +1,4 @@
+pub mod Lengths
 pub mod Stored
 pub mod Next
 pub mod Written

@@ -1,5 +1,5 @@
 -- What the steps of an opening do.
-use Rattle.std.specs.Prelude.{◌≡◌, ◌⊎◌, ℕ, Bool, true, false, [], Result, Ok, IfOk, IsTrue, MatchBool, OnErr, OnOk}
+use Rattle.std.specs.Prelude.{◌≡◌, ◌⊎◌, ℕ, Bool, true, false, [], ◌∷◌, Result, Ok, IfOk, IsTrue, MatchBool, OnErr, OnOk}
 use Rattle.sqlite.specs.Effect.{Database}
 use Rattle.sqlite.specs.Held.{Held, state}
 use Rattle.sqlite.specs.Schema.{Schema}
@@ -12,12 +12,13 @@ use Rattle.sqlite_value.specs.Order.{Row}
 use Rattle.prt_addr.specs.Word.{Word}
 use Rattle.prt_addr.specs.declared.refusal.Refusal.{Refusal}
 use Rattle.prt_route.specs.Names.{default_table, local_table, main_table}
-use Rattle.prt_rows.specs.Effects.{KeepsTables}
-use Rattle.prt_rows.specs.Format.{BeginsFormat1, IsFormat1, has_table}
-use Rattle.prt_rows.specs.MetaRow.{meta_row}
+use Rattle.prt_rows.specs.Effects.{IsOfFormat1, KeepsTables}
+use Rattle.prt_rows.specs.Format.{BeginsFormat2, IsFormat2, has_table}
+use Rattle.prt_rows.specs.Kept.{kept_count_1}
+use Rattle.prt_rows.specs.MetaRow.{IsCount, meta_row, meta_rows_1}
 use Rattle.prt_rows.specs.RuleRow.{rule_row}
-use Rattle.prt_rows.specs.Statements.{create_meta, create_route, create_rule, insert_meta, insert_rule, look_at_meta, look_at_routes, look_at_rules}
-use Rattle.prt_rows.specs.Tables.{meta_table, route_table, rule_table}
+use Rattle.prt_rows.specs.Statements.{create_meta, create_route, create_rule, create_suppress, insert_meta, insert_rule, look_at_meta, look_at_routes, look_at_rules, look_at_suppress, migrate, read_meta}
+use Rattle.prt_rows.specs.Tables.{meta_table, route_table, rule_table, suppress_table}
 use Rattle.prt_store.specs.Adopted.{Adopts, AdoptsPart, IsSettled, LeavesPart}
 use Rattle.prt_store.specs.Written.{CommitsNothing}
 use Rattle.prt_store.specs.declared.opening.OurTable.{OurTable}
@@ -30,24 +31,27 @@ use Rattle.prt_version.specs.State.{table_rule}
 abbrev pub begun_from : {S : Type 0} → Held S → Held S
 begun_from old = record old { in_transaction = true }
 
--- ---- the three tables
+-- ---- the four tables
 
 abbrev pub table_of : OurTable → Table
 table_of ours.Rule = rule_table
 table_of ours.Route = route_table
 table_of ours.Meta = meta_table
+table_of ours.Suppress = suppress_table
 
 -- the statement that makes a table
 abbrev pub create : OurTable → Word
 create ours.Rule = create_rule
 create ours.Route = create_route
 create ours.Meta = create_meta
+create ours.Suppress = create_suppress
 
 -- the statement that shows the rowids of a table
 abbrev pub look_at : OurTable → Word
 look_at ours.Rule = look_at_rules
 look_at ours.Route = look_at_routes
 look_at ours.Meta = look_at_meta
+look_at ours.Suppress = look_at_suppress
 
 -- ---- inside a transaction
 
@@ -78,6 +82,7 @@ Fills g = InTurn (InsertsRules g) (Ran g insert_meta (meta_row 0))
 
 abbrev pub Takes : {S : Type 0} → Ghosts S → Step → Held S → Held S → Type 0
 Takes g (step.Make table) = Ran g (create table) []
+Takes g step.Migrate = Ran g migrate []
 Takes g step.Fill = Fills g
 
 -- ---- a transaction of its own
@@ -113,17 +118,25 @@ pub record Advances {S : Type 0} (g : Ghosts S) (From To : Schema → Type 0) (o
 abbrev pub IsEmpty : OurTable → Database → Type 0
 IsEmpty table db = db.trees (table_of table).tree ≡ []
 
+-- the row of `meta` is that of format 1
+abbrev pub NamesFormat1 : Database → Type 0
+NamesFormat1 db = (count : ℕ) × IsCount count × (db.trees meta_table.tree ≡ kept_count_1 count ∷ [])
+
+-- the file is of format 1, and is to be migrated
+abbrev pub IsDue : Database → Type 0
+IsDue db = (count : ℕ) × IsOfFormat1 db count
+
 -- what was asked of the file, where our tables are the first; nothing was changed
 pub record Sees {S : Type 0} (g : Ghosts S) (P : Database → Type 0) (old new : Held S) (result : Result Bool Refusal) : Type 0 where
-  pub ok : HasCleanDisk (state g new) → IsFormat1 (state g old).now.schema → IfOk result (λ yes. MatchBool yes (P (state g old).now) (P (state g old).now → ⊥) × IsUnchanged (state g old) (state g new))
-  pub err : HasCleanDisk (state g new) → IsFormat1 (state g old).now.schema → IsTrue (state g new).is_open → (IsTrue (state g old).is_open → (state g old).now ≡ (state g old).committed) → OnErr result ((state g new).now ≡ (state g old).now)
-  pub quiet : (HasCleanDisk (state g old) → IsFormat1 (state g old).now.schema) → CommitsNothing g old new
+  pub ok : HasCleanDisk (state g new) → IsFormat2 (state g old).now.schema → IfOk result (λ yes. MatchBool yes (P (state g old).now) (P (state g old).now → ⊥) × IsUnchanged (state g old) (state g new))
+  pub err : HasCleanDisk (state g new) → IsFormat2 (state g old).now.schema → IsTrue (state g new).is_open → (IsTrue (state g old).is_open → (state g old).now ≡ (state g old).committed) → OnErr result ((state g new).now ≡ (state g old).now)
+  pub quiet : (HasCleanDisk (state g old) → IsFormat2 (state g old).now.schema) → CommitsNothing g old new
 
 -- What an opening does to a connection, where the file has no tables or ours first. A crash leaves what it could leave before or what an opening leaves.
 pub record OpensTables {S : Type 0} (g : Ghosts S) (old new : Held S) (result : Result (Unit {0}) Refusal) : Type 0 where
-  pub ok : HasCleanDisk (state g new) → BeginsFormat1 (state g old).now.schema → OnOk result (Adopts (state g old).now (state g new).now × IsSettled g new)
-  pub err : HasCleanDisk (state g new) → IsTrue (state g new).is_open → BeginsFormat1 (state g old).now.schema → OnErr result (AdoptsPart (state g old).now (state g new).now)
-  pub crash : (HasCleanDisk (state g old) → BeginsFormat1 (state g old).now.schema) → Survives (state g old) (state g new) (LeavesPart (state g old).now)
+  pub ok : HasCleanDisk (state g new) → BeginsFormat2 (state g old).now.schema → OnOk result (Adopts (state g old).now (state g new).now × IsSettled g new)
+  pub err : HasCleanDisk (state g new) → IsTrue (state g new).is_open → BeginsFormat2 (state g old).now.schema → OnErr result (AdoptsPart (state g old).now (state g new).now)
+  pub crash : (HasCleanDisk (state g old) → BeginsFormat2 (state g old).now.schema) → Survives (state g old) (state g new) (LeavesPart (state g old).now)
 
 -- ---- of whatever file
 
@@ -133,11 +146,15 @@ pub record MakesTable {S : Type 0} (g : Ghosts S) (table : OurTable) (old new : 
   pub missing : has_table (table_of table).name (state g old).now.schema ≡ false → HasDone g (Takes g (step.Make table)) old (state g new).committed × IsSettled g new
 
 abbrev pub MakesTables : {S : Type 0} → Ghosts S → Held S → Held S → Type 0
-MakesTables g = InTurn (MakesTable g ours.Rule) (InTurn (MakesTable g ours.Route) (MakesTable g ours.Meta))
+MakesTables g = InTurn (MakesTable g ours.Rule) (InTurn (MakesTable g ours.Route) (InTurn (MakesTable g ours.Meta) (MakesTable g ours.Suppress)))
 
 -- of the database as it is, the statement that looks at the table showed no row
 abbrev pub ShowsNoRow : {S : Type 0} → Ghosts S → Held S → OurTable → Type 0
 ShowsNoRow {S = S} g conn table = (before after : Held S) × ((state g before).now ≡ (state g conn).now) × Shown (look_at table) [] (state g before) (state g after) []
+
+-- of the database as it is, the statement that reads `meta` showed the row of format 1
+abbrev pub ShowsFormat1 : {S : Type 0} → Ghosts S → Held S → Type 0
+ShowsFormat1 {S = S} g conn = (before after : Held S) × ((state g before).now ≡ (state g conn).now) × ((count : ℕ) × Shown read_meta [] (state g before) (state g after) (meta_rows_1 count))
 
 -- nothing was changed, and it was found so only if this holds
 pub record Finds {S : Type 0} (g : Ghosts S) (P : Type 0) (old new : Held S) (result : Result Bool Refusal) : Type 0 where
@@ -151,10 +168,21 @@ pub record FillsEmpty {S : Type 0} (g : Ghosts S) (old new : Held S) : Type 0 wh
   pub same : IsUnchanged (state g old) (state g seen)
   pub filled : HasDone g (Fills g) seen (state g new).now
 
--- nothing was changed, or the tables were empty and were filled
-abbrev pub KeepsOrFills : {S : Type 0} → Ghosts S → Held S → Held S → Type 0
-KeepsOrFills g old new = IsUnchanged (state g old) (state g new) ⊎ FillsEmpty g old new
+-- the file was found to be of format 1 without lengths, and its format was set, in one transaction
+pub record MigratesFound {S : Type 0} (g : Ghosts S) (old new : Held S) : Type 0 where
+  pub found : ShowsFormat1 g old × ShowsNoRow g old ours.Suppress
+  pub seen : Held S
+  pub same : IsUnchanged (state g old) (state g seen)
+  pub set : HasDone g (Ran g migrate []) seen (state g new).now
 
--- the missing tables were made, and then nothing was changed or the tables were filled
+-- nothing was changed, or the format was set
+abbrev pub KeepsOrMigrates : {S : Type 0} → Ghosts S → Held S → Held S → Type 0
+KeepsOrMigrates g old new = IsUnchanged (state g old) (state g new) ⊎ MigratesFound g old new
+
+-- nothing was changed but for the format of a file of format 1, or the tables were empty and were filled
+abbrev pub KeepsOrFills : {S : Type 0} → Ghosts S → Held S → Held S → Type 0
+KeepsOrFills g old new = KeepsOrMigrates g old new ⊎ FillsEmpty g old new
+
+-- the missing tables were made, and then nothing was changed or the tables were migrated or filled
 abbrev pub MakesAndFills : {S : Type 0} → Ghosts S → Held S → Held S → Type 0
 MakesAndFills g = InTurn (MakesTables g) (KeepsOrFills g)

@@ -14,18 +14,19 @@ use Rattle.prt_version.specs.Change.{put}
 use Rattle.prt_version.specs.State.{State}
 use Rattle.prt_version.specs.declared.change.Change.{Change}
 use Rattle.prt_store.specs.Adopted.{IsAtRest}
+use Rattle.prt_store.specs.Made.{WritesRows}
 use Rattle.prt_store.specs.Next.{IsNext, MakesNext}
 use Rattle.prt_store.specs.Openings.{Ran, begun_from}
 use Rattle.prt_store.specs.Stored.{Stores}
-use Rattle.prt_store.specs.Written.{CommitsNothing, IsTyped, text_of, values_of}
+use Rattle.prt_store.specs.Written.{CommitsNothing, IsTyped}
 
 -- the statement ran, and nothing was committed
 abbrev pub RanInside : {S : Type 0} → Ghosts S → Word → Row → Held S → Held S → Type 0
 RanInside g sql params old new = Ran g sql params old new × CommitsNothing g old new
 
--- in a transaction that had just begun the statement of the change ran, with values in the ranges of their columns
+-- in a transaction that had just begun the rows of the change were written, with values in the ranges of their columns, and nothing was committed
 abbrev pub Writes : {S : Type 0} → Ghosts S → Change → Held S → Held S → Type 0
-Writes g made old written = IsTyped made × RanInside g (text_of made) (values_of made) (begun_from old) written
+Writes g made old written = IsTyped made × (WritesRows g made (begun_from old) written × CommitsNothing g (begun_from old) written)
 
 -- the statement that sets the count ran
 abbrev pub Counts : {S : Type 0} → Ghosts S → ℕ → Held S → Held S → Type 0

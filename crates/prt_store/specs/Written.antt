@@ -1,5 +1,5 @@
 -- What the statements of a commit do.
-use Rattle.std.specs.Prelude.{◌≤◌, ◌<◌, ◌^◌, ℕ, [], Result, IsTrue}
+use Rattle.std.specs.Prelude.{◌≡◌, ◌≤◌, ◌<◌, ◌^◌, ℕ, [], Option, None, Result, IsTrue}
 use Rattle.sqlite.specs.Held.{Held, state}
 use Rattle.sqlite.specs.State.{ExecutesInside, HasCleanDisk, Survives}
 use Rattle.sqlite.specs.Store.{Ghosts}
@@ -12,9 +12,10 @@ use Rattle.prt_rows.specs.RouteRow.{IsInRange, route_row}
 use Rattle.prt_rows.specs.RuleRow.{IsRule, rule_row}
 use Rattle.prt_rows.specs.Selecting.{IsSelector, selector_row}
 use Rattle.prt_rows.specs.Statements.{delete_route, delete_rule, flush_routes, flush_rules, insert_rule, put_route}
-use Rattle.prt_rule.specs.Storable.{IsStorableAction}
+use Rattle.prt_rows.specs.declared.suppress_row.RuleLength.{RuleLength}
 use Rattle.prt_version.specs.declared.change.Change.{Change}
 use Rattle.prt_version.specs.declared.change.Change.TheVariants as change
+use Rattle.prt_store.specs.Lengths.{length_of, plain}
 
 -- the statement that makes a change
 abbrev pub text_of : Change → Word
@@ -34,6 +35,11 @@ values_of (change.RulePut rule) = rule_row rule
 values_of (change.RuleDrop id) = id_values id
 values_of change.RuleFlush = []
 
+-- the length of the rule that it puts, if it puts one that has a length
+abbrev pub length_put : Change → Option RuleLength
+length_put (change.RulePut rule) = length_of rule
+length_put _ = None
+
 -- inside a transaction the statement runs, or is refused
 abbrev pub RunsInside : {S : Type 0} → Ghosts S → Word → Row → Held S → Held S → Result ℕ Error → Type 0
 RunsInside g sql params old new result = HasCleanDisk (state g new) → IsTrue (state g old).in_transaction → ExecutesInside 0 sql params (state g old) (state g new) result
@@ -52,5 +58,5 @@ HasStorableIds _ = Unit {0}
 abbrev pub IsTyped : Change → Type 0
 IsTyped (change.Route (Put route)) = IsInRange route
 IsTyped (change.Route (Flush selector)) = IsSelector selector
-IsTyped (change.RulePut rule) = 1 ≤ rule.id → IsStorableAction rule.action → IsRule rule.id rule
+IsTyped (change.RulePut rule) = 1 ≤ rule.id → IsRule rule.id (plain rule)
 IsTyped _ = Unit {0}

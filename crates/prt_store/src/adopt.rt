@@ -7,10 +7,10 @@ ghost use Rattle.sqlite.specs.State.{HasCleanDisk, Survives};
 ghost use Rattle.sqlite.specs.Tree.{Trees};
 ghost use Rattle.prt_addr.specs.declared.refusal.Refusal.TheVariants.{OpenFailed};
 ghost use Rattle.prt_rows.specs.Effects.{AreEmpty};
-ghost use Rattle.prt_rows.specs.Format.{BeginsFormat1, HasFormat1, SuitsFormat1};
+ghost use Rattle.prt_rows.specs.Format.{BeginsFormat2, HasFormat2, SuitsFormat2};
 ghost use Rattle.prt_store.specs.Adopted.{Adopts, AdoptsOne, AdoptsPart, IsAtRest, IsSettled, LeavesPart, RefusesOne};
 ghost use Rattle.prt_store.specs.Openings.{KeepsOrFills, MakesAndFills};
-ghost use Rattle.prt_store.specs.Stored.{Stores};
+ghost use Rattle.prt_store.specs.Stored.{Stores, StoresFormat1};
 ghost use Rattle.prt_version.specs.State.{State, opening_state};
 
 use crate::Store;
@@ -19,43 +19,47 @@ use prt_addr::Refusal;
 use sqlite::{Alter, Connection, Error, File, FileStore};
 
 impl<S: Alter + Drop> Store<S> {
-    /// The store over a connection on which nothing is pending. The tables `rule`, `route` and `meta` are made where
-    /// they are missing, each by itself; where the three have no rows they are filled with the opening state, in one
-    /// transaction, with the row of `meta` last. All other rows stay as they are, whether they spell a state or not.
+    /// Gives the store over a connection on which nothing is pending. The tables `rule`, `route`, `meta` and `suppress`
+    /// are made where they are missing, each by itself; where the four have no rows they are filled with the opening
+    /// state, in one transaction, with the row of `meta` last. A file of format 1 is migrated. All other rows stay as
+    /// they are, whether they spell a state or not.
     ///
-    /// After `Ok`, whatever the file, the three tables have the columns of format 1, nothing is pending, and a crash
+    /// After `Ok`, whatever the file, the four tables have the columns of format 2, nothing is pending, and a crash
     /// leaves what the tables show. Each missing table was made by its statement, and then nothing was changed, or the
-    /// statements that look at the three tables showed no rows and those that fill them ran. The other clauses speak of
-    /// a file without tables, of one that an earlier opening was stopped in, and of one whose first tables are the three.
+    /// file was found to be of format 1 and its format was set, or the statements that look at the four tables showed no
+    /// rows and those that fill them ran. The other clauses speak of a file without tables, of one that an earlier
+    /// opening was stopped in, of one with the tables of format 1 alone, and of one whose first tables are the four.
     ///
     /// # Errors
     ///
-    /// `OpenFailed`, with the connection. Where one of the three tables has other columns than those of format 1, the
-    /// connection is as it was, whatever the file. Where a store call fails, no row is changed, but that three empty
-    /// tables may have been filled; the connection is to be closed and opened again before it is used.
+    /// `OpenFailed`, with the connection. Where one of the four tables has other columns than those of format 2, the
+    /// connection is as it was, whatever the file. Where a store call fails, no row is changed, but that four empty
+    /// tables may have been filled, and a file of format 1 migrated; the connection is to be closed and opened again before it is used.
     pub fn adopt(mut conn: Connection<S>) -> Result<Store<S>, (Refusal, Connection<S>)>
-        ensures ok { IfOk result (λ store. HasCleanDisk (state S.Store store.conn) → BeginsFormat1 (state S.Store conn).now.schema →
+        ensures ok { IfOk result (λ store. HasCleanDisk (state S.Store store.conn) → BeginsFormat2 (state S.Store conn).now.schema →
             Adopts (state S.Store conn).now (state S.Store store.conn).now) }
-        ensures columns { IfOk result (λ store. HasFormat1 (state S.Store store.conn).now.schema) }
+        ensures columns { IfOk result (λ store. HasFormat2 (state S.Store store.conn).now.schema) }
         ensures stored { IfOk result (λ store. HasCleanDisk (state S.Store store.conn) → (stored : State) →
             Stores (state S.Store conn).now stored → Stores (state S.Store store.conn).now stored) }
-        ensures opening { IfOk result (λ store. HasCleanDisk (state S.Store store.conn) → BeginsFormat1 (state S.Store conn).now.schema →
+        ensures format_1 { IfOk result (λ store. HasCleanDisk (state S.Store store.conn) → (stored : State) →
+            StoresFormat1 (state S.Store conn).now stored → Stores (state S.Store store.conn).now stored) }
+        ensures opening { IfOk result (λ store. HasCleanDisk (state S.Store store.conn) → BeginsFormat2 (state S.Store conn).now.schema →
             AreEmpty (state S.Store conn).now → Stores (state S.Store store.conn).now opening_state) }
-        ensures settled { IfOk result (λ store. HasCleanDisk (state S.Store store.conn) → BeginsFormat1 (state S.Store conn).now.schema →
+        ensures settled { IfOk result (λ store. HasCleanDisk (state S.Store store.conn) → BeginsFormat2 (state S.Store conn).now.schema →
             IsSettled S.Store store.conn) }
-        ensures crash_ok { IfOk result (λ store. HasCleanDisk (state S.Store store.conn) → BeginsFormat1 (state S.Store conn).now.schema → (trees : Trees) →
+        ensures crash_ok { IfOk result (λ store. HasCleanDisk (state S.Store store.conn) → BeginsFormat2 (state S.Store conn).now.schema → (trees : Trees) →
             (state S.Store store.conn).may_leave trees → trees ≡ (state S.Store store.conn).now.trees) }
         ensures at_rest { IfOk result (λ store. IsTrue (state S.Store store.conn).is_open → IsAtRest S.Store store.conn) }
-        ensures survives_ok { IfOk result (λ store. (HasCleanDisk (state S.Store conn) → BeginsFormat1 (state S.Store conn).now.schema) →
+        ensures survives_ok { IfOk result (λ store. (HasCleanDisk (state S.Store conn) → BeginsFormat2 (state S.Store conn).now.schema) →
             Survives (state S.Store conn) (state S.Store store.conn) (LeavesPart (state S.Store conn).now)) }
         ensures does { IfOk result (λ store. HasCleanDisk (state S.Store store.conn) → MakesAndFills S.Store conn store.conn) }
-        ensures same { IfOk result (λ store. HasCleanDisk (state S.Store store.conn) → HasFormat1 (state S.Store conn).now.schema →
+        ensures same { IfOk result (λ store. HasCleanDisk (state S.Store store.conn) → HasFormat2 (state S.Store conn).now.schema →
             KeepsOrFills S.Store conn store.conn) }
         ensures reason { IfErr result (λ refused. refused.0 ≡ OpenFailed) }
-        ensures other_columns { (SuitsFormat1 (state S.Store conn).now.schema → ⊥) → IsErrAnd result (λ refused. refused.1 ≡ conn) }
+        ensures other_columns { (SuitsFormat2 (state S.Store conn).now.schema → ⊥) → IsErrAnd result (λ refused. refused.1 ≡ conn) }
         ensures err { IfErr result (λ refused. HasCleanDisk (state S.Store refused.1) → IsTrue (state S.Store refused.1).is_open →
-            BeginsFormat1 (state S.Store conn).now.schema → AdoptsPart (state S.Store conn).now (state S.Store refused.1).now) }
-        ensures crash_err { IfErr result (λ refused. (HasCleanDisk (state S.Store conn) → BeginsFormat1 (state S.Store conn).now.schema) →
+            BeginsFormat2 (state S.Store conn).now.schema → AdoptsPart (state S.Store conn).now (state S.Store refused.1).now) }
+        ensures crash_err { IfErr result (λ refused. (HasCleanDisk (state S.Store conn) → BeginsFormat2 (state S.Store conn).now.schema) →
             Survives (state S.Store conn) (state S.Store refused.1) (LeavesPart (state S.Store conn).now)) }
     {
         match open_tables(&mut conn) {
@@ -65,7 +69,7 @@ impl<S: Alter + Drop> Store<S> {
     }
 }
 
-/// The store over the connection that an open gave.
+/// Gives the store over the connection that an open gave.
 fn adopt_opened<S: Alter + Drop>(
     opened: Result<Connection<S>, Error>,
 ) -> Result<Store<S>, (Refusal, Option<Connection<S>>)>
@@ -83,8 +87,8 @@ fn adopt_opened<S: Alter + Drop>(
 }
 
 impl Store<FileStore<File>> {
-    /// The store of the database file at this path, which is made where there is none. Beside it stands its write-ahead
-    /// log; each commit is forced to the disk (SQLite's `synchronous` is FULL).
+    /// Gives the store of the database file at this path, which is made where there is none. Beside it stands its
+    /// write-ahead log; each commit is forced to the disk (SQLite's `synchronous` is FULL).
     ///
     /// # Errors
     ///

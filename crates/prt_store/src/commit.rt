@@ -1,35 +1,65 @@
 //! One change in one transaction.
 
-ghost use Rattle.std.specs.Prelude.{◌≡◌, ◌↔◌, ◌<◌, ◌^◌, Err, IfErr, IsTrue, OnErr, OnOk};
+ghost use Rattle.std.specs.Prelude.{◌≡◌, ◌↔◌, ◌≤◌, ◌<◌, ◌^◌, Err, IfErr, IsTrue, OnErr, OnOk};
 ghost use Rattle.sqlite.specs.Held.{state};
 ghost use Rattle.sqlite.specs.State.{HasCleanDisk, Survives};
+ghost use Rattle.prt_rows.specs.RuleRow.{IsRule, rule_row};
+ghost use Rattle.prt_rows.specs.Statements.{insert_rule};
 ghost use Rattle.prt_store.specs.Adopted.{IsSettled};
-ghost use Rattle.prt_store.specs.Made.{MakesChange};
-ghost use Rattle.prt_store.specs.Openings.{HasDone, HasLeft};
+ghost use Rattle.prt_store.specs.Lengths.{length_of, plain};
+ghost use Rattle.prt_store.specs.Made.{MakesChange, RunsWith, WritesRows};
+ghost use Rattle.prt_store.specs.Openings.{HasDone, HasLeft, Works};
 ghost use Rattle.prt_store.specs.Stops.{MakesCalls, StoppedIn};
-ghost use Rattle.prt_store.specs.Written.{CommitsNothing, HasStorableIds, IsTyped, RunsInside, text_of, values_of};
+ghost use Rattle.prt_store.specs.Written.{HasStorableIds, IsTyped};
 
 use crate::statements::{
-    delete_route, delete_rule, flush_routes, flush_rules, insert_rule, put_route, set_count,
+    delete_route, delete_rule, flush_routes, flush_rules, insert_length, insert_rule, put_route,
+    set_count,
 };
 use prt_addr::StoreCall;
 use prt_route::RouteEdit;
+use prt_rows::RuleLength;
+use prt_rule::Rule;
 use prt_version::Change;
 use sqlite::{Alter, Connection, Error, Transaction};
 
-/// Runs the statement that makes the change.
+/// Inserts a rule and, where it suppresses prefixes, its length.
+fn add_rule<S: Alter>(tx: &mut Transaction<'_, S>, rule: &Rule) -> Result<usize, Error>
+    requires { rule.now.id < 2 ^ 63 }
+    ensures same_reference { tx.new.conn.ghost_name ≡ tx.old.conn.ghost_name }
+    ensures works { Works S.Store (RunsWith S.Store insert_rule (rule_row rule.now) (length_of rule.now)) tx.old.conn.now tx.new.conn.now result }
+    ensures typed { 1 ≤ rule.now.id → IsRule rule.now.id (plain rule.now) }
+{
+    let Some(len) = rule.suppress else {
+        return insert_rule(tx, rule);
+    };
+    insert_rule(tx, rule)?;
+    insert_length(tx, &RuleLength { rule: rule.id, len })
+}
+
+/// Puts a route, or deletes routes.
+fn edit_routes<S: Alter>(tx: &mut Transaction<'_, S>, edit: &RouteEdit) -> Result<usize, Error>
+    ensures same_reference { tx.new.conn.ghost_name ≡ tx.old.conn.ghost_name }
+    ensures works { Works S.Store (WritesRows S.Store (Change.Route edit.now)) tx.old.conn.now tx.new.conn.now result }
+    ensures typed { IsTyped (Change.Route edit.now) }
+{
+    match edit {
+        RouteEdit::Put(route) => put_route(tx, route),
+        RouteEdit::Remove(key) => delete_route(tx, key),
+        RouteEdit::Flush(selector) => flush_routes(tx, selector),
+    }
+}
+
+/// Writes the rows of the change.
 fn write<S: Alter>(tx: &mut Transaction<'_, S>, change: &Change) -> Result<usize, Error>
     requires { HasStorableIds change.now }
     ensures same_reference { tx.new.conn.ghost_name ≡ tx.old.conn.ghost_name }
-    ensures runs { RunsInside S.Store (text_of change.now) (values_of change.now) tx.old.conn.now tx.new.conn.now result }
-    ensures survives { CommitsNothing S.Store tx.old.conn.now tx.new.conn.now }
+    ensures works { Works S.Store (WritesRows S.Store change.now) tx.old.conn.now tx.new.conn.now result }
     ensures typed { IsTyped change.now }
 {
     match change {
-        Change::Route(RouteEdit::Put(route)) => put_route(tx, route),
-        Change::Route(RouteEdit::Remove(key)) => delete_route(tx, key),
-        Change::Route(RouteEdit::Flush(selector)) => flush_routes(tx, selector),
-        Change::RulePut(rule) => insert_rule(tx, rule),
+        Change::Route(edit) => edit_routes(tx, edit),
+        Change::RulePut(rule) => add_rule(tx, rule),
         Change::RuleDrop(id) => delete_rule(tx, *id),
         Change::RuleFlush => flush_rules(tx),
     }
@@ -40,7 +70,7 @@ fn write<S: Alter>(tx: &mut Transaction<'_, S>, change: &Change) -> Result<usize
 /// # Errors
 ///
 /// The call that failed. Nothing is changed then, unless the commit failed: it may have been made.
-pub(crate) fn run<S: Alter>(
+pub(crate) fn make_change<S: Alter>(
     conn: &mut Connection<S>,
     change: &Change,
     number: u64,

@@ -5,10 +5,12 @@ mod adopt;
 mod commit;
 mod laws;
 mod load;
+mod merging;
 mod opening;
 mod ranges;
 mod statements;
 mod store;
 
 pub use laws::{openings_go_on, stops_leave_a_state};
+pub use opening::migrate;
 pub use store::{Stamp, Store};

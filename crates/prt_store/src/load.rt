@@ -1,19 +1,23 @@
 //! The state that the tables spell, read.
 
-ghost use Rattle.std.specs.Prelude.{IfOk};
+ghost use Rattle.std.specs.Prelude.{IfOk, IsTrue, map};
 ghost use Rattle.prt_rows.specs.MetaRow.{IsCount};
-ghost use Rattle.prt_store.specs.Loaded.{Reads, SpellsCount, SpellsRoutes, SpellsRules};
+ghost use Rattle.prt_rows.specs.Rowids.{rowids_rise};
+ghost use Rattle.prt_rows.specs.RuleRow.{rule_row};
+ghost use Rattle.prt_rows.specs.SuppressRow.{suppress_row};
+ghost use Rattle.prt_store.specs.Loaded.{Reads, SpellsCount, SpellsLengths, SpellsRoutes, SpellsRules};
 ghost use Rattle.prt_store.specs.Stored.{Stores};
 
+use crate::merging::merge;
 use prt_addr::Refusal;
 use prt_route::Route;
-use prt_rows::{count_of_rows, routes_of_rows, rules_of_rows};
+use prt_rows::{RuleLength, count_of_rows, lengths_of_rows, routes_of_rows, rules_of_rows};
 use prt_rule::Rule;
 use prt_version::Version;
 use sqlite::{Alter, Connection};
 use std::alloc::Global;
 
-/// The count that the table `meta` spells.
+/// Gives the count that the table `meta` spells.
 fn read_count<S: Alter>(conn: &mut Connection<S>) -> Result<u64, Refusal>
     ensures read { Reads S.Store (λ count. count) SpellsCount conn.old conn.new result }
     ensures fits { IfOk result IsCount }
@@ -27,13 +31,15 @@ fn read_count<S: Alter>(conn: &mut Connection<S>) -> Result<u64, Refusal>
     }
 }
 
-/// The rules that the table `rule` spells, with ids of at most `last`.
+/// Gives the rules that the table `rule` spells, with ids of at most `last`, without their lengths, in the order of the
+/// ids.
 fn read_rules<S: Alter>(
     alloc: Global,
     conn: &mut Connection<S>,
     last: u64,
 ) -> Result<Vec<Rule>, Refusal>
-    ensures { Reads S.Store (λ (rules : _). rules.items) (SpellsRules last) conn.old conn.new result }
+    ensures read { Reads S.Store (λ (rules : _). rules.items) (SpellsRules last) conn.old conn.new result }
+    ensures rise { IfOk result (λ rules. IsTrue (rowids_rise (map rule_row rules.items))) }
 {
     match conn.query_all(
         "SELECT id, priority, inverted, src_net, src_len, dst_net, dst_len, iif, mark, mask, act, tbl FROM rule ORDER BY id",
@@ -44,7 +50,22 @@ fn read_rules<S: Alter>(
     }
 }
 
-/// The routes that the table `route` spells.
+/// Gives the lengths that the table `suppress` spells, of rules with ids of at most `last`, in the order of the ids.
+fn read_lengths<S: Alter>(
+    alloc: Global,
+    conn: &mut Connection<S>,
+    last: u64,
+) -> Result<Vec<RuleLength>, Refusal>
+    ensures read { Reads S.Store (λ (lengths : _). lengths.items) (SpellsLengths last) conn.old conn.new result }
+    ensures rise { IfOk result (λ lengths. IsTrue (rowids_rise (map suppress_row lengths.items))) }
+{
+    match conn.query_all("SELECT rule, len FROM suppress ORDER BY rule", &[]) {
+        Ok(rows) => lengths_of_rows(alloc, rows.as_slice(), last),
+        Err(_) => Err(Refusal::OpenFailed),
+    }
+}
+
+/// Gives the routes that the table `route` spells.
 fn read_routes<S: Alter>(alloc: Global, conn: &mut Connection<S>) -> Result<Vec<Route>, Refusal>
     ensures { Reads S.Store (λ (routes : _). routes.items) SpellsRoutes conn.old conn.new result }
 {
@@ -57,7 +78,7 @@ fn read_routes<S: Alter>(alloc: Global, conn: &mut Connection<S>) -> Result<Vec<
     }
 }
 
-/// The version that the tables spell.
+/// Gives the version that the tables spell.
 ///
 /// # Errors
 ///
@@ -66,7 +87,9 @@ pub(crate) fn load<S: Alter>(alloc: Global, conn: &mut Connection<S>) -> Result<
     ensures { Reads S.Store (λ version. version) Stores conn.old conn.new result }
 {
     let count = read_count(conn)?;
-    let rules = read_rules(alloc, conn, count + 3)?;
+    let listed = read_rules(alloc, conn, count + 3)?;
+    let lengths = read_lengths(alloc, conn, count + 3)?;
     let routes = read_routes(alloc, conn)?;
+    let rules = merge(alloc, listed.as_slice(), lengths.as_slice())?;
     Version::from_rows(alloc, count, rules, routes)
 }

@@ -1,32 +1,34 @@
-//! The opening of a file: the three tables are made where they are missing, and filled where they have no rows.
+//! The opening of a file: the four tables are made where they are missing, filled where they have no rows, and migrated
+//! where they are of format 1.
 
-ghost use Rattle.std.specs.Prelude.{◌≡◌, ◌<◌, ◌^◌, [], false, Err, IfErr, IsTrue, OnOk};
+ghost use Rattle.std.specs.Prelude.{◌≡◌, ◌<◌, ◌^◌, [], false, Err, IfErr, IsTrue, OnErr, OnOk};
 ghost use Rattle.sqlite.specs.Held.{state};
-ghost use Rattle.sqlite.specs.State.{HasCleanDisk};
+ghost use Rattle.sqlite.specs.State.{HasCleanDisk, Survives};
 ghost use Rattle.prt_addr.specs.declared.refusal.Refusal.TheVariants.{OpenFailed};
-ghost use Rattle.prt_rows.specs.Effects.{AreEmpty};
-ghost use Rattle.prt_rows.specs.Format.{BeginsFormat1, HasFormat1, IsFormat1, SuitsFormat1};
+ghost use Rattle.prt_rows.specs.Effects.{AreEmpty, Migrates};
+ghost use Rattle.prt_rows.specs.Format.{BeginsFormat2, HasFormat2, IsFormat2, SuitsFormat2};
 ghost use Rattle.prt_rows.specs.MetaRow.{meta_row};
-ghost use Rattle.prt_rows.specs.Statements.{insert_meta};
-ghost use Rattle.prt_store.specs.Adopted.{IsSettled};
-ghost use Rattle.prt_store.specs.Openings.{Advances, Commits, Fills, Finds, InsertsRule, InsertsRules, IsEmpty, MakesAndFills, MakesMissing, MakesTables, OpensTables, Ran, Sees, ShowsNoRow, Takes, Works, create, look_at, table_of};
+ghost use Rattle.prt_rows.specs.RuleRow.{rule_row};
+ghost use Rattle.prt_rows.specs.Statements.{insert_meta, insert_rule, migrate};
+ghost use Rattle.prt_store.specs.Adopted.{IsSettled, LeavesMigrated};
+ghost use Rattle.prt_store.specs.Openings.{Advances, Commits, Fills, Finds, InsertsRules, IsEmpty, IsDue, KeepsOrMigrates, MakesAndFills, MakesMissing, MakesTables, NamesFormat1, OpensTables, Ran, Sees, ShowsFormat1, ShowsNoRow, Takes, Works, create, look_at, table_of};
 ghost use Rattle.prt_store.specs.declared.opening.OurTable.{OurTable as OneTable};
-ghost use Rattle.prt_version.specs.State.{table_rule};
+ghost use Rattle.prt_store.specs.declared.opening.OurTable.TheVariants.{Suppress};
 
 use crate::statements::insert_rule;
 use prt_addr::Refusal;
-use prt_route::{DEFAULT_TABLE, LOCAL_TABLE, MAIN_TABLE};
-use prt_rows::{has_format_1, has_table, meta_values, suits_format_1};
+use prt_rows::{count_in_format_1, has_format_2, has_table, meta_values, suits_format_2};
 use prt_rule::Rule;
-use prt_version::table_rule;
+use prt_version::opening_rules;
 use sqlite::{Alter, Connection, Error, Transaction};
 
-/// One of the three tables.
+/// One of the four tables.
 #[derive(Clone, Copy)]
 enum OurTable {
     Rule,
     Route,
     Meta,
+    Suppress,
 }
 
 /// A step of an opening.
@@ -34,11 +36,13 @@ enum OurTable {
 enum Step {
     /// Makes a table.
     Make(OurTable),
+    /// Makes a file of format 1 one of format 2.
+    Migrate,
     /// Puts the three opening rules and the count 0.
     Fill,
 }
 
-/// The statement that makes a table.
+/// Gives the statement that makes a table.
 fn create(table: OurTable) -> &'static str
     ensures { result.now ≡ create table }
 {
@@ -49,6 +53,8 @@ fn create(table: OurTable) -> &'static str
             "CREATE TABLE IF NOT EXISTS route (tbl INTEGER NOT NULL, net INTEGER NOT NULL, len INTEGER NOT NULL, metric INTEGER NOT NULL, kind INTEGER NOT NULL, via INTEGER NOT NULL, dev TEXT NOT NULL, src INTEGER NOT NULL, proto INTEGER NOT NULL, scope INTEGER NOT NULL, PRIMARY KEY (tbl, net, len, metric)) STRICT",
         OurTable::Meta =>
             "CREATE TABLE IF NOT EXISTS meta (id INTEGER PRIMARY KEY NOT NULL, format INTEGER NOT NULL, count INTEGER NOT NULL) STRICT",
+        OurTable::Suppress =>
+            "CREATE TABLE IF NOT EXISTS suppress (rule INTEGER PRIMARY KEY NOT NULL REFERENCES rule (id) ON DELETE CASCADE, len INTEGER NOT NULL) STRICT",
     }
 }
 
@@ -60,18 +66,13 @@ fn create_table<S: Alter>(tx: &mut Transaction<'_, S>, table: OurTable) -> Resul
     tx.execute(create(table), &[])
 }
 
-/// Inserts a rule that looks up a table for every packet.
-fn insert_table_rule<S: Alter>(
-    tx: &mut Transaction<'_, S>,
-    id: u64,
-    priority: u32,
-    table: u32,
-) -> Result<usize, Error>
-    requires { id < 2 ^ 63 }
+/// Inserts one of the opening rules.
+fn insert_opening_rule<S: Alter>(tx: &mut Transaction<'_, S>, rule: &Rule) -> Result<usize, Error>
+    requires { rule.now.id < 2 ^ 63 }
     ensures same_reference { tx.new.conn.ghost_name ≡ tx.old.conn.ghost_name }
-    ensures works { Works S.Store (InsertsRule S.Store id priority table) tx.old.conn.now tx.new.conn.now result }
+    ensures works { Works S.Store (Ran S.Store insert_rule (rule_row rule.now)) tx.old.conn.now tx.new.conn.now result }
 {
-    insert_rule(tx, &table_rule(id, priority, table))
+    insert_rule(tx, rule)
 }
 
 /// Inserts the opening rules (`ip-rule(8)`).
@@ -79,9 +80,10 @@ fn insert_rules<S: Alter>(tx: &mut Transaction<'_, S>) -> Result<usize, Error>
     ensures same_reference { tx.new.conn.ghost_name ≡ tx.old.conn.ghost_name }
     ensures works { Works S.Store (InsertsRules S.Store) tx.old.conn.now tx.new.conn.now result }
 {
-    insert_table_rule(tx, 1, 0, LOCAL_TABLE)?;
-    insert_table_rule(tx, 2, 32766, MAIN_TABLE)?;
-    insert_table_rule(tx, 3, 32767, DEFAULT_TABLE)
+    let [local, main, default] = opening_rules();
+    insert_opening_rule(tx, &local)?;
+    insert_opening_rule(tx, &main)?;
+    insert_opening_rule(tx, &default)
 }
 
 /// Inserts the row of `meta`, with the count 0.
@@ -104,6 +106,14 @@ fn fill<S: Alter>(tx: &mut Transaction<'_, S>) -> Result<usize, Error>
     insert_count(tx)
 }
 
+/// Sets the format of a file of format 1.
+fn set_format<S: Alter>(tx: &mut Transaction<'_, S>) -> Result<usize, Error>
+    ensures same_reference { tx.new.conn.ghost_name ≡ tx.old.conn.ghost_name }
+    ensures works { Works S.Store (Ran S.Store migrate []) tx.old.conn.now tx.new.conn.now result }
+{
+    tx.execute("UPDATE meta SET format = 2 WHERE format = 1", &[])
+}
+
 /// Runs the statements of a step.
 fn perform<S: Alter>(tx: &mut Transaction<'_, S>, step: Step) -> Result<usize, Error>
     ensures same_reference { tx.new.conn.ghost_name ≡ tx.old.conn.ghost_name }
@@ -111,6 +121,7 @@ fn perform<S: Alter>(tx: &mut Transaction<'_, S>, step: Step) -> Result<usize, E
 {
     match step {
         Step::Make(table) => create_table(tx, table),
+        Step::Migrate => set_format(tx),
         Step::Fill => fill(tx),
     }
 }
@@ -134,7 +145,7 @@ fn take<S: Alter>(conn: &mut Connection<S>, step: Step) -> Result<(), Refusal>
     tx.commit().or(Err(Refusal::OpenFailed))
 }
 
-/// The name of a table.
+/// Gives the name of a table.
 fn name(table: OurTable) -> &'static str
     ensures { result.now ≡ (table_of table).name }
 {
@@ -142,6 +153,7 @@ fn name(table: OurTable) -> &'static str
         OurTable::Rule => "rule",
         OurTable::Route => "route",
         OurTable::Meta => "meta",
+        OurTable::Suppress => "suppress",
     }
 }
 
@@ -156,18 +168,19 @@ fn make_missing<S: Alter>(conn: &mut Connection<S>, table: OurTable) -> Result<(
     take(conn, Step::Make(table))
 }
 
-/// Makes the three tables, each where it is missing.
+/// Makes the four tables, each where it is missing.
 fn make_tables<S: Alter>(conn: &mut Connection<S>) -> Result<(), Refusal>
     ensures reason { IfErr result (λ reason. reason ≡ OpenFailed) }
-    ensures advances { Advances S.Store BeginsFormat1 IsFormat1 conn.old conn.new result }
+    ensures advances { Advances S.Store BeginsFormat2 IsFormat2 conn.old conn.new result }
     ensures makes { HasCleanDisk (state S.Store conn.new) → OnOk result (MakesTables S.Store conn.old conn.new) }
 {
     make_missing(conn, OurTable::Rule)?;
     make_missing(conn, OurTable::Route)?;
-    make_missing(conn, OurTable::Meta)
+    make_missing(conn, OurTable::Meta)?;
+    make_missing(conn, OurTable::Suppress)
 }
 
-/// The statement that shows the rowid of each row of a table.
+/// Gives the statement that shows the rowid of each row of a table.
 fn look_at(table: OurTable) -> &'static str
     ensures { result.now ≡ look_at table }
 {
@@ -175,6 +188,7 @@ fn look_at(table: OurTable) -> &'static str
         OurTable::Rule => "SELECT id FROM rule",
         OurTable::Route => "SELECT rowid FROM route",
         OurTable::Meta => "SELECT id FROM meta",
+        OurTable::Suppress => "SELECT rule FROM suppress",
     }
 }
 
@@ -190,7 +204,7 @@ fn is_empty<S: Alter>(conn: &mut Connection<S>, table: OurTable) -> Result<bool,
     }
 }
 
-/// Tells whether the three tables have no rows. Asks the table `meta` first, since it has a row in every file but a new
+/// Tells whether the four tables have no rows. Asks the table `meta` first, since it has a row in every file but a new
 /// one.
 fn are_empty<S: Alter>(conn: &mut Connection<S>) -> Result<bool, Refusal>
     ensures reason { IfErr result (λ reason. reason ≡ OpenFailed) }
@@ -203,19 +217,79 @@ fn are_empty<S: Alter>(conn: &mut Connection<S>) -> Result<bool, Refusal>
     if !is_empty(conn, OurTable::Rule)? {
         return Ok(false);
     }
-    is_empty(conn, OurTable::Route)
+    if !is_empty(conn, OurTable::Route)? {
+        return Ok(false);
+    }
+    is_empty(conn, OurTable::Suppress)
 }
 
-/// Tells whether the three tables have the columns of format 1, and nothing is pending.
+/// Tells whether the row of `meta` is that of format 1.
+fn names_format_1<S: Alter>(conn: &mut Connection<S>) -> Result<bool, Refusal>
+    ensures reason { IfErr result (λ reason. reason ≡ OpenFailed) }
+    ensures sees { Sees S.Store NamesFormat1 conn.old conn.new result }
+    ensures finds { Finds S.Store (ShowsFormat1 S.Store conn.old) conn.old conn.new result }
+{
+    // Recalls that the rows are as the schema has them.
+    let _live = conn.schema();
+    match conn.query_all("SELECT id, format, count FROM meta ORDER BY id", &[]) {
+        Ok(rows) => Ok(count_in_format_1(rows.as_slice()).is_some()),
+        Err(_) => Err(Refusal::OpenFailed),
+    }
+}
+
+/// Tells whether the file is to be migrated: its `meta` names format 1, and there are no lengths.
+fn is_due<S: Alter>(conn: &mut Connection<S>) -> Result<bool, Refusal>
+    ensures reason { IfErr result (λ reason. reason ≡ OpenFailed) }
+    ensures sees { Sees S.Store IsDue conn.old conn.new result }
+    ensures finds { Finds S.Store (ShowsFormat1 S.Store conn.old × ShowsNoRow S.Store conn.old Suppress) conn.old conn.new result }
+{
+    if !names_format_1(conn)? {
+        return Ok(false);
+    }
+    is_empty(conn, OurTable::Suppress)
+}
+
+/// Makes a file of format 1 one of format 2 with the same count, in one transaction, where no rule of it suppresses
+/// prefixes. Any other file stays as it is.
+///
+/// After `Ok` that has happened, and nothing else has changed. A crash leaves what it could leave before, or the file so
+/// migrated. Of files whose first tables are not the four, only the statements that ran are known.
+///
+/// # Errors
+///
+/// `OpenFailed` where a store call fails, and nothing is changed then; or where something is pending.
+pub fn migrate<S: Alter>(conn: &mut Connection<S>) -> Result<(), Refusal>
+    ensures reason { IfErr result (λ reason. reason ≡ OpenFailed) }
+    ensures ok { HasCleanDisk (state S.Store conn.new) → IsFormat2 (state S.Store conn.old).now.schema →
+        OnOk result (Migrates (state S.Store conn.old).now (state S.Store conn.new).now) }
+    ensures clean { HasCleanDisk (state S.Store conn.new) → HasCleanDisk (state S.Store conn.old) }
+    ensures settled { HasCleanDisk (state S.Store conn.new) → IsFormat2 (state S.Store conn.old).now.schema → IsSettled S.Store conn.old →
+        OnOk result (IsSettled S.Store conn.new) }
+    ensures err { HasCleanDisk (state S.Store conn.new) → IsTrue (state S.Store conn.new).is_open → IsFormat2 (state S.Store conn.old).now.schema → IsSettled S.Store conn.old →
+        OnErr result ((state S.Store conn.new).now ≡ (state S.Store conn.old).now) }
+    ensures crash { (HasCleanDisk (state S.Store conn.old) → IsFormat2 (state S.Store conn.old).now.schema) →
+        Survives (state S.Store conn.old) (state S.Store conn.new) (LeavesMigrated (state S.Store conn.old).now) }
+    ensures does { HasCleanDisk (state S.Store conn.new) → OnOk result (KeepsOrMigrates S.Store conn.old conn.new) }
+{
+    // The looks come before the transaction, so that a file of format 2 begins none. No other program can write the file
+    // between them.
+    if !is_due(conn)? {
+        return Ok(());
+    }
+    take(conn, Step::Migrate)
+}
+
+/// Tells whether the four tables have the columns of format 2, and nothing is pending.
 fn is_ready<S: Alter>(conn: &Connection<S>) -> bool
-    ensures columns { IsTrue result → HasFormat1 (state S.Store conn.now).now.schema }
+    ensures columns { IsTrue result → HasFormat2 (state S.Store conn.now).now.schema }
     ensures alone { IsTrue result → (state S.Store conn.now).in_transaction ≡ false }
     ensures settled { IsTrue result → IsTrue (state S.Store conn.now).is_open → (state S.Store conn.now).now ≡ (state S.Store conn.now).committed }
 {
-    has_format_1(conn.schema()) && conn.is_autocommit()
+    has_format_2(conn.schema()) && conn.is_autocommit()
 }
 
-/// Makes the three tables where they are missing, compares their columns, and fills them where they have no rows.
+/// Makes the four tables where they are missing, compares their columns, and fills them where they have no rows. Where
+/// they have some, a file of format 1 is migrated.
 fn make_and_fill<S: Alter>(conn: &mut Connection<S>) -> Result<(), Refusal>
     ensures reason { IfErr result (λ reason. reason ≡ OpenFailed) }
     ensures opens { OpensTables S.Store conn.old conn.new result }
@@ -226,26 +300,26 @@ fn make_and_fill<S: Alter>(conn: &mut Connection<S>) -> Result<(), Refusal>
         return Err(Refusal::OpenFailed);
     }
     if !are_empty(conn)? {
-        return Ok(());
+        return migrate(conn);
     }
     take(conn, Step::Fill)
 }
 
-/// Makes the three tables where they are missing, and fills them where they have no rows.
+/// Makes the four tables where they are missing, fills them where they have no rows, and migrates a file of format 1.
 ///
 /// # Errors
 ///
-/// `OpenFailed` where one of the tables has other columns than those of format 1, which is asked before anything is
+/// `OpenFailed` where one of the tables has other columns than those of format 2, which is asked before anything is
 /// made, or a store call fails.
 pub(crate) fn open_tables<S: Alter>(conn: &mut Connection<S>) -> Result<(), Refusal>
     ensures reason { IfErr result (λ reason. reason ≡ OpenFailed) }
-    ensures columns { OnOk result (HasFormat1 (state S.Store conn.new).now.schema) }
+    ensures columns { OnOk result (HasFormat2 (state S.Store conn.new).now.schema) }
     ensures settled { OnOk result (IsTrue (state S.Store conn.new).is_open → IsSettled S.Store conn.new) }
     ensures opens { OpensTables S.Store conn.old conn.new result }
-    ensures other_columns { (SuitsFormat1 (state S.Store conn.old).now.schema → ⊥) → (result ≡ Err OpenFailed) × (conn.new ≡ conn.old) }
+    ensures other_columns { (SuitsFormat2 (state S.Store conn.old).now.schema → ⊥) → (result ≡ Err OpenFailed) × (conn.new ≡ conn.old) }
     ensures does { HasCleanDisk (state S.Store conn.new) → OnOk result (MakesAndFills S.Store conn.old conn.new) }
 {
-    if !suits_format_1(conn.schema()) {
+    if !suits_format_2(conn.schema()) {
         return Err(Refusal::OpenFailed);
     }
     make_and_fill(conn)?;

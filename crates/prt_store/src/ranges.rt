@@ -1,95 +1,95 @@
-//! The ranges that a route and a rule have by their types.
+//! What the prover is reminded of: the ranges that a route and a rule have by their types.
 
 ghost use Rattle.std.specs.Prelude.{◌≡◌, ◌≤◌, IfSome, true};
 ghost use Rattle.prt_route.specs.Name.{is_name};
 ghost use Rattle.prt_rows.specs.Cell.{IsByte, IsNumber, IsOptionalAddr, IsOptionalName};
 ghost use Rattle.prt_rows.specs.RouteRow.{IsInRange};
-ghost use Rattle.prt_rows.specs.RuleRow.{IsAction, IsOptionalMark, IsRule, action_table};
-ghost use Rattle.prt_rule.specs.Storable.{IsStorableAction};
+ghost use Rattle.prt_rows.specs.RuleRow.{IsAction, IsOptionalMark, IsRule};
+ghost use Rattle.prt_store.specs.Lengths.{plain};
 
 use prt_addr::Addr;
 use prt_route::{Dev, Route};
 use prt_rule::{Action, Mark, Rule};
 
-/// A number has 32 bits.
-fn number_range(n: u32)
+/// Recalls that a number has 32 bits.
+fn recall_number(n: u32)
     ensures { IsNumber n }
 {
     let _ = n;
 }
 
-/// A byte has 8.
-fn byte_range(n: u8)
+/// Recalls that a byte has 8.
+fn recall_byte(n: u8)
     ensures { IsByte n }
 {
     let _ = n;
 }
 
-/// An address has 32 bits.
-fn addr_range(addr: &Option<Addr>)
+/// Recalls that an address has 32 bits.
+fn recall_addr(addr: &Option<Addr>)
     ensures { IsOptionalAddr addr.now }
 {
     if let Some(addr) = addr {
-        number_range(addr.0);
+        recall_number(addr.0);
     }
 }
 
-/// The name of an interface is a name.
-fn name_range(name: Dev)
+/// Recalls that the name of an interface is a name.
+fn recall_name(name: Dev)
     ensures { is_name name ≡ true }
 {
     let _ = name;
 }
 
-/// The name of an interface is a name where it is there.
-fn optional_name_range(name: &Option<Dev>)
+/// Recalls that the name of an interface is a name where it is there.
+fn recall_optional_name(name: &Option<Dev>)
     ensures { IsOptionalName name.now }
 {
     if let Some(name) = name {
-        name_range(*name);
+        recall_name(*name);
     }
 }
 
-/// Each value of a route is in the range of its column.
-pub(crate) fn route_range(route: &Route)
+/// Recalls that each value of a route is in the range of its column.
+pub(crate) fn recall_route(route: &Route)
     ensures { IsInRange route.now }
 {
-    number_range(route.table);
-    number_range(route.metric);
-    byte_range(route.proto);
-    byte_range(route.scope);
+    recall_number(route.table);
+    recall_number(route.metric);
+    recall_byte(route.proto);
+    recall_byte(route.scope);
     let _prefix = route.prefix.bits();
-    addr_range(&route.via);
-    optional_name_range(&route.dev);
-    addr_range(&route.src);
+    recall_addr(&route.via);
+    recall_optional_name(&route.dev);
+    recall_addr(&route.src);
 }
 
-/// A mark and its mask have 32 bits each.
-fn mark_range(mark: &Option<Mark>)
+/// Recalls that a mark and its mask have 32 bits each.
+fn recall_mark(mark: &Option<Mark>)
     ensures { IsOptionalMark mark.now }
 {
     if let Some(mark) = mark {
-        number_range(mark.mark);
-        number_range(mark.mask);
+        recall_number(mark.mark);
+        recall_number(mark.mask);
     }
 }
 
-/// The table that an action looks up has 32 bits.
-fn action_range(action: &Action)
-    ensures { IsNumber (action_table action.now) }
+/// Recalls that the table that an action looks up has 32 bits.
+fn recall_action(action: &Action)
+    ensures { IsAction action.now }
 {
     if let Action::Lookup(table) = action {
-        number_range(*table);
+        recall_number(*table);
     }
 }
 
-/// Each value of a rule but its id is in the range of its column, if its action may be stored.
-pub(crate) fn rule_range(rule: &Rule)
-    ensures { 1 ≤ rule.now.id → IsStorableAction rule.now.action → IsRule rule.now.id rule.now }
+/// Recalls that each value of a rule but its id is in the range of its column of the table `rule`.
+pub(crate) fn recall_rule(rule: &Rule)
+    ensures { 1 ≤ rule.now.id → IsRule rule.now.id (plain rule.now) }
 {
-    number_range(rule.priority);
+    recall_number(rule.priority);
     let _prefixes = (rule.from.bits(), rule.to.bits());
-    optional_name_range(&rule.iif);
-    mark_range(&rule.mark);
-    action_range(&rule.action);
+    recall_optional_name(&rule.iif);
+    recall_mark(&rule.mark);
+    recall_action(&rule.action);
 }

@@ -6,13 +6,14 @@ ghost use Rattle.prt_rows.specs.Kept.{count_values, id_values, key_values};
 ghost use Rattle.prt_rows.specs.RouteRow.{IsInRange, route_row};
 ghost use Rattle.prt_rows.specs.RuleRow.{IsRule, rule_row};
 ghost use Rattle.prt_rows.specs.Selecting.{IsSelector, selector_row};
-ghost use Rattle.prt_rows.specs.Statements.{delete_route, delete_rule, flush_routes, flush_rules, insert_rule, put_route, set_count};
-ghost use Rattle.prt_rule.specs.Storable.{IsStorableAction};
+ghost use Rattle.prt_rows.specs.Statements.{delete_route, delete_rule, flush_routes, flush_rules, insert_rule, insert_suppress, put_route, set_count};
+ghost use Rattle.prt_rows.specs.SuppressRow.{suppress_row};
+ghost use Rattle.prt_store.specs.Lengths.{plain};
 ghost use Rattle.prt_store.specs.Written.{CommitsNothing, RunsInside};
 
-use crate::ranges::{route_range, rule_range};
+use crate::ranges::{recall_route, recall_rule};
 use prt_route::{Route, RouteKey, Selector};
-use prt_rows::{route_values, rule_values, selector_values};
+use prt_rows::{RuleLength, length_values, route_values, rule_values, selector_values};
 use prt_rule::Rule;
 use sqlite::types::ValueRef;
 use sqlite::{Alter, Error, Transaction, params};
@@ -27,7 +28,7 @@ pub(crate) fn put_route<S: Alter>(
     ensures survives { CommitsNothing S.Store tx.old.conn.now tx.new.conn.now }
     ensures typed { IsInRange route.now }
 {
-    route_range(route);
+    recall_route(route);
     tx.execute(
         "INSERT INTO route (tbl, net, len, metric, kind, via, dev, src, proto, scope) VALUES (?1, ?2, ?3, ?4, ?5, ?6, ?7, ?8, ?9, ?10) ON CONFLICT (tbl, net, len, metric) DO UPDATE SET kind = ?5, via = ?6, dev = ?7, src = ?8, proto = ?9, scope = ?10",
         &route_values(route),
@@ -70,7 +71,7 @@ pub(crate) fn flush_routes<S: Alter>(
     )
 }
 
-/// Inserts a rule, whose id is new.
+/// Inserts a rule, whose id is new, without its length.
 pub(crate) fn insert_rule<S: Alter>(
     tx: &mut Transaction<'_, S>,
     rule: &Rule,
@@ -79,16 +80,32 @@ pub(crate) fn insert_rule<S: Alter>(
     ensures same_reference { tx.new.conn.ghost_name ≡ tx.old.conn.ghost_name }
     ensures runs { RunsInside S.Store insert_rule (rule_row rule.now) tx.old.conn.now tx.new.conn.now result }
     ensures survives { CommitsNothing S.Store tx.old.conn.now tx.new.conn.now }
-    ensures typed { 1 ≤ rule.now.id → IsStorableAction rule.now.action → IsRule rule.now.id rule.now }
+    ensures typed { 1 ≤ rule.now.id → IsRule rule.now.id (plain rule.now) }
 {
-    rule_range(rule);
+    recall_rule(rule);
     tx.execute(
         "INSERT INTO rule (id, priority, inverted, src_net, src_len, dst_net, dst_len, iif, mark, mask, act, tbl) VALUES (?1, ?2, ?3, ?4, ?5, ?6, ?7, ?8, ?9, ?10, ?11, ?12)",
         &rule_values(rule),
     )
 }
 
-/// Deletes the rule that has this id.
+/// Inserts the length up to which a rule suppresses prefixes.
+pub(crate) fn insert_length<S: Alter>(
+    tx: &mut Transaction<'_, S>,
+    length: &RuleLength,
+) -> Result<usize, Error>
+    requires { length.now.rule < 2 ^ 63 }
+    ensures same_reference { tx.new.conn.ghost_name ≡ tx.old.conn.ghost_name }
+    ensures runs { RunsInside S.Store insert_suppress (suppress_row length.now) tx.old.conn.now tx.new.conn.now result }
+    ensures survives { CommitsNothing S.Store tx.old.conn.now tx.new.conn.now }
+{
+    tx.execute(
+        "INSERT INTO suppress (rule, len) VALUES (?1, ?2)",
+        &length_values(length),
+    )
+}
+
+/// Deletes the rule that has this id. Its length goes with it.
 pub(crate) fn delete_rule<S: Alter>(tx: &mut Transaction<'_, S>, id: u64) -> Result<usize, Error>
     requires { id < 2 ^ 63 }
     ensures same_reference { tx.new.conn.ghost_name ≡ tx.old.conn.ghost_name }
@@ -98,7 +115,7 @@ pub(crate) fn delete_rule<S: Alter>(tx: &mut Transaction<'_, S>, id: u64) -> Res
     tx.execute("DELETE FROM rule WHERE id = ?1", params![id as i64])
 }
 
-/// Deletes the rules whose priority is not 0.
+/// Deletes the rules whose priority is not 0. Their lengths go with them.
 pub(crate) fn flush_rules<S: Alter>(tx: &mut Transaction<'_, S>) -> Result<usize, Error>
     ensures same_reference { tx.new.conn.ghost_name ≡ tx.old.conn.ghost_name }
     ensures runs { RunsInside S.Store flush_rules [] tx.old.conn.now tx.new.conn.now result }

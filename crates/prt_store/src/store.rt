@@ -5,15 +5,16 @@ ghost use Rattle.sqlite.specs.Effect.{IsDatabase};
 ghost use Rattle.sqlite.specs.Held.{state};
 ghost use Rattle.sqlite.specs.State.{HasCleanDisk, IsUnchanged};
 ghost use Rattle.sqlite.specs.Tree.{Trees};
+ghost use Rattle.prt_addr.specs.Opening.{IsOpenRefusal};
 ghost use Rattle.prt_addr.specs.declared.refusal.StoreCall.{StoreCall as FailedCall};
 ghost use Rattle.prt_addr.specs.declared.refusal.StoreCall.TheVariants.{Commit, Begin};
 ghost use Rattle.prt_addr.specs.declared.refusal.Refusal.TheVariants.{Damaged, StoreFailed};
 ghost use Rattle.prt_version.specs.Change.{put};
 ghost use Rattle.prt_version.specs.State.{State};
-ghost use Rattle.prt_rows.specs.Format.{IsFormat1};
+ghost use Rattle.prt_rows.specs.Format.{IsFormat2};
 ghost use Rattle.prt_store.specs.Adopted.{IsSettled};
 ghost use Rattle.prt_store.specs.Exits.{IsStored, MayLeave};
-ghost use Rattle.prt_store.specs.Loaded.{IsLoadRefusal, StaysSettled};
+ghost use Rattle.prt_store.specs.Loaded.{StaysSettled};
 ghost use Rattle.prt_store.specs.Made.{MakesChange};
 ghost use Rattle.prt_store.specs.Next.{IsNext, MakesNext};
 ghost use Rattle.prt_store.specs.Openings.{HasDone};
@@ -21,7 +22,7 @@ ghost use Rattle.prt_store.specs.Stops.{MakesCalls, StoppedIn};
 ghost use Rattle.prt_store.specs.Stored.{Stores};
 ghost use Rattle.prt_store.specs.Written.{CommitsNothing};
 
-use crate::commit::run;
+use crate::commit::make_change;
 use crate::load::load;
 use prt_addr::Refusal;
 use prt_version::{Change, Version};
@@ -35,7 +36,7 @@ pub struct Stamp {
 }
 
 impl Stamp {
-    /// The number of commands that had been accepted with this one, from 1 to 10^15.
+    /// Gives the number of commands that had been accepted with this one, from 1 to 10^15.
     pub fn number(&self) -> u64
         ensures { result ≡ self.now.number }
     {
@@ -50,35 +51,35 @@ pub struct Store<S: Alter + Drop> {
 }
 
 impl<S: Alter + Drop> Store<S> {
-    /// The connection, with its tables as they are.
+    /// Gives the connection, with its tables as they are.
     pub fn release(self) -> Connection<S>
         ensures { result ≡ self.conn }
     {
         self.conn
     }
 
-    /// The version that the tables spell. After `Ok` nothing is changed; a crash leaves in any case what it could leave
-    /// before.
+    /// Gives the version that the tables spell. After `Ok` nothing is changed; a crash leaves in any case what it could
+    /// leave before.
     ///
     /// # Errors
     ///
     /// `Damaged` only where the tables spell no state; `OpenFailed` where a store call fails; `NoMemory`. The tables
     /// are as they were, if the connection is still open and nothing was pending on it.
     pub fn load(&mut self, alloc: Global) -> Result<Version, Refusal>
-        ensures ok { HasCleanDisk (state S.Store self.new.conn) → IsFormat1 (state S.Store self.old.conn).now.schema →
+        ensures ok { HasCleanDisk (state S.Store self.new.conn) → IsFormat2 (state S.Store self.old.conn).now.schema →
             IfOk result (Stores (state S.Store self.old.conn).now) }
-        ensures damaged { HasCleanDisk (state S.Store self.new.conn) → IsFormat1 (state S.Store self.old.conn).now.schema →
+        ensures damaged { HasCleanDisk (state S.Store self.new.conn) → IsFormat2 (state S.Store self.old.conn).now.schema →
             IfErr result (λ reason. reason ≡ Damaged → (stored : State) → Stores (state S.Store self.old.conn).now stored → ⊥) }
-        ensures reason { IfErr result IsLoadRefusal }
-        ensures same { HasCleanDisk (state S.Store self.new.conn) → IsFormat1 (state S.Store self.old.conn).now.schema →
+        ensures reason { IfErr result IsOpenRefusal }
+        ensures same { HasCleanDisk (state S.Store self.new.conn) → IsFormat2 (state S.Store self.old.conn).now.schema →
             OnOk result (IsUnchanged (state S.Store self.old.conn) (state S.Store self.new.conn)) }
-        ensures sound { HasCleanDisk (state S.Store self.new.conn) → IsFormat1 (state S.Store self.old.conn).now.schema →
+        ensures sound { HasCleanDisk (state S.Store self.new.conn) → IsFormat2 (state S.Store self.old.conn).now.schema →
             OnOk result (IsDatabase (state S.Store self.new.conn).now) }
-        ensures err { HasCleanDisk (state S.Store self.new.conn) → IsFormat1 (state S.Store self.old.conn).now.schema → IsTrue (state S.Store self.new.conn).is_open →
+        ensures err { HasCleanDisk (state S.Store self.new.conn) → IsFormat2 (state S.Store self.old.conn).now.schema → IsTrue (state S.Store self.new.conn).is_open →
             IsSettled S.Store self.old.conn → OnErr result (StaysSettled S.Store self.old.conn self.new.conn) }
-        ensures quiet { (HasCleanDisk (state S.Store self.old.conn) → IsFormat1 (state S.Store self.old.conn).now.schema) → CommitsNothing S.Store self.old.conn self.new.conn }
+        ensures quiet { (HasCleanDisk (state S.Store self.old.conn) → IsFormat2 (state S.Store self.old.conn).now.schema) → CommitsNothing S.Store self.old.conn self.new.conn }
     {
-        // Says that the rows are as the schema has them.
+        // Recalls that the rows are as the schema has them.
         let _live = self.conn.schema();
         load(alloc, &mut self.conn)
     }
@@ -124,7 +125,7 @@ impl<S: Alter + Drop> Store<S> {
             IsStored S.Store self.old.conn before → (left : State) → MayLeave S.Store self.new.conn left →
             (left ≡ before) ⊎ ((reason ≡ StoreFailed Commit) × (left ≡ put before change.now))) }
     {
-        match run(&mut self.conn, change, number) {
+        match make_change(&mut self.conn, change, number) {
             Ok(()) => Ok(Stamp { number }),
             Err(call) => Err(Refusal::StoreFailed(call)),
         }

@@ -29,11 +29,11 @@ pub struct Contents {
 }
 
 /// Runs statements; without a clause, so that the proof of a test does not carry what they do.
-pub fn run<S: Alter>(connection: &mut Connection<S>, sql: &str) -> Result<(), Error> {
+pub fn execute<S: Alter>(connection: &mut Connection<S>, sql: &str) -> Result<(), Error> {
     connection.execute_batch(sql)
 }
 
-/// The store that adopts the connection.
+/// Gives the store that adopts the connection.
 pub fn adopted<S: Alter + Drop>(connection: Connection<S>) -> Result<Store<S>, Refusal> {
     match Store::adopt(connection) {
         Ok(store) => Ok(store),
@@ -41,19 +41,19 @@ pub fn adopted<S: Alter + Drop>(connection: Connection<S>) -> Result<Store<S>, R
     }
 }
 
-/// What the store loads.
+/// Tells what the store loads.
 pub fn loaded<S: Alter + Drop>(alloc: Global, store: &mut Store<S>) -> Result<Version, Refusal> {
     store.load(alloc)
 }
 
-/// The lines that answer a query.
+/// Gives the lines that answer a query.
 fn answer(alloc: Global, version: &Version, query: &Query) -> Result<Vec<u8>, Refusal> {
     let mut text = Vec::new(alloc);
     query_text(&mut text, version, query)?;
     Ok(text)
 }
 
-/// The connection, and whether its database spells this once it is adopted.
+/// Gives the connection, and whether its database spells this once it is adopted.
 pub fn spells<S: Alter + Drop>(
     alloc: Global,
     connection: Connection<S>,

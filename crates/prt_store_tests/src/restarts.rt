@@ -18,7 +18,7 @@ const FLUSHED: Contents = Contents {
     routes: "end 0\n",
 };
 
-/// How a connection is opened: with room for each page.
+/// Tells how a connection is opened: with room for each page.
 fn options() -> Options {
     Options {
         cache_pages: 100,

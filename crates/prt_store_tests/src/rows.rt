@@ -1,9 +1,10 @@
-//! Rows of the three tables: what is written is read back, and what no table holds is refused.
+//! Rows of the four tables: what is written is read back, and values out of range are refused.
 
 use prt_command::{Action, Addr, Dev, Kind, Mark, Prefix, Range, Refusal, Route, Rule, Selector};
 use prt_rows::{
-    count_of_rows, meta_values, route_of_row, route_values, routes_of_rows, rule_of_row,
-    rule_values, rules_of_rows, selector_values,
+    RuleLength, count_in_format_1, count_of_rows, length_of_row, length_values, lengths_of_rows,
+    meta_values, route_of_row, route_values, routes_of_rows, rule_of_row, rule_values,
+    rules_of_rows, selector_values,
 };
 use sqlite::Row;
 use sqlite::types::ValueRef;
@@ -72,6 +73,7 @@ fn reads_back_what_it_writes(rt: HostRuntime) -> Result<(), Fail> {
             mask: 0xffff_ffff,
         }),
         action: Action::Lookup(51820),
+        suppress: None,
     };
     let alloc = rt.alloc();
     let route_row = kept(alloc, -7, &route_values(&route))?;
@@ -85,19 +87,18 @@ fn reads_back_what_it_writes(rt: HostRuntime) -> Result<(), Fail> {
 }
 
 #[test]
-fn refuses_routes_that_no_table_holds(rt: HostRuntime) -> Result<(), Fail> {
+fn refuses_routes_out_of_range(rt: HostRuntime) -> Result<(), Fail> {
     let alloc = rt.alloc();
     for (at, value) in [
-        (0, ValueRef::Int(0)),
+        (0, ValueRef::Int(-1)),
         (1, ValueRef::Int(0x0a00_0001)),
         (2, ValueRef::Int(33)),
         (3, ValueRef::Int(4_294_967_296)),
-        (4, ValueRef::Int(1)),
         (4, ValueRef::Int(2)),
         (6, ValueRef::Text(b"a/b")),
         (7, ValueRef::Int(-2)),
         (8, ValueRef::Text(b"3")),
-        (9, ValueRef::Int(253)),
+        (9, ValueRef::Int(256)),
     ] {
         let mut values = BLACKHOLE;
         values[at] = value;
@@ -136,7 +137,6 @@ fn refuses_rules_out_of_range(rt: HostRuntime) -> Result<(), Fail> {
         (7, ValueRef::Text(b"sixteen-bytes-xy")),
         (8, ValueRef::Int(-1)),
         (10, ValueRef::Int(6)),
-        (11, ValueRef::Int(0)),
     ] {
         let mut values = LOOKUP;
         values[at] = value;
@@ -165,6 +165,28 @@ fn reads_whole_tables(rt: HostRuntime) -> Result<(), Fail> {
         Some(Refusal::Damaged)
     );
     assert_eq!(rt; count_of_rows(&counts), None);
+    Ok(())
+}
+
+#[test]
+fn reads_lengths_and_the_former_format(rt: HostRuntime) -> Result<(), Fail> {
+    let alloc = rt.alloc();
+    let written = row(alloc, &length_values(&RuleLength { rule: 4, len: 32 }))?;
+    let read = length_of_row(&written, 4).map(|length| (length.rule, length.len));
+    assert_eq!(rt; read, Some((4, 32)));
+    assert!(rt; length_of_row(&written, 3).is_none());
+    let longer = [row(alloc, &[ValueRef::Int(4), ValueRef::Int(33)])?];
+    assert_eq!(rt;
+        lengths_of_rows(alloc, &longer, 4).err(),
+        Some(Refusal::Damaged)
+    );
+    assert_eq!(rt; lengths_of_rows(alloc, &[written], 4)?.len(), 1);
+    let former = [row(
+        alloc,
+        &[ValueRef::Int(1), ValueRef::Int(1), ValueRef::Int(7)],
+    )?];
+    assert_eq!(rt; count_in_format_1(&former), Some(7));
+    assert_eq!(rt; count_of_rows(&former), None);
     Ok(())
 }
 

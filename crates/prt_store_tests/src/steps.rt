@@ -50,10 +50,10 @@ pub const STEPS: [(&str, Contents); 8] = [
         },
     ),
     (
-        "rule add not from 10/8 iif eth0 fwmark 7/0xff priority 5 table 100",
+        "rule add not from 10/8 iif eth0 fwmark 7/0xff priority 5 table 100 suppress_prefixlength 8",
         Contents {
             number: 5,
-            rules: "0:\tfrom all lookup local\n5:\tnot from 10.0.0.0/8 fwmark 0x7/0xff iif eth0 lookup 100\n32766:\tfrom all lookup main\n32767:\tfrom all lookup default\nend 4\n",
+            rules: "0:\tfrom all lookup local\n5:\tnot from 10.0.0.0/8 fwmark 0x7/0xff iif eth0 lookup 100 suppress_prefixlength 8\n32766:\tfrom all lookup main\n32767:\tfrom all lookup default\nend 4\n",
             routes: "throw 10.0.0.0/8 table 7\nend 1\n",
         },
     ),
@@ -83,7 +83,7 @@ pub const STEPS: [(&str, Contents); 8] = [
     ),
 ];
 
-/// The connection after the command of a line was committed.
+/// Gives the connection after the command of a line was committed.
 pub fn committed<S: Alter + Drop>(
     alloc: Global,
     connection: Connection<S>,
@@ -98,7 +98,7 @@ pub fn committed<S: Alter + Drop>(
     Ok(store.release())
 }
 
-/// The first command after which the tables of a new database spell something else.
+/// Gives the first command after which the tables of a new database spell something else.
 fn misstored_line<S: Alter + Drop>(
     alloc: Global,
     connection: Connection<S>,

@@ -1,12 +1,17 @@
 //! Tables of routes, and spans of addresses that find the best route for an address.
 #![tactic(auto)]
 
+mod cut;
 mod directory;
 mod edit;
 mod index;
+mod leaf;
 mod listing;
+mod parts;
+mod piece;
 mod pieces;
 mod place;
+mod rows;
 mod span;
 mod sweep;
 mod table;

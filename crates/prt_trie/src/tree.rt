@@ -1,7 +1,6 @@
-ghost use Rattle.std.specs.Prelude.{◌≡◌, ◌<◌, ◌^◌, ℕ, length, All, IfErr, IfOk, IsPermutation, option_map};
+ghost use Rattle.std.specs.Prelude.{◌≡◌, ℕ, length, IfErr, IfOk, IsPermutation, option_map};
 ghost use Rattle.std.specs.List.{IsDistinct};
 ghost use Rattle.std.specs.Option.{option_copied};
-ghost use Rattle.prt_addr.specs.Sound.{IsPrefix};
 ghost use Rattle.prt_addr.specs.declared.refusal.Refusal.TheVariants.{NoMemory};
 ghost use Rattle.prt_route.specs.Best.{best};
 ghost use Rattle.prt_route.specs.Edit.{has_key};
@@ -9,66 +8,67 @@ ghost use Rattle.prt_route.specs.Route.{key_of};
 ghost use Rattle.prt_route.specs.RouteChoice.{chosen_route};
 ghost use Rattle.prt_trie.specs.Table.{IsOfOneTable, IsOfTable, IsRising, IsTable, has_same_key};
 
-use crate::index::Index;
-use crate::listing::sort_rows;
-use crate::place::{chosen_route, has_key};
+use crate::cut::Cut;
+use crate::leaf::Leaf;
+use crate::piece::Piece;
+use crate::pieces::Pieces;
+use crate::rows::{read_all, sorted_rows};
 use crate::{Addr, Refusal, Route, RouteChoice, RouteKey};
+use prt_route::{RouteEdit, Selector};
 use std::alloc::{AllocError, Global};
 use std::marker::Model;
 
-/// The routes of one table by address, length and metric, and their index.
+/// How many routes have one index. More of them are split by their second octet.
+const MOST_OF_LEAF: usize = 512;
+
+/// How many routes stay split. Fewer of them get one index again; the limits lie apart, so that no route moves them all
+/// each time that it comes and goes.
+const LEAST_OF_SPLIT: usize = 256;
+
+/// The routes of one table by address, length and metric.
 #[derive(Drop)]
 pub struct Tree {
-    rows: Vec<Route>,
-    index: Index,
+    shape: Shape,
+}
+
+/// The routes with one index, or in pieces by the second octet that trees before and after an edit share.
+#[derive(Drop)]
+enum Shape {
+    Whole(Leaf),
+    Split(Pieces<Leaf>),
 }
 
 impl Model for Tree {
     ghost use Rattle.std.specs.Prelude.{List};
     ghost use Rattle.prt_route.specs.declared.route.Route.{Route as Row};
-    ghost use Rattle.prt_trie.specs.Index.{IsIndex};
 
     ghost Value = { List Row };
 
-    ghost view = { λ tree. tree.rows.items };
+    ghost use Rattle.prt_trie.specs.Shape.{rows_of};
 
-    ghost invariant = { λ tree. IsIndex tree.rows.items tree.index };
-}
-
-/// The metric of the row.
-pub(crate) fn metric_of(row: &Route) -> u32
-    ensures value { result ≡ row.now.metric }
-    ensures fits { result < 2 ^ 32 }
-{
-    row.metric
-}
-
-/// Tells of all rows what their types tell of each that is read.
-fn read_all(rows: &[Route])
-    ensures prefixes { All (λ row. IsPrefix row.prefix) rows.now }
-    ensures metrics { All (λ row. row.metric < 2 ^ 32) rows.now }
-{
-    for row in rows {
-        let _bits = row.prefix.bits();
-        let _metric = metric_of(row);
-    }
-}
-
-/// A copy of the routes in the order of listings.
-pub(crate) fn sorted_rows(alloc: Global, given: &[Route]) -> Result<Vec<Route>, AllocError>
-    requires distinct { IsDistinct has_same_key given.now }
-    requires one_table { IsOfOneTable given.now }
-    ensures same { IfOk result (λ rows. IsPermutation given.now rows.items) }
-    ensures table { IfOk result (λ rows. IsTable rows.items) }
-{
-    read_all(given);
-    let mut rows = Vec::from_slice(alloc, given)?;
-    sort_rows(&mut rows);
-    Ok(rows)
+    ghost view = { λ tree. rows_of tree.shape };
 }
 
 impl Tree {
-    /// The tree of the routes of one table, given in any order, each with a key of its own.
+    /// Makes the tree of the pieces after an edit, which get one index again where they have few routes left.
+    ///
+    /// # Errors
+    ///
+    /// `NoMemory` alone.
+    fn of_pieces(pieces: Pieces<Leaf>) -> Result<Tree, Refusal>
+        ensures value { IfOk result (λ tree. tree ≡ pieces.1) }
+        ensures reason { IfErr result (λ reason. reason ≡ NoMemory) }
+    {
+        let shape = if pieces.len() < LEAST_OF_SPLIT {
+            let rows = pieces.rows()?;
+            Shape::Whole(Leaf::from_sorted(*rows.allocator(), rows)?)
+        } else {
+            Shape::Split(pieces)
+        };
+        Ok(Tree { shape })
+    }
+
+    /// Makes the tree of the routes of one table, given in any order, each with a key of its own.
     ///
     /// # Errors
     ///
@@ -84,35 +84,17 @@ impl Tree {
         Tree::from_sorted(alloc, rows)
     }
 
-    /// The tree of the routes of one table that stand in the order of listings.
-    pub(crate) fn from_sorted(alloc: Global, rows: Vec<Route>) -> Result<Tree, Refusal>
-        requires one_table { IsOfOneTable rows.items }
-        requires rising { IsRising rows.items }
-        ensures value { IfOk result (λ tree. tree ≡ rows.items) }
-        ensures reason { IfErr result (λ reason. reason ≡ NoMemory) }
-    {
-        let given = rows.as_slice();
-        read_all(given);
-        let index = Index::build(alloc, given)?;
-        Ok(Tree { rows, index })
-    }
-
-    /// The routes in the order of listings.
-    pub(crate) fn as_slice(&self) -> &[Route]
-        ensures value { result.now ≡ self.now }
-        ensures table { IsTable result.now }
-    {
-        self.rows.as_slice()
-    }
-
-    /// The best route for the address, if one contains it (RFC 1812, section 5.2.4.3). It takes no memory.
+    /// Gives the best route for the address, if one contains it (RFC 1812, section 5.2.4.3). It takes no memory.
     pub fn find(&self, addr: Addr) -> Option<&Route>
         ensures { (table : ℕ) → IsOfTable table self.now → option_copied result ≡ best self.now table addr }
     {
-        self.index.find(&self.rows, addr)
+        match &self.shape {
+            Shape::Whole(leaf) => leaf.find(addr),
+            Shape::Split(pieces) => pieces.find(addr),
+        }
     }
 
-    /// A copy of the routes by address, length and metric.
+    /// Makes a copy of the routes by address, length and metric.
     ///
     /// # Errors
     ///
@@ -122,23 +104,32 @@ impl Tree {
         ensures table { IfOk result (λ rows. IsTable rows.items) }
         ensures reason { IfErr result (λ reason. reason ≡ NoMemory) }
     {
-        let rows = Vec::from_slice(*self.rows.allocator(), self.rows.as_slice())?;
+        let rows = match &self.shape {
+            Shape::Whole(leaf) => leaf.rows()?,
+            Shape::Split(pieces) => pieces.rows()?,
+        };
         Ok(rows)
     }
 
-    /// How many routes there are.
+    /// Tells how many routes there are.
     pub fn len(&self) -> usize
         ensures value { result ≡ length self.now }
         ensures table { IsTable self.now }
     {
-        self.rows.len()
+        match &self.shape {
+            Shape::Whole(leaf) => leaf.as_slice().len(),
+            Shape::Split(pieces) => pieces.len(),
+        }
     }
 
     /// Tells whether one of the routes has the key.
     pub fn holds(&self, key: &RouteKey) -> bool
         ensures { result ≡ has_key key.now self.now }
     {
-        has_key(self.as_slice(), key)
+        match &self.shape {
+            Shape::Whole(leaf) => leaf.holds(key),
+            Shape::Split(pieces) => pieces.holds(key),
+        }
     }
 
     /// Gives the key of the route of lowest metric among those that the choice takes, if it takes one (`ip-route(8)`,
@@ -146,6 +137,64 @@ impl Tree {
     pub fn choose(&self, choice: &RouteChoice) -> Option<RouteKey>
         ensures { result ≡ option_map key_of (chosen_route choice.now self.now) }
     {
-        chosen_route(self.as_slice(), choice).map(|route| route.key())
+        match &self.shape {
+            Shape::Whole(leaf) => leaf.choose(choice),
+            Shape::Split(pieces) => pieces.choose(choice),
+        }
+    }
+}
+
+impl Piece for Tree {
+    ghost routes = { λ tree. tree };
+
+    fn from_sorted(alloc: Global, rows: Vec<Route>) -> Result<Tree, Refusal> {
+        let given = rows.as_slice();
+        read_all(given);
+        let shape = if given.len() > MOST_OF_LEAF {
+            Shape::Split(Pieces::from_sorted(alloc, Cut::SecondOctet, given)?)
+        } else {
+            Shape::Whole(Leaf::from_sorted(alloc, rows)?)
+        };
+        Ok(Tree { shape })
+    }
+
+    fn with_change(&self, edit: &RouteEdit) -> Result<Tree, Refusal> {
+        match &self.shape {
+            Shape::Whole(leaf) => {
+                let rows = leaf.rows_after(edit)?;
+                Tree::from_sorted(*rows.allocator(), rows)
+            }
+            Shape::Split(pieces) => Tree::of_pieces(pieces.with_change(edit)?),
+        }
+    }
+
+    fn len(&self) -> usize {
+        Tree::len(self)
+    }
+
+    fn push_rows(&self, rows: &mut Vec<Route>) -> Result<(), AllocError> {
+        match &self.shape {
+            Shape::Whole(leaf) => leaf.push_rows(rows),
+            Shape::Split(pieces) => pieces.push_rows(rows),
+        }
+    }
+
+    fn takes_any(&self, selector: &Selector) -> bool {
+        match &self.shape {
+            Shape::Whole(leaf) => leaf.takes_any(selector),
+            Shape::Split(pieces) => pieces.takes_any(selector),
+        }
+    }
+
+    fn find(&self, addr: Addr) -> Option<&Route> {
+        Tree::find(self, addr)
+    }
+
+    fn holds(&self, key: &RouteKey) -> bool {
+        Tree::holds(self, key)
+    }
+
+    fn choose(&self, choice: &RouteChoice) -> Option<RouteKey> {
+        Tree::choose(self, choice)
     }
 }

@@ -73,8 +73,10 @@ selectors_tie a b =
 pub contents_tie : (a b : Rule) → is_eq (content_cmp a b) ≡ is_same_rule a b
 contents_tie a b =
     both_tie _ _ _ _
+    (both_tie _ _ _ _
     (both_tie _ _ _ _ (both_tie _ _ _ _ (numbers_tie a.priority b.priority) (flags_tie a.inverted b.inverted)) (selectors_tie a b))
-    (actions_tie a.action b.action)
+    (actions_tie a.action b.action))
+    (options_tie nat_cmp (λ m n. m == n) numbers_tie a.suppress b.suppress)
 
 -- ---- it is an order
 
@@ -91,11 +93,12 @@ selectors_total =
 
 contents_total : IsTotalOrder content_cmp
 contents_total =
-    then_total (then_total (then_total
+    then_total (then_total (then_total (then_total
     (on_total (λ (rule : Rule). rule.priority) nat_cmp_total)
     (on_total (λ (rule : Rule). rule.inverted) bool_cmp_total))
     selectors_total)
-    (on_total (λ (rule : Rule). action_pair rule.action) pairs_total)
+    (on_total (λ (rule : Rule). action_pair rule.action) pairs_total))
+    (on_total (λ (rule : Rule). rule.suppress) (options_total nat_cmp_total))
 
 pub content_order : IsStrictWeakOrder is_content_before
 content_order = ranks_by contents_total (λ (rule : Rule). rule)

@@ -1,9 +1,9 @@
 -- The rules and the routes of the state that rows spell, in whatever order they come.
-use Rattle.std.proofs.Common.{◌≡◌, ◌⊎◌, inl, ℕ, ◌+◌, ◌^◌, ◌≤◌, Bool, true, false, List, length, refl, subst, arith}
+use Rattle.std.proofs.Common.{◌≡◌, ◌⊎◌, inl, ℕ, ◌+◌, ◌≤◌, Bool, true, false, List, length, refl, subst, arith}
 use Rattle.std.specs.Prelude.{◌↔◌, IsPermutation, IsTrue, nat_le}
 use Rattle.std.specs.Bool.{Decides}
 use Rattle.std.specs.List.{AllByRecursion as Each, IsDistinct, list_all}
-use Rattle.std.proofs.lemmas.Bool.Decides.{Decides-and, Decides-by_and, Decides-like, Decides-ltb, nat_tests}
+use Rattle.std.proofs.lemmas.Bool.Decides.{Decides-and, Decides-by_and, Decides-like, nat_tests}
 use Rattle.std.proofs.lemmas.List.Elements.{All-from_recursion, recursion_from_All}
 use Rattle.std.proofs.lemmas.List.Sorted.{All-permutation, IsPermutation-sym, IsPermutation-trans, length_permutation}
 use Rattle.std.proofs.lemmas.List.Sums.{AllPass-from_list_all, list_all-from_AllPass}
@@ -13,17 +13,15 @@ use Rattle.prt_addr.proofs.Each.{each_implies}
 use Rattle.prt_addr.specs.declared.refusal.Refusal.{Refusal}
 use Rattle.prt_addr.specs.declared.refusal.Refusal.TheVariants.{Damaged, NoMemory}
 use Rattle.prt_route.specs.Route.{is_listed_before}
-use Rattle.prt_route.specs.Storable.{IsStorableRoute}
+use Rattle.prt_route.specs.Storable.{is_storable_route}
 use Rattle.prt_route.specs.declared.route.Route.{Route}
 use Rattle.prt_rule.specs.Sound.{IsInOrder}
 use Rattle.prt_rule.specs.Same.{is_same_rule}
-use Rattle.prt_rule.specs.Storable.{IsStorableAction}
-use Rattle.prt_rule.specs.declared.rule.Action.{Action}
-use Rattle.prt_rule.specs.declared.rule.Action.TheVariants.{Lookup, Blackhole, Unreachable, Prohibit}
+use Rattle.prt_rule.specs.Storable.{is_storable_rule}
 use Rattle.prt_rule.specs.declared.rule.Rule.{Rule}
 use Rattle.prt_rule.proofs.SameRules.{same_both_ways}
 use Rattle.prt_trie.specs.Table.{has_same_key}
-use Rattle.prt_version.specs.Ordered.{AreRoutes, AreRules, has_same_id, is_rule_of, is_storable_action, is_storable_route}
+use Rattle.prt_version.specs.Ordered.{AreRoutes, AreRules, has_same_id, is_rule_of}
 use Rattle.prt_version.specs.RowsSpell.{IsStorableState, RowsSpell, RowsSpellNone}
 use Rattle.prt_version.specs.Sound.{IsSound}
 use Rattle.prt_version.specs.State.{State}
@@ -100,22 +98,17 @@ least_decided a b = (λ h. grind (arith, nat_tests), λ h. grind (arith, nat_tes
 each_decided : {X : Type 0} (p : X → Bool) (P : X → Type 0) → ((x : X) → Decides (p x) (P x)) → (xs : List X) → Decides (list_all p xs) (Each P xs)
 each_decided p P decides xs = Decides-like (list_all p xs) (recursion_from_All P xs) (All-from_recursion P xs) (Decides-by_and p P (list_all p) decides refl (λ _ _. refl) xs)
 
-action_decided : (action : Action) → Decides (is_storable_action action) (IsStorableAction action)
-action_decided (Lookup table) = least_decided 1 table
-action_decided Blackhole = (λ h. tt, λ h. refl)
-action_decided Unreachable = (λ h. tt, λ h. refl)
-action_decided Prohibit = (λ h. tt, λ h. refl)
+test_decided : (b : Bool) → Decides b (IsTrue b)
+test_decided b = (λ h. h, λ h. h)
 
 abbrev IsRuleOf : ℕ → Rule → Type 0
-IsRuleOf count rule = ((1 ≤ rule.id) × (rule.id ≤ count + 3)) × IsStorableAction rule.action
+IsRuleOf count rule = ((1 ≤ rule.id) × (rule.id ≤ count + 3)) × IsTrue (is_storable_rule rule.action rule.suppress)
 
 rule_decided : (count : ℕ) (rule : Rule) → Decides (is_rule_of count rule) (IsRuleOf count rule)
-rule_decided count rule = Decides-and _ _ (Decides-and _ _ (least_decided 1 rule.id) (least_decided rule.id (count + 3))) (action_decided rule.action)
+rule_decided count rule = Decides-and _ _ (Decides-and _ _ (least_decided 1 rule.id) (least_decided rule.id (count + 3))) (test_decided (is_storable_rule rule.action rule.suppress))
 
-route_decided : (route : Route) → Decides (is_storable_route route) (IsStorableRoute route)
-route_decided route =
-    Decides-like (is_storable_route route) (λ h. record { table = h.0.0; fits = h.0.1; suits = h.1 }) (λ storable. ((storable.table, storable.fits), storable.suits))
-    (Decides-and _ _ (Decides-and _ _ (least_decided 1 route.table) (Decides-ltb route.table (2 ^ 32))) (λ h. h, λ h. h))
+routes_decided : (routes : List Route) → Decides (list_all is_storable_route routes) (Each (λ route. IsTrue (is_storable_route route)) routes)
+routes_decided routes = each_decided is_storable_route (λ route. IsTrue (is_storable_route route)) (λ route. test_decided (is_storable_route route)) routes
 
 rules_of : (state : State) → IsSound state → IsStorableState state → AreRules state.count state.rules
 rules_of state sound storable = record {
@@ -129,7 +122,7 @@ rules_of state sound storable = record {
 routes_of : (state : State) → IsSound state → IsStorableState state → AreRoutes state.routes
 routes_of state sound storable = record {
   fit = sound.routes_fit;
-  each = (each_decided is_storable_route IsStorableRoute route_decided state.routes).1 storable.routes;
+  each = (routes_decided state.routes).1 storable.routes;
   keys = rising_apart is_listed_before has_same_key key_differs state.routes sound.routes_rise;
 }
 
@@ -171,8 +164,8 @@ module _ (number : ℕ) (rules : List Rule) (routes : List Route) (counts : numb
     routes_are = routes_moved;
     sound = ordered_sound;
     storable = record {
-      rules = each_implies (IsRuleOf number) (λ rule. IsStorableAction rule.action) (λ rule h. h.1) rules each_rule;
-      routes = (each_decided is_storable_route IsStorableRoute route_decided routes).0 routes_are.0.each;
+      rules = each_implies (IsRuleOf number) (λ rule. IsTrue (is_storable_rule rule.action rule.suppress)) (λ rule h. h.1) rules each_rule;
+      routes = (routes_decided routes).0 routes_are.0.each;
     };
   }
 

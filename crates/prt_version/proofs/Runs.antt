@@ -1,18 +1,15 @@
 -- Rows in the order of listings, cut where a table ends.
 use Rattle.std.proofs.Common.{◌≡◌, ℕ, zero, suc, ◌<◌, ◌≤◌, true, false, leb, ltb, List, [], ◌∷◌, ◌++◌, length, get_or, take, drop, None, refl, sym, ap, ◌∙◌, subst, append_assoc, arith}
-use Rattle.std.specs.Prelude.{IsPermutation}
 use Rattle.std.specs.List.{AllByRecursion as Each, AllWithin, slice_get}
 use Rattle.std.specs.List.Sorted.{IsPartitionedBy, IsPartitionPoint}
 use Rattle.std.proofs.lemmas.Bool.Decides.{nat_tests}
 use Rattle.std.proofs.lemmas.List.{append-nil}
 use Rattle.std.proofs.lemmas.List.Elements.{All-from_recursion, recursion_from_All}
-use Rattle.std.proofs.lemmas.List.Sorted.{Contains-permutation, IsPartitionedBy-leb, IsPermutation-sym}
+use Rattle.std.proofs.lemmas.List.Sorted.{IsPartitionedBy-leb}
 use Rattle.prt_addr.specs.Rising.{IsRising}
 use Rattle.prt_addr.proofs.Each.{each_append, each_implies}
-use Rattle.prt_addr.proofs.Orders.{same_risings}
 use Rattle.prt_route.specs.Route.{is_listed_before}
 use Rattle.prt_route.specs.declared.route.Route.{Route}
-use Rattle.prt_route.proofs.Edits.{listing_order}
 use Rattle.prt_trie.specs.Table.{table_of as first_table}
 use Rattle.prt_version.specs.Tables.{AreTables, HasOwnRows, TableRows, all_rows, has_rows, is_lower}
 use Rattle.prt_version.proofs.ByTable.{rows_append}
@@ -127,9 +124,3 @@ none_left (row ∷ rows) none = absurd cc
 -- nothing is left
 pub all_cut : (rows : List Route) (tables : List TableRows) (rest : List Route) → slice_get rest 0 ≡ None → IsCut rows tables rest → all_rows tables ≡ rows
 all_cut rows tables rest none cut = sym (append-nil (all_rows tables)) ∙ ap (λ rs. all_rows tables ++ rs) (sym (none_left rest none)) ∙ cut.whole
-
--- ---- rows that rise, in whatever order they were
-
-pub same_rows : (rows table : List Route) → IsPermutation rows table → IsRising is_listed_before rows → IsRising is_listed_before table → table ≡ rows
-same_rows rows table moved rises table_rises =
-    same_risings is_listed_before listing_order table rows table_rises rises (λ row. Contains-permutation table rows row (IsPermutation-sym rows table moved)) (λ row. Contains-permutation rows table row moved)

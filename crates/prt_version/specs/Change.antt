@@ -26,7 +26,7 @@ use Rattle.prt_version.specs.declared.limits.TheConstants.{MOST_COMMANDS, MOST_R
 
 -- the rule with the next id, and the priority that is given or the automatic one
 abbrev pub rule_of : State → NewRule → Rule
-rule_of state new = record { id = state.count + 4; priority = unwrap_or new.priority (auto_priority state.rules); inverted = new.inverted; from = new.from; to = new.to; iif = new.iif; mark = new.mark; action = new.action }
+rule_of state new = record { id = state.count + 4; priority = unwrap_or new.priority (auto_priority state.rules); inverted = new.inverted; from = new.from; to = new.to; iif = new.iif; mark = new.mark; action = new.action; suppress = new.suppress }
 
 -- one that is equal in all but the id
 abbrev pub has_rule : Rule → List Rule → Bool

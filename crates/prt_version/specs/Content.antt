@@ -42,9 +42,19 @@ selector_cmp a b =
     (iif_cmp a b))
     (mark_cmp a b)
 
--- by priority, `not`, selector and action
+-- rules that suppress nothing first, then by the length
+abbrev pub suppress_cmp : Rule → Rule → Ordering
+suppress_cmp a b = option_cmp nat_cmp a.suppress b.suppress
+
+-- by priority, `not`, selector, action and suppressed length
 abbrev pub content_cmp : Rule → Rule → Ordering
-content_cmp a b = ordering_then (ordering_then (ordering_then (nat_cmp a.priority b.priority) (bool_cmp a.inverted b.inverted)) (selector_cmp a b)) (pair_cmp (action_pair a.action) (action_pair b.action))
+content_cmp a b =
+    ordering_then (ordering_then (ordering_then (ordering_then
+    (nat_cmp a.priority b.priority)
+    (bool_cmp a.inverted b.inverted))
+    (selector_cmp a b))
+    (pair_cmp (action_pair a.action) (action_pair b.action)))
+    (suppress_cmp a b)
 
 abbrev pub is_content_before : Rule → Rule → Bool
 is_content_before a b = is_lt (content_cmp a b)

@@ -1,11 +1,10 @@
 -- The rules and the routes of a state, but for their order.
-use Rattle.std.specs.Prelude.{◌≤◌, ℕ, ◌+◌, ◌^◌, Bool, true, ◌&&◌, ◌==◌, nat_le, nat_lt, List, length, IsTrue}
+use Rattle.std.specs.Prelude.{◌≤◌, ℕ, ◌+◌, Bool, ◌&&◌, ◌==◌, nat_le, List, length, IsTrue}
 use Rattle.std.specs.List.{IsDistinct, list_all}
-use Rattle.prt_route.specs.Storable.{suits}
+use Rattle.prt_route.specs.Storable.{is_storable_route}
 use Rattle.prt_route.specs.declared.route.Route.{Route}
 use Rattle.prt_rule.specs.Same.{is_same_rule}
-use Rattle.prt_rule.specs.declared.rule.Action.{Action}
-use Rattle.prt_rule.specs.declared.rule.Action.TheVariants.{Lookup}
+use Rattle.prt_rule.specs.Storable.{is_storable_rule}
 use Rattle.prt_rule.specs.declared.rule.Rule.{Rule}
 use Rattle.prt_trie.specs.Table.{has_same_key}
 use Rattle.prt_version.specs.declared.limits.TheConstants.{MOST_ROUTES, MOST_RULES}
@@ -13,18 +12,9 @@ use Rattle.prt_version.specs.declared.limits.TheConstants.{MOST_ROUTES, MOST_RUL
 abbrev pub has_same_id : Rule → Rule → Bool
 has_same_id rule other = rule.id == other.id
 
--- a table that is looked up is one from 1 on
-abbrev pub is_storable_action : Action → Bool
-is_storable_action (Lookup table) = nat_le 1 table
-is_storable_action _ = true
-
--- the id is 1 to count + 3, and the action one that a table may hold
+-- the id is 1 to count + 3, and what it does is what a table may hold
 abbrev pub is_rule_of : ℕ → Rule → Bool
-is_rule_of count rule = nat_le 1 rule.id && nat_le rule.id (count + 3) && is_storable_action rule.action
-
--- a table may hold it
-abbrev pub is_storable_route : Route → Bool
-is_storable_route route = nat_le 1 route.table && nat_lt route.table (2 ^ 32) && suits route.kind route
+is_rule_of count rule = nat_le 1 rule.id && nat_le rule.id (count + 3) && is_storable_rule rule.action rule.suppress
 
 -- the rules of a state of this count, but for their order
 pub record AreRules (count : ℕ) (rules : List Rule) : Type 0 where

@@ -1,17 +1,17 @@
 -- Which state rows of rules and routes spell.
-use Rattle.std.specs.Prelude.{◌≡◌, ℕ, List, IsPermutation}
+use Rattle.std.specs.Prelude.{◌≡◌, ℕ, List, IsPermutation, IsTrue}
 use Rattle.std.specs.List.{AllByRecursion as Each}
-use Rattle.prt_route.specs.Storable.{IsStorableRoute}
+use Rattle.prt_route.specs.Storable.{is_storable_route}
 use Rattle.prt_route.specs.declared.route.Route.{Route}
-use Rattle.prt_rule.specs.Storable.{IsStorableAction}
+use Rattle.prt_rule.specs.Storable.{is_storable_rule}
 use Rattle.prt_rule.specs.declared.rule.Rule.{Rule}
 use Rattle.prt_version.specs.Sound.{IsSound}
 use Rattle.prt_version.specs.State.{State}
 
 -- a table may hold each of its rules and each of its routes
 pub record IsStorableState (state : State) : Type 0 where
-  pub rules : Each (λ rule. IsStorableAction rule.action) state.rules
-  pub routes : Each IsStorableRoute state.routes
+  pub rules : Each (λ rule. IsTrue (is_storable_rule rule.action rule.suppress)) state.rules
+  pub routes : Each (λ route. IsTrue (is_storable_route route)) state.routes
 
 -- After so many commands, these rows of rules and of routes, in whatever order they come, spell the state: each of its rules and of its routes has one row, and there are no more rows. So rows of which two are equal, or have one key, spell none; and no rows spell two states (the law `spelled_once`).
 pub record RowsSpell (number : ℕ) (rules : List Rule) (routes : List Route) (state : State) : Type 0 where

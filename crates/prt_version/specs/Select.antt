@@ -1,10 +1,11 @@
 -- What becomes of a packet: ip-rule(8), ip-route(8).
-use Rattle.std.specs.Prelude.{ℕ, Bool, true, false, not, if◌then◌else◌, List, filter, Option, Some, None, is_some, option_map, option_and_then, unwrap_or}
+use Rattle.std.specs.Prelude.{ℕ, Bool, true, false, not, ◌&&◌, nat_le, if◌then◌else◌, List, filter, Option, Some, None, is_some, option_map, option_and_then, unwrap_or}
 use Rattle.prt_addr.specs.Order.{first_by}
 use Rattle.prt_addr.specs.Word.{keep}
 use Rattle.prt_route.specs.Best.{best}
+use Rattle.prt_route.specs.RouteChoice.{is_same_kind}
 use Rattle.prt_route.specs.declared.kind.Kind.{Kind}
-use Rattle.prt_route.specs.declared.kind.Kind.TheVariants.{Throw}
+use Rattle.prt_route.specs.declared.kind.Kind.TheVariants.{Unicast, Throw}
 use Rattle.prt_route.specs.declared.route.Route.{Route}
 use Rattle.prt_rule.specs.Rule.{is_before, matches}
 use Rattle.prt_rule.specs.declared.packet.Packet.{Packet}
@@ -23,14 +24,19 @@ is_throw kind = false
 abbrev pub table_lookup : ℕ → List Route → Packet → Option Route
 table_lookup table routes packet = keep (λ route. not (is_throw route.kind)) (best routes table packet.dst)
 
--- a lookup gives the route that it finds, if it finds one, and any other action is itself the verdict
-abbrev pub verdict_by : Action → ℕ → List Route → Packet → Option Verdict
-verdict_by (Lookup table) priority routes packet = option_map (λ route. verdict.Route priority route) (table_lookup table routes packet)
-verdict_by action priority routes packet = Some (verdict.RuleSays priority action)
+-- a rule of this length says nothing where it finds a unicast route whose prefix is of that length or less
+abbrev pub suppresses : Option ℕ → Route → Bool
+suppresses None route = false
+suppresses (Some len) route = is_same_kind Unicast route.kind && nat_le route.prefix.len len
+
+-- a lookup gives the route that it finds, if it finds one and does not suppress it, and any other action is itself the verdict
+abbrev pub verdict_by : Action → Option ℕ → ℕ → List Route → Packet → Option Verdict
+verdict_by (Lookup table) suppress priority routes packet = option_map (λ route. verdict.Route priority route) (keep (λ route. not (suppresses suppress route)) (table_lookup table routes packet))
+verdict_by action suppress priority routes packet = Some (verdict.RuleSays priority action)
 
 -- what one rule says of a packet, if it decides
 abbrev pub decision : Rule → List Route → Packet → Option Verdict
-decision rule routes packet = if matches rule packet then verdict_by rule.action rule.priority routes packet else None
+decision rule routes packet = if matches rule packet then verdict_by rule.action rule.suppress rule.priority routes packet else None
 
 -- the first by priority, then by id, of the rules that decide
 abbrev pub decider : List Rule → List Route → Packet → Option Rule

@@ -2,7 +2,7 @@ use prt_route::Route;
 use prt_rule::Action;
 
 /// What becomes of a packet (`ip-rule(8)`).
-#[derive(Clone, Copy, Debug, PartialEq, Eq)]
+#[derive(Clone, Copy)]
 pub enum Verdict {
     /// The rule of this priority found this route for it.
     Route(u32, Route),
@@ -13,7 +13,7 @@ pub enum Verdict {
 }
 
 /// A verdict, and the number of commands that had been accepted when it was given.
-#[derive(Clone, Copy, Debug, PartialEq, Eq)]
+#[derive(Clone, Copy)]
 pub struct Answer {
     /// The number of commands that had been accepted.
     pub number: u64,

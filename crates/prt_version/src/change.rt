@@ -2,7 +2,7 @@ use prt_route::RouteEdit;
 use prt_rule::Rule;
 
 /// A command made exact.
-#[derive(Clone, Copy, Debug, PartialEq, Eq)]
+#[derive(Clone, Copy)]
 pub enum Change {
     /// This edit of the routes.
     Route(RouteEdit),

@@ -13,14 +13,14 @@ fn has_rule(rules: &[Rule], new: &Rule) -> bool
     rules.iter().any(|rule| same(rule, new))
 }
 
-/// The first rule that the choice names.
+/// Gives the first rule that the choice names.
 fn named_rule<'a>(rules: &'a [Rule], choice: &RuleChoice) -> Option<&'a Rule>
     ensures { option_map (λ r. r.now) result ≡ named_rule choice.now rules.now }
 {
     rules.iter().find(|rule| choice.agrees(rule))
 }
 
-/// The change, where there is room for one more.
+/// Gives the change, where there is room for one more.
 fn if_room(count: usize, most: usize, change: Change) -> Result<Change, Refusal>
     ensures { result ≡ if_room count most change }
 {
@@ -31,7 +31,7 @@ fn if_room(count: usize, most: usize, change: Change) -> Result<Change, Refusal>
     }
 }
 
-/// The change of `add` of a route.
+/// Gives the change of `add` of a route.
 fn route_addition(version: &Version, route: &Route) -> Result<Change, Refusal>
     ensures { result ≡ change_of version.now (Command.RouteAdd route.now) }
 {
@@ -43,7 +43,7 @@ fn route_addition(version: &Version, route: &Route) -> Result<Change, Refusal>
     if_room(routes.len(), MOST_ROUTES, change)
 }
 
-/// The change of `change` of a route.
+/// Gives the change of `change` of a route.
 fn route_change(version: &Version, route: &Route) -> Result<Change, Refusal>
     ensures { result ≡ change_of version.now (Command.RouteChange route.now) }
 {
@@ -54,7 +54,7 @@ fn route_change(version: &Version, route: &Route) -> Result<Change, Refusal>
     }
 }
 
-/// The change of `replace` of a route.
+/// Gives the change of `replace` of a route.
 fn route_replacement(version: &Version, route: &Route) -> Result<Change, Refusal>
     ensures { result ≡ change_of version.now (Command.RouteReplace route.now) }
 {
@@ -66,7 +66,7 @@ fn route_replacement(version: &Version, route: &Route) -> Result<Change, Refusal
     if_room(routes.len(), MOST_ROUTES, change)
 }
 
-/// The change of `del` of a route.
+/// Gives the change of `del` of a route.
 fn route_removal(version: &Version, choice: &RouteChoice) -> Result<Change, Refusal>
     ensures { result ≡ change_of version.now (Command.RouteDel choice.now) }
 {
@@ -76,7 +76,7 @@ fn route_removal(version: &Version, choice: &RouteChoice) -> Result<Change, Refu
     }
 }
 
-/// The change of `add` of a rule.
+/// Gives the change of `add` of a rule.
 fn rule_addition(version: &Version, new: &NewRule) -> Result<Change, Refusal>
     ensures { result ≡ change_of version.now (Command.RuleAdd new.now) }
 {
@@ -88,7 +88,7 @@ fn rule_addition(version: &Version, new: &NewRule) -> Result<Change, Refusal>
     if_room(rules.len(), MOST_RULES, Change::RulePut(rule))
 }
 
-/// The change of `del` of a rule.
+/// Gives the change of `del` of a rule.
 fn rule_removal(version: &Version, choice: &RuleChoice) -> Result<Change, Refusal>
     ensures { result ≡ change_of version.now (Command.RuleDel choice.now) }
 {
@@ -98,7 +98,7 @@ fn rule_removal(version: &Version, choice: &RuleChoice) -> Result<Change, Refusa
     }
 }
 
-/// The change that the command asks for, if what is there allows it.
+/// Gives the change that the command asks for, if what is there allows it.
 pub(crate) fn change_of(version: &Version, command: &Command) -> Result<Change, Refusal>
     ensures { result ≡ change_of version.now command.now }
 {

@@ -5,14 +5,14 @@ ghost use Rattle.std.specs.List.{IsDistinct, list_all};
 ghost use Rattle.prt_addr.specs.Rising.{IsRising};
 ghost use Rattle.prt_addr.specs.declared.refusal.Refusal.TheVariants.{Damaged};
 ghost use Rattle.prt_route.specs.Route.{is_listed_before};
+ghost use Rattle.prt_route.specs.Storable.{is_storable_route};
 ghost use Rattle.prt_rule.specs.Sound.{IsInOrder};
 ghost use Rattle.prt_rule.specs.Same.{is_same_rule};
 ghost use Rattle.prt_trie.specs.Table.{has_same_key};
 ghost use Rattle.prt_version.specs.Content.{action_pair, content_cmp, iif_cmp, mark_cmp, mark_pair, selector_cmp};
-ghost use Rattle.prt_version.specs.Ordered.{AreRoutes, AreRules, has_same_id, is_rule_of, is_storable_route};
+ghost use Rattle.prt_version.specs.Ordered.{AreRoutes, AreRules, has_same_id, is_rule_of};
 
 use crate::{Action, MOST_COMMANDS, MOST_ROUTES, MOST_RULES, Refusal, Route, Rule};
-use prt_route::{GLOBAL_SCOPE, Kind};
 use prt_rule::{Dev, Mark, Prefix};
 use std::cmp::Ordering;
 
@@ -21,11 +21,7 @@ fn is_rule_of(number: u64, rule: &Rule) -> bool
     requires { number ≤ MOST_COMMANDS }
     ensures { result ≡ is_rule_of number rule.now }
 {
-    let is_storable = match rule.action {
-        Action::Lookup(table) => table > 0,
-        Action::Blackhole | Action::Unreachable | Action::Prohibit => true,
-    };
-    rule.id > 0 && rule.id <= number + 3 && is_storable
+    rule.id > 0 && rule.id <= number + 3 && rule.is_storable()
 }
 
 /// Tells whether each of the rules may be one of such a database.
@@ -36,26 +32,11 @@ fn are_rules_of(number: u64, rules: &[Rule]) -> bool
     rules.iter().all(|rule| is_rule_of(number, rule))
 }
 
-/// Tells whether a database may hold the route: a unicast one has a gateway or an interface, another one neither, no
-/// source and scope global.
-fn is_storable_route(route: &Route) -> bool
-    ensures { result ≡ is_storable_route route.now }
-{
-    let suits = match route.kind {
-        Kind::Unicast => route.via.is_some() || route.dev.is_some(),
-        Kind::Blackhole | Kind::Unreachable | Kind::Prohibit | Kind::Throw => {
-            let is_bare = route.via.is_none() && route.dev.is_none() && route.src.is_none();
-            is_bare && route.scope == GLOBAL_SCOPE
-        }
-    };
-    route.table > 0 && suits
-}
-
 /// Tells whether a database may hold each of the routes.
 fn are_storable_routes(routes: &[Route]) -> bool
     ensures { result ≡ list_all is_storable_route routes.now }
 {
-    routes.iter().all(|route| is_storable_route(route))
+    routes.iter().all(|route| route.is_storable())
 }
 
 /// What prefixes are sorted by: the address, then the length.
@@ -118,6 +99,7 @@ fn content_cmp(rule: &Rule, other: &Rule) -> Ordering
         .then(rule.inverted.cmp(&other.inverted))
         .then(selector_cmp(rule, other))
         .then(action_pair(&rule.action).cmp(&action_pair(&other.action)))
+        .then(rule.suppress.cmp(&other.suppress))
 }
 
 /// Tells whether no two of the rules are the same but for their ids. Sorts them by all but the id.

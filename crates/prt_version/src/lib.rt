@@ -19,4 +19,4 @@ pub use change::Change;
 pub use limits::{MOST_COMMANDS, MOST_ROUTES, MOST_RULES};
 pub use prt_command::{Action, Command, NewRule, Packet, Refusal, Route, Rule};
 pub use tables::Tables;
-pub use version::{Version, table_rule};
+pub use version::{Version, opening_rules};

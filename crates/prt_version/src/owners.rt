@@ -7,7 +7,7 @@ use crate::Refusal;
 use std::alloc::Global;
 use std::sync::Arc;
 
-/// The first owner of the value.
+/// Makes the first owner of the value.
 ///
 /// # Errors
 ///
@@ -20,7 +20,7 @@ pub fn first_owner<T: Drop>(alloc: Global, value: T) -> Result<Arc<T>, Refusal>
     Ok(owner)
 }
 
-/// One more owner of the same value.
+/// Gives one more owner of the same value.
 ///
 /// # Errors
 ///

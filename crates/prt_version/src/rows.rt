@@ -8,14 +8,14 @@ use crate::Rule;
 use prt_rule::is_before;
 use std::alloc::{AllocError, Global};
 
-/// The place of the first rule that the new one is before.
+/// Gives the place of the first rule that the new one is before.
 fn rule_after(rules: &[Rule], new: &Rule) -> Option<usize>
     ensures { result ≡ position (λ rule. is_before new.now rule) rules.now }
 {
     rules.iter().position(|rule| is_before(new, rule))
 }
 
-/// The place of a new rule in the order in which they are asked.
+/// Gives the place of a new rule in the order in which they are asked.
 #[tactic(auto, using(crate::proofs::Places::rule_within))]
 fn rule_place(rules: &[Rule], new: &Rule) -> usize
     ensures within { result ≤ length rules.now }
@@ -33,7 +33,7 @@ fn insert_rule(rows: &mut Vec<Rule>, new: &Rule) -> Result<(), AllocError>
     Ok(())
 }
 
-/// A copy of the rules with the new one in its place.
+/// Makes a copy of the rules with the new one in its place.
 pub(crate) fn with_rule(alloc: Global, rules: &[Rule], new: &Rule) -> Result<Vec<Rule>, AllocError>
     ensures { IfOk result (λ rows. rows.items ≡ insert_by is_before new.now rules.now) }
 {
@@ -43,7 +43,7 @@ pub(crate) fn with_rule(alloc: Global, rules: &[Rule], new: &Rule) -> Result<Vec
     Ok(rows)
 }
 
-/// A copy of the rules but for the one that has this id.
+/// Makes a copy of the rules but for the one that has this id.
 pub(crate) fn without_rule(alloc: Global, rules: &[Rule], id: u64) -> Result<Vec<Rule>, AllocError>
     ensures { IfOk result (λ rows. rows.items ≡ filter (λ rule. not (rule.id == id)) rules.now) }
 {
@@ -52,7 +52,7 @@ pub(crate) fn without_rule(alloc: Global, rules: &[Rule], id: u64) -> Result<Vec
     Ok(rows)
 }
 
-/// A copy of the rules of priority 0.
+/// Makes a copy of the rules of priority 0.
 pub(crate) fn flushed_rules(alloc: Global, rules: &[Rule]) -> Result<Vec<Rule>, AllocError>
     ensures { IfOk result (λ rows. rows.items ≡ filter (λ rule. rule.priority == 0) rules.now) }
 {

@@ -1,6 +1,6 @@
 ghost use Rattle.std.specs.Prelude.{◌≡◌, option_map};
 ghost use Rattle.prt_rule.specs.Sound.{IsInOrder};
-ghost use Rattle.prt_version.specs.Select.{decision, table_lookup, verdict_of};
+ghost use Rattle.prt_version.specs.Select.{decision, suppresses, table_lookup, verdict_of};
 ghost use Rattle.prt_version.specs.Steps.{first_verdict};
 
 use crate::tables::Tables;
@@ -22,7 +22,18 @@ fn table_lookup<'a>(routes: &'a Tables, table: u32, packet: &Packet) -> Option<&
     }
 }
 
-/// What one rule says of a packet, if it decides (`ip-rule(8)`).
+/// Tells whether a rule says nothing where it finds this route: it suppresses unicast routes whose prefixes have this
+/// length or less (`ip-rule(8)`, `suppress_prefixlength`).
+fn suppresses(suppress: Option<u8>, route: &Route) -> bool
+    ensures { result ≡ suppresses suppress route.now }
+{
+    match suppress {
+        Some(len) => route.kind == Kind::Unicast && route.prefix.len() <= len,
+        None => false,
+    }
+}
+
+/// Tells what one rule says of a packet, if it decides (`ip-rule(8)`).
 fn decision(rule: &Rule, routes: &Tables, packet: &Packet) -> Option<Verdict>
     ensures { result ≡ decision rule.now routes.now packet.now }
 {
@@ -33,10 +44,13 @@ fn decision(rule: &Rule, routes: &Tables, packet: &Packet) -> Option<Verdict>
         return Some(Verdict::RuleSays(rule.priority, rule.action));
     };
     let route = table_lookup(routes, table, packet)?;
+    if suppresses(rule.suppress, route) {
+        return None;
+    }
     Some(Verdict::Route(rule.priority, *route))
 }
 
-/// What the first of these rules that decides says.
+/// Tells what the first of these rules that decides says.
 #[tactic(auto, using(crate::proofs::Rules::decides, crate::proofs::Rules::passes_on))]
 fn first_verdict(rules: &[Rule], routes: &Tables, packet: &Packet) -> Verdict
     ensures { result ≡ first_verdict rules.now routes.now packet.now }
@@ -49,7 +63,7 @@ fn first_verdict(rules: &[Rule], routes: &Tables, packet: &Packet) -> Verdict
     Verdict::NoRoute
 }
 
-/// What the rules, in the order in which they are asked, make of a packet.
+/// Tells what the rules, in the order in which they are asked, make of a packet.
 pub(crate) fn verdict_of(rules: &[Rule], routes: &Tables, packet: &Packet) -> Verdict
     requires { IsInOrder rules.now }
     ensures { result ≡ verdict_of rules.now routes.now packet.now }

@@ -1,11 +1,10 @@
 //! The routes of a version, in one table for each number that has any.
-ghost use Rattle.std.specs.Prelude.{◌≡◌, ◌<◌, ◌≤◌, ◌++◌, [], length, filter, nat_lt, position, unwrap_or, IfErr, IfOk, OnOk, option_map};
+ghost use Rattle.std.specs.Prelude.{◌≡◌, ◌<◌, ◌≤◌, ◌++◌, [], length, filter, nat_lt, position, unwrap_or, IfOk, OnOk, option_map};
 ghost use Rattle.std.specs.Arc.{arc_value};
 ghost use Rattle.std.specs.List.{AllByRecursion as Each};
 ghost use Rattle.std.specs.Option.{option_copied};
 ghost use Rattle.prt_addr.specs.Order.{insert_by};
 ghost use Rattle.prt_addr.specs.Rising.{IsRising};
-ghost use Rattle.prt_addr.specs.declared.refusal.Refusal.TheVariants.{NoMemory};
 ghost use Rattle.prt_route.specs.Best.{best};
 ghost use Rattle.prt_route.specs.Edit.{after_edit, has_key};
 ghost use Rattle.prt_route.specs.Route.{is_listed_before, key_of};
@@ -13,12 +12,11 @@ ghost use Rattle.prt_route.specs.RouteChoice.{chosen_route, is_selected};
 ghost use Rattle.prt_trie.specs.Table.{table_of as first_table};
 ghost use Rattle.prt_version.specs.Tables.{AreTables, HasOwnRows, TableRows, all_rows, has_rows, has_table, is_lower, names_table, rows_of_table, table_after, tables_after, table_of, tables_with};
 
-use crate::owners::{first_owner, share};
-use crate::{MOST_ROUTES, Refusal, Route};
+use crate::{MOST_ROUTES, Route};
 use prt_addr::agrees;
 use prt_route::{Addr, RouteChoice, RouteEdit, RouteKey, Selector};
 use prt_trie::Table;
-use std::alloc::Global;
+use std::alloc::{AllocError, Global};
 use std::marker::Model;
 use std::slice;
 use std::sync::Arc;
@@ -70,38 +68,38 @@ fn names_table(edit: &RouteEdit, number: u32) -> bool
 }
 
 impl SharedTable {
-    /// One more owner of the same table.
-    fn share(&self) -> Result<SharedTable, Refusal>
-        ensures value { IfOk result (λ shared. shared ≡ self.now) }
-        ensures reason { IfErr result (λ reason. reason ≡ NoMemory) }
+    /// Gives one more owner of the same table.
+    fn share(&self) -> Result<SharedTable, AllocError>
+        ensures { IfOk result (λ shared. shared ≡ self.now) }
     {
         Ok(SharedTable {
             number: self.number,
-            table: share(&self.table)?,
+            table: Arc::try_clone(&self.table)?,
         })
     }
 
-    /// A table of these rows, under its number.
-    fn with_rows(alloc: Global, number: u32, table: Table) -> Result<SharedTable, Refusal>
-        ensures value { IfOk result (λ shared. shared ≡ record { number = number; rows = table }) }
-        ensures reason { IfErr result (λ reason. reason ≡ NoMemory) }
+    /// Makes a table of these rows, under its number.
+    fn with_rows(alloc: Global, number: u32, table: Table) -> Result<SharedTable, AllocError>
+        ensures { IfOk result (λ shared. shared ≡ record { number = number; rows = table }) }
     {
         Ok(SharedTable {
             number,
-            table: first_owner(alloc, table)?,
+            table: Arc::new(alloc, table)?,
         })
     }
 
-    /// The table after the edit: the same one where the edit names another.
-    fn after_edit(&self, alloc: Global, edit: &RouteEdit) -> Result<SharedTable, Refusal>
+    /// Gives the table after the edit: the same one where the edit names another.
+    fn after_edit(&self, alloc: Global, edit: &RouteEdit) -> Result<SharedTable, AllocError>
         requires { HasOwnRows self.now }
-        ensures value { IfOk result (λ shared. shared ≡ table_after edit.now self.now) }
-        ensures reason { IfErr result (λ reason. reason ≡ NoMemory) }
+        ensures { IfOk result (λ shared. shared ≡ table_after edit.now self.now) }
     {
         if !names_table(edit, self.number) {
             return self.share();
         }
-        SharedTable::with_rows(alloc, self.number, self.table.with_change(edit)?)
+        let Ok(table) = self.table.with_change(edit) else {
+            return Err(AllocError);
+        };
+        SharedTable::with_rows(alloc, self.number, table)
     }
 
     /// Tells whether the table has routes.
@@ -112,22 +110,23 @@ impl SharedTable {
     }
 
     /// Adds the table's routes that the selector takes.
-    fn add_selected(&self, rows: &mut Vec<Route>, selector: &Selector) -> Result<(), Refusal>
+    fn add_selected(&self, rows: &mut Vec<Route>, selector: &Selector) -> Result<(), AllocError>
         requires { HasOwnRows self.now }
-        ensures value { OnOk result (rows.new.items ≡ rows.old.items ++ filter (is_selected selector.now) self.now.rows) }
-        ensures reason { IfErr result (λ reason. reason ≡ NoMemory) }
+        ensures { OnOk result (rows.new.items ≡ rows.old.items ++ filter (is_selected selector.now) self.now.rows) }
     {
         if !agrees(&selector.table, &self.number) {
             return Ok(());
         }
-        let mut part = self.table.rows()?;
+        let Ok(mut part) = self.table.rows() else {
+            return Err(AllocError);
+        };
         part.retain(|row| selector.takes(row));
         rows.extend_from_slice(part.as_slice())?;
         Ok(())
     }
 }
 
-/// The table of this number.
+/// Gives the table of this number.
 fn find_table(tables: &[SharedTable], number: u32) -> Option<&SharedTable>
     requires { AreTables tables.now }
     ensures { unwrap_or (option_map (λ table. table.now.rows) result) [] ≡ rows_of_table number (all_rows tables.now) }
@@ -145,7 +144,7 @@ fn has_table(tables: &[SharedTable], number: u32) -> bool
     tables.iter().any(|table| table.number == number)
 }
 
-/// How many routes the tables have.
+/// Tells how many routes the tables have.
 fn count_rows(tables: &[SharedTable]) -> usize
     requires { length (all_rows tables.now) ≤ MOST_ROUTES }
     ensures { result ≡ length (all_rows tables.now) }
@@ -157,15 +156,14 @@ fn count_rows(tables: &[SharedTable]) -> usize
     count
 }
 
-/// The tables after the edit, but for one that has no routes left.
+/// Gives the tables after the edit, but for one that has no routes left.
 fn tables_after(
     alloc: Global,
     tables: &[SharedTable],
     edit: &RouteEdit,
-) -> Result<Vec<SharedTable>, Refusal>
+) -> Result<Vec<SharedTable>, AllocError>
     requires { AreTables tables.now }
-    ensures value { IfOk result (λ after. after.items ≡ tables_after edit.now tables.now) }
-    ensures reason { IfErr result (λ reason. reason ≡ NoMemory) }
+    ensures { IfOk result (λ after. after.items ≡ tables_after edit.now tables.now) }
 {
     let mut after = Vec::new(alloc);
     for table in tables {
@@ -177,40 +175,39 @@ fn tables_after(
     Ok(after)
 }
 
-/// A table of these rows.
-fn table_of_rows(alloc: Global, number: u32, rows: &[Route]) -> Result<SharedTable, Refusal>
+/// Makes a table of these rows.
+fn table_of_rows(alloc: Global, number: u32, rows: &[Route]) -> Result<SharedTable, AllocError>
     requires own { Each (λ row. row.table ≡ number) rows.now }
     requires rising { IsRising is_listed_before rows.now }
-    ensures value { IfOk result (λ table. table ≡ record { number = number; rows = rows.now }) }
-    ensures reason { IfErr result (λ reason. reason ≡ NoMemory) }
+    ensures { IfOk result (λ table. table ≡ record { number = number; rows = rows.now }) }
 {
-    let table = Table::build(alloc, rows)?;
+    let Ok(table) = Table::from_sorted(alloc, rows) else {
+        return Err(AllocError);
+    };
     SharedTable::with_rows(alloc, number, table)
 }
 
-/// A table of one route.
-fn table_of(alloc: Global, route: &Route) -> Result<SharedTable, Refusal>
-    ensures value { IfOk result (λ table. table ≡ table_of route.now) }
-    ensures reason { IfErr result (λ reason. reason ≡ NoMemory) }
+/// Makes a table of one route.
+fn table_of(alloc: Global, route: &Route) -> Result<SharedTable, AllocError>
+    ensures { IfOk result (λ table. table ≡ table_of route.now) }
 {
     table_of_rows(alloc, route.table, slice::from_ref(route))
 }
 
-/// The place of the first table whose number is higher.
+/// Gives the place of the first table whose number is higher.
 fn table_above(tables: &[SharedTable], number: u32) -> Option<usize>
     ensures { result ≡ position (λ table. nat_lt number table.number) tables.now }
 {
     tables.iter().position(|table| number < table.number)
 }
 
-/// The tables with a new one of the route in its place.
+/// Gives the tables with a new one of the route in its place.
 fn with_table_of(
     alloc: Global,
     mut tables: Vec<SharedTable>,
     route: &Route,
-) -> Result<Vec<SharedTable>, Refusal>
-    ensures value { IfOk result (λ after. after.items ≡ insert_by is_lower (table_of route.now) tables.items) }
-    ensures reason { IfErr result (λ reason. reason ≡ NoMemory) }
+) -> Result<Vec<SharedTable>, AllocError>
+    ensures { IfOk result (λ after. after.items ≡ insert_by is_lower (table_of route.now) tables.items) }
 {
     let table = table_of(alloc, route)?;
     let place = table_above(&tables, route.table).unwrap_or(tables.len());
@@ -218,15 +215,14 @@ fn with_table_of(
     Ok(tables)
 }
 
-/// All tables after the edit.
+/// Gives all tables after the edit.
 fn tables_with(
     alloc: Global,
     tables: &[SharedTable],
     edit: &RouteEdit,
-) -> Result<Vec<SharedTable>, Refusal>
+) -> Result<Vec<SharedTable>, AllocError>
     requires { AreTables tables.now }
-    ensures value { IfOk result (λ after. after.items ≡ tables_with edit.now tables.now) }
-    ensures reason { IfErr result (λ reason. reason ≡ NoMemory) }
+    ensures { IfOk result (λ after. after.items ≡ tables_with edit.now tables.now) }
 {
     let after = tables_after(alloc, tables, edit)?;
     match edit {
@@ -237,7 +233,7 @@ fn tables_with(
     }
 }
 
-/// The rows of a table, which stand first, and the rows after them.
+/// Parts the rows of a table, which stand first, from the rows after them.
 fn split_table(rows: &[Route], number: u32) -> (&[Route], &[Route])
     requires rising { IsRising is_listed_before rows.now }
     requires some { 0 < length rows.now }
@@ -250,12 +246,11 @@ fn split_table(rows: &[Route], number: u32) -> (&[Route], &[Route])
     rows.split_at(rows.partition_point(|row| row.table <= number))
 }
 
-/// The tables of rows in the order of listings.
-fn tables_of_rows(alloc: Global, rows: &[Route]) -> Result<Vec<SharedTable>, Refusal>
+/// Makes the tables of rows in the order of listings.
+fn tables_of_rows(alloc: Global, rows: &[Route]) -> Result<Vec<SharedTable>, AllocError>
     requires { IsRising is_listed_before rows.now }
     ensures tables { IfOk result (λ tables. AreTables tables.items) }
     ensures value { IfOk result (λ tables. all_rows tables.items ≡ rows.now) }
-    ensures reason { IfErr result (λ reason. reason ≡ NoMemory) }
 {
     let mut tables = Vec::new(alloc);
     let mut rest = rows;
@@ -269,7 +264,7 @@ fn tables_of_rows(alloc: Global, rows: &[Route]) -> Result<Vec<SharedTable>, Ref
 }
 
 impl Tables {
-    /// No routes.
+    /// Makes tables of no routes.
     pub(crate) fn new(alloc: Global) -> Tables
         ensures { result ≡ [] }
     {
@@ -279,7 +274,7 @@ impl Tables {
         }
     }
 
-    /// The routes of these tables.
+    /// Makes the whole of these tables.
     fn from_tables(tables: Vec<SharedTable>) -> Tables
         requires tables { AreTables tables.items }
         requires room { length (all_rows tables.items) ≤ MOST_ROUTES }
@@ -289,37 +284,32 @@ impl Tables {
         Tables { tables, len }
     }
 
-    /// The routes of these rows, which stand in the order of listings.
-    ///
-    /// # Errors
-    ///
-    /// `NoMemory` alone.
-    pub(crate) fn from_sorted(alloc: Global, rows: &[Route]) -> Result<Tables, Refusal>
+    /// Makes the tables of these rows, which stand in the order of listings.
+    pub(crate) fn from_sorted(alloc: Global, rows: &[Route]) -> Result<Tables, AllocError>
         requires rising { IsRising is_listed_before rows.now }
         requires room { length rows.now ≤ MOST_ROUTES }
-        ensures value { IfOk result (λ tables. tables ≡ rows.now) }
-        ensures reason { IfErr result (λ reason. reason ≡ NoMemory) }
+        ensures { IfOk result (λ tables. tables ≡ rows.now) }
     {
         let tables = tables_of_rows(alloc, rows)?;
         Ok(Tables::from_tables(tables))
     }
 
-    /// The table of this number, with its owners; `None` where it has no routes.
+    /// Gives the table of this number, with its owners; `None` where it has no routes.
     pub fn shared_table(&self, number: u32) -> Option<&Arc<Table>>
         ensures { unwrap_or (option_map (λ table. arc_value table.now) result) [] ≡ rows_of_table number self.now }
     {
         Some(&find_table(&self.tables, number)?.table)
     }
 
-    /// The table of this number, if it has routes.
+    /// Gives the table of this number, if it has routes.
     fn table(&self, number: u32) -> Option<&Table>
         ensures { unwrap_or (option_map (λ table. table.now) result) [] ≡ rows_of_table number self.now }
     {
         Some(self.shared_table(number)?)
     }
 
-    /// The best route of the table for the address: longest match, then lowest metric (RFC 1812, section 5.2.4.3).
-    /// It takes no memory.
+    /// Gives the best route of the table for the address: longest match, then lowest metric (RFC 1812, section
+    /// 5.2.4.3). It takes no memory.
     pub(crate) fn find(&self, table: u32, addr: Addr) -> Option<&Route>
         ensures { option_copied result ≡ best self.now table addr }
     {
@@ -329,7 +319,7 @@ impl Tables {
         }
     }
 
-    /// How many routes there are.
+    /// Tells how many routes there are.
     pub(crate) fn len(&self) -> usize
         ensures { result ≡ length self.now }
     {
@@ -346,7 +336,7 @@ impl Tables {
         }
     }
 
-    /// The key of the route of lowest metric among those that the choice takes (`ip-route(8)`, `delete`).
+    /// Gives the key of the route of lowest metric among those that the choice takes (`ip-route(8)`, `delete`).
     pub(crate) fn choose(&self, choice: &RouteChoice) -> Option<RouteKey>
         ensures { result ≡ option_map key_of (chosen_route choice.now self.now) }
     {
@@ -356,14 +346,9 @@ impl Tables {
         }
     }
 
-    /// A copy of the routes that the selector takes, in the order of listings (`ip-route(8)`, `show`).
-    ///
-    /// # Errors
-    ///
-    /// `NoMemory` alone.
-    pub(crate) fn rows(&self, selector: &Selector) -> Result<Vec<Route>, Refusal>
-        ensures value { IfOk result (λ rows. rows.items ≡ filter (is_selected selector.now) self.now) }
-        ensures reason { IfErr result (λ reason. reason ≡ NoMemory) }
+    /// Makes a copy of the routes that the selector takes, in the order of listings (`ip-route(8)`, `show`).
+    pub(crate) fn rows(&self, selector: &Selector) -> Result<Vec<Route>, AllocError>
+        ensures { IfOk result (λ rows. rows.items ≡ filter (is_selected selector.now) self.now) }
     {
         let mut rows = Vec::new(*self.tables.allocator());
         for table in &self.tables {
@@ -372,15 +357,11 @@ impl Tables {
         Ok(rows)
     }
 
-    /// The routes after the edit, in tables that are shared but for those that it changes. These stay as they are.
-    ///
-    /// # Errors
-    ///
-    /// `NoMemory` alone.
-    pub(crate) fn with_edit(&self, edit: &RouteEdit) -> Result<Tables, Refusal>
+    /// Gives the routes after the edit, in tables that are shared but for those that it changes. These stay as they
+    /// are.
+    pub(crate) fn with_edit(&self, edit: &RouteEdit) -> Result<Tables, AllocError>
         requires { length (after_edit edit.now self.now) ≤ MOST_ROUTES }
-        ensures value { IfOk result (λ after. after ≡ after_edit edit.now self.now) }
-        ensures reason { IfErr result (λ reason. reason ≡ NoMemory) }
+        ensures { IfOk result (λ after. after ≡ after_edit edit.now self.now) }
     {
         let alloc = *self.tables.allocator();
         let tables = tables_with(alloc, &self.tables, edit)?;

@@ -11,7 +11,7 @@ ghost use Rattle.prt_version.specs.State.{opening_rules, opening_state, table_ru
 
 use crate::checks::change_of;
 use crate::from_rows::{ordered_routes, ordered_rules};
-use crate::owners::{first_owner, share};
+use crate::owners::first_owner;
 use crate::rows::{flushed_rules, with_rule, without_rule};
 use crate::select::verdict_of;
 use crate::tables::Tables;
@@ -20,7 +20,7 @@ use crate::{
 };
 use prt_route::{DEFAULT_TABLE, LOCAL_TABLE, MAIN_TABLE, Prefix, Selector};
 use prt_rule::auto_priority;
-use std::alloc::Global;
+use std::alloc::{AllocError, Global};
 use std::marker::Model;
 use std::sync::Arc;
 
@@ -44,8 +44,8 @@ impl Model for Version {
     ghost invariant = { λ v. IsSound (record { count = v.count; rules = (arc_value v.rules).items; routes = arc_value v.routes }) };
 }
 
-/// A rule that looks up a table for every packet, as the three of a new database do (`ip-rule(8)`).
-pub fn table_rule(id: u64, priority: u32, table: u32) -> Rule
+/// Makes a rule that looks up a table for every packet, as the three of a new database do (`ip-rule(8)`).
+fn table_rule(id: u64, priority: u32, table: u32) -> Rule
     ensures { result ≡ table_rule id priority table }
 {
     Rule {
@@ -57,11 +57,12 @@ pub fn table_rule(id: u64, priority: u32, table: u32) -> Rule
         iif: None,
         mark: None,
         action: Action::Lookup(table),
+        suppress: None,
     }
 }
 
 /// Gives the three rules of a new database: they look up local, then main, then default (`ip-rule(8)`).
-fn opening_rules() -> [Rule; 3]
+pub fn opening_rules() -> [Rule; 3]
     ensures { result ≡ opening_rules }
 {
     [
@@ -72,7 +73,7 @@ fn opening_rules() -> [Rule; 3]
 }
 
 impl Version {
-    /// The version of a new database: no routes, and the rules for local, main and default (`ip-rule(8)`).
+    /// Makes the version of a new database: no routes, and the rules for local, main and default (`ip-rule(8)`).
     ///
     /// # Errors
     ///
@@ -89,7 +90,7 @@ impl Version {
         })
     }
 
-    /// The version that the rows of rules and of routes spell after so many commands. They come in any order.
+    /// Makes the version that the rows of rules and of routes spell after so many commands. They come in any order.
     ///
     /// # Errors
     ///
@@ -122,8 +123,8 @@ impl Version {
         })
     }
 
-    /// The number of commands that were accepted up to this version. Its contract also says what holds of each version,
-    /// which a store asks for before it commits a change.
+    /// Gives the number of commands that were accepted up to this version. Its contract also says what holds of each
+    /// version, which a store asks for before it commits a change.
     pub fn number(&self) -> u64
         ensures value { result ≡ self.now.count }
         ensures sound { IsSound self.now }
@@ -131,7 +132,7 @@ impl Version {
         self.count
     }
 
-    /// The rules, in the order in which they are asked.
+    /// Gives the rules, in the order in which they are asked.
     pub fn rules(&self) -> &[Rule]
         ensures value { result.now ≡ self.now.rules }
         ensures order { IsInOrder result.now }
@@ -139,28 +140,28 @@ impl Version {
         self.rules.as_slice()
     }
 
-    /// The rules with their owners: the versions that share them.
+    /// Gives the rules with their owners: the versions that share them.
     pub fn shared_rules(&self) -> &Arc<Vec<Rule>>
         ensures { (arc_value result.now).items ≡ self.now.rules }
     {
         &self.rules
     }
 
-    /// The routes with their owners: the versions that share them.
+    /// Gives the routes with their owners: the versions that share them.
     pub fn shared_routes(&self) -> &Arc<Tables>
         ensures { arc_value result.now ≡ self.now.routes }
     {
         &self.routes
     }
 
-    /// The routes, table by table.
+    /// Gives the routes, table by table.
     pub(crate) fn tables(&self) -> &Tables
         ensures { result.now ≡ self.now.routes }
     {
         &self.routes
     }
 
-    /// The routes that the selector takes, by table, address, length and metric (`ip-route(8)`, `show`).
+    /// Gives the routes that the selector takes, by table, address, length and metric (`ip-route(8)`, `show`).
     ///
     /// # Errors
     ///
@@ -169,10 +170,11 @@ impl Version {
         ensures value { IfOk result (λ rows. rows.items ≡ listing selector.now self.now.routes) }
         ensures reason { IfErr result (λ reason. reason ≡ NoMemory) }
     {
-        self.routes.rows(selector)
+        let rows = self.routes.rows(selector)?;
+        Ok(rows)
     }
 
-    /// The rule with its id, and the priority that is given or the automatic one.
+    /// Gives the rule with its id, and the priority that is given or the automatic one.
     pub(crate) fn rule_of(&self, new: &NewRule) -> Rule
         ensures { result ≡ rule_of self.now new.now }
     {
@@ -185,10 +187,11 @@ impl Version {
             iif: new.iif,
             mark: new.mark,
             action: new.action,
+            suppress: new.suppress,
         }
     }
 
-    /// The change that the command makes of this version. It takes no memory.
+    /// Gives the change that the command makes of this version. It takes no memory.
     ///
     /// # Errors
     ///
@@ -210,36 +213,37 @@ impl Version {
         }
     }
 
-    /// The rules after a change.
-    fn rules_after(&self, change: &Change) -> Result<Arc<Vec<Rule>>, Refusal>
-        ensures value { IfOk result (λ rules. (arc_value rules).items ≡ (put self.now change.now).rules) }
-        ensures reason { IfErr result (λ reason. reason ≡ NoMemory) }
+    /// Gives the rules after a change.
+    fn rules_after(&self, change: &Change) -> Result<Arc<Vec<Rule>>, AllocError>
+        ensures { IfOk result (λ rules. (arc_value rules).items ≡ (put self.now change.now).rules) }
     {
         let alloc = *self.rules.allocator();
-        match change {
-            Change::Route(_) => share(&self.rules),
-            Change::RulePut(rule) => first_owner(alloc, with_rule(alloc, &self.rules, rule)?),
-            Change::RuleDrop(id) => first_owner(alloc, without_rule(alloc, &self.rules, *id)?),
-            Change::RuleFlush => first_owner(alloc, flushed_rules(alloc, &self.rules)?),
-        }
+        let rules = match change {
+            Change::Route(_) => return Arc::try_clone(&self.rules),
+            Change::RulePut(rule) => with_rule(alloc, &self.rules, rule)?,
+            Change::RuleDrop(id) => without_rule(alloc, &self.rules, *id)?,
+            Change::RuleFlush => flushed_rules(alloc, &self.rules)?,
+        };
+        Ok(Arc::new(alloc, rules)?)
     }
 
-    /// The routes after a change.
-    fn routes_after(&self, change: &Change) -> Result<Arc<Tables>, Refusal>
+    /// Gives the routes after a change.
+    fn routes_after(&self, change: &Change) -> Result<Arc<Tables>, AllocError>
         requires { IsChecked self.now change.now }
-        ensures value { IfOk result (λ routes. arc_value routes ≡ (put self.now change.now).routes) }
-        ensures reason { IfErr result (λ reason. reason ≡ NoMemory) }
+        ensures { IfOk result (λ routes. arc_value routes ≡ (put self.now change.now).routes) }
     {
         match change {
             Change::Route(edit) => {
                 let routes = self.routes.with_edit(edit)?;
-                first_owner(*self.rules.allocator(), routes)
+                Ok(Arc::new(*self.rules.allocator(), routes)?)
             }
-            Change::RulePut(_) | Change::RuleDrop(_) | Change::RuleFlush => share(&self.routes),
+            Change::RulePut(_) | Change::RuleDrop(_) | Change::RuleFlush => {
+                Arc::try_clone(&self.routes)
+            }
         }
     }
 
-    /// The version after a change that `check` gave for this one, which stays as it is.
+    /// Gives the version after a change that `check` gave for this one, which stays as it is.
     ///
     /// # Errors
     ///
@@ -256,7 +260,7 @@ impl Version {
         })
     }
 
-    /// What becomes of a packet: what the first rule that decides says of it (`ip-rule(8)`). It takes no memory.
+    /// Tells what becomes of a packet: what the first rule that decides says of it (`ip-rule(8)`). It takes no memory.
     pub fn select(&self, packet: &Packet) -> Answer
         ensures number { result.number ≡ self.now.count }
         ensures verdict { result.verdict ≡ select self.now packet.now }

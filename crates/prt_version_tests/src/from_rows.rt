@@ -10,7 +10,7 @@ route add 10.1/16 dev eth0 table 100
 route add 10/8 dev eth0 metric 7 table 100
 route add throw 10.2/16 table 7
 rule add priority 500 iif eth0 fwmark 7 table 100
-rule add priority 500 iif eth1 fwmark 7 table 100
+rule add priority 500 iif eth1 fwmark 7 table 100 suppress_prefixlength 32
 rule add not from 10/8 prohibit";
 
 const ALL_ROUTES: Selector = Selector {
@@ -66,6 +66,7 @@ fn rule(id: u64, priority: u32) -> Rule {
         iif: None,
         mark: None,
         action: Action::Lookup(254),
+        suppress: None,
     }
 }
 
@@ -99,6 +100,28 @@ fn undamaged_rows(alloc: Global) -> Result<Option<&'static str>, Fail> {
     let same_rules = [rule(1, 7), rule(2, 8), rule(3, 7)];
     let routes = [route(7, 1), route(6, 1)];
     let same_keys = [route(7, 1), route(6, 1), route(7, 2)];
+    let no_lookup = Rule {
+        action: Action::Lookup(0),
+        ..rule(1, 7)
+    };
+    let long = Rule {
+        suppress: Some(33),
+        ..rule(1, 7)
+    };
+    let no_lookup_suppresses = Rule {
+        action: Action::Prohibit,
+        suppress: Some(0),
+        ..rule(1, 7)
+    };
+    let no_next_hop = Route {
+        via: None,
+        ..route(7, 1)
+    };
+    let scoped = Route {
+        kind: Kind::Blackhole,
+        scope: 253,
+        ..no_next_hop
+    };
     for (what, number, rules, routes) in [
         (
             "count",
@@ -108,6 +131,16 @@ fn undamaged_rows(alloc: Global) -> Result<Option<&'static str>, Fail> {
         ),
         ("keys", 0, rules.as_slice(), same_keys.as_slice()),
         ("table", 0, rules.as_slice(), [route(0, 1)].as_slice()),
+        ("next hop", 0, rules.as_slice(), [no_next_hop].as_slice()),
+        ("scope", 0, rules.as_slice(), [scoped].as_slice()),
+        ("lookup", 0, [no_lookup].as_slice(), routes.as_slice()),
+        ("length", 0, [long].as_slice(), routes.as_slice()),
+        (
+            "suppressing",
+            0,
+            [no_lookup_suppresses].as_slice(),
+            routes.as_slice(),
+        ),
         ("id", 0, [rule(4, 7)].as_slice(), routes.as_slice()),
         ("ids", 0, same_ids.as_slice(), routes.as_slice()),
         ("rules", 0, same_rules.as_slice(), routes.as_slice()),

@@ -1,4 +1,4 @@
-//! Tests of the public calls for tables, lines, versions, texts and grace periods.
+//! Tests of the public calls for tables, lines, versions and texts.
 //!
 //! Lines and texts are worked examples of `ip-route(8)` and `ip-rule(8)`.
 #![tactic(auto)]
@@ -7,8 +7,6 @@
 mod from_rows;
 #[cfg(test)]
 mod lines;
-#[cfg(test)]
-mod registry;
 #[cfg(test)]
 mod script;
 #[cfg(test)]

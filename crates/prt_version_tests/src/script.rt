@@ -6,7 +6,7 @@ use prt_version::Version;
 use std::alloc::Global;
 use std::test::Fail;
 
-/// The version after the command of a line.
+/// Gives the version after the command of a line.
 pub fn next_version(version: &Version, line: &str) -> Result<Version, Refusal> {
     match read_line(line.as_bytes())? {
         Some(Request::Command(command)) => match version.check(&command) {
@@ -17,7 +17,7 @@ pub fn next_version(version: &Version, line: &str) -> Result<Version, Refusal> {
     }
 }
 
-/// The version of a new database after the commands of a script's lines.
+/// Gives the version of a new database after the commands of a script's lines.
 pub fn version_after(alloc: Global, script: &str) -> Result<Version, Refusal> {
     let mut version = Version::opening(alloc)?;
     for line in script.lines() {
@@ -26,7 +26,7 @@ pub fn version_after(alloc: Global, script: &str) -> Result<Version, Refusal> {
     Ok(version)
 }
 
-/// The texts that answer the query of a line, with a line feed after each.
+/// Gives the texts that answer the query of a line, with a line feed after each.
 pub fn answer(alloc: Global, version: &Version, line: &str) -> Result<Vec<u8>, Fail> {
     let mut out = Vec::new(alloc);
     match read_line(line.as_bytes())? {

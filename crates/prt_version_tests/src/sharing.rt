@@ -9,7 +9,7 @@ use prt_version::Version;
 use std::sync::Arc;
 use std::test::Fail;
 
-/// All routes of main with prefixes in this one.
+/// Gives all routes of main with prefixes in this one.
 fn all_within(prefix: Prefix) -> Selector {
     Selector {
         table: Some(MAIN),
@@ -21,7 +21,7 @@ fn all_within(prefix: Prefix) -> Selector {
     }
 }
 
-/// How many pieces another table has too.
+/// Tells how many pieces another table has too.
 fn count_shared(table: &Table) -> usize {
     table
         .pieces()
@@ -54,7 +54,7 @@ fn edits_share_the_other_pieces(rt: HostRuntime) -> Result<(), Fail> {
     Ok(())
 }
 
-/// How many owners the table of this number has; 0 where there is no such table.
+/// Tells how many owners the table of this number has; 0 where there is no such table.
 fn table_owners(version: &Version, number: u32) -> usize {
     match version.shared_routes().shared_table(number) {
         Some(table) => Arc::strong_count(table),
@@ -62,12 +62,12 @@ fn table_owners(version: &Version, number: u32) -> usize {
     }
 }
 
-/// How many owners the rules have.
+/// Tells how many owners the rules have.
 fn rule_owners(version: &Version) -> usize {
     Arc::strong_count(version.shared_rules())
 }
 
-/// How many owners all tables have together.
+/// Tells how many owners all tables have together.
 fn route_owners(version: &Version) -> usize {
     Arc::strong_count(version.shared_routes())
 }

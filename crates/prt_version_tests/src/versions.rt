@@ -22,11 +22,16 @@ route change blackhole 10/8
 route replace 10/8 via 192.0.2.2 metric 5
 route add 10/8 dev eth0 proto kernel scope link src 192.0.2.10 table 7";
 
+const SUPPRESSED: &str = "rule add priority 5 suppress_prefixlength 8
+route add 10/8 dev a1
+route add blackhole 11/8
+route add 10.1/16 dev a2";
+
 const FLUSHED: &str = "rule flush
 rule add table 7
 rule del table local";
 
-/// The first of these queries that is not answered by this text after its script.
+/// Gives the first of these queries that is not answered by this text after its script.
 fn misanswered_query(alloc: Global) -> Result<Option<&'static str>, Fail> {
     for (script, query, text) in [
         (
@@ -71,6 +76,48 @@ blackhole 10.0.0.0/8
 #[test]
 fn answers_queries(rt: HostRuntime) -> Result<(), Fail> {
     assert_eq!(rt; misanswered_query(rt.alloc())?, None);
+    Ok(())
+}
+
+/// The first of these queries that is not answered by this text where short prefixes are suppressed.
+fn misanswered_suppression(alloc: Global) -> Result<Option<&'static str>, Fail> {
+    let version = version_after(alloc, SUPPRESSED)?;
+    for (query, text) in [
+        (
+            "route get 10.2",
+            "answer 4 rule 32766 table main 10.0.0.0/8 dev a1 scope link",
+        ),
+        (
+            "route get 10.1",
+            "answer 4 rule 5 table main 10.1.0.0/16 dev a2 scope link",
+        ),
+        (
+            "route get 11",
+            "answer 4 rule 5 table main blackhole 11.0.0.0/8",
+        ),
+        (
+            "rule show",
+            "0:\tfrom all lookup local
+5:\tfrom all lookup main suppress_prefixlength 8
+32766:\tfrom all lookup main
+32767:\tfrom all lookup default
+",
+        ),
+    ] {
+        if answer(alloc, &version, query)?.as_slice() != text.as_bytes() {
+            return Ok(Some(query));
+        }
+    }
+    Ok(None)
+}
+
+#[test]
+fn suppresses_short_prefixes(rt: HostRuntime) -> Result<(), Fail> {
+    assert_eq!(rt; misanswered_suppression(rt.alloc())?, None);
+    let version = version_after(rt.alloc(), SUPPRESSED)?;
+    let again = "rule add priority 5 suppress_prefixlength 8";
+    assert!(rt; next_version(&version, again).err() == Some(Refusal::Exists));
+    assert!(rt; next_version(&version, "rule add priority 5").is_ok());
     Ok(())
 }
 

@@ -9,8 +9,9 @@ use Rattle.clap.specs.Simple.{filled, help_rule, with_index}
 use Rattle.clap.specs.Walk.{Row, Rule, Text, is_empty, first_of, one_of, has_row, row_text, with_default}
 use Rattle.clap.specs.declared.parser.matches.ValueSource.TheVariants.{CommandLine, DefaultValue}
 use Rattle.clap.specs.declared.builder.value_parser.Reading.TheVariants.{AsWritten}
+use Rattle.prt_addr.specs.Word.{Word}
 use Rattle.prt_words.specs.CommandLine.{flag_rule, database_rule, file_rule}
-use Rattle.prt_words.specs.Invocation.{Argument, Force, Verbose, Database, File, Given, Subcommand, Batch, Replay, Word, has_given, with_given}
+use Rattle.prt_words.specs.Invocation.{Argument, Force, Verbose, Database, File, Given, Subcommand, Batch, Check, Replay, has_given, with_given}
 use Rattle.prt_words.proofs.Rows.{find_kept, find_last, row, valued}
 use Rattle.prt_words.proofs.Walks.{text_of_flag}
 use Rattle.prt_words.proofs.WordClasses.{id_of, rules_of, shape_of}
@@ -135,10 +136,12 @@ defaults_quiet Batch rows =
     one_quiet rows built_force (built_database ∷ built_verbose ∷ built_file ∷ built_help ∷ []) (force_quiet rows)
     (one_quiet forced built_database (built_verbose ∷ built_file ∷ built_help ∷ []) (no_default forced built_database refl)
     (one_quiet named built_verbose (built_file ∷ built_help ∷ []) (verbose_quiet named) (operand_quiet (with_default named built_verbose))))
+defaults_quiet Check rows = operand_quiet rows
 defaults_quiet Replay rows = operand_quiet rows
 
 pub checks_quiet : (s : Subcommand) (rows : List Row) → check_fault (shape_of s) rows false ≡ []
 checks_quiet Batch rows = refl
+checks_quiet Check rows = refl
 checks_quiet Replay rows = refl
 
 -- the rows with their defaults
@@ -208,6 +211,8 @@ named_in_batch id rows no_force no_verbose =
 pub file_at_end : (s : Subcommand) (given : Given) (rows : List Row) → AreGiven given rows → first_of (codes "file") (defaulted s rows) ≡ given.operand
 file_at_end Batch given rows are =
     named_in_batch (codes "file") rows refl refl ∙ ap (option_and_then (λ r. slice_get r.values 0)) (are (File [])) ∙ first_value (λ w. row_of (File w)) given.operand (λ word. refl)
+file_at_end Check given rows are =
+    ap (first_of (codes "file")) (either _ _ ∙ either _ rows) ∙ ap (option_and_then (λ r. slice_get r.values 0)) (are (File [])) ∙ first_value (λ w. row_of (File w)) given.operand (λ word. refl)
 file_at_end Replay given rows are =
     ap (first_of (codes "file")) (either _ _ ∙ either _ rows) ∙ ap (option_and_then (λ r. slice_get r.values 0)) (are (File [])) ∙ first_value (λ w. row_of (File w)) given.operand (λ word. refl)
 

@@ -8,7 +8,8 @@ use Rattle.clap.specs.declared.parser.matches.ValueSource.TheVariants.{CommandLi
 use Rattle.clap.specs.declared.builder.value_parser.Reading.TheVariants.{AsWritten}
 use Rattle.clap.specs.declared.error.kind.ErrorKind.TheVariants as kind
 use Rattle.clap.proofs.OnLiterals.{clap_on_literals}
-use Rattle.prt_words.specs.Invocation.{Argument, Force, Verbose, Database, File, Given, Invocation, anywhere, at_path, at_operands, asks_help, argument, unknown, Subcommand, Batch, Replay, Word, asked, asked_by, file_of, has_given, is_delimiter, is_option, mode_of, nothing_given, usage_error, with_given}
+use Rattle.prt_addr.specs.Word.{Word}
+use Rattle.prt_words.specs.Invocation.{Argument, Force, Verbose, Database, File, Given, Invocation, anywhere, at_path, at_operands, asks_help, argument, unknown, Subcommand, Batch, Check, Replay, asked, asked_by, file_of, has_given, is_delimiter, is_option, mode_of, nothing_given, usage_error, with_given}
 use Rattle.prt_words.proofs.Rows.{used_once}
 use Rattle.prt_words.proofs.Arguments.{AreGiven, both_quiet, checks_quiet, database_at_end, defaults_quiet, file_at_end, forced_at_end, given_has, one_more, row_of, verbose_at_end}
 use Rattle.prt_words.proofs.LostWords.{end_lost, lost, lost_operands, option_mistaken, position_of}
@@ -22,12 +23,12 @@ use Rattle.prt_words.proofs.WordClasses as class
 abbrev held_rows : Subcommand → List Row → Option (Text × List Text) → List Row
 held_rows s rows pending = settled_rows (rules_of s) pending rows
 
-record Stands (s : Subcommand) (given : Given) (rows : List Row) (pending : Option (Text × List Text)) (position : ℕ) : Type 0 where
+record HasWalked (s : Subcommand) (given : Given) (rows : List Row) (pending : Option (Text × List Text)) (position : ℕ) : Type 0 where
   settled_here : settles s rows pending
   are : AreGiven given (held_rows s rows pending)
   placed : position ≡ position_of given.operand
 
-has_here : (s : Subcommand) (given : Given) (rows : List Row) (pending : Option (Text × List Text)) (position : ℕ) → Stands s given rows pending position
+has_here : (s : Subcommand) (given : Given) (rows : List Row) (pending : Option (Text × List Text)) (position : ℕ) → HasWalked s given rows pending position
     → (a : Argument) → has_row (id_of a) (held_rows s rows pending) ≡ has_given given a
 has_here s given rows pending position stands = given_has given (held_rows s rows pending) stands.are
 
@@ -45,7 +46,7 @@ mode_goes_on : (forced : Bool) → goes_on (mode_of forced) ≡ forced
 mode_goes_on true = refl
 mode_goes_on false = refl
 
-at_end : (s : Subcommand) (given : Given) (rows : List Row) (pending : Option (Text × List Text)) (position : ℕ) (trailing : Bool) → Stands s given rows pending position
+at_end : (s : Subcommand) (given : Given) (rows : List Row) (pending : Option (Text × List Text)) (position : ℕ) (trailing : Bool) → HasWalked s given rows pending position
     → Reads s (asked s given) (walk_at rows pending position trailing) []
 at_end Batch given rows pending position trailing stands =
     let held = held_rows Batch rows pending in (
@@ -56,6 +57,11 @@ at_end Batch given rows pending position trailing stands =
       forced_at_end given held stands.are ∙ ap (λ b. Some (text_of_flag b)) (sym (mode_goes_on given.forced)),
       verbose_at_end given held stands.are,
     )
+at_end Check given rows pending position trailing stands = (
+  no_faults Check rows pending position trailing stands.settled_here,
+  refl,
+  ap (option_and_then file_of) (file_at_end Check given (held_rows Check rows pending) stands.are),
+)
 at_end Replay given rows pending position trailing stands = (
   no_faults Replay rows pending position trailing stands.settled_here,
   refl,
@@ -79,6 +85,7 @@ never false x y = refl
 first_operand : (s : Subcommand) (word : Word) (rows : List Row) (pending : Option (Text × List Text)) → settles s rows pending → value_turn s word rows pending 1 ≡ []
 unfolding walked
 first_operand Batch word rows pending settled_here = quiet _ _ settled_here
+first_operand Check word rows pending settled_here = quiet _ _ settled_here
 first_operand Replay word rows pending settled_here = quiet _ _ settled_here
 
 abbrev waiting_operand : Word → Bool → Held → Walk
@@ -88,6 +95,8 @@ operand_waits : (s : Subcommand) (word : Word) (rows : List Row) (pending : Opti
     → after_operand s word rows pending 1 trailing ≡ walk_at (held_rows s rows pending) (pending_file word) 2 trailing
 operand_waits Batch word rows pending true = ap (waiting_operand word true) (never _ _ _)
 operand_waits Batch word rows pending false = ap (waiting_operand word false) (never _ _ _)
+operand_waits Check word rows pending true = ap (waiting_operand word true) (never _ _ _)
+operand_waits Check word rows pending false = ap (waiting_operand word false) (never _ _ _)
 operand_waits Replay word rows pending true = ap (waiting_operand word true) (never _ _ _)
 operand_waits Replay word rows pending false = ap (waiting_operand word false) (never _ _ _)
 
@@ -95,18 +104,21 @@ operand_waits Replay word rows pending false = ap (waiting_operand word false) (
 second_operand : (s : Subcommand) (word : Word) (rows : List Row) (pending : Option (Text × List Text)) → IsMistake (value_turn s word rows pending 2)
 unfolding walked
 second_operand Batch word rows pending = refl
+second_operand Check word rows pending = refl
 second_operand Replay word rows pending = refl
 
 operand_rows : (s : Subcommand) (word : Word) (rows : List Row) → has_row (codes "file") rows ≡ false → held_rows s rows (pending_file word) ≡ rows ++ row_of (File word) ∷ []
 operand_rows Batch word rows none = used_once (codes "file") AsWritten CommandLine (word ∷ []) rows none
+operand_rows Check word rows none = used_once (codes "file") AsWritten CommandLine (word ∷ []) rows none
 operand_rows Replay word rows none = used_once (codes "file") AsWritten CommandLine (word ∷ []) rows none
 
 operand_settles : (s : Subcommand) (word : Word) (rows : List Row) → has_row (codes "file") rows ≡ false → settles s rows (pending_file word)
 operand_settles Batch word rows none = rw none refl
+operand_settles Check word rows none = rw none refl
 operand_settles Replay word rows none = rw none refl
 
-with_operand : (s : Subcommand) (given : Given) (word : Word) (rows : List Row) (pending : Option (Text × List Text)) (position : ℕ) → has_given given (File word) ≡ false → Stands s given rows pending position
-    → Stands s (with_given given (File word)) (held_rows s rows pending) (pending_file word) 2
+with_operand : (s : Subcommand) (given : Given) (word : Word) (rows : List Row) (pending : Option (Text × List Text)) (position : ℕ) → has_given given (File word) ≡ false → HasWalked s given rows pending position
+    → HasWalked s (with_given given (File word)) (held_rows s rows pending) (pending_file word) 2
 with_operand s given word rows pending position free stands =
     let held = held_rows s rows pending in
     let none : has_row (codes "file") held ≡ false = has_here s given rows pending position stands (File word) ∙ free in
@@ -118,10 +130,10 @@ with_operand s given word rows pending position free stands =
 
 -- a word that is met as a value: the first operand, or one too many
 operand_read : (s : Subcommand) (given : Given) (word : Word) (words : List Word) (rows : List Row) (pending : Option (Text × List Text)) (position : ℕ) (trailing : Bool) (more : Given → Invocation)
-    → Stands s given rows pending position
+    → HasWalked s given rows pending position
     → turn_fault (shape_of s) [] (walk_at rows pending position trailing) word ≡ value_turn s word rows pending position
     → walked (rules_of s) [] (walk_at rows pending position trailing) word ≡ after_operand s word rows pending position trailing
-    → (Stands s (with_given given (File word)) (held_rows s rows pending) (pending_file word) 2
+    → (HasWalked s (with_given given (File word)) (held_rows s rows pending) (pending_file word) 2
     → Reads s (more (with_given given (File word))) (walk_at (held_rows s rows pending) (pending_file word) 2 trailing) words)
     → Reads s (cond (is_some given.operand) usage_error (more (with_given given (File word)))) (walk_at rows pending position trailing) (word ∷ words)
 operand_read s given word words rows pending position trailing more stands turn next rest = go given.operand refl
@@ -140,7 +152,7 @@ operand_read s given word words rows pending position trailing more stands turn 
         (word_mistaken s _ word words (subst IsMistake (sym (turn ∙ ap (value_turn s word rows pending) second)) (second_operand s word rows pending)))
 
 -- after `--`
-operands_read : (s : Subcommand) (given : Given) (rows : List Row) (pending : Option (Text × List Text)) (position : ℕ) → Stands s given rows pending position
+operands_read : (s : Subcommand) (given : Given) (rows : List Row) (pending : Option (Text × List Text)) (position : ℕ) → HasWalked s given rows pending position
     → (words : List Word) → Reads s (asked_by s words at_operands given) (walk_at rows pending position true) words
 unfolding walked
 operands_read s given rows pending position stands [] = at_end s given rows pending position true stands
@@ -177,8 +189,8 @@ same_place given word Verbose g = refl
 same_place given word (Database path) g = refl
 same_place given word (File file) g = absurd g.named
 
-with_option : (given : Given) (word : Text) (a : Argument) (rows : List Row) (pending : Option (Text × List Text)) (position : ℕ) → Gives word a → has_given given a ≡ false → Stands Batch given rows pending position
-    → Stands Batch (with_given given a) (held_rows Batch rows pending ++ row_of a ∷ []) None position
+with_option : (given : Given) (word : Text) (a : Argument) (rows : List Row) (pending : Option (Text × List Text)) (position : ℕ) → Gives word a → has_given given a ≡ false → HasWalked Batch given rows pending position
+    → HasWalked Batch (with_given given a) (held_rows Batch rows pending ++ row_of a ∷ []) None position
 with_option given word a rows pending position g free stands = record {
   settled_here = refl;
   are = one_more given (held_rows Batch rows pending) a (has_here Batch given rows pending position stands a ∙ free) stands.are;
@@ -189,15 +201,15 @@ with_option given word a rows pending position g free stands = record {
 
 -- the words that follow are read as they are wherever the walk stands
 abbrev ReadsOn : Subcommand → List Word → Type 0
-ReadsOn s words = (given : Given) (rows : List Row) (pending : Option (Text × List Text)) (position : ℕ) → Stands s given rows pending position
+ReadsOn s words = (given : Given) (rows : List Row) (pending : Option (Text × List Text)) (position : ℕ) → HasWalked s given rows pending position
     → Reads s (asked_by s words anywhere given) (walk_at rows pending position false) words
 
 -- the same after `--db`
 abbrev ReadsPath : List Word → Type 0
-ReadsPath words = (given : Given) (rows : List Row) (position : ℕ) → Stands Batch given rows None position → Reads Batch (asked_by Batch words at_path given) (walk_waiting rows position) words
+ReadsPath words = (given : Given) (rows : List Row) (position : ℕ) → HasWalked Batch given rows None position → Reads Batch (asked_by Batch words at_path given) (walk_waiting rows position) words
 
 option_read : (given : Given) (word : Word) (words : List Word) (rows : List Row) (pending : Option (Text × List Text)) (position : ℕ) (a : Argument) → Gives word a
-    → Stands Batch given rows pending position → ReadsOn Batch words
+    → HasWalked Batch given rows pending position → ReadsOn Batch words
     → Reads Batch (cond (has_given given a) usage_error (asked_by Batch words anywhere (with_given given a))) (walk_at rows pending position false) (word ∷ words)
 option_read given word words rows pending position a g stands rest = go (has_given given a) refl
   where
@@ -230,8 +242,8 @@ path_lost word rows has = rw has refl
 path_settles : (word : Word) (rows : List Row) → has_row (codes "db") rows ≡ false → settles Batch rows (pending_path word)
 path_settles word rows none = rw none refl
 
-with_path : (given : Given) (word : Word) (rows : List Row) (position : ℕ) → has_given given (Database word) ≡ false → Stands Batch given rows None position
-    → Stands Batch (with_given given (Database word)) rows (pending_path word) position
+with_path : (given : Given) (word : Word) (rows : List Row) (position : ℕ) → has_given given (Database word) ≡ false → HasWalked Batch given rows None position
+    → HasWalked Batch (with_given given (Database word)) rows (pending_path word) position
 with_path given word rows position free stands =
     let none : has_row (codes "db") rows ≡ false = has_here Batch given rows None position stands (Database word) ∙ free in
     record {
@@ -240,7 +252,7 @@ with_path given word rows position free stands =
       placed = stands.placed;
     }
 
-path_taken : (given : Given) (word : Word) (words : List Word) (rows : List Row) (position : ℕ) → Operand Batch word → Stands Batch given rows None position → ReadsOn Batch words
+path_taken : (given : Given) (word : Word) (words : List Word) (rows : List Row) (position : ℕ) → Operand Batch word → HasWalked Batch given rows None position → ReadsOn Batch words
     → Reads Batch (cond (is_some given.database) usage_error (asked_by Batch words anywhere (with_given given (Database word)))) (walk_waiting rows position) (word ∷ words)
 path_taken given word words rows position o stands rest = go (is_some given.database) refl
   where
@@ -256,7 +268,7 @@ path_taken given word words rows position o stands rest = go (is_some given.data
 path_missing : ReadsPath []
 path_missing given rows position stands = end_lost (waits_for (codes "db")) rows (Some (codes "db", [])) position false refl
 
-path_ends : (words : List Word) (given : Given) (rows : List Row) (position : ℕ) → Stands Batch given rows None position
+path_ends : (words : List Word) (given : Given) (rows : List Row) (position : ℕ) → HasWalked Batch given rows None position
     → Reads Batch (asked_by Batch (codes "--" ∷ words) at_path given) (walk_waiting rows position) (codes "--" ∷ words)
 unfolding clap_on_literals
 path_ends words given rows position stands =
@@ -264,7 +276,7 @@ path_ends words given rows position stands =
     (subst (λ p. Reads Batch usage_error (walk_when (waits_for (codes "db")) rows (Some (codes "db", [])) p true) words) (sym stands.placed)
     (lost_operands (waits_for (codes "db")) rows [] given.operand refl words))
 
-path_awaited : (given : Given) (words : List Word) (rows : List Row) (pending : Option (Text × List Text)) (position : ℕ) → Stands Batch given rows pending position → ReadsPath words
+path_awaited : (given : Given) (words : List Word) (rows : List Row) (pending : Option (Text × List Text)) (position : ℕ) → HasWalked Batch given rows pending position → ReadsPath words
     → Reads Batch (asked_by Batch (codes "--db" ∷ words) anywhere given) (walk_at rows pending position false) (codes "--db" ∷ words)
 unfolding clap_on_literals
 path_awaited given words rows pending position stands paths =
@@ -290,7 +302,7 @@ path_read word words rest given rows position stands = go (class_of Batch word)
 
 -- ---- any word
 
-word_read : (s : Subcommand) (given : Given) (word : Word) (words : List Word) (rows : List Row) (pending : Option (Text × List Text)) (position : ℕ) → Stands s given rows pending position
+word_read : (s : Subcommand) (given : Given) (word : Word) (words : List Word) (rows : List Row) (pending : Option (Text × List Text)) (position : ℕ) → HasWalked s given rows pending position
     → ReadsOn s words → ReadsPath words → Class s word → Reads s (asked_by s (word ∷ words) anywhere given) (walk_at rows pending position false) (word ∷ words)
 unfolding walked
 word_read s given word words rows pending position stands rest paths (class.delimiter is) =
@@ -304,10 +316,12 @@ word_read s given word words rows pending position stands rest paths (class.unkn
     (word_mistaken s (walk_at rows pending position false) word words (u.turn rows pending position))
 word_read Batch given word words rows pending position stands rest paths (class.gives a batch g) =
     as_part Batch anywhere given word words (walk_at rows pending position false) (argument a) g.part (option_read given word words rows pending position a g stands rest)
+word_read Check given word words rows pending position stands rest paths (class.gives a batch g) = absurd batch
 word_read Replay given word words rows pending position stands rest paths (class.gives a batch g) = absurd batch
 word_read Batch given word words rows pending position stands rest paths (class.awaits batch is) =
     subst (λ w. Reads Batch (asked_by Batch (w ∷ words) anywhere given) (walk_at rows pending position false) (w ∷ words)) (sym is)
     (path_awaited given words rows pending position stands paths)
+word_read Check given word words rows pending position stands rest paths (class.awaits batch is) = absurd batch
 word_read Replay given word words rows pending position stands rest paths (class.awaits batch is) = absurd batch
 word_read s given word words rows pending position stands rest paths (class.operand o) =
     as_part s anywhere given word words (walk_at rows pending position false) (argument (File word)) o.part

@@ -7,7 +7,8 @@ use Rattle.clap.specs.Lexer.{name_and_value}
 use Rattle.clap.specs.Faults.{turn_fault, walk_fault, word_fault, step_fault, settle_fault, long_fault, short_fault, option_fault, react_fault, use_fault, flags_fault}
 use Rattle.clap.specs.Walk.{Held, Row, Rule, Text, Waiting, arg_by_long, arg_by_short, walked, word_met, settled, reacted, takes_values, attached_value, subcommand_met, idle, option as waits_for, positional}
 use Rattle.clap.specs.declared.error.kind.ErrorKind.TheVariants as kind
-use Rattle.prt_words.specs.Invocation.{Batch, Word, is_delimiter, is_option, usage_error}
+use Rattle.prt_addr.specs.Word.{Word}
+use Rattle.prt_words.specs.Invocation.{Batch, is_delimiter, is_option, usage_error}
 use Rattle.prt_words.proofs.Walks.{Reads, word_mistaken, word_taken}
 use Rattle.prt_words.proofs.WordClasses.{Class, IsMistake, awaits_option, class_of, held_at, mistaken_or, rules_of, settles, shape_of, value_turn, walk_at, walk_when}
 use Rattle.prt_words.proofs.WordClasses as class

@@ -11,8 +11,9 @@ use Rattle.clap.specs.Faults.{turn_fault, walk_fault, level_fault, entered_fault
 use Rattle.clap.specs.Simple.{Shape, built, entered, names_of, subcommand_of}
 use Rattle.clap.specs.Walk.{Names, Row, Text, Walk, walked, bundle_met, walk_from, nothing_held, settled, finished, rows_after}
 use Rattle.clap.specs.declared.error.kind.ErrorKind.TheVariants as kind
+use Rattle.prt_addr.specs.Word.{Word}
 use Rattle.prt_words.specs.CommandLine.{command_line, subcommand_name}
-use Rattle.prt_words.specs.Invocation.{Invocation, Subcommand, Batch, Replay, Word, anywhere, asked_by, invocation, help, nothing_given, usage_error, is_help}
+use Rattle.prt_words.specs.Invocation.{Invocation, Subcommand, Batch, Check, Replay, anywhere, asked_by, invocation, help, nothing_given, usage_error, is_help, is_version, version}
 use Rattle.prt_words.proofs.WordClasses.{IsMistake, rules_of, shape_of, same_bytes, long_name, long_of_is, before_none, no_value_in, no_name_of, differs, flipped}
 use Rattle.prt_words.proofs.CommandWords.{subcommand_reads}
 use Rattle.prt_words.proofs.Walks.{Agrees, name_of}
@@ -33,61 +34,83 @@ first_turn word = turn_fault top names start word
 data First (word : Text) : Type 0 where
   delimiter : word ≡ codes "--" → First word
   asks : is_help word ≡ true → first_turn word ≡ kind.DisplayHelp ∷ [] → First word
-  mistake : is_help word ≡ false → IsMistake (first_turn word) → First word
+  tells : is_help word ≡ false → is_version word ≡ true → first_turn word ≡ kind.DisplayVersion ∷ [] → First word
+  mistake : is_help word ≡ false → is_version word ≡ false → IsMistake (first_turn word) → First word
 
 record IsOther (word : Text) : Type 0 where
   no_batch : bytes_eq (codes "batch") word ≡ false
+  no_check : bytes_eq (codes "check") word ≡ false
   no_replay : bytes_eq (codes "replay") word ≡ false
   no_serve : bytes_eq (codes "serve") word ≡ false
   no_help : bytes_eq (codes "help") word ≡ false
 
 first_empty : First []
 unfolding clap_on_literals
-first_empty = mistake refl refl
+first_empty = mistake refl refl refl
 
 first_hyphen : First (codes "-")
 unfolding clap_on_literals
-first_hyphen = mistake refl refl
+first_hyphen = mistake refl refl refl
 
 first_plain : (byte : ℕ) (rest : Text) → (byte == 45) ≡ false → IsOther (byte ∷ rest) → First (byte ∷ rest)
 unfolding clap_on_literals
-first_plain byte rest plain other = mistake (rw plain refl) (rw (other.no_batch, other.no_replay, other.no_serve, other.no_help, plain, plain) refl)
+first_plain byte rest plain other = mistake (rw plain refl) (rw plain refl) (rw (other.no_batch, other.no_check, other.no_replay, other.no_serve, other.no_help, plain, plain) refl)
 
 first_short : (byte : ℕ) (rest : Text) (letter : Option ℕ) → (byte == 45) ≡ false → slice_get (chars (byte ∷ rest)) 0 ≡ letter → First (45 ∷ byte ∷ rest)
 unfolding walked bundle_met flags_fault
-first_short byte rest None short is = mistake (rw (short, is) refl) (rw (short, short, is) refl)
-first_short byte rest (Some letter) short is = go (letter == 104) refl
+first_short byte rest None short is = mistake (rw (short, is) refl) (rw (short, is) refl) (rw (short, short, is) refl)
+first_short byte rest (Some letter) short is = go (letter == 104) (letter == 86) refl refl
   where
-    go : (is_h : Bool) → (letter == 104) ≡ is_h → First (45 ∷ byte ∷ rest)
-    go true h = asks (rw (short, is, h) refl) (rw (short, short, is, eq-eqb 104 letter (sym (eqb-true letter 104 h))) refl)
-    go false h = mistake (rw (short, is, h) refl) (rw (short, short, is, ne_eqb 104 letter (λ e. eqb-false letter 104 h (sym e))) refl)
+    go : (is_h is_v : Bool) → (letter == 104) ≡ is_h → (letter == 86) ≡ is_v → First (45 ∷ byte ∷ rest)
+    go true is_v h v = asks (rw (short, is, h) refl) (rw (short, short, is, eq-eqb 104 letter (sym (eqb-true letter 104 h))) refl)
+    go false true h v = tells (rw (short, is, h) refl) (rw (short, is, v) refl)
+        (rw (short, short, is, ne_eqb 104 letter (λ e. eqb-false letter 104 h (sym e)), eq-eqb 86 letter (sym (eqb-true letter 86 v))) refl)
+    go false false h v = mistake (rw (short, is, h) refl) (rw (short, is, v) refl)
+        (rw (short, short, is, ne_eqb 104 letter (λ e. eqb-false letter 104 h (sym e)), ne_eqb 86 letter (λ e. eqb-false letter 86 v (sym e))) refl)
 
--- a long option other than `--help`
-first_long_other : (byte : ℕ) (rest : Text) → ((byte ∷ rest) ≡ codes "help" → ⊥) → IsMistake (first_turn (45 ∷ 45 ∷ byte ∷ rest)) → First (45 ∷ 45 ∷ byte ∷ rest)
+-- a long option other than `--help` and `--version`
+first_long_other : (byte : ℕ) (rest : Text) → ((byte ∷ rest) ≡ codes "help" → ⊥) → ((byte ∷ rest) ≡ codes "version" → ⊥) → IsMistake (first_turn (45 ∷ 45 ∷ byte ∷ rest)) → First (45 ∷ 45 ∷ byte ∷ rest)
 unfolding chars
-first_long_other byte rest other turn = mistake (rw (differs (byte ∷ rest) (codes "help") other) refl) turn
+first_long_other byte rest no_help no_version turn =
+    mistake (rw (differs (byte ∷ rest) (codes "help") no_help) refl) (rw (differs (byte ∷ rest) (codes "version") no_version) refl) turn
 
 no_long : (word name : Text) (value : Option Text) → bytes_eq word (codes "--") ≡ false → IsOther word
-    → long_of word ≡ Some (name, value) → bytes_eq (codes "help") name ≡ false → IsMistake (first_turn word)
-no_long word name value plain other long no_help = rw (other.no_batch, other.no_replay, other.no_serve, other.no_help, plain, long, no_help) refl
+    → long_of word ≡ Some (name, value) → bytes_eq (codes "help") name ≡ false → bytes_eq (codes "version") name ≡ false → IsMistake (first_turn word)
+no_long word name value plain other long no_help no_version = rw (other.no_batch, other.no_check, other.no_replay, other.no_serve, other.no_help, plain, long, no_help, no_version) refl
 
 help_valued : (word value : Text) → bytes_eq word (codes "--") ≡ false → IsOther word → long_of word ≡ Some (codes "help", Some value) → IsMistake (first_turn word)
-help_valued word value plain other long = rw (other.no_batch, other.no_replay, other.no_serve, other.no_help, plain, long) refl
+help_valued word value plain other long = rw (other.no_batch, other.no_check, other.no_replay, other.no_serve, other.no_help, plain, long) refl
+
+version_valued : (word value : Text) → bytes_eq word (codes "--") ≡ false → IsOther word → long_of word ≡ Some (codes "version", Some value) → IsMistake (first_turn word)
+version_valued word value plain other long = rw (other.no_batch, other.no_check, other.no_replay, other.no_serve, other.no_help, plain, long) refl
 
 long_other : (rest : Text) → IsOther (45 ∷ 45 ∷ rest)
-long_other rest = record { no_batch = refl; no_replay = refl; no_serve = refl; no_help = refl }
+long_other rest = record { no_batch = refl; no_check = refl; no_replay = refl; no_serve = refl; no_help = refl }
+
+-- one with a value
+first_valued : (byte : ℕ) (rest name : Text) → name ≡ long_name (byte ∷ rest) → has_byte 61 (byte ∷ rest) ≡ true
+    → ((word value : Text) → bytes_eq word (codes "--") ≡ false → IsOther word → long_of word ≡ Some (name, Some value) → IsMistake (first_turn word))
+    → First (45 ∷ 45 ∷ byte ∷ rest)
+first_valued byte rest name is has refused =
+    first_long_other byte rest (no_value_in (byte ∷ rest) (codes "help") refl has) (no_value_in (byte ∷ rest) (codes "version") refl has)
+    (refused (45 ∷ 45 ∷ byte ∷ rest) _ refl (long_other (byte ∷ rest)) (long_of_is byte rest true has ∙ ap (λ xs. Some (xs, Some (after_first (λ x. x == 61) (byte ∷ rest)))) (sym is)))
 
 first_help : First (codes "--help")
 unfolding clap_on_literals
 first_help = asks refl refl
 
-first_by_name : (byte : ℕ) (rest : Text) (is_help : Bool) → bytes_eq (codes "help") (long_name (byte ∷ rest)) ≡ is_help
+first_version : First (codes "--version")
+unfolding clap_on_literals
+first_version = tells refl refl refl
+
+first_by_name : (byte : ℕ) (rest : Text) (is_help is_version : Bool) → bytes_eq (codes "help") (long_name (byte ∷ rest)) ≡ is_help → bytes_eq (codes "version") (long_name (byte ∷ rest)) ≡ is_version
     → (has : Bool) → has_byte 61 (byte ∷ rest) ≡ has → First (45 ∷ 45 ∷ byte ∷ rest)
-first_by_name byte rest true h false v = subst (λ xs. First (45 ∷ 45 ∷ xs)) (same_bytes _ _ h ∙ before_none (λ x. x == 61) (byte ∷ rest) v) first_help
-first_by_name byte rest true h true v = first_long_other byte rest (no_value_in (byte ∷ rest) (codes "help") refl v)
-    (help_valued (45 ∷ 45 ∷ byte ∷ rest) _ refl (long_other (byte ∷ rest)) (long_of_is byte rest true v ∙ ap (λ xs. Some (xs, Some (after_first (λ x. x == 61) (byte ∷ rest)))) (sym (same_bytes _ _ h))))
-first_by_name byte rest false h has v = first_long_other byte rest (no_name_of (byte ∷ rest) (codes "help") h refl refl)
-    (no_long (45 ∷ 45 ∷ byte ∷ rest) _ _ refl (long_other (byte ∷ rest)) (long_of_is byte rest has v) h)
+first_by_name byte rest true is_version h v false none = subst (λ xs. First (45 ∷ 45 ∷ xs)) (same_bytes _ _ h ∙ before_none (λ x. x == 61) (byte ∷ rest) none) first_help
+first_by_name byte rest true is_version h v true has = first_valued byte rest (codes "help") (same_bytes _ _ h) has help_valued
+first_by_name byte rest false true h v false none = subst (λ xs. First (45 ∷ 45 ∷ xs)) (same_bytes _ _ v ∙ before_none (λ x. x == 61) (byte ∷ rest) none) first_version
+first_by_name byte rest false true h v true has = first_valued byte rest (codes "version") (same_bytes _ _ v) has version_valued
+first_by_name byte rest false false h v has e = first_long_other byte rest (no_name_of (byte ∷ rest) (codes "help") h refl refl) (no_name_of (byte ∷ rest) (codes "version") v refl refl)
+    (no_long (45 ∷ 45 ∷ byte ∷ rest) _ _ refl (long_other (byte ∷ rest)) (long_of_is byte rest has e) h v)
 
 first_hyphened : (rest : Text) → First (45 ∷ rest)
 first_hyphened [] = first_hyphen
@@ -95,7 +118,7 @@ first_hyphened (byte ∷ rest) = go (byte == 45) refl
   where
     long : (rest : Text) → First (45 ∷ 45 ∷ rest)
     long [] = delimiter refl
-    long (next ∷ rest) = first_by_name next rest _ refl _ refl
+    long (next ∷ rest) = first_by_name next rest _ _ refl refl _ refl
 
     go : (is_hyphen : Bool) → (byte == 45) ≡ is_hyphen → First (45 ∷ byte ∷ rest)
     go true e = subst (λ b. First (45 ∷ b ∷ rest)) (sym (eqb-true byte 45 e)) (long rest)
@@ -147,6 +170,8 @@ fault_of_subcommand : (s : Subcommand) (program : Text) (words : List Text) → 
 unfolding walked walk_fault defaults_fault
 fault_of_subcommand Batch program words =
     ap₂ (λ kinds at. or_else kinds (kinds_after at)) (no_fault Batch [] words) (stays (codes "batch") [] words) ∙ or_else-nil (own_fault Batch words)
+fault_of_subcommand Check program words =
+    ap₂ (λ kinds at. or_else kinds (kinds_after at)) (no_fault Check [] words) (stays (codes "check") [] words) ∙ or_else-nil (own_fault Check words)
 fault_of_subcommand Replay program words =
     ap₂ (λ kinds at. or_else kinds (kinds_after at)) (no_fault Replay [] words) (stays (codes "replay") [] words) ∙ or_else-nil (own_fault Replay words)
 
@@ -156,6 +181,7 @@ found_by s words = Some (name_of s, rows_after (rules_of s) [] words)
 subcommand_found : (s : Subcommand) (program : Text) (words : List Text) → subcommand_of command_line (program ∷ name_of s ∷ words) ≡ found_by s words
 unfolding walked
 subcommand_found Batch program words = ap (λ (at : Walk). entered (built command_line) at.stopped) (stays (codes "batch") [] words)
+subcommand_found Check program words = ap (λ (at : Walk). entered (built command_line) at.stopped) (stays (codes "check") [] words)
 subcommand_found Replay program words = ap (λ (at : Walk). entered (built command_line) at.stopped) (stays (codes "replay") [] words)
 
 -- `serve` is found by its name, whatever follows
@@ -165,6 +191,7 @@ serve_named program words = ap (λ (at : Walk). subcommand_name (entered (built 
 
 own_words_agree : (s : Subcommand) (words : List Text) → Agrees (asked_by s words anywhere nothing_given) (own_fault s words) (found_by s words)
 own_words_agree Batch words = subcommand_reads Batch words
+own_words_agree Check words = subcommand_reads Check words
 own_words_agree Replay words = subcommand_reads Replay words
 
 agrees_on_subcommand : (s : Subcommand) (program : Text) (words : List Text) → AgreesOn (asked_by s words anywhere nothing_given) (program ∷ name_of s ∷ words)
@@ -192,10 +219,13 @@ after_delimiter program [] = refl
 after_delimiter program (word ∷ words) = refl
 
 asks_help : (word : Word) (words : List Word) → IsOther word → is_help word ≡ true → invocation (word ∷ words) ≡ help
-asks_help word words other h = rw (flipped (codes "batch") word other.no_batch, flipped (codes "replay") word other.no_replay, flipped (codes "serve") word other.no_serve, flipped (codes "help") word other.no_help, h) refl
+asks_help word words other h = rw (flipped (codes "batch") word other.no_batch, flipped (codes "check") word other.no_check, flipped (codes "replay") word other.no_replay, flipped (codes "serve") word other.no_serve, flipped (codes "help") word other.no_help, h) refl
 
-asks_nothing : (word : Word) (words : List Word) → IsOther word → is_help word ≡ false → invocation (word ∷ words) ≡ usage_error
-asks_nothing word words other h = rw (flipped (codes "batch") word other.no_batch, flipped (codes "replay") word other.no_replay, flipped (codes "serve") word other.no_serve, flipped (codes "help") word other.no_help, h) refl
+tells_version : (word : Word) (words : List Word) → IsOther word → is_help word ≡ false → is_version word ≡ true → invocation (word ∷ words) ≡ version
+tells_version word words other h v = rw (flipped (codes "batch") word other.no_batch, flipped (codes "check") word other.no_check, flipped (codes "replay") word other.no_replay, flipped (codes "serve") word other.no_serve, flipped (codes "help") word other.no_help, h, v) refl
+
+asks_nothing : (word : Word) (words : List Word) → IsOther word → is_help word ≡ false → is_version word ≡ false → invocation (word ∷ words) ≡ usage_error
+asks_nothing word words other h v = rw (flipped (codes "batch") word other.no_batch, flipped (codes "check") word other.no_check, flipped (codes "replay") word other.no_replay, flipped (codes "serve") word other.no_serve, flipped (codes "help") word other.no_help, h, v) refl
 
 agrees_on_first : (program word : Text) (words : List Text) → First word → IsOther word → AgreesOn (invocation (word ∷ words)) (program ∷ word ∷ words)
 unfolding chars
@@ -203,22 +233,26 @@ agrees_on_first program word words (delimiter is) other =
     subst (λ w. AgreesOn (invocation (w ∷ words)) (program ∷ w ∷ words)) (sym is) (after_delimiter program words)
 agrees_on_first program word words (asks h turn) other =
     subst (λ i. AgreesOn i (program ∷ word ∷ words)) (sym (asks_help word words other h)) (first_refused program word words (kind.DisplayHelp ∷ []) turn)
-agrees_on_first program word words (mistake h turn) other =
-    subst (λ i. AgreesOn i (program ∷ word ∷ words)) (sym (asks_nothing word words other h)) (first_mistaken program word words turn)
+agrees_on_first program word words (tells h v turn) other =
+    subst (λ i. AgreesOn i (program ∷ word ∷ words)) (sym (tells_version word words other h v)) (first_refused program word words (kind.DisplayVersion ∷ []) turn)
+agrees_on_first program word words (mistake h v turn) other =
+    subst (λ i. AgreesOn i (program ∷ word ∷ words)) (sym (asks_nothing word words other h v)) (first_mistaken program word words turn)
 
-agrees_on_words : (program word : Text) (words : List Text) (is_batch is_replay is_serve is_topic : Bool) → bytes_eq word (codes "batch") ≡ is_batch → bytes_eq word (codes "replay") ≡ is_replay
-    → bytes_eq word (codes "serve") ≡ is_serve → bytes_eq word (codes "help") ≡ is_topic → AgreesOn (invocation (word ∷ words)) (program ∷ word ∷ words)
+agrees_on_words : (program word : Text) (words : List Text) (is_batch is_check is_replay is_serve is_topic : Bool) → bytes_eq word (codes "batch") ≡ is_batch → bytes_eq word (codes "check") ≡ is_check
+    → bytes_eq word (codes "replay") ≡ is_replay → bytes_eq word (codes "serve") ≡ is_serve → bytes_eq word (codes "help") ≡ is_topic → AgreesOn (invocation (word ∷ words)) (program ∷ word ∷ words)
 unfolding walked walk_fault
-agrees_on_words program word words true is_replay is_serve is_topic b r s h =
+agrees_on_words program word words true is_check is_replay is_serve is_topic b c r s h =
     subst (λ w. AgreesOn (invocation (w ∷ words)) (program ∷ w ∷ words)) (sym (same_bytes word (codes "batch") b)) (agrees_on_subcommand Batch program words)
-agrees_on_words program word words false true is_serve is_topic b r s h =
+agrees_on_words program word words false true is_replay is_serve is_topic b c r s h =
+    subst (λ w. AgreesOn (invocation (w ∷ words)) (program ∷ w ∷ words)) (sym (same_bytes word (codes "check") c)) (agrees_on_subcommand Check program words)
+agrees_on_words program word words false false true is_serve is_topic b c r s h =
     subst (λ w. AgreesOn (invocation (w ∷ words)) (program ∷ w ∷ words)) (sym (same_bytes word (codes "replay") r)) (agrees_on_subcommand Replay program words)
-agrees_on_words program word words false false true is_topic b r s h =
+agrees_on_words program word words false false false true is_topic b c r s h =
     subst (λ w. AgreesOn (invocation (w ∷ words)) (program ∷ w ∷ words)) (sym (same_bytes word (codes "serve") s)) (serve_named program words)
-agrees_on_words program word words false false false true b r s h =
+agrees_on_words program word words false false false false true b c r s h =
     subst (λ w. AgreesOn (invocation (w ∷ words)) (program ∷ w ∷ words)) (sym (same_bytes word (codes "help") h)) (first_refused program (codes "help") words (kind.DisplayHelp ∷ kind.InvalidSubcommand ∷ []) refl)
-agrees_on_words program word words false false false false b r s h =
-    let other : IsOther word = record { no_batch = flipped word (codes "batch") b; no_replay = flipped word (codes "replay") r; no_serve = flipped word (codes "serve") s; no_help = flipped word (codes "help") h } in
+agrees_on_words program word words false false false false false b c r s h =
+    let other : IsOther word = record { no_batch = flipped word (codes "batch") b; no_check = flipped word (codes "check") c; no_replay = flipped word (codes "replay") r; no_serve = flipped word (codes "serve") s; no_help = flipped word (codes "help") h } in
     agrees_on_first program word words (first_of_word word other) other
 
 -- what a parse finds of the words is what they ask for
@@ -226,4 +260,4 @@ pub words_agree : (words : List Text) → AgreesOn (invocation (drop 1 words)) w
 unfolding walk_fault defaults_fault
 words_agree [] = refl
 words_agree (program ∷ []) = refl
-words_agree (program ∷ word ∷ words) = agrees_on_words program word words _ _ _ _ refl refl refl refl
+words_agree (program ∷ word ∷ words) = agrees_on_words program word words _ _ _ _ _ refl refl refl refl refl

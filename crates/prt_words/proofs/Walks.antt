@@ -7,10 +7,11 @@ use Rattle.clap.specs.Faults.{turn_fault, walk_fault, settle_fault, defaults_fau
 use Rattle.clap.specs.Walk.{Held, Row, Text, Walk, walked, settled, finished}
 use Rattle.clap.specs.declared.error.kind.ErrorKind.{ErrorKind}
 use Rattle.clap.specs.declared.error.kind.ErrorKind.TheVariants as kind
+use Rattle.prt_addr.specs.Word.{Word}
 use Rattle.prt_addr.specs.declared.on_refusal.OnRefusal.{OnRefusal}
 use Rattle.prt_addr.specs.declared.on_refusal.OnRefusal.TheVariants.{Stop, GoOn}
 use Rattle.prt_words.specs.CommandLine.{flag_text, named_database, named_file, subcommand_name}
-use Rattle.prt_words.specs.Invocation.{Invocation, Place, Part, Given, Subcommand, Batch, Replay, Word, asked_by, asked_with, batch, file_of, help, help_on, part_at, replay, serve, usage_error}
+use Rattle.prt_words.specs.Invocation.{Invocation, ArgumentPlace, Part, Given, Subcommand, Batch, Check, Replay, asked_by, asked_with, batch, check, file_of, help, help_on, part_at, replay, serve, usage_error, version}
 use Rattle.prt_words.proofs.WordClasses.{IsMistake, mistaken_or, rules_of, shape_of}
 
 abbrev pub text_of_flag : Bool → Text
@@ -23,6 +24,7 @@ goes_on GoOn = true
 
 abbrev pub name_of : Subcommand → Text
 name_of Batch = codes "batch"
+name_of Check = codes "check"
 name_of Replay = codes "replay"
 
 -- what a parse finds is what the words ask for: the kinds of error, and the subcommand with its rows
@@ -34,12 +36,17 @@ Agrees (batch script) kinds found =
     × (named_database found ≡ script.database)
     × (flag_text (codes "force") found ≡ Some (text_of_flag (goes_on script.mode)))
     × (flag_text (codes "verbose") found ≡ Some (text_of_flag script.verbose))
+Agrees (check file) kinds found =
+    (kinds ≡ [])
+    × (subcommand_name found ≡ Some (codes "check"))
+    × (option_and_then file_of (named_file found) ≡ file)
 Agrees (replay file) kinds found =
     (kinds ≡ [])
     × (subcommand_name found ≡ Some (codes "replay"))
     × (option_and_then file_of (named_file found) ≡ file)
 Agrees serve kinds found = subcommand_name found ≡ Some (codes "serve")
 Agrees help kinds found = kinds ≡ kind.DisplayHelp ∷ []
+Agrees version kinds found = kinds ≡ kind.DisplayVersion ∷ []
 Agrees help_on kinds found = kinds ≡ kind.DisplayHelp ∷ kind.InvalidSubcommand ∷ []
 Agrees usage_error kinds found = IsMistake kinds
 
@@ -81,6 +88,6 @@ word_mistaken s at word words bad =
     mistaken_or (or_else turn rest) (faults_after s (walked (rules_of s) [] at word) words) (mistaken_or turn rest bad)
 
 -- what the definition makes of a word of this part
-pub as_part : (s : Subcommand) (place : Place) (given : Given) (word : Word) (words : List Word) (at : Walk) (part : Part) → part_at place s word ≡ part
+pub as_part : (s : Subcommand) (place : ArgumentPlace) (given : Given) (word : Word) (words : List Word) (at : Walk) (part : Part) → part_at place s word ≡ part
     → Reads s (asked_with place given part (asked_by s words)) at (word ∷ words) → Reads s (asked_by s (word ∷ words) place given) at (word ∷ words)
 as_part s place given word words at part is reads = subst (λ p. Reads s (asked_with place given p (asked_by s words)) at (word ∷ words)) (sym is) reads

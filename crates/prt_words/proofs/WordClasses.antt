@@ -14,8 +14,8 @@ use Rattle.clap.specs.Faults.{is_simple_and_free}
 use Rattle.clap.specs.Walk.{bundle_met, Held, Row, Rule, Text, Waiting, Walk, walked, idle, option as waits_for, to_positional, arg_by_index}
 use Rattle.clap.specs.declared.error.kind.ErrorKind.{ErrorKind}
 use Rattle.clap.specs.declared.error.kind.ErrorKind.TheVariants as kind
-use Rattle.prt_words.specs.CommandLine.{command_line, batch_line, replay_line, flag_rule, database_rule, file_rule}
-use Rattle.prt_words.specs.Invocation.{Argument, Force, Verbose, Database, File, asks_help, argument, unknown as unknown_part, Subcommand, Batch, Replay, is_delimiter, is_equals, is_help, is_option, option_part, part_of}
+use Rattle.prt_words.specs.CommandLine.{command_line, batch_line, check_line, replay_line, flag_rule, database_rule, file_rule}
+use Rattle.prt_words.specs.Invocation.{Argument, Force, Verbose, Database, File, asks_help, argument, unknown as unknown_part, Subcommand, Batch, Check, Replay, is_delimiter, is_equals, is_help, is_option, option_part, part_of}
 
 pub simple_line : is_simple command_line ≡ true
 simple_line = refl
@@ -26,10 +26,12 @@ free_line = refl
 -- a subcommand as it is built
 abbrev pub rules_of : Subcommand → List Rule
 rules_of Batch = filled_from 1 (flag_rule (codes "force") ∷ database_rule ∷ flag_rule (codes "verbose") ∷ file_rule ∷ help_rule ∷ [])
+rules_of Check = filled_from 1 (file_rule ∷ help_rule ∷ [])
 rules_of Replay = filled_from 1 (file_rule ∷ help_rule ∷ [])
 
 abbrev pub line_of : Subcommand → App
 line_of Batch = batch_line
+line_of Check = check_line
 line_of Replay = replay_line
 
 abbrev pub shape_of : Subcommand → Shape
@@ -136,6 +138,7 @@ pub record Operand (s : Subcommand) (word : Text) : Type 0 where
 
 abbrev pub IsBatch : Subcommand → Type 0
 IsBatch Batch = Unit {0}
+IsBatch Check = ⊥
 IsBatch Replay = ⊥
 
 pub data Class (s : Subcommand) (word : Text) : Type 0 where
@@ -264,12 +267,14 @@ short_help : (s : Subcommand) (byte : ℕ) (rest : Text) (letter : ℕ) → (byt
     → (rows : List Row) (pending : Option (Text × List Text)) (position : ℕ) → settles s rows pending → word_turn s (45 ∷ byte ∷ rest) rows pending position ≡ kind.DisplayHelp ∷ []
 unfolding walked bundle_met flags_fault
 short_help Batch byte rest letter short first is_h rows pending position settled = rw (short, short, first, eq-eqb 104 letter (sym (eqb-true letter 104 is_h)), settled) refl
+short_help Check byte rest letter short first is_h rows pending position settled = rw (short, short, first, eq-eqb 104 letter (sym (eqb-true letter 104 is_h)), settled) refl
 short_help Replay byte rest letter short first is_h rows pending position settled = rw (short, short, first, eq-eqb 104 letter (sym (eqb-true letter 104 is_h)), settled) refl
 
 short_unknown : (s : Subcommand) (byte : ℕ) (rest : Text) (letter : ℕ) → (byte == 45) ≡ false → slice_get (chars (byte ∷ rest)) 0 ≡ Some letter → (letter == 104) ≡ false
     → (rows : List Row) (pending : Option (Text × List Text)) (position : ℕ) → IsMistake (word_turn s (45 ∷ byte ∷ rest) rows pending position)
 unfolding walked bundle_met flags_fault
 short_unknown Batch byte rest letter short first no_h rows pending position = rw (short, short, first, ne_eqb 104 letter (λ e. eqb-false letter 104 no_h (sym e))) refl
+short_unknown Check byte rest letter short first no_h rows pending position = rw (short, short, first, ne_eqb 104 letter (λ e. eqb-false letter 104 no_h (sym e))) refl
 short_unknown Replay byte rest letter short first no_h rows pending position = rw (short, short, first, ne_eqb 104 letter (λ e. eqb-false letter 104 no_h (sym e))) refl
 
 no_database_name : (byte : ℕ) (rest : Text) → (byte == 45) ≡ false → bytes_eq (before_first is_equals (45 ∷ byte ∷ rest)) (codes "--db") ≡ false
@@ -280,6 +285,7 @@ no_database_name byte rest short = ap (λ xs. bytes_eq xs (codes "--db")) (befor
     go false e = ap (λ xs. bytes_eq (45 ∷ xs) (codes "--db")) (before_miss is_equals byte rest e) ∙ rw short refl
 
 short_part : (s : Subcommand) (byte : ℕ) (rest : Text) → (byte == 45) ≡ false → option_part s (45 ∷ byte ∷ rest) ≡ unknown_part
+short_part Check byte rest short = refl
 short_part Replay byte rest short = refl
 short_part Batch byte rest short = rw (short, no_database_name byte rest short) refl
 
@@ -370,15 +376,29 @@ flag_valued word value (File path) alone named plain long rows pending position 
 help_valued : (s : Subcommand) (word value : Text) → is_delimiter word ≡ false → long_of word ≡ Some (codes "help", Some value)
     → (rows : List Row) (pending : Option (Text × List Text)) (position : ℕ) → IsMistake (word_turn s word rows pending position)
 help_valued Batch word value plain long rows pending position = rw (plain, long) refl
+help_valued Check word value plain long rows pending position = rw (plain, long) refl
 help_valued Replay word value plain long rows pending position = rw (plain, long) refl
 
-replay_unknown : (word name : Text) (value : Option Text) → is_delimiter word ≡ false → long_of word ≡ Some (name, value) → bytes_eq (codes "help") name ≡ false
-    → (rows : List Row) (pending : Option (Text × List Text)) (position : ℕ) → IsMistake (word_turn Replay word rows pending position)
-replay_unknown word name value plain long no_help rows pending position = rw (plain, long, no_help) refl
+-- a subcommand that takes a file alone
+abbrev IsPlain : Subcommand → Type 0
+IsPlain Batch = ⊥
+IsPlain _ = Unit {0}
+
+plain_unknown : (s : Subcommand) → IsPlain s → (word name : Text) (value : Option Text) → is_delimiter word ≡ false → long_of word ≡ Some (name, value) → bytes_eq (codes "help") name ≡ false
+    → (rows : List Row) (pending : Option (Text × List Text)) (position : ℕ) → IsMistake (word_turn s word rows pending position)
+plain_unknown Batch none word name value plain long no_help rows pending position = absurd none
+plain_unknown Check none word name value plain long no_help rows pending position = rw (plain, long, no_help) refl
+plain_unknown Replay none word name value plain long no_help rows pending position = rw (plain, long, no_help) refl
+
+plain_part : (s : Subcommand) → IsPlain s → (word : Text) → option_part s word ≡ unknown_part
+plain_part Batch none word = absurd none
+plain_part Check none word = refl
+plain_part Replay none word = refl
 
 long_help : (s : Subcommand) → Help s (codes "--help")
 unfolding clap_on_literals
 long_help Batch = record { no_delimiter = refl; is_one = refl; part = refl; turn = λ rows pending position settled. rw settled refl }
+long_help Check = record { no_delimiter = refl; is_one = refl; part = refl; turn = λ rows pending position settled. rw settled refl }
 long_help Replay = record { no_delimiter = refl; is_one = refl; part = refl; turn = λ rows pending position settled. rw settled refl }
 
 force_word : Gives (codes "--force") Force
@@ -447,16 +467,17 @@ batch_long byte rest (help_name is) true v = batch_unknown byte rest (valued_no_
 batch_long byte rest (other_name other) has v = batch_unknown byte rest (other_no_name (byte ∷ rest) other) (flipped (codes "db") (long_name (byte ∷ rest)) other.no_database)
     (long_unknown (45 ∷ 45 ∷ byte ∷ rest) _ _ refl (long_of_is byte rest has v) other)
 
-replay_long : (byte : ℕ) (rest : Text) (is_help : Bool) → bytes_eq (codes "help") (long_name (byte ∷ rest)) ≡ is_help → (has : Bool) → has_byte 61 (byte ∷ rest) ≡ has → Class Replay (45 ∷ 45 ∷ byte ∷ rest)
-replay_long byte rest true h false v = help (subst (Help Replay) (named_word byte rest (codes "help") (sym (same_bytes _ _ h)) v) (long_help Replay))
-replay_long byte rest true h true v = unknown (unknown_option Replay byte rest (valued_no_name (byte ∷ rest) v).no_help refl
-    (help_valued Replay (45 ∷ 45 ∷ byte ∷ rest) _ refl (long_of_is byte rest true v ∙ ap (λ xs. Some (xs, Some (after_first is_equals (byte ∷ rest)))) (sym (same_bytes _ _ h)))))
-replay_long byte rest false h has v = unknown (unknown_option Replay byte rest (differs (byte ∷ rest) (codes "help") (no_name_of (byte ∷ rest) (codes "help") h refl refl)) refl
-    (replay_unknown (45 ∷ 45 ∷ byte ∷ rest) _ _ refl (long_of_is byte rest has v) h))
+plain_long : (s : Subcommand) → IsPlain s → (byte : ℕ) (rest : Text) (is_help : Bool) → bytes_eq (codes "help") (long_name (byte ∷ rest)) ≡ is_help → (has : Bool) → has_byte 61 (byte ∷ rest) ≡ has → Class s (45 ∷ 45 ∷ byte ∷ rest)
+plain_long s none byte rest true h false v = help (subst (Help s) (named_word byte rest (codes "help") (sym (same_bytes _ _ h)) v) (long_help s))
+plain_long s none byte rest true h true v = unknown (unknown_option s byte rest (valued_no_name (byte ∷ rest) v).no_help (plain_part s none (45 ∷ 45 ∷ byte ∷ rest))
+    (help_valued s (45 ∷ 45 ∷ byte ∷ rest) _ refl (long_of_is byte rest true v ∙ ap (λ xs. Some (xs, Some (after_first is_equals (byte ∷ rest)))) (sym (same_bytes _ _ h)))))
+plain_long s none byte rest false h has v = unknown (unknown_option s byte rest (differs (byte ∷ rest) (codes "help") (no_name_of (byte ∷ rest) (codes "help") h refl refl)) (plain_part s none (45 ∷ 45 ∷ byte ∷ rest))
+    (plain_unknown s none (45 ∷ 45 ∷ byte ∷ rest) _ _ refl (long_of_is byte rest has v) h))
 
 long_word : (s : Subcommand) (byte : ℕ) (rest : Text) → Class s (45 ∷ 45 ∷ byte ∷ rest)
 long_word Batch byte rest = batch_long byte rest (name_by (long_name (byte ∷ rest)) _ _ _ _ refl refl refl refl) _ refl
-long_word Replay byte rest = replay_long byte rest _ refl _ refl
+long_word Check byte rest = plain_long Check tt byte rest _ refl _ refl
+long_word Replay byte rest = plain_long Replay tt byte rest _ refl _ refl
 
 -- ---- any word
 

@@ -8,6 +8,7 @@ use Rattle.clap.specs.declared.parser.matches.SubCommand.{SubCommand}
 use Rattle.clap.specs.declared.parser.matches.ArgMatches.{ArgMatches}
 use Rattle.clap.specs.declared.parser.matches.ArgMatches.TheViews.{out-ArgMatches, out-SubCommand}
 use Rattle.clap.specs.Walk.{Row}
+use Rattle.prt_addr.specs.Word.{Word}
 use Rattle.prt_words.specs.CommandLine.{IsTaskOf, command_line, invocation_of, subcommand_name, flag_text}
 use Rattle.std.specs.List.{list_all}
 use Rattle.clap.specs.Kinds.{HasKind, IsAmong, Kinds}
@@ -16,12 +17,12 @@ use Rattle.clap.specs.declared.error.Error.{Error}
 use Rattle.clap.specs.declared.error.kind.ErrorKind.{ErrorKind}
 use Rattle.clap.specs.declared.error.kind.ErrorKind.TheVariants.{DisplayHelp, DisplayVersion, InvalidSubcommand}
 use Rattle.prt_words.specs.Faults.{FaultOf, IsStatusOf, IsWordsFault, words_status}
-use Rattle.prt_words.specs.Invocation.{Invocation, Word, batch, replay, serve, help, help_on, invocation, usage_error, file_of}
+use Rattle.prt_words.specs.Invocation.{Invocation, batch, check, replay, serve, help, help_on, version, invocation, usage_error, file_of}
 use Rattle.prt_addr.specs.declared.on_refusal.OnRefusal.{OnRefusal}
 use Rattle.prt_addr.specs.declared.on_refusal.OnRefusal.TheVariants.{Stop, GoOn}
 use Rattle.prt_words.specs.declared.fault.Fault.{Fault}
 use Rattle.prt_words.specs.declared.task.Task.{Task}
-use Rattle.prt_words.specs.declared.task.Task.TheVariants.{Batch, Replay, Serve}
+use Rattle.prt_words.specs.declared.task.Task.TheVariants.{Batch, Check, Replay, Serve}
 use Rattle.prt_words.proofs.ParsedWords.{words_agree}
 use Rattle.prt_words.proofs.Walks.{Agrees, goes_on, text_of_flag}
 use Rattle.prt_words.proofs.WordClasses.{IsMistake, is_mistake}
@@ -45,24 +46,39 @@ script_is : {mode mode0 : OnRefusal} {verbose verbose0 : Bool} {database databas
     → batch (record { mode = mode; verbose = verbose; database = database; file = file }) ≡ batch (record { mode = mode0; verbose = verbose0; database = database0; file = file0 })
 script_is a b c d = rw (a, b, c, d) refl
 
-other_name : Some (codes "batch") ≡ Some (codes "replay") → ⊥
-other_name same = absurd (true≢false (ap (λ name. is_b (unwrap_or (slice_get (unwrap_or name []) 0) 0)) same))
-  where
-    is_b : ℕ → Bool
-    is_b byte = byte == 98
+abbrev begins_with : ℕ → Option Text → Bool
+begins_with byte name = unwrap_or (slice_get (unwrap_or name []) 0) 0 == byte
 
-no_batch : Some (codes "batch") ≡ Some (codes "serve") → ⊥
-no_batch same = absurd (true≢false (ap (λ name. unwrap_or (slice_get (unwrap_or name []) 0) 0 == 98) same))
+-- a name that begins so is none that does not
+other_name : (byte : ℕ) (a b : Option Text) → begins_with byte a ≡ true → begins_with byte b ≡ false → a ≡ b → ⊥
+other_name byte a b is other same = absurd (true≢false (sym is ∙ ap (begins_with byte) same ∙ other))
 
-no_replay : Some (codes "replay") ≡ Some (codes "serve") → ⊥
-no_replay same = absurd (true≢false (ap (λ name. unwrap_or (slice_get (unwrap_or name []) 0) 0 == 114) same))
+no_check : Some (codes "batch") ≡ Some (codes "check") → ⊥
+no_check = other_name 98 (Some (codes "batch")) (Some (codes "check")) refl refl
+
+no_replay : Some (codes "batch") ≡ Some (codes "replay") → ⊥
+no_replay = other_name 98 (Some (codes "batch")) (Some (codes "replay")) refl refl
+
+check_no_replay : Some (codes "check") ≡ Some (codes "replay") → ⊥
+check_no_replay = other_name 99 (Some (codes "check")) (Some (codes "replay")) refl refl
+
+batch_no_serve : Some (codes "batch") ≡ Some (codes "serve") → ⊥
+batch_no_serve = other_name 98 (Some (codes "batch")) (Some (codes "serve")) refl refl
+
+check_no_serve : Some (codes "check") ≡ Some (codes "serve") → ⊥
+check_no_serve = other_name 99 (Some (codes "check")) (Some (codes "serve")) refl refl
+
+replay_no_serve : Some (codes "replay") ≡ Some (codes "serve") → ⊥
+replay_no_serve = other_name 114 (Some (codes "replay")) (Some (codes "serve")) refl refl
 
 -- a parse without an error found `serve`, or another task
 serve_is : (asked : Invocation) (kinds : Kinds) (found : Option (Text × List Row)) → Agrees asked kinds found → kinds ≡ [] → subcommand_name found ≡ Some (codes "serve") → asked ≡ serve
-serve_is (batch script) kinds found agrees none is = absurd (no_batch (sym agrees.1 ∙ is))
-serve_is (replay file) kinds found agrees none is = absurd (no_replay (sym agrees.1 ∙ is))
+serve_is (batch script) kinds found agrees none is = absurd (batch_no_serve (sym agrees.1 ∙ is))
+serve_is (check file) kinds found agrees none is = absurd (check_no_serve (sym agrees.1 ∙ is))
+serve_is (replay file) kinds found agrees none is = absurd (replay_no_serve (sym agrees.1 ∙ is))
 serve_is serve kinds found agrees none is = refl
 serve_is help kinds found agrees none is = absurd (not_empty _ _ (sym agrees ∙ none))
+serve_is version kinds found agrees none is = absurd (not_empty _ _ (sym agrees ∙ none))
 serve_is help_on kinds found agrees none is = absurd (not_empty _ _ (sym agrees ∙ none))
 serve_is usage_error kinds found agrees none is = absurd (subst IsMistake none agrees)
 
@@ -70,13 +86,19 @@ task_is : (asked : Invocation) (kinds : Kinds) (found : Option (Text × List Row
     → asked ≡ invocation_of task
 task_is asked kinds found (Serve serving) agrees none other is = absurd is
 task_is (batch script) kinds found (Batch task) agrees none other is =
-    script_is (mode_is task.mode script.mode (flag_text (codes "force") found) agrees.4 is.3 is.4) (flag_is task.is_verbose script.verbose (flag_text (codes "verbose") found) agrees.5 is.5 is.6)
-    (sym (is.2 ∙ agrees.3)) (sym (is.1 ∙ agrees.2))
-task_is (batch script) kinds found (Replay file) agrees none other is = absurd (other_name (sym agrees.1 ∙ is.0))
-task_is (replay file) kinds found (Batch task) agrees none other is = absurd (is.0 agrees.1)
+    script_is (mode_is task.mode script.mode (flag_text (codes "force") found) agrees.4 is.4 is.5) (flag_is task.is_verbose script.verbose (flag_text (codes "verbose") found) agrees.5 is.6 is.7)
+    (sym (is.3 ∙ agrees.3)) (sym (is.2 ∙ agrees.2))
+task_is (batch script) kinds found (Check file) agrees none other is = absurd (no_check (sym agrees.1 ∙ is.0))
+task_is (batch script) kinds found (Replay file) agrees none other is = absurd (no_replay (sym agrees.1 ∙ is.0))
+task_is (check file) kinds found (Batch task) agrees none other is = absurd (is.0 agrees.1)
+task_is (check file) kinds found (Check path) agrees none other is = ap check (sym (is.1 ∙ agrees.2))
+task_is (check file) kinds found (Replay path) agrees none other is = absurd (check_no_replay (sym agrees.1 ∙ is.0))
+task_is (replay file) kinds found (Batch task) agrees none other is = absurd (is.1 agrees.1)
+task_is (replay file) kinds found (Check path) agrees none other is = absurd (check_no_replay (sym is.0 ∙ agrees.1))
 task_is (replay file) kinds found (Replay path) agrees none other is = ap replay (sym (is.1 ∙ agrees.2))
 task_is serve kinds found task agrees none other is = absurd (other agrees)
 task_is help kinds found task agrees none other is = absurd (not_empty _ _ (sym agrees ∙ none))
+task_is version kinds found task agrees none other is = absurd (not_empty _ _ (sym agrees ∙ none))
 task_is help_on kinds found task agrees none other is = absurd (not_empty _ _ (sym agrees ∙ none))
 task_is usage_error kinds found task agrees none other is = absurd (subst IsMistake none agrees)
 
@@ -102,11 +124,17 @@ either_status _ = inr refl
 
 status_of_kind : (asked : Invocation) (kinds : Kinds) (found : Option (Text × List Row)) (k : ErrorKind) → Agrees asked kinds found → IsAmong k kinds → IsStatusOf asked (words_status k)
 status_of_kind (batch script) kinds found k agrees among = subst (IsAmong k) agrees.0 among
+status_of_kind (check file) kinds found k agrees among = subst (IsAmong k) agrees.0 among
 status_of_kind (replay file) kinds found k agrees among = subst (IsAmong k) agrees.0 among
 status_of_kind serve kinds found k agrees among = either_status k
 status_of_kind help kinds found k agrees among = shown (subst (IsAmong k) agrees among)
   where
     shown : IsAmong k (DisplayHelp ∷ []) → words_status k ≡ 0
+    shown (inl is) = ap words_status is
+    shown (inr none) = absurd none
+status_of_kind version kinds found k agrees among = shown (subst (IsAmong k) agrees among)
+  where
+    shown : IsAmong k (DisplayVersion ∷ []) → words_status k ≡ 0
     shown (inl is) = ap words_status is
     shown (inr none) = absurd none
 status_of_kind help_on kinds found k agrees among = shown (subst (IsAmong k) agrees among)

@@ -5,10 +5,10 @@ use Rattle.clap.specs.Simple.{on_top}
 use Rattle.clap.specs.declared.builder.action.ArgAction.TheVariants.{SetTrue}
 use Rattle.clap.specs.declared.builder.command.Command.{Command}
 use Rattle.clap.specs.declared.builder.command.Command.TheViews.{out-Command}
-use Rattle.prt_words.specs.Invocation.{Invocation, batch, file_of, replay, serve}
+use Rattle.prt_words.specs.Invocation.{Invocation, batch, check, file_of, replay, serve}
 use Rattle.prt_words.specs.declared.serving.Serving.{Serving}
 use Rattle.prt_words.specs.declared.task.Task.{Task}
-use Rattle.prt_words.specs.declared.task.Task.TheVariants.{Batch, Replay, Serve}
+use Rattle.prt_words.specs.declared.task.Task.TheVariants.{Batch, Check, Replay, Serve}
 use Rattle.prt_addr.specs.declared.on_refusal.OnRefusal.TheVariants.{Stop, GoOn}
 
 abbrev pub flag_rule : Text → Rule
@@ -22,6 +22,9 @@ file_rule = record (new_rule (codes "file")) { value_names = 1 }
 
 abbrev pub batch_line : App
 batch_line = with_rule (with_rule (with_rule (with_rule (new_app (codes "batch")) (flag_rule (codes "force"))) database_rule) (flag_rule (codes "verbose"))) file_rule
+
+abbrev pub check_line : App
+check_line = with_rule (new_app (codes "check")) file_rule
 
 abbrev pub replay_line : App
 replay_line = with_rule (new_app (codes "replay")) file_rule
@@ -40,10 +43,10 @@ abbrev pub serve_line : App
 serve_line = with_rule (with_rule (with_rule (with_rule (with_rule (new_app (codes "serve")) (needed_rule (codes "db"))) (needed_rule (codes "listen"))) (number_rule (codes "workers") (codes "4"))) (number_rule (codes "sessions") (codes "0"))) (number_rule (codes "idle") (codes "0"))
 
 abbrev pub opening_line : App
-opening_line = on_top (λ top. record top { subcommand_required = true; arg_required_else_help = true }) (new_app (codes "prt"))
+opening_line = on_top (λ top. record top { subcommand_required = true; arg_required_else_help = true; has_version = true }) (new_app (codes "prt"))
 
 abbrev pub command_line : App
-command_line = with_subcommand (with_subcommand (with_subcommand opening_line batch_line.top) replay_line.top) serve_line.top
+command_line = with_subcommand (with_subcommand (with_subcommand (with_subcommand opening_line batch_line.top) check_line.top) replay_line.top) serve_line.top
 
 -- whether an argument of the command is one of its subcommands too
 abbrev pub has_globals : Command → Bool
@@ -65,13 +68,17 @@ flag_text name = option_and_then (λ p. one_of name p.1)
 -- the task is that of the subcommand that a parse found, other than `serve`
 abbrev pub IsTaskOf : Option (Text × List Row) → Task → Type 0
 IsTaskOf found (Batch script) =
-    (subcommand_name found ≢ Some (codes "replay"))
+    (subcommand_name found ≢ Some (codes "check"))
+    × (subcommand_name found ≢ Some (codes "replay"))
     × (option_map (λ path. path.now) script.file ≡ option_and_then file_of (named_file found))
     × (option_map (λ path. path.now) script.database ≡ named_database found)
     × (flag_text (codes "force") found ≡ Some (codes "true") → script.mode ≡ GoOn)
     × (flag_text (codes "force") found ≡ Some (codes "false") → script.mode ≡ Stop)
     × (flag_text (codes "verbose") found ≡ Some (codes "true") → script.is_verbose ≡ true)
     × (flag_text (codes "verbose") found ≡ Some (codes "false") → script.is_verbose ≡ false)
+IsTaskOf found (Check file) =
+    (subcommand_name found ≡ Some (codes "check"))
+    × (option_map (λ path. path.now) file ≡ option_and_then file_of (named_file found))
 IsTaskOf found (Replay file) =
     (subcommand_name found ≡ Some (codes "replay"))
     × (option_map (λ path. path.now) file ≡ option_and_then file_of (named_file found))
@@ -85,6 +92,7 @@ invocation_of (Batch script) = batch (record {
   database = option_map (λ path. path.now) script.database;
   file = option_map (λ path. path.now) script.file;
 })
+invocation_of (Check file) = check (option_map (λ path. path.now) file)
 invocation_of (Replay file) = replay (option_map (λ path. path.now) file)
 invocation_of (Serve serving) = serve
 

@@ -5,11 +5,11 @@ use Rattle.clap.specs.declared.error.Error.{Error}
 use Rattle.clap.specs.declared.error.kind.ErrorKind.{ErrorKind}
 use Rattle.clap.specs.declared.error.kind.ErrorKind.TheVariants.{DisplayHelp, DisplayVersion, OutOfMemory}
 use Rattle.prt_addr.specs.declared.refusal.Refusal.TheVariants.{NoMemory}
-use Rattle.prt_words.specs.Invocation.{Invocation, batch, replay, serve, help, help_on, usage_error}
+use Rattle.prt_words.specs.Invocation.{Invocation, batch, check, replay, serve, help, help_on, version, usage_error}
 use Rattle.prt_words.specs.declared.fault.Fault.{Fault}
 use Rattle.prt_words.specs.declared.fault.Fault.TheVariants.{Words, Opening, Listener}
 
--- 0 for help, 2 for bad words
+-- 0 for help and for the version, 2 for bad words
 abbrev pub words_status : ErrorKind → ℕ
 words_status DisplayHelp = 0
 words_status DisplayVersion = 0
@@ -28,9 +28,11 @@ fault_status Listener = 3
 -- the status of words that ask for no run
 abbrev pub IsStatusOf : Invocation → ℕ → Type 0
 IsStatusOf (batch script) status = ⊥
+IsStatusOf (check file) status = ⊥
 IsStatusOf (replay file) status = ⊥
 IsStatusOf serve status = (status ≡ 0) ⊎ (status ≡ 2)
 IsStatusOf help status = status ≡ 0
+IsStatusOf version status = status ≡ 0
 IsStatusOf help_on status = (status ≡ 0) ⊎ (status ≡ 2)
 IsStatusOf usage_error status = status ≡ 2
 

@@ -1,13 +1,11 @@
--- What the words after the program's name ask for: `batch [--force] [--db PATH] [--verbose] [FILE]`, `replay [FILE]`, `serve` with its options, or help.
+-- What the words after the program's name ask for: `batch [--force] [--db PATH] [--verbose] [FILE]`, `check [FILE]`, `replay [FILE]`, `serve` with its options, the version, or help.
 -- Options and operands are told apart as POSIX.1 does (Base Definitions, section 12.2, guidelines 4, 10 and 13), but options may follow operands, and `--db=PATH` is `--db PATH`.
 use Rattle.std.specs.Prelude.{ℕ, ◌==◌, ◌||◌, Bool, true, false, List, [], ◌∷◌, Option, Some, None, is_some, if◌then◌else◌, map, drop, codes, option_and_then, slice_get, chars, bytes_eq, String, string_bytes}
 use Rattle.std.specs.List.{before_first, after_first}
 use Rattle.std.specs.Option.{option_map_or}
+use Rattle.prt_addr.specs.Word.{Word}
 use Rattle.prt_addr.specs.declared.on_refusal.OnRefusal.{OnRefusal}
 use Rattle.prt_addr.specs.declared.on_refusal.OnRefusal.TheVariants.{Stop, GoOn}
-
-abbrev pub Word : Type 0
-Word = List ℕ
 
 -- A script: how it is run, and whether a person is told of it.
 pub record Script : Type 0 where
@@ -21,11 +19,15 @@ pub record Script : Type 0 where
 pub data Invocation : Type 0 where
   -- a session over a script
   batch : Script → Invocation
+  -- a check of the file of this path, or of the input
+  check : Option Word → Invocation
   -- a replay of the file of this path, or of the input
   replay : Option Word → Invocation
   -- the word `serve`: sessions over TCP, help on that, or bad words
   serve : Invocation
   help : Invocation
+  -- the version, and the formats of database file that are read
+  version : Invocation
   -- the word `help`, and what help is asked on, if there is such a thing
   help_on : Invocation
   usage_error : Invocation
@@ -49,6 +51,10 @@ is_delimiter word = bytes_eq word (codes "--")
 abbrev pub is_help : Word → Bool
 is_help word = bytes_eq word (codes "--help") || option_map_or (λ letter. letter == 104) (option_letter word) false
 
+-- `--version`, or `-V` and what begins so
+abbrev pub is_version : Word → Bool
+is_version word = bytes_eq word (codes "--version") || option_map_or (λ letter. letter == 86) (option_letter word) false
+
 -- `-` is the input
 abbrev pub file_of : Word → Option Word
 file_of word = if bytes_eq word (codes "-") then None else Some word
@@ -57,6 +63,7 @@ file_of word = if bytes_eq word (codes "-") then None else Some word
 
 pub data Subcommand : Type 0 where
   Batch : Subcommand
+  Check : Subcommand
   Replay : Subcommand
 
 pub data Argument : Type 0 where
@@ -99,6 +106,7 @@ mode_of false = Stop
 -- what the subcommand asks for with this
 abbrev pub asked : Subcommand → Given → Invocation
 asked Batch given = batch (record { mode = mode_of given.forced; verbose = given.verbose; database = given.database; file = option_and_then file_of given.operand })
+asked Check given = check (option_and_then file_of given.operand)
 asked Replay given = replay (option_and_then file_of given.operand)
 
 -- ---- what a word of a subcommand is
@@ -118,6 +126,7 @@ is_equals byte = byte == 61
 
 -- an option other than help; `--db=` and what follows gives the path at once
 abbrev pub option_part : Subcommand → Word → Part
+option_part Check word = unknown
 option_part Replay word = unknown
 option_part Batch word =
     if bytes_eq word (codes "--force") then argument Force
@@ -134,39 +143,39 @@ part_of subcommand word =
     else argument (File word)))
 
 -- Where a word stands.
-pub data Place : Type 0 where
-  anywhere : Place
+pub data ArgumentPlace : Type 0 where
+  anywhere : ArgumentPlace
   -- after `--db`
-  at_path : Place
+  at_path : ArgumentPlace
   -- after `--`
-  at_operands : Place
+  at_operands : ArgumentPlace
 
 -- a path that begins with a hyphen is given by `--db=PATH`, but for `-` alone, which is a file of that name
-abbrev pub part_at : Place → Subcommand → Word → Part
+abbrev pub part_at : ArgumentPlace → Subcommand → Word → Part
 part_at anywhere subcommand word = part_of subcommand word
 part_at at_path subcommand word = if is_option word then unknown else argument (Database word)
 part_at at_operands subcommand word = argument (File word)
 
 -- ---- the words of a subcommand, from left to right
 
-abbrev pub place_after : Place → Place
+abbrev pub place_after : ArgumentPlace → ArgumentPlace
 place_after at_operands = at_operands
 place_after _ = anywhere
 
 -- each argument is given once; `more` says what the words after this one ask for
-abbrev pub asked_with : Place → Given → Part → (Place → Given → Invocation) → Invocation
+abbrev pub asked_with : ArgumentPlace → Given → Part → (ArgumentPlace → Given → Invocation) → Invocation
 asked_with place given delimiter more = more at_operands given
 asked_with place given asks_help more = help
 asked_with place given (argument a) more = if has_given given a then usage_error else more (place_after place) (with_given given a)
 asked_with place given awaits_path more = more at_path given
 asked_with place given unknown more = usage_error
 
-abbrev pub asked_at_end : Subcommand → Place → Given → Invocation
+abbrev pub asked_at_end : Subcommand → ArgumentPlace → Given → Invocation
 asked_at_end subcommand at_path given = usage_error
 asked_at_end subcommand _ given = asked subcommand given
 
 -- help where an option asks for it and the words before it are right
-abbrev pub asked_by : Subcommand → List Word → Place → Given → Invocation
+abbrev pub asked_by : Subcommand → List Word → ArgumentPlace → Given → Invocation
 asked_by subcommand [] place given = asked_at_end subcommand place given
 asked_by subcommand (word ∷ words) place given = asked_with place given (part_at place subcommand word) (asked_by subcommand words)
 
@@ -181,7 +190,9 @@ abbrev pub invocation : List Word → Invocation
 invocation [] = usage_error
 invocation (word ∷ words) =
     if bytes_eq word (codes "batch") then asked_by Batch words anywhere nothing_given
+    else (if bytes_eq word (codes "check") then asked_by Check words anywhere nothing_given
     else (if bytes_eq word (codes "replay") then asked_by Replay words anywhere nothing_given
     else (if bytes_eq word (codes "serve") then serve
     else (if bytes_eq word (codes "help") then help_on
-    else (if is_help word then help else usage_error))))
+    else (if is_help word then help
+    else (if is_version word then version else usage_error))))))

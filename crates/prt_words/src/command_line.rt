@@ -1,8 +1,9 @@
 //! The words that the program knows, as clap reads them.
 ghost use Rattle.std.specs.Prelude.{◌≡◌, IfOk, false};
 ghost use Rattle.clap.specs.Words.{app_of, rule_of};
-ghost use Rattle.prt_words.specs.CommandLine.{batch_line, command_line, database_rule, file_rule, flag_rule, has_globals, needed_rule, number_rule, option_rule, replay_line, serve_line};
+ghost use Rattle.prt_words.specs.CommandLine.{batch_line, check_line, command_line, database_rule, file_rule, flag_rule, has_globals, needed_rule, number_rule, option_rule, replay_line, serve_line};
 
+use crate::version::VERSION;
 use clap::{Arg, ArgAction, Command};
 use std::alloc::{AllocError, Global};
 
@@ -96,6 +97,22 @@ fn batch_line<'a>(alloc: Global) -> Result<Command<'a>, AllocError>
         .arg(file)
 }
 
+/// Says which words may follow `check`.
+fn check_line<'a>(alloc: Global) -> Result<Command<'a>, AllocError>
+    ensures line { IfOk result (λ command. app_of command ≡ check_line) }
+    ensures own { IfOk result (λ command. has_globals command ≡ false) }
+{
+    let file = file_operand(
+        alloc,
+        "The script; standard input where it is missing or `-`",
+    );
+    Command::new(alloc, "check")
+        .about(
+            "Reads a script, executes nothing, and says which lines would be refused as they stand",
+        )
+        .arg(file)
+}
+
 /// Says which words may follow `replay`.
 fn replay_line<'a>(alloc: Global) -> Result<Command<'a>, AllocError>
     ensures line { IfOk result (λ command. app_of command ≡ replay_line) }
@@ -162,14 +179,17 @@ pub(crate) fn command_line<'a>(alloc: Global) -> Result<Command<'a>, AllocError>
     ensures { IfOk result (λ command. app_of command ≡ command_line) }
 {
     let batch = batch_line(alloc)?;
+    let check = check_line(alloc)?;
     let replay = replay_line(alloc)?;
     let serve = serve_line(alloc)?;
     Command::new(alloc, "prt")
         .bin_name("prt")?
         .about("The table service of an IPv4 policy router")
+        .version(VERSION)
         .subcommand_required(true)
         .arg_required_else_help(true)
         .subcommand(batch)?
+        .subcommand(check)?
         .subcommand(replay)?
         .subcommand(serve)
 }

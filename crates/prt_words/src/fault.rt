@@ -13,7 +13,7 @@ use std::alloc::{AllocError, Global};
 use std::io::{self, Write};
 use thiserror::Error;
 
-/// The exit status where no line was refused, and after help.
+/// The exit status where no line was refused, and after help or the version.
 pub const DONE: u8 = 0;
 
 /// The exit status for bad words.
@@ -28,7 +28,7 @@ const NOT_TEXT: &str = "invalid UTF-8 was detected in one or more arguments";
 /// Why the program runs nothing.
 #[derive(Debug, Drop, Error)]
 pub enum Fault {
-    /// The words ask for help, or for nothing that there is.
+    /// The words ask for help, for the version, or for nothing that there is.
     #[error(transparent)]
     Words(clap::Error),
     /// The file or the database could not be opened, or memory was refused on the way there.
@@ -105,10 +105,10 @@ pub(crate) fn serving_fault(alloc: Global, text: &str) -> Fault
     }
 }
 
-/// Writes why the program runs nothing, and gives the exit status for it: 0 for help, 2 for bad words, 3 for a fault of
-/// opening or of a listener.
+/// Writes why the program runs nothing, and gives the exit status for it: 0 for help and for the version, 2 for bad words,
+/// 3 for a fault of opening or of a listener.
 ///
-/// Help goes to `output`, all else to `errors`. A fault of writing there changes nothing.
+/// Help and the version go to `output`, all else to `errors`. A fault of writing there changes nothing.
 pub fn report<W: Write, E: Write>(fault: &Fault, output: &mut W, errors: &mut E) -> u8
     ensures status { result ≡ fault_status fault.now }
     ensures unwritten { result ≢ DONE → W.contents output.new ≡ W.contents output.old }

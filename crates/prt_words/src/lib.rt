@@ -5,6 +5,7 @@ mod command_line;
 mod fault;
 mod serving;
 mod task;
+mod version;
 
 pub use fault::{DONE, FAULT, Fault, report, words_fault};
 pub use serving::Serving;

@@ -12,6 +12,9 @@ use clap::ArgMatches;
 use prt_addr::OnRefusal;
 use std::alloc::Global;
 
+/// The subcommand that checks a script.
+const CHECK: &str = "check";
+
 /// The subcommand that replays events.
 const REPLAY: &str = "replay";
 
@@ -39,6 +42,8 @@ pub struct Batch<'a> {
 pub enum Task<'a> {
     /// To run a script.
     Batch(Batch<'a>),
+    /// To check the script of this path; standard input where there is none.
+    Check(Option<&'a str>),
     /// To replay the file of this path; standard input where there is none.
     Replay(Option<&'a str>),
     /// To serve sessions over TCP.
@@ -103,6 +108,9 @@ fn task_of<'a>(matches: &ArgMatches<'a>) -> Task<'a>
         });
     };
     let file = file_in(found);
+    if name == CHECK {
+        return Task::Check(file);
+    }
     if name == REPLAY {
         return Task::Replay(file);
     }
@@ -118,7 +126,7 @@ fn task_of<'a>(matches: &ArgMatches<'a>) -> Task<'a>
 ///
 /// # Errors
 ///
-/// `Words` where they ask for help or for nothing that there is, or where a value of `serve` is none that it may have; `Opening` with `NoMemory` where memory is refused.
+/// `Words` where they ask for help, for the version or for nothing that there is, or where a value of `serve` is none that it may have; `Opening` with `NoMemory` where memory is refused.
 pub fn read_words<'a>(alloc: Global, words: &'a [String]) -> Result<Task<'a>, Fault>
     ensures task { IfOk result (λ task. invocation (arguments words.entry.now) ≡ invocation_of task) }
     ensures limits { IfOk result IsWithinLimits }

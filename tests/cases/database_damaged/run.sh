@@ -19,8 +19,9 @@ rule='priority, inverted, src_net, src_len, dst_net, dst_len, iif, mark, mask, a
 opened 'count -1' 'UPDATE meta SET count = -1'
 opened 'count 1000000000000001' 'UPDATE meta SET count = 1000000000000001'
 opened 'count 1000000000000000' 'UPDATE meta SET count = 1000000000000000'
-opened 'next format' 'UPDATE meta SET format = 2'
-opened 'ids 1 and 2' 'INSERT INTO meta VALUES (2, 1, 1)'
+opened 'next format' 'UPDATE meta SET format = 3'
+opened 'format 1 with a length' 'UPDATE meta SET format = 1; INSERT INTO suppress VALUES (2, 8)'
+opened 'ids 1 and 2' 'INSERT INTO meta VALUES (2, 2, 1)'
 opened 'no count beside routes' 'DELETE FROM rule; DELETE FROM meta'
 opened 'no count beside one rule' 'DELETE FROM route; DELETE FROM rule WHERE id > 1; DELETE FROM meta'
 
@@ -34,6 +35,11 @@ for last in 1000 1001; do
     WITH RECURSIVE ids (id) AS (SELECT 4 UNION ALL SELECT id + 1 FROM ids WHERE id < $last)
     INSERT INTO rule SELECT id, id, 0, 0, 0, 0, 0, '', -1, -1, 1, 100 FROM ids"
 done
+
+opened 'length 32 of a rule' 'INSERT INTO suppress VALUES (2, 32)'
+opened 'length 33 of a rule' 'INSERT INTO suppress VALUES (2, 33)'
+opened 'length of a blackhole' "INSERT INTO rule VALUES (4, 5, 0, 0, 0, 0, 0, '', -1, -1, 6, 0); INSERT INTO suppress VALUES (4, 8)"
+opened 'length of no rule' 'INSERT INTO suppress VALUES (9, 8)'
 
 opened 'route' "INSERT INTO route VALUES (254, 184549376, 8, 0, 1, -1, 'eth0', -1, 3, 253)"
 opened 'length 33' "INSERT INTO route VALUES (254, 184549376, 33, 0, 1, -1, 'eth0', -1, 3, 253)"

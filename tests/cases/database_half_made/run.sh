@@ -7,6 +7,7 @@ opened() {
   echo "$1: $(sqlite3 routes.db "SELECT group_concat(name, ' ') FROM sqlite_schema WHERE type = 'table'")"
   printf 'rule show\nroute get 10.0.0.1\n' | "$prt" batch --db routes.db 2>&1
 }
-opened 'rules alone' 'DROP TABLE route; DROP TABLE meta'
-opened 'rules and routes' 'DROP TABLE meta'
-opened 'all three empty' ''
+opened 'rules alone' 'DROP TABLE route; DROP TABLE meta; DROP TABLE suppress'
+opened 'rules and routes' 'DROP TABLE meta; DROP TABLE suppress'
+opened 'no lengths' 'DROP TABLE suppress'
+opened 'all four empty' ''

@@ -1,18 +1,16 @@
-use Rattle.std.proofs.Common.{inl, inr, [], ◌∷◌, refl, ◌∙◌, subst}
+use Rattle.std.proofs.Common.{inl, inr, refl, ◌∙◌, subst}
 use Rattle.prt_addr.specs.declared.refusal.Refusal.{Refusal}
 use Rattle.prt_follows.specs.Laws.{PublishesNot}
-use Rattle.prt_follows.specs.Events.{commit_events}
-use Rattle.prt_follows.specs.Runs.{admitted, committed, declined, planned, unplanned, unshown}
 use Rattle.prt_follows.proofs.Planned.{plans_it}
 use Rattle.prt_follows.proofs.calls.submit_by_steps.Goals as goal
 
 pub returns-in-Err-clause-err : goal.returns-in-Err-clause-err
-returns-in-Err-clause-err g c w h = inl (declined c.args.command.now c.in-Err.reason c.in-Err.ensures.err.0 ∷ [], refl, (c.admit.new.publisher, c.admit.new.registry, c.in-Err.ensures.err.1, (refl, refl)))
+returns-in-Err-clause-err g c w h = inl (c.in-Err.ensures.err.0, (c.admit.new.publisher, c.admit.new.registry, c.in-Err.ensures.err.1, (refl, refl)))
 
 pub returns-in-Err-plan-clause-err : goal.returns-in-Err-plan-clause-err
 returns-in-Err-plan-clause-err g c w h =
     let r = c.admit.new.registry in
-    inl (admitted ∷ unplanned ∷ [], refl, (c.admit.new.publisher, r, c.in_default.ensures.ok, (c.plan.new.publisher, r, (refl, (refl, c.in-Err-plan.ensures.err.1, c.in-Err-plan.ensures.err.2)), (refl, refl))))
+    inr (inl (c.in-Err-plan.ensures.err.0, (c.admit.new.publisher, r, c.in_default.ensures.ok, (c.plan.new.publisher, r, (refl, (refl, c.in-Err-plan.ensures.err.1, c.in-Err-plan.ensures.err.2)), (refl, refl)))))
 
 pub returns-in-Err-commit-clause-err : goal.returns-in-Err-commit-clause-err
 returns-in-Err-commit-clause-err g c w h =
@@ -20,7 +18,7 @@ returns-in-Err-commit-clause-err g c w h =
     let b = c.plan.new.publisher in
     let r = c.admit.new.registry in
     let plans = plans_it g.S.Store a b c.args.command.now c.in_default.ensures.then.1 c.in_default-plan.ensures.ok in
-    inr (b, (a, r, c.in_default.ensures.ok, (b, r, (refl, plans), (refl, refl))), c.in-Err-commit.ensures.err)
+    inr (inr (inr (b, (a, r, c.in_default.ensures.ok, (b, r, (refl, plans), (refl, refl))), c.in-Err-commit.ensures.err)))
 
 pub returns-in-Err-show-clause-err : goal.returns-in-Err-show-clause-err
 returns-in-Err-show-clause-err g c w h =
@@ -28,11 +26,10 @@ returns-in-Err-show-clause-err g c w h =
     let b = c.plan.new.publisher in
     let r = c.admit.new.registry in
     let plans = plans_it g.S.Store a b c.args.command.now c.in_default.ensures.then.1 c.in_default-plan.ensures.ok in
-    inl (
-      admitted ∷ planned c.args.command.now ∷ committed commit_events ∷ unshown ∷ [],
-      refl,
+    inr (inr (inl (
+      c.in-Err-show.ensures.err.0,
       (a, r, c.in_default.ensures.ok, (b, r, (refl, plans), (c.commit.new.publisher, r, (refl, refl, c.in_default-commit.ensures.ok), (c.show.new.publisher, r, (refl, c.in_default-commit.ensures.then.0, subst (λ (why : Refusal). PublishesNot g.S.Store c.commit.new.publisher c.show.new.publisher why) c.in-Err-show.ensures.err.0 c.in-Err-show.ensures.err), (refl, refl))))),
-    )
+    )))
 
 pub returns-clause-ok : goal.returns-clause-ok
 returns-clause-ok g c w h =

@@ -4,4 +4,4 @@ use Rattle.prt_lookers.proofs.Refreshing.{rests}
 use Rattle.prt_lookers.proofs.calls.rest.Goals as goal
 
 pub returns : goal.returns
-returns g c = rests c.args.looker.now c.rest.new.self (ap (λ (l : Look). l.held) c.rest.ensures)
+returns g c = rests c.args.looker.now c.rest.new.self (ap (λ (l : Look). l.held) c.rest.ensures) (ap (λ (l : Look). l.announced) c.rest.ensures)

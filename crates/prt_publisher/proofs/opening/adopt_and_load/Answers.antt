@@ -1,12 +1,12 @@
 use Rattle.std.proofs.Common.{subst, sym}
-use Rattle.prt_rows.specs.Format.{BeginsFormat1}
+use Rattle.prt_rows.specs.Format.{BeginsFormat2}
 use Rattle.prt_publisher.proofs.Openings.{has_opened, load_refused}
 use Rattle.prt_publisher.proofs.opening.adopt_and_load.Goals as goal
 
 pub returns-in-Ok-load-clause-format : goal.returns-in-Ok-load-clause-format
 returns-in-Ok-load-clause-format g c = (
-  λ is. subst BeginsFormat1 c.schema.ensures.value (c.begins_format_1-is_format_1.ensures.0 is),
-  λ begins. c.begins_format_1-is_format_1.ensures.1 (subst BeginsFormat1 (sym c.schema.ensures.value) begins),
+  λ is. subst BeginsFormat2 c.schema.ensures.value (c.begins_format_2-ours_first.ensures.0 is),
+  λ begins. c.begins_format_2-ours_first.ensures.1 (subst BeginsFormat2 (sym c.schema.ensures.value) begins),
 )
 
 pub returns-in-Ok-load-clause-opened : goal.returns-in-Ok-load-clause-opened

@@ -6,7 +6,7 @@ use Rattle.prt_replay.proofs.play.play_on.Goals as goal
 pub loop-event-preserved : goal.loop-event-preserved
 loop-event-preserved c =
     ap (λ trace. trace ++ machine_outcomes c.step.new.self (drop (c.loop-event.event-index + 1) c.args.events.now)) c.in_ok-push-in-Ok.ensures.ok
-    ∙ outcomes_more _ _ c.in-Ok.outcome c.loop-event.trace c.args.events.now c.loop-event.event-index c.event-item.result c.loop-event-test.true c.event-item.is c.in-Ok.ensures.value
+    ∙ outcomes_more _ _ c.in-Ok.outcome c.loop-event.trace c.args.events.now c.loop-event.event-index c.event-item.result c.loop-event-test.true c.event-item.is c.in-Ok.ensures
     ∙ c.loop-event.invariant
 
 pub returns-clause-value : goal.returns-clause-value

@@ -93,6 +93,10 @@ pub returns-clause-spellings : goal.returns-clause-spellings
 unfolding session session_lines lines_of line_turn stops_after replies_text digits
 returns-clause-spellings c = refl
 
+pub returns-clause-suppress_prefixlength : goal.returns-clause-suppress_prefixlength
+unfolding session session_lines lines_of line_turn stops_after replies_text digits
+returns-clause-suppress_prefixlength c = refl
+
 pub returns-clause-throw_falls_through : goal.returns-clause-throw_falls_through
 unfolding session session_lines lines_of line_turn stops_after replies_text digits
 returns-clause-throw_falls_through c = refl
@@ -104,6 +108,10 @@ returns-clause-two_uplinks c = refl
 pub returns-clause-unended_line : goal.returns-clause-unended_line
 unfolding session session_lines lines_of line_turn stops_after replies_text digits
 returns-clause-unended_line c = refl
+
+pub returns-clause-wg_quick : goal.returns-clause-wg_quick
+unfolding session session_lines lines_of line_turn stops_after replies_text digits
+returns-clause-wg_quick c = refl
 
 pub returns-clause-without_force : goal.returns-clause-without_force
 unfolding session session_lines lines_of line_turn stops_after replies_text digits

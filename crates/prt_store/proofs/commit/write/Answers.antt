@@ -1,29 +1,31 @@
-use Rattle.std.proofs.Common.{sym, subst}
+use Rattle.std.proofs.Common.{[], sym, subst}
+use Rattle.prt_rows.specs.Kept.{id_values}
+use Rattle.prt_rows.specs.Statements.{delete_rule, flush_rules}
 use Rattle.prt_version.specs.declared.change.Change.{Change}
-use Rattle.prt_store.specs.Written.{IsTyped, RunsInside, text_of, values_of}
+use Rattle.prt_store.proofs.Transactions.{statement_works}
+use Rattle.prt_store.specs.Made.{WritesRows}
+use Rattle.prt_store.specs.Openings.{Works}
+use Rattle.prt_store.specs.Written.{IsTyped}
 use Rattle.prt_store.proofs.commit.write.Goals as goal
 
-pub returns-in-RulePut-clause-runs : goal.returns-in-RulePut-clause-runs
-returns-in-RulePut-clause-runs g c =
-    subst (λ (made : Change). RunsInside g.S.Store (text_of made) (values_of made) c.args.tx.now.conn.now c.insert_rule.new.tx.conn.now c.insert_rule.result) (sym c.in-RulePut.is) c.insert_rule.ensures.runs
+pub returns-in-Route-clause-works : goal.returns-in-Route-clause-works
+returns-in-Route-clause-works g c = subst (λ (made : Change). Works g.S.Store (WritesRows g.S.Store made) c.args.tx.now.conn.now c.edit_routes.new.tx.conn.now c.edit_routes.result) (sym c.in-Route.is) c.edit_routes.ensures.works
+
+pub returns-in-RulePut-clause-works : goal.returns-in-RulePut-clause-works
+returns-in-RulePut-clause-works g c = subst (λ (made : Change). Works g.S.Store (WritesRows g.S.Store made) c.args.tx.now.conn.now c.add_rule.new.tx.conn.now c.add_rule.result) (sym c.in-RulePut.is) c.add_rule.ensures.works
+
+pub returns-in-RuleDrop-clause-works : goal.returns-in-RuleDrop-clause-works
+returns-in-RuleDrop-clause-works g c =
+    subst (λ (made : Change). Works g.S.Store (WritesRows g.S.Store made) c.args.tx.now.conn.now c.delete_rule.new.tx.conn.now c.delete_rule.result) (sym c.in-RuleDrop.is)
+    (statement_works g.S.Store delete_rule (id_values c.in-RuleDrop.id) c.args.tx.now.conn.now c.delete_rule.new.tx.conn.now c.delete_rule.result c.delete_rule.ensures.runs c.delete_rule.ensures.survives)
+
+pub returns-in-RuleFlush-clause-works : goal.returns-in-RuleFlush-clause-works
+returns-in-RuleFlush-clause-works g c =
+    subst (λ (made : Change). Works g.S.Store (WritesRows g.S.Store made) c.args.tx.now.conn.now c.flush_rules.new.tx.conn.now c.flush_rules.result) (sym c.in-RuleFlush.is)
+    (statement_works g.S.Store flush_rules [] c.args.tx.now.conn.now c.flush_rules.new.tx.conn.now c.flush_rules.result c.flush_rules.ensures.runs c.flush_rules.ensures.survives)
+
+pub returns-in-Route-clause-typed : goal.returns-in-Route-clause-typed
+returns-in-Route-clause-typed g c = subst IsTyped (sym c.in-Route.is) c.edit_routes.ensures.typed
 
 pub returns-in-RulePut-clause-typed : goal.returns-in-RulePut-clause-typed
-returns-in-RulePut-clause-typed g c = subst IsTyped (sym c.in-RulePut.is) c.insert_rule.ensures.typed
-
-pub returns-in-Route-Put-clause-survives : goal.returns-in-Route-Put-clause-survives
-returns-in-Route-Put-clause-survives g c = c.put_route.ensures.survives
-
-pub returns-in-Route-Remove-clause-survives : goal.returns-in-Route-Remove-clause-survives
-returns-in-Route-Remove-clause-survives g c = c.delete_route.ensures.survives
-
-pub returns-in-Route-Flush-clause-survives : goal.returns-in-Route-Flush-clause-survives
-returns-in-Route-Flush-clause-survives g c = c.flush_routes.ensures.survives
-
-pub returns-in-RulePut-clause-survives : goal.returns-in-RulePut-clause-survives
-returns-in-RulePut-clause-survives g c = c.insert_rule.ensures.survives
-
-pub returns-in-RuleDrop-clause-survives : goal.returns-in-RuleDrop-clause-survives
-returns-in-RuleDrop-clause-survives g c = c.delete_rule.ensures.survives
-
-pub returns-in-RuleFlush-clause-survives : goal.returns-in-RuleFlush-clause-survives
-returns-in-RuleFlush-clause-survives g c = c.flush_rules.ensures.survives
+returns-in-RulePut-clause-typed g c = subst IsTyped (sym c.in-RulePut.is) c.add_rule.ensures.typed

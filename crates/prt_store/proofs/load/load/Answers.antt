@@ -1,22 +1,32 @@
-use Rattle.std.proofs.Common.{◌≡◌, List, Ok, Err, Result, subst, sym}
+use Rattle.std.proofs.Common.{◌≡◌, ◌≢◌, ◌⊎◌, List, [], Ok, Err, Result, IfErr, IfOk, map, subst, sym}
 use Rattle.std.specs.Prelude.{◌+◌, IsErrAnd, Vec}
 use Rattle.std.specs.declared.alloc.Global.{Global}
 use Rattle.sqlite.specs.Held.{Held}
 use Rattle.sqlite.specs.Store.{Ghosts}
 use Rattle.prt_addr.specs.declared.refusal.Refusal.{Refusal}
+use Rattle.prt_addr.specs.declared.refusal.Refusal.TheVariants.{Damaged, NoMemory}
 use Rattle.prt_route.specs.declared.route.Route.{Route}
+use Rattle.prt_rows.specs.declared.suppress_row.RuleLength.{RuleLength}
 use Rattle.prt_rule.specs.declared.rule.Rule.{Rule}
-use Rattle.prt_store.proofs.Loads.{count_spelled, has_rules, in_all, routes_spelled, rows_not_stored, rows_refused, rows_stored, then_fails, then_ok}
+use Rattle.prt_store.proofs.Loads.{SpellsAll, count_spelled, has_lengths, has_rules, in_all, merge_refused, not_merged, routes_spelled, rows_not_stored, rows_refused, rows_stored, then_fails, then_ok}
+use Rattle.prt_version.specs.RowsSpell.{RowsSpell, RowsSpellNone}
 use Rattle.prt_version.specs.State.{State}
+use Rattle.prt_store.specs.Lengths.{left_over, lengths_of, merged, plain}
 use Rattle.prt_store.specs.Stored.{Stores}
-use Rattle.prt_store.specs.Loaded.{Reads, SpellsCount, SpellsRoutes, SpellsRules}
+use Rattle.prt_store.specs.Loaded.{Reads, SpellsCount, SpellsLengths, SpellsRoutes, SpellsRules}
 use Rattle.prt_store.proofs.load.load.Goals as goal
 
 abbrev rules_in : Vec Rule Global → List Rule
 rules_in rules = rules.items
 
+abbrev lengths_in : Vec RuleLength Global → List RuleLength
+lengths_in lengths = lengths.items
+
 abbrev routes_in : Vec Route Global → List Route
 routes_in routes = routes.items
+
+abbrev nothing : Unit {0} → Unit {0}
+nothing u = u
 
 -- `?` hands a refusal over as it is
 handed_over : {S : Type 0} (g : Ghosts S) (old new : Held S) (reason : Refusal) (result : Result State Refusal) → IsErrAnd result (λ other. other ≡ reason) → Reads g (λ stored. stored) Stores old new (Err reason) → Reads g (λ stored. stored) Stores old new result
@@ -36,30 +46,67 @@ returns-in_err-count g c =
       quiet = one.quiet;
     })
 
-pub returns-in_err-rules : goal.returns-in_err-rules
-returns-in_err-rules g c =
+pub returns-in_err-listed : goal.returns-in_err-listed
+returns-in_err-listed g c =
     let count = c.in_ok-count.count in
-    handed_over g.S.Store c.args.conn.now c.read_rules.new.conn c.in_err-rules.field-0.0 c.from_residual-in_err-rules.result c.from_residual-in_err-rules.ensures.1
+    handed_over g.S.Store c.args.conn.now c.read_rules.new.conn c.in_err-listed.field-0.0 c.from_residual-in_err-listed.result c.from_residual-in_err-listed.ensures.1
     (then_fails g.S.Store (λ count. count) rules_in SpellsCount (SpellsRules (count + 3)) c.args.conn.now c.read_count.new.conn c.read_rules.new.conn count c.in_ok-count.ensures.read
-    c.in_err-rules.field-0.0 c.in_err-rules.ensures (λ db stored one held. (stored.rules, has_rules db count stored one held)))
+    c.in_err-listed.field-0.0 c.in_err-listed.ensures.read (λ db stored one held. (map plain stored.rules, has_rules db count stored one held)))
+
+pub returns-in_err-lengths : goal.returns-in_err-lengths
+returns-in_err-lengths g c =
+    let count = c.in_ok-count.count in
+    let rules = c.in_ok-listed.listed in
+    let two = then_ok g.S.Store (λ count. count) rules_in SpellsCount (SpellsRules (count + 3)) c.args.conn.now c.read_count.new.conn c.read_rules.new.conn count c.in_ok-count.ensures.read rules c.in_ok-listed.ensures.read in
+    handed_over g.S.Store c.args.conn.now c.read_lengths.new.conn c.in_err-lengths.field-0.0 c.from_residual-in_err-lengths.result c.from_residual-in_err-lengths.ensures.1
+    (then_fails g.S.Store nothing lengths_in (λ db _. SpellsCount db count × SpellsRules (count + 3) db rules.items) (SpellsLengths (count + 3)) c.args.conn.now c.read_rules.new.conn c.read_lengths.new.conn tt two
+    c.in_err-lengths.field-0.0 c.in_err-lengths.ensures.read (λ db stored some held. (lengths_of stored.rules, has_lengths db count stored some.0 held)))
 
 pub returns-in_err-routes : goal.returns-in_err-routes
 returns-in_err-routes g c =
     let count = c.in_ok-count.count in
-    let rules = c.in_ok-rules.rules in
-    let two = then_ok g.S.Store (λ count. count) rules_in SpellsCount (SpellsRules (count + 3)) c.args.conn.now c.read_count.new.conn c.read_rules.new.conn count c.in_ok-count.ensures.read rules c.in_ok-rules.ensures in
+    let rules = c.in_ok-listed.listed in
+    let lengths = c.in_ok-lengths.lengths in
+    let two = then_ok g.S.Store (λ count. count) rules_in SpellsCount (SpellsRules (count + 3)) c.args.conn.now c.read_count.new.conn c.read_rules.new.conn count c.in_ok-count.ensures.read rules c.in_ok-listed.ensures.read in
+    let three = then_ok g.S.Store nothing lengths_in (λ db _. SpellsCount db count × SpellsRules (count + 3) db rules.items) (SpellsLengths (count + 3)) c.args.conn.now c.read_rules.new.conn c.read_lengths.new.conn tt two lengths c.in_ok-lengths.ensures.read in
     handed_over g.S.Store c.args.conn.now c.read_routes.new.conn c.in_err-routes.field-0.0 c.from_residual-in_err-routes.result c.from_residual-in_err-routes.ensures.1
-    (then_fails g.S.Store (λ (u : Unit {0}). u) routes_in (λ db _. SpellsCount db count × SpellsRules (count + 3) db rules.items) SpellsRoutes c.args.conn.now c.read_rules.new.conn c.read_routes.new.conn tt two
+    (then_fails g.S.Store nothing routes_in (λ db _. (SpellsCount db count × SpellsRules (count + 3) db rules.items) × SpellsLengths (count + 3) db lengths.items) SpellsRoutes c.args.conn.now c.read_lengths.new.conn c.read_routes.new.conn tt three
     c.in_err-routes.field-0.0 c.in_err-routes.ensures (λ db stored some held. (stored.routes, routes_spelled db stored held)))
+
+pub returns-in_err-rules : goal.returns-in_err-rules
+returns-in_err-rules g c =
+    let count = c.in_ok-count.count in
+    let rules = c.in_ok-listed.listed in
+    let lengths = c.in_ok-lengths.lengths in
+    let routes = c.in_ok-routes.routes in
+    let two = then_ok g.S.Store (λ count. count) rules_in SpellsCount (SpellsRules (count + 3)) c.args.conn.now c.read_count.new.conn c.read_rules.new.conn count c.in_ok-count.ensures.read rules c.in_ok-listed.ensures.read in
+    let three = then_ok g.S.Store nothing lengths_in (λ db _. SpellsCount db count × SpellsRules (count + 3) db rules.items) (SpellsLengths (count + 3)) c.args.conn.now c.read_rules.new.conn c.read_lengths.new.conn tt two lengths c.in_ok-lengths.ensures.read in
+    let four = then_ok g.S.Store nothing routes_in (λ db _. (SpellsCount db count × SpellsRules (count + 3) db rules.items) × SpellsLengths (count + 3) db lengths.items) SpellsRoutes c.args.conn.now c.read_lengths.new.conn c.read_routes.new.conn tt three
+    routes c.in_ok-routes.ensures in
+    let reason = c.in_err-rules.field-0.0 in
+    handed_over g.S.Store c.args.conn.now c.read_routes.new.conn reason c.from_residual-in_err-rules.result c.from_residual-in_err-rules.ensures.1
+    (in_all g.S.Store nothing (λ db _. SpellsAll count rules.items lengths.items routes.items db) c.args.conn.now c.read_routes.new.conn tt four (Err reason) tt
+    (not_merged count rules.items lengths.items routes.items c.in_ok-listed.ensures.rise c.in_ok-lengths.ensures.rise reason
+    (subst (λ (l : List Rule). ((reason ≡ Damaged) × (left_over l lengths.items ≢ [])) ⊎ (reason ≡ NoMemory)) c.as_slice.ensures.value
+    (subst (λ (l : List RuleLength). ((reason ≡ Damaged) × (left_over c.as_slice.result.now l ≢ [])) ⊎ (reason ≡ NoMemory)) c.as_slice-2.ensures.value c.in_err-rules.ensures.err)))
+    (merge_refused reason c.in_err-rules.ensures.err))
 
 pub returns : goal.returns
 returns g c =
     let count = c.in_ok-count.count in
-    let rules = c.in_ok-rules.rules in
+    let rules = c.in_ok-listed.listed in
+    let lengths = c.in_ok-lengths.lengths in
     let routes = c.in_ok-routes.routes in
-    let two = then_ok g.S.Store (λ count. count) rules_in SpellsCount (SpellsRules (count + 3)) c.args.conn.now c.read_count.new.conn c.read_rules.new.conn count c.in_ok-count.ensures.read rules c.in_ok-rules.ensures in
-    let three = then_ok g.S.Store (λ (u : Unit {0}). u) routes_in (λ db _. SpellsCount db count × SpellsRules (count + 3) db rules.items) SpellsRoutes c.args.conn.now c.read_rules.new.conn c.read_routes.new.conn tt two
+    let two = then_ok g.S.Store (λ count. count) rules_in SpellsCount (SpellsRules (count + 3)) c.args.conn.now c.read_count.new.conn c.read_rules.new.conn count c.in_ok-count.ensures.read rules c.in_ok-listed.ensures.read in
+    let three = then_ok g.S.Store nothing lengths_in (λ db _. SpellsCount db count × SpellsRules (count + 3) db rules.items) (SpellsLengths (count + 3)) c.args.conn.now c.read_rules.new.conn c.read_lengths.new.conn tt two lengths c.in_ok-lengths.ensures.read in
+    let four = then_ok g.S.Store nothing routes_in (λ db _. (SpellsCount db count × SpellsRules (count + 3) db rules.items) × SpellsLengths (count + 3) db lengths.items) SpellsRoutes c.args.conn.now c.read_lengths.new.conn c.read_routes.new.conn tt three
     routes c.in_ok-routes.ensures in
-    in_all g.S.Store (λ (u : Unit {0}). u) (λ db _. (SpellsCount db count × SpellsRules (count + 3) db rules.items) × SpellsRoutes db routes.items) c.args.conn.now c.read_routes.new.conn tt three c.from_rows.result
-    (rows_stored count rules.items routes.items c.from_rows.result c.from_rows.ensures.value) (rows_not_stored count rules.items routes.items c.from_rows.result c.from_rows.ensures.reason)
-    (rows_refused count rules.items routes.items c.from_rows.result c.from_rows.ensures.reason)
+    let both : (c.in_ok-rules.rules.items ≡ merged rules.items lengths.items) × (left_over rules.items lengths.items ≡ []) =
+    subst (λ (l : List Rule). (c.in_ok-rules.rules.items ≡ merged l lengths.items) × (left_over l lengths.items ≡ [])) c.as_slice.ensures.value
+    (subst (λ (l : List RuleLength). (c.in_ok-rules.rules.items ≡ merged c.as_slice.result.now l) × (left_over c.as_slice.result.now l ≡ [])) c.as_slice-2.ensures.value c.in_ok-rules.ensures.ok) in
+    in_all g.S.Store nothing (λ db _. SpellsAll count rules.items lengths.items routes.items db) c.args.conn.now c.read_routes.new.conn tt four c.from_rows.result
+    (rows_stored count rules.items lengths.items routes.items both.1 c.from_rows.result (subst (λ (l : List Rule). IfOk c.from_rows.result (RowsSpell count l routes.items)) both.0 c.from_rows.ensures.value))
+    (rows_not_stored count rules.items lengths.items routes.items both.1 c.from_rows.result
+    (subst (λ (l : List Rule). IfErr c.from_rows.result (λ reason. ((reason ≡ Damaged) × RowsSpellNone count l routes.items) ⊎ (reason ≡ NoMemory))) both.0 c.from_rows.ensures.reason))
+    (rows_refused count rules.items lengths.items routes.items both.1 c.from_rows.result
+    (subst (λ (l : List Rule). IfErr c.from_rows.result (λ reason. ((reason ≡ Damaged) × RowsSpellNone count l routes.items) ⊎ (reason ≡ NoMemory))) both.0 c.from_rows.ensures.reason))

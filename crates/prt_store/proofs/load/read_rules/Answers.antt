@@ -4,12 +4,12 @@ use Rattle.prt_rows.specs.Decodes.{Decodes}
 use Rattle.prt_rows.specs.Rowids.{FailsToRead, rowids_rise}
 use Rattle.prt_rows.specs.RuleRow.{IsRule, rule_row}
 use Rattle.prt_rows.specs.Statements.{read_rules}
-use Rattle.prt_store.proofs.Loads.{plain_rules, read_refusal, reads_nothing, reads_of, rules_damaged, rules_quiet, rules_read, rules_unchanged}
+use Rattle.prt_store.proofs.Loads.{plain_rules, read_refusal, reads_nothing, reads_of, risen, rules_damaged, rules_quiet, rules_read, rules_unchanged}
 use Rattle.prt_store.specs.Loaded.{SpellsRules}
 use Rattle.prt_store.proofs.load.read_rules.Goals as goal
 
-pub returns-in-Ok : goal.returns-in-Ok
-returns-in-Ok g c =
+pub returns-in-Ok-clause-read : goal.returns-in-Ok-clause-read
+returns-in-Ok-clause-read g c =
     let old = state g.S.Store c.args.conn.now in
     let new = state g.S.Store c.query_all.new.self in
     let rows = c.in-Ok.rows.items in
@@ -24,8 +24,11 @@ returns-in-Ok g c =
     (λ clean tables. rules_unchanged old new tables rows (c.in-Ok.ensures.ok clean))
     (λ tables. rules_quiet old new tables c.query_all.ensures.survives)
 
-pub returns-in-Err : goal.returns-in-Err
-returns-in-Err g c =
+pub returns-in-Err-clause-read : goal.returns-in-Err-clause-read
+returns-in-Err-clause-read g c =
     let old = c.args.conn.now in
     let new = c.query_all.new.self in
     reads_nothing g.S.Store old new (λ (rules : _). rules.items) (SpellsRules c.args.last) read_rules (plain_rules (state g.S.Store old).now.schema) c.query_all.ensures.survives c.in-Err.field-0 c.in-Err.ensures.err
+
+pub returns-in-Ok-clause-rise : goal.returns-in-Ok-clause-rise
+returns-in-Ok-clause-rise g c = risen rule_row (IsRule c.args.last) (λ (rules : _). rules.items) c.as_slice.result.now c.rules_of_rows.result c.rules_of_rows.ensures.rise c.rules_of_rows.ensures.ok

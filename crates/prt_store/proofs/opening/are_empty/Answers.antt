@@ -1,10 +1,10 @@
 use Rattle.std.proofs.Common.{Err, Ok, false, subst}
 use Rattle.prt_rows.specs.Effects.{AreEmpty}
-use Rattle.prt_store.proofs.Anywhere.{asked_all, finds_as, finds_fails, finds_not, finds_three, finds_two}
-use Rattle.prt_store.proofs.Looks.{all_empty, no_meta_rows, no_route_rows, no_rule_rows, sees_both, sees_fails, sees_not, sees_same}
+use Rattle.prt_store.proofs.Anywhere.{asked_all, finds_as, finds_fails, finds_four, finds_not, finds_three, finds_two}
+use Rattle.prt_store.proofs.Looks.{all_empty, no_length_rows, no_meta_rows, no_route_rows, no_rule_rows, sees_both, sees_fails, sees_not, sees_same}
 use Rattle.prt_store.specs.Openings.{Finds, IsEmpty, Sees, ShowsNoRow}
 use Rattle.prt_store.specs.declared.opening.OurTable.{OurTable}
-use Rattle.prt_store.specs.declared.opening.OurTable.TheVariants.{Meta, Route, Rule}
+use Rattle.prt_store.specs.declared.opening.OurTable.TheVariants.{Meta, Route, Rule, Suppress}
 use Rattle.prt_store.proofs.opening.are_empty.Goals as goal
 
 pub returns-then-not-branch-clause-sees : goal.returns-then-not-branch-clause-sees
@@ -32,18 +32,47 @@ returns-then-not-branch-2-clause-sees g c =
     let two = subst (λ b. Sees g.S.Store (IsEmpty Rule) first second (Ok b)) c.if-not-branch-2.true c.in_ok-is_empty-2.ensures.sees in
     sees_not g.S.Store (λ db. IsEmpty Meta db × IsEmpty Rule db) AreEmpty start second (sees_both g.S.Store (IsEmpty Meta) (IsEmpty Rule) start first second one (Ok false) two) (λ db t empty. (no_meta_rows db t empty, no_rule_rows db t empty))
 
-pub returns-clause-sees : goal.returns-clause-sees
-returns-clause-sees g c =
+pub returns-in_err-is_empty-3-clause-sees : goal.returns-in_err-is_empty-3-clause-sees
+returns-in_err-is_empty-3-clause-sees g c =
     let start = c.args.conn.now in
     let first = c.is_empty.new.conn in
     let second = c.is_empty-2.new.conn in
     let third = c.is_empty-3.new.conn in
     let one = subst (λ b. Sees g.S.Store (IsEmpty Meta) start first (Ok b)) c.if-not-branch.false c.in_ok-is_empty.ensures.sees in
     let two = subst (λ b. Sees g.S.Store (IsEmpty Rule) first second (Ok b)) c.if-not-branch-2.false c.in_ok-is_empty-2.ensures.sees in
-    let rest = sees_both g.S.Store (IsEmpty Rule) (IsEmpty Route) first second third two c.is_empty-3.result c.is_empty-3.ensures.sees in
-    let all = sees_both g.S.Store (IsEmpty Meta) (λ db. IsEmpty Rule db × IsEmpty Route db) start first third one c.is_empty-3.result rest in
-    sees_same g.S.Store (λ db. IsEmpty Meta db × (IsEmpty Rule db × IsEmpty Route db)) AreEmpty start third c.is_empty-3.result (λ db t none. all_empty db none)
-    (λ db t empty. (no_meta_rows db t empty, (no_rule_rows db t empty, no_route_rows db t empty))) all
+    let reason = c.in_err-is_empty-3.field-0.0 in
+    let rest = sees_both g.S.Store (IsEmpty Rule) (IsEmpty Route) first second third two (Err reason) c.in_err-is_empty-3.ensures.sees in
+    sees_fails g.S.Store (λ db. IsEmpty Meta db × (IsEmpty Rule db × IsEmpty Route db)) AreEmpty start third reason c.from_residual-in_err-is_empty-3.result c.from_residual-in_err-is_empty-3.ensures.0
+    (sees_both g.S.Store (IsEmpty Meta) (λ db. IsEmpty Rule db × IsEmpty Route db) start first third one (Err reason) rest)
+
+pub returns-then-not-branch-3-clause-sees : goal.returns-then-not-branch-3-clause-sees
+returns-then-not-branch-3-clause-sees g c =
+    let start = c.args.conn.now in
+    let first = c.is_empty.new.conn in
+    let second = c.is_empty-2.new.conn in
+    let third = c.is_empty-3.new.conn in
+    let one = subst (λ b. Sees g.S.Store (IsEmpty Meta) start first (Ok b)) c.if-not-branch.false c.in_ok-is_empty.ensures.sees in
+    let two = subst (λ b. Sees g.S.Store (IsEmpty Rule) first second (Ok b)) c.if-not-branch-2.false c.in_ok-is_empty-2.ensures.sees in
+    let three = subst (λ b. Sees g.S.Store (IsEmpty Route) second third (Ok b)) c.if-not-branch-3.true c.in_ok-is_empty-3.ensures.sees in
+    let rest = sees_both g.S.Store (IsEmpty Rule) (IsEmpty Route) first second third two (Ok false) three in
+    sees_not g.S.Store (λ db. IsEmpty Meta db × (IsEmpty Rule db × IsEmpty Route db)) AreEmpty start third (sees_both g.S.Store (IsEmpty Meta) (λ db. IsEmpty Rule db × IsEmpty Route db) start first third one (Ok false) rest)
+    (λ db t empty. (no_meta_rows db t empty, (no_rule_rows db t empty, no_route_rows db t empty)))
+
+pub returns-clause-sees : goal.returns-clause-sees
+returns-clause-sees g c =
+    let start = c.args.conn.now in
+    let first = c.is_empty.new.conn in
+    let second = c.is_empty-2.new.conn in
+    let third = c.is_empty-3.new.conn in
+    let fourth = c.is_empty-4.new.conn in
+    let one = subst (λ b. Sees g.S.Store (IsEmpty Meta) start first (Ok b)) c.if-not-branch.false c.in_ok-is_empty.ensures.sees in
+    let two = subst (λ b. Sees g.S.Store (IsEmpty Rule) first second (Ok b)) c.if-not-branch-2.false c.in_ok-is_empty-2.ensures.sees in
+    let three = subst (λ b. Sees g.S.Store (IsEmpty Route) second third (Ok b)) c.if-not-branch-3.false c.in_ok-is_empty-3.ensures.sees in
+    let last = sees_both g.S.Store (IsEmpty Route) (IsEmpty Suppress) second third fourth three c.is_empty-4.result c.is_empty-4.ensures.sees in
+    let rest = sees_both g.S.Store (IsEmpty Rule) (λ db. IsEmpty Route db × IsEmpty Suppress db) first second fourth two c.is_empty-4.result last in
+    let all = sees_both g.S.Store (IsEmpty Meta) (λ db. IsEmpty Rule db × (IsEmpty Route db × IsEmpty Suppress db)) start first fourth one c.is_empty-4.result rest in
+    sees_same g.S.Store (λ db. IsEmpty Meta db × (IsEmpty Rule db × (IsEmpty Route db × IsEmpty Suppress db))) AreEmpty start fourth c.is_empty-4.result (λ db t none. all_empty db none)
+    (λ db t empty. (no_meta_rows db t empty, (no_rule_rows db t empty, (no_route_rows db t empty, no_length_rows db t empty)))) all
 
 pub returns-in_err-is_empty-clause-finds : goal.returns-in_err-is_empty-clause-finds
 returns-in_err-is_empty-clause-finds g c =
@@ -78,8 +107,8 @@ returns-then-not-branch-2-clause-finds g c =
     let two = subst (λ b. Finds g.S.Store (ShowsNoRow g.S.Store first Rule) first second (Ok b)) c.if-not-branch-2.true c.in_ok-is_empty-2.ensures.finds in
     finds_not g.S.Store (none Meta × none Rule) ((table : OurTable) → none table) start second (finds_two g.S.Store Meta Rule start first second (Ok false) one two)
 
-pub returns-clause-finds : goal.returns-clause-finds
-returns-clause-finds g c =
+pub returns-in_err-is_empty-3-clause-finds : goal.returns-in_err-is_empty-3-clause-finds
+returns-in_err-is_empty-3-clause-finds g c =
     let start = c.args.conn.now in
     let first = c.is_empty.new.conn in
     let second = c.is_empty-2.new.conn in
@@ -87,5 +116,32 @@ returns-clause-finds g c =
     let none = ShowsNoRow g.S.Store start in
     let one = subst (λ b. Finds g.S.Store (none Meta) start first (Ok b)) c.if-not-branch.false c.in_ok-is_empty.ensures.finds in
     let two = subst (λ b. Finds g.S.Store (ShowsNoRow g.S.Store first Rule) first second (Ok b)) c.if-not-branch-2.false c.in_ok-is_empty-2.ensures.finds in
-    finds_as g.S.Store (none Meta × (none Rule × none Route)) ((table : OurTable) → none table) start third c.is_empty-3.result (asked_all g.S.Store start)
-    (finds_three g.S.Store Meta Rule start first second Route third c.is_empty-3.result one two c.is_empty-3.ensures.finds)
+    let reason = c.in_err-is_empty-3.field-0.0 in
+    finds_fails g.S.Store (none Meta × (none Rule × none Route)) ((table : OurTable) → none table) start third reason c.from_residual-in_err-is_empty-3.result c.from_residual-in_err-is_empty-3.ensures.0
+    (finds_three g.S.Store Meta Rule start first second Route third (Err reason) one two c.in_err-is_empty-3.ensures.finds)
+
+pub returns-then-not-branch-3-clause-finds : goal.returns-then-not-branch-3-clause-finds
+returns-then-not-branch-3-clause-finds g c =
+    let start = c.args.conn.now in
+    let first = c.is_empty.new.conn in
+    let second = c.is_empty-2.new.conn in
+    let third = c.is_empty-3.new.conn in
+    let none = ShowsNoRow g.S.Store start in
+    let one = subst (λ b. Finds g.S.Store (none Meta) start first (Ok b)) c.if-not-branch.false c.in_ok-is_empty.ensures.finds in
+    let two = subst (λ b. Finds g.S.Store (ShowsNoRow g.S.Store first Rule) first second (Ok b)) c.if-not-branch-2.false c.in_ok-is_empty-2.ensures.finds in
+    let three = subst (λ b. Finds g.S.Store (ShowsNoRow g.S.Store second Route) second third (Ok b)) c.if-not-branch-3.true c.in_ok-is_empty-3.ensures.finds in
+    finds_not g.S.Store (none Meta × (none Rule × none Route)) ((table : OurTable) → none table) start third (finds_three g.S.Store Meta Rule start first second Route third (Ok false) one two three)
+
+pub returns-clause-finds : goal.returns-clause-finds
+returns-clause-finds g c =
+    let start = c.args.conn.now in
+    let first = c.is_empty.new.conn in
+    let second = c.is_empty-2.new.conn in
+    let third = c.is_empty-3.new.conn in
+    let fourth = c.is_empty-4.new.conn in
+    let none = ShowsNoRow g.S.Store start in
+    let one = subst (λ b. Finds g.S.Store (none Meta) start first (Ok b)) c.if-not-branch.false c.in_ok-is_empty.ensures.finds in
+    let two = subst (λ b. Finds g.S.Store (ShowsNoRow g.S.Store first Rule) first second (Ok b)) c.if-not-branch-2.false c.in_ok-is_empty-2.ensures.finds in
+    let three = subst (λ b. Finds g.S.Store (ShowsNoRow g.S.Store second Route) second third (Ok b)) c.if-not-branch-3.false c.in_ok-is_empty-3.ensures.finds in
+    finds_as g.S.Store (none Meta × (none Rule × (none Route × none Suppress))) ((table : OurTable) → none table) start fourth c.is_empty-4.result (asked_all g.S.Store start)
+    (finds_four g.S.Store Meta Rule Route Suppress start first second third fourth c.is_empty-4.result one two three c.is_empty-4.ensures.finds)

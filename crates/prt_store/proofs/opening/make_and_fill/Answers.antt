@@ -1,8 +1,7 @@
-use Rattle.std.proofs.Common.{Ok, ap, not, refl, subst}
-use Rattle.sqlite.specs.Held.{state}
+use Rattle.std.proofs.Common.{Ok, subst}
 use Rattle.prt_rows.specs.Effects.{AreEmpty}
 use Rattle.prt_store.proofs.Anywhere.{does_fill, does_keep, on_none}
-use Rattle.prt_store.proofs.Openings.{has_rows, look_failed, opens_filled, opens_refused}
+use Rattle.prt_store.proofs.Openings.{look_failed, opens_filled, opens_migrated, opens_refused}
 use Rattle.prt_store.specs.Openings.{Finds, Sees, ShowsNoRow}
 use Rattle.prt_store.specs.declared.opening.OurTable.{OurTable}
 use Rattle.prt_store.proofs.opening.make_and_fill.Goals as goal
@@ -19,8 +18,8 @@ pub returns-then-not-branch-clause-opens : goal.returns-then-not-branch-clause-o
 returns-then-not-branch-clause-opens g c =
     let made = c.make_tables.new.conn in
     let seen = c.are_empty.new.conn in
-    has_rows g.S.Store c.args.conn.now made c.in_ok-make_tables.ensures.advances seen (subst (λ b. Sees g.S.Store AreEmpty made seen (Ok b)) c.if-not-branch.true c.in_ok-are_empty.ensures.sees)
-    (not (state g.S.Store made).in_transaction) (ap not (c.is_ready.ensures.alone c.if-not-is_ready.false)) refl (c.is_ready.ensures.settled c.if-not-is_ready.false)
+    opens_migrated g.S.Store c.args.conn.now made c.in_ok-make_tables.ensures.advances seen c.migrate.new.conn c.migrate.result (subst (λ b. Sees g.S.Store AreEmpty made seen (Ok b)) c.if-not-branch.true c.in_ok-are_empty.ensures.sees)
+    (c.is_ready.ensures.alone c.if-not-is_ready.false) (c.is_ready.ensures.settled c.if-not-is_ready.false) c.migrate.ensures.ok c.migrate.ensures.settled c.migrate.ensures.err c.migrate.ensures.crash
 
 pub returns-clause-opens : goal.returns-clause-opens
 returns-clause-opens g c =
@@ -39,7 +38,8 @@ pub returns-then-not-branch-clause-does : goal.returns-then-not-branch-clause-do
 returns-then-not-branch-clause-does g c clean =
     let made = c.make_tables.new.conn in
     let seen = c.are_empty.new.conn in
-    does_keep g.S.Store c.args.conn.now made seen c.in_ok-make_tables.ensures.makes (subst (λ b. Finds g.S.Store ((table : OurTable) → ShowsNoRow g.S.Store made table) made seen (Ok b)) c.if-not-branch.true c.in_ok-are_empty.ensures.finds) clean
+    does_keep g.S.Store c.args.conn.now made seen c.in_ok-make_tables.ensures.makes c.migrate.new.conn c.migrate.result
+    (subst (λ b. Finds g.S.Store ((table : OurTable) → ShowsNoRow g.S.Store made table) made seen (Ok b)) c.if-not-branch.true c.in_ok-are_empty.ensures.finds) (c.migrate.ensures.clean clean) (c.migrate.ensures.does clean)
 
 pub returns-clause-does : goal.returns-clause-does
 returns-clause-does g c clean =

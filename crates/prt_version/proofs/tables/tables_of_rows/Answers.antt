@@ -23,7 +23,7 @@ loop-first-smaller c = omega (arith, length-append c.split_table.result.0.now c.
 pub loop-first-preserved : goal.loop-first-preserved
 loop-first-preserved c =
     cut_more c.in-Some.first.now.table c.split_table.result.0.now c.split_table.result.1.now c.split_table.ensures.some c.split_table.ensures.own
-    c.args.rows.now c.loop-first.rest.now c.loop-first.tables.items c.push.new.self.items c.in_ok-table.table c.loop-first.invariant c.split_table.ensures.whole c.split_table.ensures.higher c.in_ok-table.ensures.value c.in_ok-push.ensures.items
+    c.args.rows.now c.loop-first.rest.now c.loop-first.tables.items c.push.new.self.items c.in_ok-table.table c.loop-first.invariant c.split_table.ensures.whole c.split_table.ensures.higher c.in_ok-table.ensures c.in_ok-push.ensures.items
 
 pub returns-clause-tables : goal.returns-clause-tables
 returns-clause-tables c = c.loop-first.invariant.tables_are

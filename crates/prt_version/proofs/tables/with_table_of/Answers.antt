@@ -4,8 +4,8 @@ use Rattle.prt_version.specs.Tables.{TableRows}
 use Rattle.prt_version.proofs.ByTable.{put_table}
 use Rattle.prt_version.proofs.tables.with_table_of.Goals as goal
 
-pub returns-clause-value : goal.returns-clause-value
-returns-clause-value c =
-    put_table c.args.route.now _ c.args.tables.items _ c.table_above.result c.unwrap_or-place.result c.in_ok-table.ensures.value c.in_ok-insert.ensures.items
+pub returns : goal.returns
+returns c =
+    put_table c.args.route.now _ c.args.tables.items _ c.table_above.result c.unwrap_or-place.result c.in_ok-table.ensures c.in_ok-insert.ensures.items
     (c.table_above.ensures ∙ ap (position (λ (table : TableRows). nat_lt c.args.route.now.table table.number)) c.deref.ensures.value)
     (let len : c.len.result ≡ length c.args.tables.items = search rules in c.unwrap_or-place.ensures ∙ ap (unwrap_or c.table_above.result) len)

@@ -11,6 +11,10 @@ use Rattle.prt_words.proofs.command_line.command_line.Goals as goal
 abbrev needs_subcommand : Command-F Command → App
 needs_subcommand fields = app_of_fields (record fields { subcommand_required = true; arg_required_else_help = true })
 
+-- and with a version
+abbrev tells_version : Command-F Command → App
+tells_version fields = on_top (λ (top : Shape). record top { has_version = true }) (needs_subcommand fields)
+
 abbrev top_of : App → Shape
 top_of app = app.top
 
@@ -18,8 +22,9 @@ pub returns : goal.returns
 returns c =
     let opening_is : app_of c.arg_required_else_help.result ≡ opening_line = ap app_of_fields c.arg_required_else_help.ensures
     ∙ ap (λ (fields : Command-F Command). app_of_fields (record fields { arg_required_else_help = true })) c.subcommand_required.ensures
-    ∙ ap needs_subcommand c.about.ensures ∙ ap needs_subcommand c.in_ok-bin_name.ensures.0
-    ∙ ap (on_top (λ (top : Shape). record top { subcommand_required = true; arg_required_else_help = true })) c.new.ensures.app in
+    ∙ ap needs_subcommand c.version.ensures ∙ ap tells_version c.about.ensures ∙ ap tells_version c.in_ok-bin_name.ensures.0
+    ∙ ap (on_top (λ (top : Shape). record top { subcommand_required = true; arg_required_else_help = true; has_version = true })) c.new.ensures.app in
     let with_batch = c.in_ok-subcommand.ensures.shape c.in_ok-batch.ensures.own ∙ ap₂ with_subcommand opening_is (ap top_of c.in_ok-batch.ensures.line) in
-    let with_replay = c.in_ok-subcommand-2.ensures.shape c.in_ok-replay.ensures.own ∙ ap₂ with_subcommand with_batch (ap top_of c.in_ok-replay.ensures.line) in
-    IfOk-weaker c.subcommand-3.result _ _ (λ command added. added.shape c.in_ok-serve.ensures.own ∙ ap₂ with_subcommand with_replay (ap top_of c.in_ok-serve.ensures.line)) c.subcommand-3.ensures
+    let with_check = c.in_ok-subcommand-2.ensures.shape c.in_ok-check.ensures.own ∙ ap₂ with_subcommand with_batch (ap top_of c.in_ok-check.ensures.line) in
+    let with_replay = c.in_ok-subcommand-3.ensures.shape c.in_ok-replay.ensures.own ∙ ap₂ with_subcommand with_check (ap top_of c.in_ok-replay.ensures.line) in
+    IfOk-weaker c.subcommand-4.result _ _ (λ command added. added.shape c.in_ok-serve.ensures.own ∙ ap₂ with_subcommand with_replay (ap top_of c.in_ok-serve.ensures.line)) c.subcommand-4.ensures

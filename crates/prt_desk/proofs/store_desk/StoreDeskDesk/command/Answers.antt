@@ -24,7 +24,7 @@ returns-in-Err-clause-left g c = λ _. something g.S.Store c.submit.new.self c.s
 pub returns-in-Err-clause-leaves : goal.returns-in-Err-clause-leaves
 returns-in-Err-clause-leaves g c =
     let new = c.submit.new.self in
-    let Leaves = λ (d : Standing (Held _)). is_shut d ≡ false → IsKnown g.S.Store new.format_1 new.tables → (left : State) → MayLeave g.S.Store new.tables left → LeavesEither (Err c.in-Err.reason) (published d) (apply (published d) c.args.command.now) left in
+    let Leaves = λ (d : Standing (Held _)). is_shut d ≡ false → IsKnown g.S.Store new.ours_first new.tables → (left : State) → MayLeave g.S.Store new.tables left → LeavesEither (Err c.in-Err.reason) (published d) (apply (published d) c.args.command.now) left in
     subst Leaves c.self.view_is (refused_leaves g.S.Store c.self.inside.publisher c.args.command.now new c.submit.ensures.stands c.self.invariant c.in-Err.reason c.in-Err.ensures.err)
 
 pub returns-clause-turn : goal.returns-clause-turn
@@ -39,7 +39,7 @@ returns-clause-left g c = λ _. something g.S.Store c.submit.new.self c.submit.e
 pub returns-clause-leaves : goal.returns-clause-leaves
 returns-clause-leaves g c =
     let new = c.submit.new.self in
-    let Leaves = λ (d : Standing (Held _)). is_shut d ≡ false → IsKnown g.S.Store new.format_1 new.tables → (left : State) → MayLeave g.S.Store new.tables left → left ≡ apply (published d) c.args.command.now in
+    let Leaves = λ (d : Standing (Held _)). is_shut d ≡ false → IsKnown g.S.Store new.ours_first new.tables → (left : State) → MayLeave g.S.Store new.tables left → left ≡ apply (published d) c.args.command.now in
     subst Leaves c.self.view_is (λ _. accepted_leaves g.S.Store c.self.inside.publisher c.args.command.now new c.submit.ensures.stands c.in-Ok.ensures.ok.1)
 
 pub returns-clause-ran : goal.returns-clause-ran

@@ -19,10 +19,10 @@ returns-in-Err-clause-stands g c known =
     let conn = c.self.inside.store.conn in
     let number = c.number-number.result in
     let counted : number ≡ s.count = c.number-number.ensures.value ∙ (ap (λ (v : State). v.count) c.deref.ensures ∙ ap (λ (v : State). v.count) c.self.invariant.0) in
-    let can : CanCommit g.S.Store c.self.inside.is_format_1 conn s plan number = can_commit g.S.Store c.self.inside.is_format_1 conn s c.self.inside.step plan number (sym c.replace.ensures.value ∙ c.in-Prepared.is) counted c.self.invariant.3 c.self.invariant.4 in
+    let can : CanCommit g.S.Store c.self.inside.ours_first conn s plan number = can_commit g.S.Store c.self.inside.ours_first conn s c.self.inside.step plan number (sym c.replace.ensures.value ∙ c.in-Prepared.is) counted c.self.invariant.3 c.self.invariant.4 in
     let stored = can.kept (known.0, c.commit.ensures.clean known.1) in
     rw c.replace.ensures.after (left_after g.S.Store conn c.commit.new.self.conn s plan.command plan.change c.in-Err.reason can.planned.makes stored.now (c.in-Err.ensures.err known.1) (c.in-Err.ensures.left known.1 s can.next stored)
-    (keeps_after g.S.Store c.self.inside.is_format_1 conn c.commit.new.self.conn s plan.change (number + 1) can.next c.commit.ensures.clean can.kept c.in-Err.reason c.in-Err.ensures.crash_err known))
+    (keeps_after g.S.Store c.self.inside.ours_first conn c.commit.new.self.conn s plan.change (number + 1) can.next c.commit.ensures.clean can.kept c.in-Err.reason c.in-Err.ensures.crash_err known))
 
 pub returns-in-Err-clause-now : goal.returns-in-Err-clause-now
 returns-in-Err-clause-now g c known is_open =
@@ -31,7 +31,7 @@ returns-in-Err-clause-now g c known is_open =
     let conn = c.self.inside.store.conn in
     let number = c.number-number.result in
     let counted : number ≡ s.count = c.number-number.ensures.value ∙ (ap (λ (v : State). v.count) c.deref.ensures ∙ ap (λ (v : State). v.count) c.self.invariant.0) in
-    let can : CanCommit g.S.Store c.self.inside.is_format_1 conn s plan number = can_commit g.S.Store c.self.inside.is_format_1 conn s c.self.inside.step plan number (sym c.replace.ensures.value ∙ c.in-Prepared.is) counted c.self.invariant.3 c.self.invariant.4 in
+    let can : CanCommit g.S.Store c.self.inside.ours_first conn s plan number = can_commit g.S.Store c.self.inside.ours_first conn s c.self.inside.step plan number (sym c.replace.ensures.value ∙ c.in-Prepared.is) counted c.self.invariant.3 c.self.invariant.4 in
     let stored = can.kept (known.0, c.commit.ensures.clean known.1) in
     let shown : line_state c.args.self.now.line ≡ s = ap (λ (v : Standing _). line_state v.line) (sym c.self.view_is) in
     rw shown (still_stored g.S.Store conn c.commit.new.self.conn s plan.command plan.change c.in-Err.reason can.planned.makes stored.now (c.in-Err.ensures.err known.1) is_open)
@@ -46,7 +46,7 @@ returns-in-Err-clause-left g c known left may =
     let shown : line_state c.args.self.now.line ≡ s = ap (λ (v : Standing _). line_state v.line) (sym c.self.view_is) in
     let under : c.args.self.now.command ≡ Some plan.command = ap (λ (v : Standing _). v.command) (sym c.self.view_is) ∙ ap command_of is in
     let counted : number ≡ s.count = c.number-number.ensures.value ∙ (ap (λ (v : State). v.count) c.deref.ensures ∙ ap (λ (v : State). v.count) c.self.invariant.0) in
-    let can : CanCommit g.S.Store c.self.inside.is_format_1 conn s plan number = can_commit g.S.Store c.self.inside.is_format_1 conn s c.self.inside.step plan number is counted c.self.invariant.3 c.self.invariant.4 in
+    let can : CanCommit g.S.Store c.self.inside.ours_first conn s plan number = can_commit g.S.Store c.self.inside.ours_first conn s c.self.inside.step plan number is counted c.self.invariant.3 c.self.invariant.4 in
     let stored = can.kept (known.0, c.commit.ensures.clean known.1) in
     rw (shown, under) (elim (either_left g.S.Store conn c.commit.new.self.conn s plan.command plan.change c.in-Err.reason can.planned.makes stored.now (c.in-Err.ensures.err known.1) (c.in-Err.ensures.left known.1 s can.next stored) left may) [
       | inl same ↦ inl same
@@ -66,8 +66,8 @@ returns-in-Ok-clause-others g c known open_or =
     let conn = c.self.inside.store.conn in
     let number = c.number-number.result in
     let counted : number ≡ s.count = c.number-number.ensures.value ∙ (ap (λ (v : State). v.count) c.deref.ensures ∙ ap (λ (v : State). v.count) c.self.invariant.0) in
-    let can : CanCommit g.S.Store c.self.inside.is_format_1 conn s plan number = can_commit g.S.Store c.self.inside.is_format_1 conn s c.self.inside.step plan number (sym c.replace.ensures.value ∙ c.in-Prepared.is) counted c.self.invariant.3 c.self.invariant.4 in
-    let spares = spares_after g.S.Store c.self.inside.is_format_1 conn c.commit.new.self.conn s plan.change (number + 1) can.next c.commit.ensures.clean can.kept c.in-Ok.ensures.ok known in
+    let can : CanCommit g.S.Store c.self.inside.ours_first conn s plan number = can_commit g.S.Store c.self.inside.ours_first conn s c.self.inside.step plan number (sym c.replace.ensures.value ∙ c.in-Prepared.is) counted c.self.invariant.3 c.self.invariant.4 in
+    let spares = spares_after g.S.Store c.self.inside.ours_first conn c.commit.new.self.conn s plan.change (number + 1) can.next c.commit.ensures.clean can.kept c.in-Ok.ensures.ok known in
     subst (λ (t : Held _). SparesOthers (state g.S.Store t).now (state g.S.Store c.commit.new.self.conn).now) (ap (λ (v : Standing _). v.tables) c.self.view_is) spares
 
 pub returns-in-Ok-clause-ran : goal.returns-in-Ok-clause-ran
@@ -81,5 +81,5 @@ returns-in-Ok-clause-ran g c clean =
     let under : c.args.self.now.command ≡ Some plan.command = ap (λ (v : Standing _). v.command) (sym c.self.view_is) ∙ ap command_of is in
     let held : c.args.self.now.tables ≡ conn = ap (λ (v : Standing _). v.tables) (sym c.self.view_is) in
     let counted : number ≡ s.count = c.number-number.ensures.value ∙ (ap (λ (v : State). v.count) c.deref.ensures ∙ ap (λ (v : State). v.count) c.self.invariant.0) in
-    let can : CanCommit g.S.Store c.self.inside.is_format_1 conn s plan number = can_commit g.S.Store c.self.inside.is_format_1 conn s c.self.inside.step plan number is counted c.self.invariant.3 c.self.invariant.4 in
+    let can : CanCommit g.S.Store c.self.inside.ours_first conn s plan number = can_commit g.S.Store c.self.inside.ours_first conn s c.self.inside.step plan number is counted c.self.invariant.3 c.self.invariant.4 in
     has_committed g.S.Store c.args.self.now s conn c.commit.new.self.conn plan number shown under held can.planned.makes counted (c.in-Ok.ensures.ran clean)

@@ -14,7 +14,7 @@ unreachable-requires c = has_place _ _ _ c.loop-index-test.true c.loop-index.inv
 pub loop-index-preserved : goal.loop-index-preserved
 loop-index-preserved c = (
   joins _ _ _ _ c.in-Some.place c.loop-index-test.true c.loop-index.invariant.0 c.in-Some.ensures.place.0 c.in-Some.ensures.registry,
-  sits_down _ _ _ _ _ c.in-Some.place c.loop-index-test.true c.loop-index.invariant.0 c.in-Some.ensures.place.0 c.in-Some.ensures.place.1 c.loop-index.invariant.1 c.in_ok-push.ensures.value,
+  sits_down _ _ _ _ _ c.in-Some.place c.loop-index-test.true c.loop-index.invariant.0 c.in-Some.ensures.place.0 c.in-Some.ensures.place.1 c.loop-index.invariant.1 c.in_ok-push.ensures,
 )
 
 pub invariant_of-result : goal.invariant_of-result
@@ -22,7 +22,7 @@ invariant_of-result c =
     let all : c.loop-index._index ≡ PLACES = omega (arith, c.loop-index.auto, c.loop-index-test.false) in
     all_seated _ _ _ _ all c.loop-index.invariant.0 c.loop-index.invariant.1
 
-pub returns-clause-value : goal.returns-clause-value
-returns-clause-value c =
+pub returns : goal.returns
+returns c =
     let all : c.loop-index._index ≡ PLACES = omega (arith, c.loop-index.auto, c.loop-index-test.false) in
     all_sit _ _ _ _ all c.loop-index.invariant.0 c.loop-index.invariant.1

@@ -2,7 +2,7 @@ use Rattle.std.proofs.Common.{inr, sym, ap, ◌∙◌}
 use Rattle.sqlite.specs.Effect.{Database}
 use Rattle.sqlite.specs.Held.{state}
 use Rattle.prt_store.proofs.Anywhere.{keeps_or_fills}
-use Rattle.prt_store.proofs.Adoptions.{opening_stored, stored_still}
+use Rattle.prt_store.proofs.Adoptions.{migrated_stores, opening_stored, stored_still}
 use Rattle.prt_store.proofs.store.Store.adopt.Goals as goal
 
 pub returns-in-Ok-clause-ok : goal.returns-in-Ok-clause-ok
@@ -10,7 +10,11 @@ returns-in-Ok-clause-ok g c clean tables = (c.in-Ok.ensures.opens.ok clean table
 
 pub returns-in-Ok-clause-stored : goal.returns-in-Ok-clause-stored
 returns-in-Ok-clause-stored g c clean stored held =
-    stored_still (state g.S.Store c.args.conn).now (state g.S.Store c.open_tables.new.conn).now stored (c.in-Ok.ensures.opens.ok clean (inr (inr (inr held.tables)))).0 held
+    stored_still (state g.S.Store c.args.conn).now (state g.S.Store c.open_tables.new.conn).now stored (c.in-Ok.ensures.opens.ok clean (inr (inr (inr (inr held.tables))))).0 held
+
+pub returns-in-Ok-clause-format_1 : goal.returns-in-Ok-clause-format_1
+returns-in-Ok-clause-format_1 g c clean stored held =
+    migrated_stores (state g.S.Store c.args.conn).now (state g.S.Store c.open_tables.new.conn).now stored (c.in-Ok.ensures.opens.ok clean (inr (inr (inr held.tables)))).0 held
 
 pub returns-in-Ok-clause-opening : goal.returns-in-Ok-clause-opening
 returns-in-Ok-clause-opening g c clean tables empty = opening_stored (state g.S.Store c.args.conn).now (state g.S.Store c.open_tables.new.conn).now (c.in-Ok.ensures.opens.ok clean tables).0 empty

@@ -11,11 +11,11 @@ use Rattle.prt_store.specs.Next.{MakesNext}
 use Rattle.prt_store.specs.Stops.{StoppedIn}
 use Rattle.prt_store.proofs.store.Store.commit.Goals as goal
 
-pub run-requires-clause-ids : goal.run-requires-clause-ids
-run-requires-clause-ids g c = small_ids c.requires.0 c.args.change.now c.args.number c.requires.1
+pub make_change-requires-clause-ids : goal.make_change-requires-clause-ids
+make_change-requires-clause-ids g c = small_ids c.requires.0 c.args.change.now c.args.number c.requires.1
 
-pub run-requires-clause-number : goal.run-requires-clause-number
-run-requires-clause-number g c = small_number c.requires.0 c.args.change.now c.args.number c.requires.1
+pub make_change-requires-clause-number : goal.make_change-requires-clause-number
+make_change-requires-clause-number g c = small_number c.requires.0 c.args.change.now c.args.number c.requires.1
 
 pub returns-in-Ok-clause-ok : goal.returns-in-Ok-clause-ok
 returns-in-Ok-clause-ok g c clean before next held =
@@ -31,7 +31,7 @@ returns-in-Ok-clause-calls g c clean = c.in-Ok.ensures.calls clean
 pub returns-in-Err-clause-stopped : goal.returns-in-Err-clause-stopped
 returns-in-Err-clause-stopped g c clean call is =
     let same : c.in-Err.call ≡ call = cc in
-    subst (λ (failed : StoreCall). StoppedIn g.S.Store c.args.change.now c.args.number c.args.self.now.conn failed c.run.new.conn) same (c.in-Err.ensures.stopped clean)
+    subst (λ (failed : StoreCall). StoppedIn g.S.Store c.args.change.now c.args.number c.args.self.now.conn failed c.make_change.new.conn) same (c.in-Err.ensures.stopped clean)
 
 pub returns-in-Ok-clause-settled : goal.returns-in-Ok-clause-settled
 returns-in-Ok-clause-settled g c clean = (c.in-Ok.ensures.ok clean).2
@@ -63,9 +63,9 @@ returns-in-Err-clause-err g c clean still_open = (c.in-Err.ensures.err clean sti
 pub returns-in-Ok-clause-stored : goal.returns-in-Ok-clause-stored
 returns-in-Ok-clause-stored g c clean before next stored =
     let settled = (c.in-Ok.ensures.ok clean).2 in
-    stored_after g.S.Store true c.args.self.now.conn c.run.new.conn before c.args.change.now c.args.number next c.in-Ok.ensures.clean (λ _. stored) (returns-in-Ok-clause-ok g c)
-    (λ _ trees may. g.met.S.Store.settled c.run.new.conn.store trees settled.is_open may ∙ ap (λ (db : Database). db.trees) (sym settled.committed)) (refl, clean)
+    stored_after g.S.Store true c.args.self.now.conn c.make_change.new.conn before c.args.change.now c.args.number next c.in-Ok.ensures.clean (λ _. stored) (returns-in-Ok-clause-ok g c)
+    (λ _ trees may. g.met.S.Store.settled c.make_change.new.conn.store trees settled.is_open may ∙ ap (λ (db : Database). db.trees) (sym settled.committed)) (refl, clean)
 
 pub returns-in-Err-clause-left : goal.returns-in-Err-clause-left
 returns-in-Err-clause-left g c clean before next stored left may =
-    either_left g.S.Store true c.args.self.now.conn c.run.new.conn before c.args.change.now c.args.number next (returns-in-Err-clause-clean g c) (λ _. stored) _ (returns-in-Err-clause-crash_err g c) (refl, clean) left may
+    either_left g.S.Store true c.args.self.now.conn c.make_change.new.conn before c.args.change.now c.args.number next (returns-in-Err-clause-clean g c) (λ _. stored) _ (returns-in-Err-clause-crash_err g c) (refl, clean) left may

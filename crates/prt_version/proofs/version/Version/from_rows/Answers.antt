@@ -18,12 +18,12 @@ pub invariant_of-result : goal.invariant_of-result
 invariant_of-result c =
     ordered_sound c.args.number _ _ (omega arith)
     (subst (λ (rs : List Rule). AreRules c.args.number rs × IsInOrder rs) (sym (ap (λ v. v.items) c.in_ok-first_owner.ensures.value)) c.in_ok-rules.ensures.value)
-    (subst (λ (rs : List Route). AreRoutes rs × IsRising is_listed_before rs) (sym (c.in_ok-first_owner-2.ensures.value ∙ c.in_ok-tables.ensures.value ∙ c.deref.ensures.value)) c.in_ok-routes.ensures.value)
+    (subst (λ (rs : List Route). AreRoutes rs × IsRising is_listed_before rs) (sym (c.in_ok-first_owner-2.ensures.value ∙ c.in_ok-tables.ensures ∙ c.deref.ensures.value)) c.in_ok-routes.ensures.value)
 
 pub returns-clause-value : goal.returns-clause-value
 returns-clause-value c =
     let rules_is = ap (λ (v : Vec Rule Global). v.items) c.in_ok-first_owner.ensures.value in
-    let routes_is = c.in_ok-first_owner-2.ensures.value ∙ c.in_ok-tables.ensures.value ∙ c.deref.ensures.value in
+    let routes_is = c.in_ok-first_owner-2.ensures.value ∙ c.in_ok-tables.ensures ∙ c.deref.ensures.value in
     ordered_spelled c.args.number _ _ (omega arith)
     (subst (λ (rs : List Rule). AreRules c.args.number rs × IsInOrder rs) (sym rules_is) c.in_ok-rules.ensures.value)
     (subst (λ (rs : List Route). AreRoutes rs × IsRising is_listed_before rs) (sym routes_is) c.in_ok-routes.ensures.value)

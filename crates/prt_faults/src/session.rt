@@ -1,0 +1,58 @@
+//! A session over a service.
+ghost use Rattle.std.specs.Prelude.{◌≡◌};
+ghost use Rattle.prt_publisher.specs.Standing.{IsQuiet};
+
+use crate::service::adopted;
+use prt_command::Refusal;
+use prt_grace::Domain;
+use prt_publisher::Publisher;
+use prt_serve::{OpenGate, serve_session};
+use prt_service::{Naming, Service};
+use sqlite::{Alter, Connection};
+use std::alloc::Global;
+use std::io::{Read, Write};
+use std::marker::Brand;
+use std::sync::Wait;
+
+/// Serves one session of a service of the named front.
+fn serve<J: Naming, S: Alter + Drop, H: Wait + Copy + Drop, R: Read, W: Write>(
+    rt: H,
+    alloc: Global,
+    publisher: Publisher<S, H>,
+    domain: Domain,
+    input: &mut R,
+    output: &mut W,
+) -> Result<(), Refusal>
+    requires quiet { IsQuiet publisher.phase }
+    requires of { (publisher.line.book ≡ J.book) × (publisher.line.base ≡ J.base) }
+{
+    let service: Service<S, H, J> = Service::new(publisher, domain);
+    let mut looker = service.looker(&rt)?;
+    let end = serve_session(
+        &rt,
+        alloc,
+        &service,
+        &mut looker,
+        1,
+        &OpenGate,
+        input,
+        output,
+    );
+    match end.fault {
+        Some(Refusal::ReadFault) => Err(Refusal::ReadFault),
+        Some(Refusal::WriteFault) => Err(Refusal::WriteFault),
+        _ => Ok(()),
+    }
+}
+
+/// Serves a session with the lines of the input, over the database of a connection.
+pub(crate) fn run<S: Alter + Drop, H: Wait + Copy + Drop, R: Read, W: Write>(
+    rt: H,
+    alloc: Global,
+    connection: Connection<S>,
+    input: &mut R,
+    output: &mut W,
+) -> Result<(), Refusal> {
+    let (publisher, domain) = adopted(rt, alloc, connection)?;
+    serve::<Brand, S, H, R, W>(rt, alloc, publisher, domain, input, output)
+}

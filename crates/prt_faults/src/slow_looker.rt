@@ -1,0 +1,165 @@
+//! A looker that refreshes once, and then not until commands are refused for it; and more lookers than there are places.
+//!
+//! Written is, as a line `ok N`, the number of each version that the looker looks with, that of the last receipt, and
+//! how many lookers there were; and why the call after it was refused.
+ghost use Rattle.std.specs.Prelude.{◌≡◌};
+ghost use Rattle.prt_publisher.specs.Standing.{IsQuiet};
+
+use crate::output::{tell, tell_number};
+use crate::service::{adopted, command_of, look, packet, submit};
+use prt_command::Refusal;
+use prt_grace::Domain;
+use prt_publisher::Publisher;
+use prt_service::{Looker, Naming, Service};
+use prt_session::Reply;
+use sqlite::{Alter, Connection};
+use std::alloc::Global;
+use std::io::Write;
+use std::marker::Brand;
+use std::sync::Wait;
+
+/// Submits the command after so many: a route is added and removed in turn. Gives the number of its receipt.
+fn submit_next<S: Alter + Drop, R: Wait + Drop, J: Naming, H: Wait>(
+    rt: &H,
+    service: &Service<S, R, J>,
+    accepted: u64,
+) -> Result<u64, Refusal> {
+    let line = if accepted % 2 == 0 {
+        "route add 10.0.0.1 dev eth0"
+    } else {
+        "route del 10.0.0.1"
+    };
+    let command = command_of(line)?;
+    match submit(rt, service, &command) {
+        Ok(receipt) => Ok(receipt.number()),
+        Err(reason) => Err(reason),
+    }
+}
+
+/// Submits commands after so many until one is refused, or the last of them was accepted. Writes the number of the last
+/// receipt, and why the next command was refused. Gives that number.
+///
+/// # Errors
+///
+/// Why a command was refused, other than `Busy`.
+fn submit_until<S: Alter + Drop, R: Wait + Drop, J: Naming, H: Wait, W: Write>(
+    rt: &H,
+    service: &Service<S, R, J>,
+    accepted: u64,
+    last: u64,
+    output: &mut W,
+) -> Result<u64, Refusal> {
+    let mut number = accepted;
+    let mut refused = None;
+    for before in accepted..last {
+        match submit_next(rt, service, before) {
+            Ok(next) => number = next,
+            Err(reason) => {
+                refused = Some(reason);
+                break;
+            }
+        }
+    }
+    tell_number(output, number)?;
+    match refused {
+        None => Ok(number),
+        Some(reason) => {
+            tell(output, &Reply::Refused(reason))?;
+            if reason == Refusal::Busy {
+                Ok(number)
+            } else {
+                Err(reason)
+            }
+        }
+    }
+}
+
+/// Submits commands beside a looker that refreshes at first, and then when a command was refused; rests it, and submits
+/// further ones.
+fn submit_beside<S: Alter + Drop, R: Wait + Drop, J: Naming, H: Wait, W: Write>(
+    rt: &H,
+    service: &Service<S, R, J>,
+    looker: &mut Looker,
+    output: &mut W,
+) -> Result<(), Refusal>
+    ensures { (looker.new.known.book ≡ looker.old.known.book) × (looker.new.known.base ≡ looker.old.known.base) }
+{
+    tell_number(output, look(rt, service, looker)?)?;
+    let missed = submit_until(rt, service, 0, 100, output)?;
+    if looker.is_online() {
+        tell_number(output, looker.look(&packet()).number)?;
+    }
+    tell_number(output, look(rt, service, looker)?)?;
+    let next = submit_until(rt, service, missed, missed.saturating_add(1), output)?;
+    looker.rest(rt, service);
+    let _last = submit_until(rt, service, next, next.saturating_add(65), output)?;
+    Ok(())
+}
+
+/// Makes lookers until one is refused, or so many are there. Then all of them leave. How many there were.
+fn gather<S: Alter + Drop, R: Wait + Drop, J: Naming, H: Wait>(
+    rt: &H,
+    service: &Service<S, R, J>,
+    most: u64,
+) -> u64 {
+    if most == 0 {
+        return 0;
+    }
+    match service.looker(rt) {
+        Ok(looker) => {
+            let others = gather(rt, service, most - 1);
+            looker.leave(rt, service);
+            others.saturating_add(1)
+        }
+        Err(_) => 0,
+    }
+}
+
+/// Goes on where the publisher was closed: a further command is refused, and the looker has the published version.
+fn go_on_closed<S: Alter + Drop, R: Wait + Drop, J: Naming, H: Wait, W: Write>(
+    rt: &H,
+    service: &Service<S, R, J>,
+    looker: &mut Looker,
+    output: &mut W,
+) -> Result<(), Refusal> {
+    if let Err(reason) = submit_next(rt, service, 0) {
+        tell(output, &Reply::Refused(reason))?;
+    }
+    tell_number(output, look(rt, service, looker)?)
+}
+
+/// Runs a service of the named front.
+fn serve<J: Naming, S: Alter + Drop, H: Wait + Copy + Drop, W: Write>(
+    rt: H,
+    publisher: Publisher<S, H>,
+    domain: Domain,
+    output: &mut W,
+) -> Result<(), Refusal>
+    requires quiet { IsQuiet publisher.phase }
+    requires of { (publisher.line.book ≡ J.book) × (publisher.line.base ≡ J.base) }
+{
+    let service: Service<S, H, J> = Service::new(publisher, domain);
+    let mut looker = service.looker(&rt)?;
+    match submit_beside(&rt, &service, &mut looker, output) {
+        Err(Refusal::StoreFailed(_) | Refusal::NotPublished) => {
+            go_on_closed(&rt, &service, &mut looker, output)
+        }
+        Err(reason) => Err(reason),
+        Ok(()) => {
+            looker.leave(&rt, &service);
+            tell_number(output, gather(&rt, &service, 100))?;
+            tell_number(output, gather(&rt, &service, 100))
+        }
+    }
+}
+
+/// Runs a service over the database of a connection.
+pub(crate) fn run<S: Alter + Drop, H: Wait + Copy + Drop, W: Write>(
+    rt: H,
+    alloc: Global,
+    connection: Connection<S>,
+    output: &mut W,
+) -> Result<(), Refusal> {
+    let (publisher, domain) = adopted(rt, alloc, connection)?;
+    serve::<Brand, S, H, W>(rt, publisher, domain, output)
+}

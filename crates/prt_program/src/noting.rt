@@ -1,0 +1,76 @@
+//! Streams whose faults are told.
+ghost use Rattle.std.specs.Prelude.{◌≡◌};
+
+use std::io::{self, IsTerminal, Read, Write};
+
+/// A stream that keeps the error of its last call that failed.
+///
+/// It reads and writes as the stream itself. What it gives its caller of an error is the kind.
+#[derive(Drop)]
+pub struct Noting<S> {
+    stream: S,
+    error: Option<io::Error>,
+}
+
+impl<S> Noting<S> {
+    /// Makes a stream of which no call has failed.
+    pub fn new(stream: S) -> Noting<S>
+        ensures { result.stream ≡ stream }
+    {
+        Noting {
+            stream,
+            error: None,
+        }
+    }
+
+    /// Gives the error of the last call that failed, if one did.
+    pub fn error(&self) -> Option<&io::Error> {
+        self.error.as_ref()
+    }
+
+    /// Keeps an error, unless the call is only to be made again, and gives one of its kind.
+    fn keep(&mut self, error: io::Error) -> io::Error
+        ensures { self.new.stream ≡ self.old.stream }
+    {
+        let kind = error.kind();
+        if kind != io::ErrorKind::Interrupted {
+            self.error = Some(error);
+        }
+        io::Error::from(kind)
+    }
+}
+
+impl<R: Read> Read for Noting<R> {
+    ghost remaining = { λ noting. R.remaining noting.stream };
+
+    fn read(&mut self, buf: &mut [u8]) -> io::Result<usize> {
+        match self.stream.read(buf) {
+            Ok(count) => Ok(count),
+            Err(error) => Err(self.keep(error)),
+        }
+    }
+}
+
+impl<W: Write> Write for Noting<W> {
+    ghost contents = { λ noting. W.contents noting.stream };
+
+    fn write(&mut self, buf: &[u8]) -> io::Result<usize> {
+        match self.stream.write(buf) {
+            Ok(count) => Ok(count),
+            Err(error) => Err(self.keep(error)),
+        }
+    }
+
+    fn flush(&mut self) -> io::Result<()> {
+        match self.stream.flush() {
+            Ok(()) => Ok(()),
+            Err(error) => Err(self.keep(error)),
+        }
+    }
+}
+
+impl<S: IsTerminal> IsTerminal for Noting<S> {
+    fn is_terminal(&self) -> bool {
+        self.stream.is_terminal()
+    }
+}

@@ -1,0 +1,34 @@
+use Rattle.std.proofs.Common.{◌≡◌, All, Some, map, true, subst}
+use Rattle.sqlite.specs.Held.{state}
+use Rattle.prt_rows.specs.Decodes.{Decodes}
+use Rattle.prt_rows.specs.Rowids.{FailsToRead, rowids_rise}
+use Rattle.prt_rows.specs.Statements.{read_suppress}
+use Rattle.prt_rows.specs.SuppressRow.{IsLength, suppress_row}
+use Rattle.prt_store.proofs.Loads.{lengths_damaged, lengths_quiet, lengths_read, lengths_unchanged, plain_lengths, read_refusal, reads_nothing, reads_of, risen}
+use Rattle.prt_store.specs.Loaded.{SpellsLengths}
+use Rattle.prt_store.proofs.load.read_lengths.Goals as goal
+
+pub returns-in-Ok-clause-read : goal.returns-in-Ok-clause-read
+returns-in-Ok-clause-read g c =
+    let old = state g.S.Store c.args.conn.now in
+    let new = state g.S.Store c.query_all.new.self in
+    let rows = c.in-Ok.rows.items in
+    let last = c.args.last in
+    let seen = c.as_slice.ensures.value in
+    reads_of g.S.Store (λ (lengths : _). lengths.items) (SpellsLengths last) c.args.conn.now c.query_all.new.self c.lengths_of_rows.result
+    (λ _. rowids_rise c.as_slice.result.now ≡ true) (λ lengths. Decodes (map suppress_row) (All (IsLength last)) c.as_slice.result.now (Some lengths.items)) (FailsToRead suppress_row (IsLength last) (λ row. row) c.as_slice.result.now)
+    c.lengths_of_rows.ensures.rise c.lengths_of_rows.ensures.ok c.lengths_of_rows.ensures.err
+    (λ clean readable lengths rise read. lengths_read old new readable rows (c.in-Ok.ensures.ok clean) last lengths.items (subst (λ rows. rowids_rise rows ≡ true) seen rise) (subst (λ rows. Decodes (map suppress_row) (All (IsLength last)) rows (Some lengths.items)) seen read))
+    (λ clean readable reason fails is lengths spells. lengths_damaged old new readable rows (c.in-Ok.ensures.ok clean) last reason (subst (λ rows. FailsToRead suppress_row (IsLength last) (λ row. row) rows reason) seen fails) is lengths spells)
+    (read_refusal suppress_row (IsLength last) (λ row. row) c.as_slice.result.now)
+    (λ clean tables. lengths_unchanged old new tables rows (c.in-Ok.ensures.ok clean))
+    (λ tables. lengths_quiet old new tables c.query_all.ensures.survives)
+
+pub returns-in-Err-clause-read : goal.returns-in-Err-clause-read
+returns-in-Err-clause-read g c =
+    let old = c.args.conn.now in
+    let new = c.query_all.new.self in
+    reads_nothing g.S.Store old new (λ (lengths : _). lengths.items) (SpellsLengths c.args.last) read_suppress (plain_lengths (state g.S.Store old).now.schema) c.query_all.ensures.survives c.in-Err.field-0 c.in-Err.ensures.err
+
+pub returns-in-Ok-clause-rise : goal.returns-in-Ok-clause-rise
+returns-in-Ok-clause-rise g c = risen suppress_row (IsLength c.args.last) (λ (lengths : _). lengths.items) c.as_slice.result.now c.lengths_of_rows.result c.lengths_of_rows.ensures.rise c.lengths_of_rows.ensures.ok

@@ -1,0 +1,25 @@
+use Rattle.std.proofs.Common.{Ok, subst}
+use Rattle.prt_store.proofs.Anywhere.{does_migrate}
+use Rattle.prt_store.proofs.Migrations.{is_migrated, leaves_migrated}
+use Rattle.prt_store.specs.Openings.{Finds, IsDue, Sees, ShowsFormat1, ShowsNoRow}
+use Rattle.prt_store.specs.declared.opening.OurTable.TheVariants.{Suppress}
+use Rattle.prt_store.proofs.opening.migrate.Goals as goal
+
+pub returns-clause-ok : goal.returns-clause-ok
+returns-clause-ok g c clean tables =
+    let start = c.args.conn.now in
+    let seen = c.is_due.new.conn in
+    is_migrated g.S.Store start seen c.take.new.conn c.take.result (subst (λ b. Sees g.S.Store IsDue start seen (Ok b)) c.if-not-branch.false c.in_ok-is_due.ensures.sees) c.take.ensures.commits clean tables
+
+pub returns-clause-crash : goal.returns-clause-crash
+returns-clause-crash g c tables =
+    let start = c.args.conn.now in
+    let seen = c.is_due.new.conn in
+    leaves_migrated g.S.Store start seen c.take.new.conn c.take.result (subst (λ b. Sees g.S.Store IsDue start seen (Ok b)) c.if-not-branch.false c.in_ok-is_due.ensures.sees) c.take.ensures.commits tables
+
+pub returns-clause-does : goal.returns-clause-does
+returns-clause-does g c clean =
+    let start = c.args.conn.now in
+    let seen = c.is_due.new.conn in
+    let found = ShowsFormat1 g.S.Store start × ShowsNoRow g.S.Store start Suppress in
+    does_migrate g.S.Store start seen c.take.new.conn c.take.result (subst (λ b. Finds g.S.Store found start seen (Ok b)) c.if-not-branch.false c.in_ok-is_due.ensures.finds) c.take.ensures.commits clean

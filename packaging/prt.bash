@@ -1,0 +1,36 @@
+# Completion of prt for bash.
+
+_prt() {
+  local word=${COMP_WORDS[COMP_CWORD]} before=${COMP_WORDS[COMP_CWORD - 1]} options=
+  COMPREPLY=()
+  if [ "$COMP_CWORD" -eq 1 ]; then
+    mapfile -t COMPREPLY < <(compgen -W 'batch check replay serve help --help --version' -- "$word")
+    return
+  fi
+  case $before in
+    --db)
+      compopt -o filenames
+      mapfile -t COMPREPLY < <(compgen -f -- "$word")
+      return
+      ;;
+    --listen)
+      mapfile -t COMPREPLY < <(compgen -W '127.0.0.1:7800' -- "$word")
+      return
+      ;;
+    --workers | --sessions | --idle) return ;;
+  esac
+  case ${COMP_WORDS[1]} in
+    batch) options='--force --db --verbose --help' ;;
+    check | replay) options=--help ;;
+    serve) options='--db --listen --workers --sessions --idle --help' ;;
+    help) options='batch check replay serve' ;;
+  esac
+  if [[ $word == -* || ${COMP_WORDS[1]} == help || ${COMP_WORDS[1]} == serve ]]; then
+    mapfile -t COMPREPLY < <(compgen -W "$options" -- "$word")
+  else
+    compopt -o filenames
+    mapfile -t COMPREPLY < <(compgen -f -- "$word")
+  fi
+}
+
+complete -F _prt prt

@@ -1,0 +1,41 @@
+# The package is made and unpacked, and its program runs the first script: as whoever runs this, and as a new user in a root
+# of its own, which has the package and the libraries that the program is linked with, and nothing else.
+top=$(dirname "$0")/../../..
+package=$("$top/package" --program "$1" .) || exit
+version=$("$1" --version | awk 'NR == 1 { print $2 }')
+echo "${package//"$version"/VERSION}"
+dpkg-deb --field "$package" Package Architecture
+dpkg-deb --extract "$package" root
+(cd root && find . -type f | sort)
+
+root/usr/bin/prt batch root/usr/share/doc/prt/examples/first-run.batch
+
+for library in $(ldd root/usr/bin/prt | grep -o '/[^ ]*'); do
+  install -D "$library" "root$library"
+done
+install -d -m 777 root/home
+in_root() {
+  if [ "$(id -u)" -eq 0 ]; then
+    chroot --userspec=12345:12345 --groups='' root "$@"
+  else
+    unshare --map-root-user chroot root "$@"
+  fi
+}
+chmod 755 root
+in_root /usr/bin/prt batch --db /home/first.db /usr/share/doc/prt/examples/first-run.batch
+echo 'route get 198.51.100.7' | in_root /usr/bin/prt batch --db /home/first.db
+[ "$(id -u)" -ne 0 ] || [ "$(stat -c %u root/home/first.db)" = 12345 ] || echo 'another user'
+
+# What the completion offers after these words.
+# shellcheck disable=SC1091
+source root/usr/share/bash-completion/completions/prt
+offered() {
+  COMP_WORDS=(prt "$@")
+  COMP_CWORD=$#
+  _prt 2>/dev/null
+  echo "${COMPREPLY[*]}"
+}
+offered b
+offered batch --
+offered serve ''
+offered replay root/usr/share/doc/prt/examples/g
