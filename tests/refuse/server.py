@@ -1,5 +1,6 @@
 """Refused memory in `prt serve` with one worker, while its one client sends the lines of a session."""
 
+import errno
 import re
 import socket
 import subprocess
@@ -14,13 +15,22 @@ LISTENING = re.compile(r"listening 127\.0\.0\.1:(\d+)\n")
 FAULT = re.compile(r"prt: (?:error )?(26 NoMemory|31 OpenFailed|listener failed)\n([^\n]+\n)?")
 
 
+def end_writing(connection):
+    """Ends the writing side of a connection, which is none any more where the server has reset it."""
+    try:
+        connection.shutdown(socket.SHUT_WR)
+    except OSError as fault:
+        if fault.errno != errno.ENOTCONN:
+            raise
+
+
 def converse(port, script):
     """The replies to a script; none where the connection is refused or breaks off."""
     parts = []
     try:
         with socket.create_connection(("127.0.0.1", port), PATIENCE) as end:
             end.sendall(script.encode())
-            end.shutdown(socket.SHUT_WR)
+            end_writing(end)
             while part := end.recv(65536):
                 parts.append(part)
     except ConnectionError:

@@ -34,18 +34,25 @@ fn refusal_after(alloc: Global, calls: u64) -> Option<Refusal> {
     refusal_in(alloc, Files { log, db })
 }
 
+/// What befalls the command in turn, as the log takes more and more calls before it fails.
+const IN_TURN: [Option<Refusal>; 5] = [
+    Some(Refusal::OpenFailed),
+    Some(Refusal::StoreFailed(StoreCall::Write)),
+    Some(Refusal::StoreFailed(StoreCall::Count)),
+    Some(Refusal::StoreFailed(StoreCall::Commit)),
+    None,
+];
+
 #[test]
 fn names_the_call_that_failed(rt: HostRuntime) {
-    for (calls, failed) in [
-        (75, Some(StoreCall::Write)),
-        (76, Some(StoreCall::Count)),
-        (78, Some(StoreCall::Commit)),
-        (83, None),
-    ] {
-        assert_eq!(rt;
-            refusal_after(rt.alloc(), calls),
-            failed.map(Refusal::StoreFailed),
-            "{calls}"
-        );
+    let mut in_turn = IN_TURN.iter();
+    let mut wanted = in_turn.next();
+    for calls in 0..150 {
+        let refusal = refusal_after(rt.alloc(), calls);
+        if wanted != Some(&refusal) {
+            wanted = in_turn.next();
+        }
+        assert_eq!(rt; wanted, Some(&refusal), "{calls}");
     }
+    assert!(rt; in_turn.next().is_none());
 }
