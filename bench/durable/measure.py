@@ -13,6 +13,7 @@ import time
 from pathlib import Path
 
 from routes import random_prefixes, route_line
+from spent import spent
 
 PROGRAM, TRANSACTIONS, FOLDER = sys.argv[1:]
 # How many lines a script has, and how often it is run: the least time counts.
@@ -30,17 +31,6 @@ PUT = """
 INSERT INTO route (tbl, net, len, metric, kind, via, dev, src, proto, scope) VALUES (?1, ?2, ?3, ?4, ?5, ?6, ?7, ?8, ?9, ?10)
 ON CONFLICT (tbl, net, len, metric) DO UPDATE SET kind = ?5, via = ?6, dev = ?7, src = ?8, proto = ?9, scope = ?10
 """
-
-
-def spent(words, given):
-    """The wall time and the processor time of one run in seconds, with this file as standard input."""
-    streams = [(os.POSIX_SPAWN_OPEN, 0, given, os.O_RDONLY, 0), (os.POSIX_SPAWN_OPEN, 1, "/dev/null", os.O_WRONLY, 0)]
-    start = time.monotonic()
-    _, status, usage = os.wait4(os.posix_spawn(words[0], words, {}, file_actions=streams), 0)
-    wall = time.monotonic() - start
-    if status:
-        sys.exit(f"{words} ended with status {status}")
-    return wall, usage.ru_utime + usage.ru_stime
 
 
 def new_file(folder):

@@ -55,7 +55,7 @@ pub fn new_files(alloc: Global, faults: Faults) -> Files<Faulty> {
 }
 
 /// Gives the files of a connection, closed as far as their disk allows it.
-fn closed<D: Disk + Drop>(connection: Connection<FileStore<D>>) -> Files<D> {
+pub fn closed<D: Disk + Drop>(connection: Connection<FileStore<D>>) -> Files<D> {
     match connection.close_files() {
         Ok(files) => files,
         Err((_, store)) => store.close(),
@@ -102,9 +102,15 @@ fn copied(alloc: Global, disk: &Faulty) -> io::Result<Memory> {
     Ok(copy)
 }
 
-/// Files that hold the bytes of these, and work.
-pub fn mended(alloc: Global, files: &Files<Faulty>) -> io::Result<Files<Faulty>> {
+/// Files that hold the bytes of these, with these faults.
+pub fn copies(alloc: Global, files: &Files<Faulty>, faults: Faults) -> io::Result<Files<Faulty>> {
     let log = copied(alloc, &files.log)?;
     let db = copied(alloc, &files.db)?;
-    Ok(files_with(log, db, Faults::NONE))
+    Ok(files_with(log, db, faults))
+}
+
+/// Tells how many calls of the log, and of the database's file, were made of files that fail nowhere.
+pub fn calls_made(files: &Files<Faulty>) -> (u64, u64) {
+    let made = |disk: &Faulty| u64::MAX - disk.calls_left();
+    (made(&files.log), made(&files.db))
 }

@@ -1,6 +1,6 @@
 //! A script over files of which each call in turn is the last that works, or the only one that fails.
 
-use crate::disks::{Faults, Faulty, mended, new_files, run_in};
+use crate::disks::{Faults, calls_made, copies, new_files, run_in};
 use prt_addr::StoreCall;
 use prt_session::{Refusal, ScriptEnd};
 use std::alloc::Global;
@@ -67,21 +67,40 @@ fn is_right_with<H: Wait + Copy + Drop>(
 ) -> Result<(bool, bool), Fail> {
     let (ran, files) = run_in(rt, alloc, new_files(alloc, faults), CHURN);
     let has_failed = files.log.has_failed() || files.db.has_failed();
-    let (again, _files) = run_in(rt, alloc, mended(alloc, &files)?, LISTINGS);
+    let (again, _files) = run_in(rt, alloc, copies(alloc, &files, Faults::NONE)?, LISTINGS);
     Ok((may_leave(&ran, again?.0.as_slice()), has_failed))
 }
 
 /// Tells how many calls of the log, and of the database's file, the script makes where none fails.
-fn calls_made<H: Wait + Copy + Drop>(rt: H, alloc: Global) -> (u64, u64) {
-    let (_ran, files) = run_in(rt, alloc, new_files(alloc, Faults::NONE), CHURN);
-    let made = |disk: &Faulty| u64::MAX - disk.calls_left();
-    (made(&files.log), made(&files.db))
+fn calls_of_script<H: Wait + Copy + Drop>(rt: H, alloc: Global) -> (u64, u64) {
+    calls_made(&run_in(rt, alloc, new_files(alloc, Faults::NONE), CHURN).1)
+}
+
+/// Tells whether the first command fails where the log takes so many calls, each later command is refused as closed, and
+/// the query is answered.
+fn answers_when_closed<H: Wait + Copy + Drop>(rt: H, alloc: Global, calls: u64) -> bool {
+    let faults = Faults {
+        log_stop: calls,
+        ..Faults::NONE
+    };
+    let (ran, _files) = run_in(rt, alloc, new_files(alloc, faults), CHURN);
+    match ran {
+        Ok((replies, _end)) => place_of(&REPLIES, replies.as_slice()) == Some(0),
+        Err(_) => false,
+    }
+}
+
+#[test]
+fn a_closed_desk_answers(rt: HostRuntime) {
+    let alloc = rt.alloc();
+    let (log, _db) = calls_of_script(rt, alloc);
+    assert!(rt; (0..log).any(|calls| answers_when_closed(rt, alloc, calls)));
 }
 
 #[test]
 fn stops_at_each_call(rt: HostRuntime) -> Result<(), Fail> {
     let alloc = rt.alloc();
-    let (log, db) = calls_made(rt, alloc);
+    let (log, db) = calls_of_script(rt, alloc);
     for calls in 0..=log.max(db) {
         let of_log = Faults {
             log_stop: calls,
@@ -106,7 +125,7 @@ fn stops_at_each_call(rt: HostRuntime) -> Result<(), Fail> {
 #[test]
 fn fails_once_at_each_call(rt: HostRuntime) -> Result<(), Fail> {
     let alloc = rt.alloc();
-    let (log, db) = calls_made(rt, alloc);
+    let (log, db) = calls_of_script(rt, alloc);
     for calls in 0..=log.max(db) {
         let of_log = Faults {
             log_failure: calls,

@@ -8,6 +8,8 @@ mod disks;
 #[cfg(test)]
 mod each_call;
 #[cfg(test)]
+mod migration;
+#[cfg(test)]
 mod reopened;
 #[cfg(test)]
 mod streams;
