@@ -2,8 +2,10 @@
 #![tactic(auto)]
 
 mod cell;
+#[cfg(test)]
+mod examples;
 mod meta;
-// mod reading;
+mod reading;
 mod reason;
 mod route;
 mod rows;
@@ -11,7 +13,7 @@ mod rule;
 mod schema;
 
 pub use meta::meta_fault;
-// pub use reading::rows_reason;
+pub use reading::rows_reason;
 pub use reason::{MetaFault, Reason, RowFault, Table};
 pub use route::route_fault;
 pub use rule::{length_fault, rule_fault};
