@@ -25,16 +25,16 @@ contains_mapped f xs x (k, low, is) = (k, subst (λ n. k < n) (sym (length-map x
 -- a row that was found is one that the table keeps
 kept : (Spells : Row → Type 0) (rows table : List Row) (id : ℤ) → IsPermutation table (map with_key_column rows) → HasBadRow Spells rows id → KeepsBadRow Spells with_key_column table id
 kept Spells rows table id same bad = record {
-  row = bad.row;
-  there = Contains-permutation (map with_key_column rows) table (with_key_column bad.row) (IsPermutation-sym _ _ same) (contains_mapped with_key_column rows bad.row bad.there);
+  cells = bad.cells;
+  there = Contains-permutation (map with_key_column rows) table (with_key_column bad.cells) (IsPermutation-sym _ _ same) (contains_mapped with_key_column rows bad.cells bad.there);
   named = bad.named;
   spells_none = bad.spells_none;
 }
 
 kept_route : (Spells : Row → Type 0) (rows table : List Row) (id : ℤ) → IsPermutation table rows → HasBadRow Spells rows id → KeepsBadRow Spells (λ row. row) table id
 kept_route Spells rows table id same bad = record {
-  row = bad.row;
-  there = Contains-permutation rows table bad.row (IsPermutation-sym _ _ same) bad.there;
+  cells = bad.cells;
+  there = Contains-permutation rows table bad.cells (IsPermutation-sym _ _ same) bad.there;
   named = bad.named;
   spells_none = bad.spells_none;
 }

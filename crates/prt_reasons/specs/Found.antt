@@ -5,7 +5,7 @@ use Rattle.sqlite_value.specs.declared.value.Value.TheVariants.{Int}
 
 -- a row of this rowid is among the rows, and spells nothing
 pub record HasBadRow (Spells : Row → Type 0) (rows : List Row) (id : ℤ) : Type 0 where
-  pub row : Row
-  pub there : Contains rows row
-  pub named : column row 0 ≡ Int id
-  pub spells_none : Spells row → ⊥
+  pub cells : Row
+  pub there : Contains rows cells
+  pub named : column cells 0 ≡ Int id
+  pub spells_none : Spells cells → ⊥

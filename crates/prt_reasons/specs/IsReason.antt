@@ -13,10 +13,10 @@ use Rattle.prt_reasons.specs.declared.reason.Table.TheVariants as ours
 
 -- the table keeps a row of this rowid, written so, that spells nothing
 pub record KeepsBadRow (Spells : Row → Type 0) (write : Row → Row) (table : List Row) (id : ℤ) : Type 0 where
-  pub row : Row
-  pub there : Contains table (write row)
-  pub named : column row 0 ≡ Int id
-  pub spells_none : Spells row → ⊥
+  pub cells : Row
+  pub there : Contains table (write cells)
+  pub named : column cells 0 ≡ Int id
+  pub spells_none : Spells cells → ⊥
 
 -- a row that it names is in its table, and spells nothing, where the greatest id is `last`
 abbrev pub NamesKeptRow : Database → ℕ → Reason → Type 0
