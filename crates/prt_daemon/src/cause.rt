@@ -1,15 +1,18 @@
 //! Why a database file failed.
 use prt_program::Refusal;
-use sqlite::Error as LibraryError;
+use prt_reasons::{Reason, columns_reason, rows_reason};
+use sqlite::{Connection, Error as LibraryError};
 use std::fs::{self, Files, OpenOptions};
 use std::io;
 use thiserror::Error;
 
-/// Why a database file failed: in the words of the system, or else in those of the library.
+/// Why a database file failed: in the words of the system, by what its tables have, or else in those of the library.
 #[derive(Debug, Drop, Error)]
 pub(crate) enum Cause {
     #[error("{0}")]
     System(io::Error),
+    #[error("{0}")]
+    Tables(Reason),
     #[error("{0}")]
     Library(LibraryError),
 }
@@ -38,21 +41,35 @@ fn system_reason<F: Files>(files: &F, path: &str) -> Option<io::Error> {
     }
 }
 
+/// Opens a file once more, and tells which of its columns, or else which of its rows, was refused so, if that is known.
+fn tables_reason(host: &HostRuntime, path: &str, refusal: Refusal) -> Option<Cause> {
+    let mut conn = match Connection::open(host, path) {
+        Ok(conn) => conn,
+        Err(error) => return Some(Cause::Library(error)),
+    };
+    let reason = match refusal {
+        Refusal::Damaged => rows_reason(&mut conn).ok()?,
+        _ => columns_reason(conn.schema()),
+    };
+    reason.map(Cause::Tables)
+}
+
 /// Tells why a database could not be opened, if that is known. The system is asked first, since the library says no more
-/// of a file than that it can't be opened.
-pub(crate) fn cause_of<F: Files>(
-    files: &F,
+/// of a file than that it can't be opened. Where both opened the file, its tables are looked at.
+pub(crate) fn cause_of(
+    host: &HostRuntime,
     path: &str,
     refusal: Refusal,
     error: Option<LibraryError>,
 ) -> Option<Cause> {
     if let Refusal::OpenFailed = refusal {
-        if let Some(reason) = system_reason(files, path) {
+        if let Some(reason) = system_reason(host, path) {
             return Some(Cause::System(reason));
         }
     }
-    match error {
-        Some(error) => Some(Cause::Library(error)),
-        None => None,
+    match (refusal, error) {
+        (_, Some(error)) => Some(Cause::Library(error)),
+        (Refusal::OpenFailed | Refusal::Damaged, None) => tables_reason(host, path, refusal),
+        _ => None,
     }
 }

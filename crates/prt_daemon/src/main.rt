@@ -68,6 +68,7 @@ fn main(rt: HostRuntime) -> ExitCode {
         Next::Exit(status) => status,
         Next::Serve(serving) => serve(
             &rt,
+            &rt,
             alloc,
             Connection::open(&rt, serving.database),
             &serving,

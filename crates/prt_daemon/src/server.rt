@@ -13,7 +13,6 @@ use sqlite::{Connection, Error, FileStore};
 use sqlite_disk::Disk;
 use std::alloc::Global;
 use std::fmt::Display;
-use std::fs::Files;
 use std::io::{self, Write};
 use std::marker::Brand;
 use std::net::{Net, SocketAddr, TcpListener, TcpStream};
@@ -105,7 +104,6 @@ pub(crate) fn serve<
     D: Disk + Drop + Send,
     H: Net<Listener = TcpListener, Stream = TcpStream>
         + Threads
-        + Files
         + Wait
         + Copy
         + Drop
@@ -115,6 +113,7 @@ pub(crate) fn serve<
     W: Write,
     E: Write,
 >(
+    host: &HostRuntime,
     rt: &H,
     alloc: Global,
     conn: Result<Connection<FileStore<D>>, Error>,
@@ -125,7 +124,7 @@ pub(crate) fn serve<
     let (publisher, domain) = match publisher_over(*rt, alloc, conn) {
         Ok(made) => made,
         Err((refusal, error)) => {
-            let cause = cause_of(rt, asked.database, refusal, error);
+            let cause = cause_of(host, asked.database, refusal, error);
             let cause = cause.as_ref().map(|cause| (&asked.database, cause));
             return report_fault(alloc, Fault::Opening(refusal), cause, output, errors);
         }

@@ -1,5 +1,6 @@
-# Rows that spell no state are refused, and stay as they are. Each stands alone in a database that has accepted one
-# command, `route add 10/8 dev eth0`; beside it stands a row without that fault, with which the database opens.
+# Rows that spell no state are refused, and stay as they are; under the refusal stands what is wrong. Each stands alone
+# in a database that has accepted one command, `route add 10/8 dev eth0`. Beside it stands a row without that fault, with
+# which the database opens.
 prt=$1
 
 # Opens a database in which these statements were run.
@@ -27,6 +28,7 @@ opened 'no count beside one rule' 'DELETE FROM route; DELETE FROM rule WHERE id 
 
 opened 'rule 4' "INSERT INTO rule VALUES (4, 5, 0, 167772160, 8, 0, 0, '', -1, -1, 1, 100)"
 opened 'rule 5' "INSERT INTO rule VALUES (5, 5, 0, 167772160, 8, 0, 0, '', -1, -1, 1, 100)"
+opened 'table beside a blackhole' "INSERT INTO rule VALUES (4, 5, 0, 167772160, 8, 0, 0, '', -1, -1, 6, 100)"
 opened 'source 10.0.0.1/8' "INSERT INTO rule VALUES (4, 5, 0, 167772161, 8, 0, 0, '', -1, -1, 1, 100)"
 opened 'mask without mark' "INSERT INTO rule VALUES (4, 5, 0, 167772160, 8, 0, 0, '', -1, 4294967295, 1, 100)"
 opened 'two equal rules' "INSERT INTO rule SELECT 4, $rule FROM rule WHERE id = 1"
@@ -42,6 +44,7 @@ opened 'length of a blackhole' "INSERT INTO rule VALUES (4, 5, 0, 0, 0, 0, 0, ''
 opened 'length of no rule' 'INSERT INTO suppress VALUES (9, 8)'
 
 opened 'route' "INSERT INTO route VALUES (254, 184549376, 8, 0, 1, -1, 'eth0', -1, 3, 253)"
+opened 'destination 11.0.0.1/8' "INSERT INTO route VALUES (254, 184549377, 8, 0, 1, -1, 'eth0', -1, 3, 253)"
 opened 'length 33' "INSERT INTO route VALUES (254, 184549376, 33, 0, 1, -1, 'eth0', -1, 3, 253)"
 opened 'table 0' "INSERT INTO route VALUES (0, 184549376, 8, 0, 1, -1, 'eth0', -1, 3, 253)"
 opened 'unicast without gateway and interface' "INSERT INTO route VALUES (254, 184549376, 8, 0, 1, -1, '', -1, 3, 253)"
@@ -53,3 +56,10 @@ opened 'a column fewer' 'DROP TABLE route;
   kind INTEGER NOT NULL, via INTEGER NOT NULL, dev TEXT NOT NULL, src INTEGER NOT NULL, proto INTEGER NOT NULL,
   PRIMARY KEY (tbl, net, len, metric)) STRICT'
 opened 'other columns' 'DROP TABLE route; CREATE TABLE route (tbl INTEGER NOT NULL) STRICT'
+opened 'a column more' 'DROP TABLE meta; CREATE TABLE meta (id INTEGER PRIMARY KEY NOT NULL, format INTEGER NOT NULL,
+  count INTEGER NOT NULL, note TEXT) STRICT'
+opened 'a CHECK' 'DROP TABLE meta; CREATE TABLE meta (id INTEGER PRIMARY KEY NOT NULL, format INTEGER NOT NULL,
+  count INTEGER NOT NULL CHECK (count > 0)) STRICT'
+
+# A server tells the same.
+"$prt" serve --db routes.db --listen 127.0.0.1:0 --sessions 1 2>&1

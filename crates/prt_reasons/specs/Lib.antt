@@ -1,0 +1,5 @@
+pub mod Spelling
+pub mod Found
+pub mod Explains
+pub mod Shows
+pub mod IsReason

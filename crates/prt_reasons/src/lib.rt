@@ -1,0 +1,20 @@
+//! Why a database is refused, for a person: the first row that spells nothing, or the table that has other columns.
+#![tactic(auto)]
+
+mod cell;
+#[cfg(test)]
+mod examples;
+mod meta;
+mod reading;
+mod reason;
+mod route;
+mod rows;
+mod rule;
+mod schema;
+
+pub use meta::meta_fault;
+pub use reading::rows_reason;
+pub use reason::{MetaFault, Reason, RowFault, Table};
+pub use route::route_fault;
+pub use rule::{length_fault, rule_fault};
+pub use schema::columns_reason;

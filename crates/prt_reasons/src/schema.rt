@@ -1,0 +1,141 @@
+//! Tables that have the name of one of the four and other columns.
+
+ghost use Rattle.std.specs.Prelude.{◌↔◌, IsNone};
+ghost use Rattle.prt_rows.specs.Format.{SuitsFormat2};
+
+use crate::{Reason, Table};
+use prt_rows::suits_format_2;
+use sqlite_schema::names::same_name;
+use sqlite_schema::schema::{Column, Kind, Schema, Table as Declared};
+use sqlite_value::keys::Collation;
+use sqlite_value::value::Value;
+
+/// The name and the type of each column of `rule`.
+const RULE: [(&str, Kind); 12] = [
+    ("id", Kind::Integer),
+    ("priority", Kind::Integer),
+    ("inverted", Kind::Integer),
+    ("src_net", Kind::Integer),
+    ("src_len", Kind::Integer),
+    ("dst_net", Kind::Integer),
+    ("dst_len", Kind::Integer),
+    ("iif", Kind::Text),
+    ("mark", Kind::Integer),
+    ("mask", Kind::Integer),
+    ("act", Kind::Integer),
+    ("tbl", Kind::Integer),
+];
+
+/// The same of `route`.
+const ROUTE: [(&str, Kind); 10] = [
+    ("tbl", Kind::Integer),
+    ("net", Kind::Integer),
+    ("len", Kind::Integer),
+    ("metric", Kind::Integer),
+    ("kind", Kind::Integer),
+    ("via", Kind::Integer),
+    ("dev", Kind::Text),
+    ("src", Kind::Integer),
+    ("proto", Kind::Integer),
+    ("scope", Kind::Integer),
+];
+
+/// The same of `meta`.
+const META: [(&str, Kind); 3] = [
+    ("id", Kind::Integer),
+    ("format", Kind::Integer),
+    ("count", Kind::Integer),
+];
+
+/// The same of `suppress`.
+const SUPPRESS: [(&str, Kind); 2] = [("rule", Kind::Integer), ("len", Kind::Integer)];
+
+/// Tells whether it is a column of this name and type of a STRICT table, and takes no NULL.
+fn is_column(column: &Column, name: &str, kind: Kind) -> bool {
+    column.name.as_slice() == name.as_bytes()
+        && column.kind == kind
+        && column.is_strict
+        && column.not_null
+        && matches!(column.default, Value::Null)
+        && column.collation == Collation::Binary
+}
+
+/// Tells whether the column at a place is the one of this name and type.
+fn has_column(columns: &[Column], at: usize, name: &str, kind: Kind) -> bool {
+    match columns.get(at) {
+        Some(column) => is_column(column, name, kind),
+        None => false,
+    }
+}
+
+/// Names the first column that is not as wanted.
+fn other_column(
+    table: Table,
+    columns: &[Column],
+    wanted: &[(&'static str, Kind)],
+) -> Option<Reason> {
+    for (at, column) in wanted.iter().enumerate() {
+        if !has_column(columns, at, column.0, column.1) {
+            return Some(Reason::Column(table, column.0));
+        }
+    }
+    if columns.len() > wanted.len() {
+        return Some(Reason::FurtherColumn(table, wanted.len() + 1));
+    }
+    None
+}
+
+/// Tells which of the four tables has this name, in whatever case of ASCII letters.
+fn table_named(name: &[u8]) -> Option<Table> {
+    if same_name(b"rule".as_slice(), name) {
+        return Some(Table::Rule);
+    }
+    if same_name(b"route".as_slice(), name) {
+        return Some(Table::Route);
+    }
+    if same_name(b"meta".as_slice(), name) {
+        return Some(Table::Meta);
+    }
+    if same_name(b"suppress".as_slice(), name) {
+        return Some(Table::Suppress);
+    }
+    None
+}
+
+/// Names the first column of a table that is not as in the table of the four that has its name.
+fn column_reason(declared: &Declared) -> Option<Reason> {
+    let columns = declared.columns.as_slice();
+    match table_named(declared.name.as_slice())? {
+        Table::Rule => other_column(Table::Rule, columns, &RULE),
+        Table::Route => other_column(Table::Route, columns, &ROUTE),
+        Table::Meta => other_column(Table::Meta, columns, &META),
+        Table::Suppress => other_column(Table::Suppress, columns, &SUPPRESS),
+    }
+}
+
+/// Names the first column of the tables that is not as in the table of the four that has its name.
+fn first_column(tables: &[Declared]) -> Option<Reason> {
+    for declared in tables {
+        let reason = column_reason(declared);
+        if reason.is_some() {
+            return reason;
+        }
+    }
+    None
+}
+
+/// Gives which table has the name of one of the four and other columns, keys or constraints, with the first column that
+/// is not as in format 2 (`docs/STORE.md`).
+///
+/// None where each table that has such a name is that one.
+pub fn columns_reason(schema: &Schema) -> Option<Reason>
+    ensures { IsNone result ↔ SuitsFormat2 schema.now }
+{
+    if suits_format_2(schema) {
+        return None;
+    }
+    match first_column(schema.tables.as_slice()) {
+        Some(reason) => Some(reason),
+        None => Some(Reason::Keys),
+    }
+}
