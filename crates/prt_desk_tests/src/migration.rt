@@ -50,7 +50,7 @@ fn is_migrated_with<H: Wait + Copy + Drop>(
     let (_ran, files) = run_in(rt, alloc, copies(alloc, former, faults)?, "");
     let (again, files) = run_in(rt, alloc, copies(alloc, &files, Faults::NONE)?, LISTINGS);
     let (rows, _files) = changed_in(alloc, files, "", "DELETE FROM meta WHERE format = 2")?;
-    Ok(again?.0.as_slice() == HELD && rows == 1)
+    Ok(again?.replies.as_slice() == HELD && rows == 1)
 }
 
 /// Files that hold those tables.

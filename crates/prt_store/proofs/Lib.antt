@@ -8,6 +8,7 @@ pub mod Nexts
 pub mod Calls
 pub mod Loads
 pub mod Transactions
+pub mod Failures
 pub mod Looks
 pub mod Filling
 pub mod Openings

@@ -38,7 +38,7 @@ stopped_in_write g old begun failed end was one two = subst (λ h. CommitsNothin
 
 module _ {S : Type 0} (g : Ghosts S) (made : Change) (number : ℕ) (old begun written : Held S) (first : Result ℕ Error) (was : begun ≡ begun_from old) (typed : IsTyped made) (fine : is_err first ≡ false)
     (writes : Works g (WritesRows g made) begun written first) where
-  wrote : HasCleanDisk (state g written) → Writes g made old written × IsTrue (state g written).in_transaction
+  pub wrote : HasCleanDisk (state g written) → Writes g made old written × IsTrue (state g written).in_transaction
   wrote clean =
       let did = of_ok first fine (writes.done clean (rw was)) in
       ((typed, subst (λ h. WritesRows g made h written × CommitsNothing g h written) was (did.0, writes.quiet)), did.1)
@@ -56,7 +56,7 @@ module _ {S : Type 0} (g : Ghosts S) (made : Change) (number : ℕ) (old begun w
     clean_written : HasCleanDisk (state g written)
     clean_written = omega (arith, quiet_too.clean, clean_counted)
 
-    counted_too : Counts g number written counted
+    pub counted_too : Counts g number written counted
     counted_too = (ran_inside g set_count (count_values number) written counted second fine_too counts quiet_too clean_counted (wrote clean_written).1).0
 
     pub stopped_in_commit : StoppedIn g made number old Commit end

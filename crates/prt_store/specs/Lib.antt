@@ -8,3 +8,4 @@ pub mod Adopted
 pub mod Openings
 pub mod Exits
 pub mod Stops
+pub mod Failures

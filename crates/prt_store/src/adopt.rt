@@ -63,7 +63,10 @@ impl<S: Alter + Drop> Store<S> {
             Survives (state S.Store conn) (state S.Store refused.1) (LeavesPart (state S.Store conn).now)) }
     {
         match open_tables(&mut conn) {
-            Ok(()) => Ok(Store { conn }),
+            Ok(()) => Ok(Store {
+                conn,
+                failure: None,
+            }),
             Err(reason) => Err((reason, conn)),
         }
     }

@@ -1,11 +1,12 @@
 //! One change in one transaction.
 
-ghost use Rattle.std.specs.Prelude.{◌≡◌, ◌↔◌, ◌≤◌, ◌<◌, ◌^◌, Err, IfErr, IsTrue, OnErr, OnOk};
+ghost use Rattle.std.specs.Prelude.{◌≡◌, ◌↔◌, ◌≤◌, ◌<◌, ◌^◌, Err, IfErr, IsTrue, None, OnErr, OnOk};
 ghost use Rattle.sqlite.specs.Held.{state};
 ghost use Rattle.sqlite.specs.State.{HasCleanDisk, Survives};
 ghost use Rattle.prt_rows.specs.RuleRow.{IsRule, rule_row};
 ghost use Rattle.prt_rows.specs.Statements.{insert_rule};
 ghost use Rattle.prt_store.specs.Adopted.{IsSettled};
+ghost use Rattle.prt_store.specs.Failures.{FailsFor, FailsInside, RefusesRows, RefusesWith};
 ghost use Rattle.prt_store.specs.Lengths.{length_of, plain};
 ghost use Rattle.prt_store.specs.Made.{MakesChange, RunsWith, WritesRows};
 ghost use Rattle.prt_store.specs.Openings.{HasDone, HasLeft, Works};
@@ -28,12 +29,15 @@ fn add_rule<S: Alter>(tx: &mut Transaction<'_, S>, rule: &Rule) -> Result<usize,
     requires { rule.now.id < 2 ^ 63 }
     ensures same_reference { tx.new.conn.ghost_name ≡ tx.old.conn.ghost_name }
     ensures works { Works S.Store (RunsWith S.Store insert_rule (rule_row rule.now) (length_of rule.now)) tx.old.conn.now tx.new.conn.now result }
+    ensures fails { FailsInside S.Store (RefusesWith S.Store insert_rule (rule_row rule.now) (length_of rule.now)) tx.old.conn.now tx.new.conn.now result }
     ensures typed { 1 ≤ rule.now.id → IsRule rule.now.id (plain rule.now) }
 {
     let Some(len) = rule.suppress else {
         return insert_rule(tx, rule);
     };
-    insert_rule(tx, rule)?;
+    if let Err(error) = insert_rule(tx, rule) {
+        return Err(error);
+    }
     insert_length(tx, &RuleLength { rule: rule.id, len })
 }
 
@@ -41,6 +45,7 @@ fn add_rule<S: Alter>(tx: &mut Transaction<'_, S>, rule: &Rule) -> Result<usize,
 fn edit_routes<S: Alter>(tx: &mut Transaction<'_, S>, edit: &RouteEdit) -> Result<usize, Error>
     ensures same_reference { tx.new.conn.ghost_name ≡ tx.old.conn.ghost_name }
     ensures works { Works S.Store (WritesRows S.Store (Change.Route edit.now)) tx.old.conn.now tx.new.conn.now result }
+    ensures fails { FailsInside S.Store (RefusesRows S.Store (Change.Route edit.now)) tx.old.conn.now tx.new.conn.now result }
     ensures typed { IsTyped (Change.Route edit.now) }
 {
     match edit {
@@ -55,6 +60,7 @@ fn write<S: Alter>(tx: &mut Transaction<'_, S>, change: &Change) -> Result<usize
     requires { HasStorableIds change.now }
     ensures same_reference { tx.new.conn.ghost_name ≡ tx.old.conn.ghost_name }
     ensures works { Works S.Store (WritesRows S.Store change.now) tx.old.conn.now tx.new.conn.now result }
+    ensures fails { FailsInside S.Store (RefusesRows S.Store change.now) tx.old.conn.now tx.new.conn.now result }
     ensures typed { IsTyped change.now }
 {
     match change {
@@ -65,7 +71,8 @@ fn write<S: Alter>(tx: &mut Transaction<'_, S>, change: &Change) -> Result<usize
     }
 }
 
-/// Makes the change and sets the count in one transaction: begin, write, count, commit.
+/// Makes the change and sets the count in one transaction: begin, write, count, commit. Keeps the library's error in
+/// `failure`, where one of its calls fails.
 ///
 /// # Errors
 ///
@@ -74,6 +81,7 @@ pub(crate) fn make_change<S: Alter>(
     conn: &mut Connection<S>,
     change: &Change,
     number: u64,
+    failure: &mut Option<Error>,
 ) -> Result<(), StoreCall>
     requires ids { HasStorableIds change.now }
     requires number { number < 2 ^ 63 }
@@ -88,18 +96,24 @@ pub(crate) fn make_change<S: Alter>(
         (λ trees. (call ≡ StoreCall.Commit) × IsTyped change.now × HasLeft S.Store (MakesChange S.Store change.now number) conn.old trees)) }
     ensures calls { HasCleanDisk (state S.Store conn.new) → OnOk result (MakesCalls S.Store change.now number conn.old conn.new) }
     ensures stopped { HasCleanDisk (state S.Store conn.new) → IfErr result (λ call. StoppedIn S.Store change.now number conn.old call conn.new) }
+    ensures unfailed { OnOk result (failure.new ≡ None) }
+    ensures failure { IfErr result (λ call. FailsFor S.Store change.now number conn.old call conn.new failure.new) }
 {
+    *failure = None;
     if !conn.is_autocommit() {
         return Err(StoreCall::Begin);
     }
     let mut tx = conn.transaction();
-    if write(&mut tx, change).is_err() {
+    if let Err(error) = write(&mut tx, change) {
+        *failure = Some(error);
         return Err(StoreCall::Write);
     }
-    if set_count(&mut tx, number).is_err() {
+    if let Err(error) = set_count(&mut tx, number) {
+        *failure = Some(error);
         return Err(StoreCall::Count);
     }
-    if tx.commit().is_err() {
+    if let Err(error) = tx.commit() {
+        *failure = Some(error);
         return Err(StoreCall::Commit);
     }
     Ok(())

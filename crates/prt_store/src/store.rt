@@ -1,6 +1,6 @@
 //! The store as a type.
 
-ghost use Rattle.std.specs.Prelude.{◌≡◌, ◌⊎◌, ◌↔◌, IfErr, IfOk, IsTrue, OnErr, OnOk, Err};
+ghost use Rattle.std.specs.Prelude.{◌≡◌, ◌⊎◌, ◌↔◌, IfErr, IfOk, IsTrue, None, OnErr, OnOk, Err};
 ghost use Rattle.sqlite.specs.Effect.{IsDatabase};
 ghost use Rattle.sqlite.specs.Held.{state};
 ghost use Rattle.sqlite.specs.State.{HasCleanDisk, IsUnchanged};
@@ -14,6 +14,7 @@ ghost use Rattle.prt_version.specs.State.{State};
 ghost use Rattle.prt_rows.specs.Format.{IsFormat2};
 ghost use Rattle.prt_store.specs.Adopted.{IsSettled};
 ghost use Rattle.prt_store.specs.Exits.{IsStored, MayLeave};
+ghost use Rattle.prt_store.specs.Failures.{FailsFor};
 ghost use Rattle.prt_store.specs.Loaded.{StaysSettled};
 ghost use Rattle.prt_store.specs.Made.{MakesChange};
 ghost use Rattle.prt_store.specs.Next.{IsNext, MakesNext};
@@ -26,7 +27,7 @@ use crate::commit::make_change;
 use crate::load::load;
 use prt_addr::Refusal;
 use prt_version::{Change, Version};
-use sqlite::{Alter, Connection};
+use sqlite::{Alter, Connection, Error};
 use std::alloc::Global;
 
 /// Says that the command of this number was committed. A commit alone makes one.
@@ -48,9 +49,18 @@ impl Stamp {
 #[derive(Drop)]
 pub struct Store<S: Alter + Drop> {
     pub(crate) conn: Connection<S>,
+    /// Why the library failed the last commit, if it did.
+    pub(crate) failure: Option<Error>,
 }
 
 impl<S: Alter + Drop> Store<S> {
+    /// Gives the library's error of the last commit, if one of its calls failed that.
+    pub fn failure(&self) -> Option<Error>
+        ensures { result ≡ self.now.failure }
+    {
+        self.failure
+    }
+
     /// Gives the connection, with its tables as they are.
     pub fn release(self) -> Connection<S>
         ensures { result ≡ self.conn }
@@ -95,7 +105,7 @@ impl<S: Alter + Drop> Store<S> {
     /// `StoreFailed` names the call that failed: `Begin` where the connection is in a transaction, and nowhere else;
     /// `Count` only after the change was written, `Commit` only after the count was set too. The tables are as they
     /// were, if the connection is still open; a crash leaves what it could leave before or, only where the commit
-    /// failed, possibly what it leaves after `Ok`.
+    /// failed, possibly what it leaves after `Ok`. `failure` then gives the library's error.
     pub fn commit(&mut self, change: &Change, number: u64) -> Result<Stamp, Refusal>
         requires { (before : State) × IsNext before change.now number }
         ensures stamp { IfOk result (λ stamp. stamp.number ≡ number) }
@@ -124,8 +134,10 @@ impl<S: Alter + Drop> Store<S> {
         ensures left { HasCleanDisk (state S.Store self.new.conn) → IfErr result (λ reason. (before : State) → IsNext before change.now number →
             IsStored S.Store self.old.conn before → (left : State) → MayLeave S.Store self.new.conn left →
             (left ≡ before) ⊎ ((reason ≡ StoreFailed Commit) × (left ≡ put before change.now))) }
+        ensures unfailed { OnOk result (self.new.failure ≡ None) }
+        ensures failure { (call : FailedCall) → result ≡ Err (StoreFailed call) → FailsFor S.Store change.now number self.old.conn call self.new.conn self.new.failure }
     {
-        match make_change(&mut self.conn, change, number) {
+        match make_change(&mut self.conn, change, number, &mut self.failure) {
             Ok(()) => Ok(Stamp { number }),
             Err(call) => Err(Refusal::StoreFailed(call)),
         }

@@ -3,6 +3,7 @@ use Rattle.prt_rows.specs.Kept.{id_values}
 use Rattle.prt_rows.specs.Statements.{delete_rule, flush_rules}
 use Rattle.prt_version.specs.declared.change.Change.{Change}
 use Rattle.prt_store.proofs.Transactions.{statement_works}
+use Rattle.prt_store.specs.Failures.{FailsInside, RefusesRows}
 use Rattle.prt_store.specs.Made.{WritesRows}
 use Rattle.prt_store.specs.Openings.{Works}
 use Rattle.prt_store.specs.Written.{IsTyped}
@@ -29,3 +30,6 @@ returns-in-Route-clause-typed g c = subst IsTyped (sym c.in-Route.is) c.edit_rou
 
 pub returns-in-RulePut-clause-typed : goal.returns-in-RulePut-clause-typed
 returns-in-RulePut-clause-typed g c = subst IsTyped (sym c.in-RulePut.is) c.add_rule.ensures.typed
+
+pub returns-in-RulePut-clause-fails : goal.returns-in-RulePut-clause-fails
+returns-in-RulePut-clause-fails g c = subst (λ (made : Change). FailsInside g.S.Store (RefusesRows g.S.Store made) c.args.tx.now.conn.now c.add_rule.new.tx.conn.now c.add_rule.result) (sym c.in-RulePut.is) c.add_rule.ensures.fails

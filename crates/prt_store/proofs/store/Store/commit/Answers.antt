@@ -7,6 +7,7 @@ use Rattle.prt_version.specs.Change.{put}
 use Rattle.prt_store.proofs.Calls.{makes_next}
 use Rattle.prt_store.proofs.Exits.{either_left, stored_after}
 use Rattle.prt_store.proofs.Nexts.{small_ids, small_number}
+use Rattle.prt_store.specs.Failures.{FailsFor}
 use Rattle.prt_store.specs.Next.{MakesNext}
 use Rattle.prt_store.specs.Stops.{StoppedIn}
 use Rattle.prt_store.proofs.store.Store.commit.Goals as goal
@@ -32,6 +33,11 @@ pub returns-in-Err-clause-stopped : goal.returns-in-Err-clause-stopped
 returns-in-Err-clause-stopped g c clean call is =
     let same : c.in-Err.call ≡ call = cc in
     subst (λ (failed : StoreCall). StoppedIn g.S.Store c.args.change.now c.args.number c.args.self.now.conn failed c.make_change.new.conn) same (c.in-Err.ensures.stopped clean)
+
+pub returns-in-Err-clause-failure : goal.returns-in-Err-clause-failure
+returns-in-Err-clause-failure g c call is =
+    let same : c.in-Err.call ≡ call = cc in
+    subst (λ (failed : StoreCall). FailsFor g.S.Store c.args.change.now c.args.number c.args.self.now.conn failed c.make_change.new.conn c.make_change.new.failure) same c.in-Err.ensures.failure
 
 pub returns-in-Ok-clause-settled : goal.returns-in-Ok-clause-settled
 returns-in-Ok-clause-settled g c clean = (c.in-Ok.ensures.ok clean).2
