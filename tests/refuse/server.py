@@ -7,8 +7,8 @@ import subprocess
 import tempfile
 
 import model
-from attempts import (PATIENCE, PROGRAM, Ended, Wrong, environment, look_into, places_of, sessions, show, sweep,
-                      told_in)
+from attempts import (PATIENCE, PROGRAM, Ended, Wrong, environment, is_told, look_into, places_of, sessions, show,
+                      sweep, told_in)
 
 LISTENING = re.compile(r"listening 127\.0\.0\.1:(\d+)\n")
 # What is told where nothing is served, or the one connection can't be; under it may stand a place with the reason.
@@ -59,7 +59,7 @@ def met_by(is_listening, ended, allowed):
     if fault and ended.status == 3 and not ended.replies:
         place = "after it listens" if is_listening else "at the opening"
         return f"{fault[1].removeprefix('26 ').removeprefix('31 ')} {place}", [model.State()]
-    if (ended.status, ended.errors) != (0, "") or not is_listening:
+    if ended.status != 0 or not is_told(ended) or not is_listening:
         raise Wrong(show(ended))
     if not ended.replies:
         return "a connection closed without a reply", [model.State()]
