@@ -40,6 +40,13 @@ impl<'a, H: Wait + Copy + Drop> Databases for DatabaseFiles<'a, H> {
         }
     }
 
+    fn failure(&self, desk: &StoreDesk<FileStore<File>, H>) -> Option<Cause> {
+        match desk.failure() {
+            Some(error) => Some(Cause::Library(error)),
+            None => None,
+        }
+    }
+
     fn close(&mut self, desk: StoreDesk<FileStore<File>, H>) -> Result<(), Cause> {
         match desk.close() {
             Ok(()) => Ok(()),

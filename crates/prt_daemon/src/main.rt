@@ -4,6 +4,7 @@
 mod cause;
 mod files;
 mod server;
+mod telling;
 
 use files::DatabaseFiles;
 use prt_program::{Next, Noting, cause_message, program};
@@ -72,7 +73,7 @@ fn main(rt: HostRuntime) -> ExitCode {
             Connection::open(&rt, serving.database),
             &serving,
             &mut output,
-            &mut errors,
+            errors,
         ),
     };
     ExitCode::from(status)

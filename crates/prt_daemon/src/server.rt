@@ -3,10 +3,11 @@ ghost use Rattle.std.specs.Prelude.{◌≡◌};
 ghost use Rattle.prt_publisher.specs.Standing.{IsQuiet};
 
 use crate::cause::cause_of;
+use crate::telling::Telling;
 use prt_grace::Domain;
 use prt_program::{cause_message, log_message};
 use prt_publisher::{Publisher, publisher_over};
-use prt_serve::{Accepting, Limits, OpenGate, serve_all};
+use prt_serve::{Accepting, Limits, serve_all};
 use prt_service::{Naming, Service};
 use prt_words::{DONE, Fault, Serving, report};
 use sqlite::{Connection, Error, FileStore};
@@ -17,7 +18,7 @@ use std::fs::Files;
 use std::io::{self, Write};
 use std::marker::Brand;
 use std::net::{Net, SocketAddr, TcpListener, TcpStream};
-use std::sync::Wait;
+use std::sync::{Mutex, Wait};
 use std::thread::Threads;
 use std::time::Duration;
 
@@ -69,25 +70,44 @@ struct Served {
     closed: Result<(), Error>,
 }
 
-/// Serves what a listener accepts, by a service that is named here, and closes the database at the end.
+/// Gives how much is to be served.
+fn limits_of(asked: &Serving<'_>) -> Limits {
+    Limits {
+        workers: asked.workers as usize,
+        sessions: asked.sessions,
+        idle: idle_of(asked.idle),
+    }
+}
+
+/// Serves what a listener accepts, by a service that is named here, and closes the database at the end. Tells on `errors`
+/// why a commit failed.
 fn serve_named<
     J: Naming + Send,
     D: Disk + Drop + Send,
     H: Net<Listener = TcpListener, Stream = TcpStream> + Threads + Wait + Sync,
     R: Wait + Drop + Send,
+    E: Write + Drop + Send,
 >(
     rt: &H,
     alloc: Global,
     publisher: Publisher<FileStore<D>, R>,
     domain: Domain,
     listener: &TcpListener,
-    limits: Limits,
+    asked: &Serving<'_>,
+    errors: &Mutex<E>,
 ) -> Served
     requires quiet { IsQuiet publisher.phase }
     requires of { (publisher.line.book ≡ J.book) × (publisher.line.base ≡ J.base) }
 {
     let service: Service<FileStore<D>, R, J> = Service::new(publisher, domain);
-    let end = serve_all(rt, alloc, &service, &OpenGate, listener, limits);
+    let telling = Telling {
+        rt,
+        alloc,
+        service: &service,
+        path: asked.database,
+        errors,
+    };
+    let end = serve_all(rt, alloc, &service, &telling, listener, limits_of(asked));
     let closed = service.release().close();
     let fault = match (end.accepting, end.refused) {
         (Accepting::Failed, _) => Some(Fault::Listener),
@@ -113,43 +133,42 @@ pub(crate) fn serve<
         + Sync
         + 'static,
     W: Write,
-    E: Write,
+    E: Write + Drop + Send,
 >(
     rt: &H,
     alloc: Global,
     conn: Result<Connection<FileStore<D>>, Error>,
     asked: &Serving<'_>,
     output: &mut W,
-    errors: &mut E,
+    mut errors: E,
 ) -> u8 {
     let (publisher, domain) = match publisher_over(*rt, alloc, conn) {
         Ok(made) => made,
         Err((refusal, error)) => {
             let cause = cause_of(rt, asked.database, refusal, error);
             let cause = cause.as_ref().map(|cause| (&asked.database, cause));
-            return report_fault(alloc, Fault::Opening(refusal), cause, output, errors);
+            return report_fault(alloc, Fault::Opening(refusal), cause, output, &mut errors);
         }
     };
     let listener = match listen(rt, asked, output) {
         Ok(listener) => listener,
         Err(error) => {
             let cause = Some((&asked.listen, &error));
-            return report_fault(alloc, Fault::Listener, cause, output, errors);
+            return report_fault(alloc, Fault::Listener, cause, output, &mut errors);
         }
     };
-    let limits = Limits {
-        workers: asked.workers as usize,
-        sessions: asked.sessions,
-        idle: idle_of(asked.idle),
-    };
-    let served = serve_named::<Brand, _, _, _>(rt, alloc, publisher, domain, &listener, limits);
+    let errors = Mutex::new(errors);
+    let served = serve_named::<Brand, _, _, _, _>(
+        rt, alloc, publisher, domain, &listener, asked, &errors,
+    );
+    let mut errors = errors.into_inner();
     if let Err(reason) = &served.closed {
         if let Ok(message) = log_message(alloc, asked.database, reason) {
             let _ = errors.write_all(message.as_bytes());
         }
     }
     match &served.fault {
-        Some(fault) => report(fault, output, errors),
+        Some(fault) => report(fault, output, &mut errors),
         None => DONE,
     }
 }

@@ -17,7 +17,7 @@ use prt_grace::Domain;
 use prt_listing::query_text;
 use prt_publisher::{Phase, Publisher};
 use prt_session::{Command, Desk, Observer, OnRefusal, Query, Refusal, ScriptEnd, run_script};
-use sqlite::{Alter, Connection};
+use sqlite::{Alter, Connection, Error};
 use std::alloc::Global;
 use std::io::{Read, Write};
 use std::marker::Model;
@@ -74,6 +74,11 @@ impl<S: Alter + Drop, H: Wait + Drop> StoreDesk<S, H> {
             | Phase::Committed
             | Phase::Published => false,
         }
+    }
+
+    /// Gives the library's error of the commit that closed it, if one did.
+    pub fn failure(&self) -> Option<Error> {
+        self.publisher.failure()
     }
 
     /// Gives the connection back, with its tables as they are.

@@ -4,7 +4,7 @@ use crate::desks::run;
 use prt_desk::StoreDesk;
 use prt_fault_disks::FailOnce;
 use prt_session::{Refusal, ScriptEnd};
-use sqlite::{Connection, FileStore, Files, Options};
+use sqlite::{Connection, Error, FileStore, Files, Options};
 use sqlite_disk::{Disk, Fuse, Memory};
 use std::alloc::Global;
 use std::io;
@@ -41,6 +41,15 @@ impl Faults {
     };
 }
 
+/// How a script ran over a database.
+#[derive(Drop)]
+pub struct Ran {
+    pub replies: Vec<u8>,
+    pub end: ScriptEnd,
+    /// What the desk then gives as the error of the commit that closed it.
+    pub failure: Option<Error>,
+}
+
 /// Files of these contents, with these faults.
 fn files_with(log: Memory, db: Memory, faults: Faults) -> Files<Faulty> {
     Files {
@@ -62,17 +71,22 @@ fn closed<D: Disk + Drop>(connection: Connection<FileStore<D>>) -> Files<D> {
     }
 }
 
-/// Runs a script over the database of a connection. Gives the replies and how it ended, or why no desk was made; and the
-/// files.
+/// Runs a script over the database of a connection. Gives how it ran, or why no desk was made; and the files.
 fn run_over<D: Disk + Drop, H: Wait + Copy + Drop>(
     rt: H,
     alloc: Global,
     connection: Connection<FileStore<D>>,
     script: &str,
-) -> (Result<(Vec<u8>, ScriptEnd), Refusal>, Files<D>) {
+) -> (Result<Ran, Refusal>, Files<D>) {
     match StoreDesk::open(rt, alloc, connection) {
         Ok(mut desk) => {
-            let ran = run(alloc, &mut desk, script);
+            let (replies, end) = run(alloc, &mut desk, script);
+            let failure = desk.failure();
+            let ran = Ran {
+                replies,
+                end,
+                failure,
+            };
             (Ok(ran), closed(desk.release()))
         }
         Err((reason, connection)) => (Err(reason), closed(connection)),
@@ -85,7 +99,7 @@ pub fn run_in<D: Disk + Drop, H: Wait + Copy + Drop>(
     alloc: Global,
     files: Files<D>,
     script: &str,
-) -> (Result<(Vec<u8>, ScriptEnd), Refusal>, Files<D>) {
+) -> (Result<Ran, Refusal>, Files<D>) {
     if !files.may_be_used() {
         return (Err(Refusal::OpenFailed), files);
     }

@@ -1,8 +1,8 @@
 //! A script over files of which each call in turn is the last that works, or the only one that fails.
 
-use crate::disks::{Faults, Faulty, mended, new_files, run_in};
+use crate::disks::{Faults, Faulty, Ran, mended, new_files, run_in};
 use prt_addr::StoreCall;
-use prt_session::{Refusal, ScriptEnd};
+use prt_session::Refusal;
 use std::alloc::Global;
 use std::sync::Wait;
 use std::test::Fail;
@@ -39,27 +39,38 @@ fn place_of(texts: &[&str; 6], text: &[u8]) -> Option<usize> {
     texts.iter().position(|other| other.as_bytes() == text)
 }
 
+/// Tells whether a desk gave the library's error where a commit failed, and nowhere else.
+fn is_told(ran: &Result<Ran, Refusal>) -> bool {
+    match ran {
+        Ok(ran) => {
+            let has_failed = matches!(ran.end.fault, Some(Refusal::StoreFailed(_)));
+            ran.failure.is_some() == has_failed
+        }
+        Err(_) => true,
+    }
+}
+
 /// Tells whether a run may have left what its files hold: nothing where it wasn't opened; otherwise the commands that
 /// were acknowledged, and one more only where the call that commits it failed.
-fn may_leave(ran: &Result<(Vec<u8>, ScriptEnd), Refusal>, held: &[u8]) -> bool {
+fn may_leave(ran: &Result<Ran, Refusal>, held: &[u8]) -> bool {
     let Some(stored) = place_of(&HELD, held) else {
         return false;
     };
     match ran {
         Err(reason) => *reason == Refusal::OpenFailed && stored == 0,
-        Ok((replies, end)) => match place_of(&REPLIES, replies.as_slice()) {
+        Ok(ran) => match place_of(&REPLIES, ran.replies.as_slice()) {
             None => false,
             Some(acknowledged) if stored == acknowledged => true,
             Some(acknowledged) => {
                 stored == acknowledged.saturating_add(1)
-                    && end.fault == Some(Refusal::StoreFailed(StoreCall::Commit))
+                    && ran.end.fault == Some(Refusal::StoreFailed(StoreCall::Commit))
             }
         },
     }
 }
 
-/// Runs the script over new files with these faults. Tells whether they hold what it may have left once they work again,
-/// and whether a call failed that was to fail alone.
+/// Runs the script over new files with these faults. Tells whether the error of a failed commit was given and the files
+/// hold what it may have left once they work again, and whether a call failed that was to fail alone.
 fn is_right_with<H: Wait + Copy + Drop>(
     rt: H,
     alloc: Global,
@@ -68,7 +79,8 @@ fn is_right_with<H: Wait + Copy + Drop>(
     let (ran, files) = run_in(rt, alloc, new_files(alloc, faults), CHURN);
     let has_failed = files.log.has_failed() || files.db.has_failed();
     let (again, _files) = run_in(rt, alloc, mended(alloc, &files)?, LISTINGS);
-    Ok((may_leave(&ran, again?.0.as_slice()), has_failed))
+    let is_right = is_told(&ran) && may_leave(&ran, again?.replies.as_slice());
+    Ok((is_right, has_failed))
 }
 
 /// Tells how many calls of the log, and of the database's file, the script makes where none fails.

@@ -16,7 +16,7 @@ pub trait Databases {
     /// A desk over an open database.
     type Opened: Desk + Drop;
 
-    /// The error of a file that could not be opened or closed.
+    /// The error of a file that could not be opened, written or closed.
     type Error: Display + Drop;
 
     /// The states that the database at a path may hold.
@@ -43,6 +43,9 @@ pub trait Databases {
         ensures opened { IfOk result (λ desk. (opened : State) × holds self.old path.now opened × IsOpenOn Self.Opened.stands desk opened) }
         ensures opens { IfOk result (λ desk. opens self.old self.new path.now desk) }
         ensures reason { IfErr result (λ refused. IsOpenRefusal refused.0) };
+
+    /// Gives the error that failed a commit of an open database, if one failed: it is closed to commands since then.
+    fn failure(&self, desk: &Self::Opened) -> Option<Self::Error>;
 
     /// Closes a database, so that its file alone has all of it.
     ///

@@ -166,7 +166,8 @@ fn progress_message(alloc: Global, lines: u64, rate: u64) -> Result<String, Allo
     format!(in alloc; "{lines}, {rate} a second")
 }
 
-/// Makes the message of why a path, or a place to listen at, could not be opened, in the words of what refused it.
+/// Makes the message of why a path, or a place to listen at, could not be opened or failed later, in the words of what
+/// refused it.
 ///
 /// # Errors
 ///
@@ -309,6 +310,14 @@ impl<'a, E: Write + Drop, K: Clock + Drop> Messages<'a, E, K> {
         if let Some(error) = stream.error() {
             self.wipe();
             self.write(cause_message(self.alloc, &file, error));
+        }
+    }
+
+    /// Tells why a commit to the database at a path failed, if one did.
+    pub(crate) fn tell_commit<D: Display>(&mut self, path: &str, failure: &Option<D>) {
+        if let Some(reason) = failure {
+            self.wipe();
+            self.write(cause_message(self.alloc, &path, reason));
         }
     }
 

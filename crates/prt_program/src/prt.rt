@@ -115,6 +115,7 @@ fn run_batch<H: Host, R: Read + Drop>(
         Some(path) => {
             let mut desk = open_database(alloc, around.databases, path, messages)?;
             let status = run_over(alloc, &mut desk, &mut reader, around.output, mode, messages);
+            messages.tell_commit(path, &around.databases.failure(&desk));
             let closed = around.databases.close(desk);
             messages.tell_closing(path, &closed);
             Ok(status)

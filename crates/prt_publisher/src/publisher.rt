@@ -27,7 +27,7 @@ use prt_front::Front;
 use prt_grace::{Domain, Keeper, Registry};
 use prt_store::{Stamp, Store};
 use prt_version::{Change, Version};
-use sqlite::{Alter, Connection};
+use sqlite::{Alter, Connection, Error};
 use std::alloc::Global;
 use std::marker::Model;
 use std::mem;
@@ -176,6 +176,11 @@ impl<S: Alter + Drop, R: Wait + Drop> Publisher<S, R> {
         ensures same { self.new ≡ self.old }
     {
         self.seats.all(alloc)
+    }
+
+    /// Gives the library's error of the commit that closed it, if one did.
+    pub fn failure(&self) -> Option<Error> {
+        self.store.failure()
     }
 
     /// Gives the connection back, with its tables as they are.

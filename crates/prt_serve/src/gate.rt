@@ -8,8 +8,8 @@ pub trait Gate {
     /// Comes before a line is executed.
     fn before(&self, session: u64, line: u64);
 
-    /// Comes once the line was replied to, or once that failed.
-    fn after(&self, session: u64, line: u64);
+    /// Comes once this reply to the line was written, or once that failed.
+    fn after(&self, session: u64, line: u64, reply: &Reply);
 }
 
 /// Lets every line pass.
@@ -19,7 +19,7 @@ pub struct OpenGate;
 impl Gate for OpenGate {
     fn before(&self, _session: u64, _line: u64) {}
 
-    fn after(&self, _session: u64, _line: u64) {}
+    fn after(&self, _session: u64, _line: u64, _reply: &Reply) {}
 }
 
 /// The gate, as the observer of one session.
@@ -34,7 +34,7 @@ impl<'a, G: Gate> Observer for Gated<'a, G> {
         self.gate.before(self.session, line);
     }
 
-    fn after(&mut self, line: u64, _text: &[u8], _reply: &Reply) {
-        self.gate.after(self.session, line);
+    fn after(&mut self, line: u64, _text: &[u8], reply: &Reply) {
+        self.gate.after(self.session, line, reply);
     }
 }

@@ -7,6 +7,7 @@ use prt_grace::Domain;
 use prt_publisher::Publisher;
 use prt_serve::{Accepting, Gate, Limits, serve_all};
 use prt_service::{Naming, Service};
+use prt_session::Reply;
 use sqlite::{Alter, Connection};
 use std::alloc::Global;
 use std::io::{self, ErrorKind, Read, Write};
@@ -60,7 +61,7 @@ impl Gate for Meeting {
         }
     }
 
-    fn after(&self, session: u64, _line: u64) {
+    fn after(&self, session: u64, _line: u64, _reply: &Reply) {
         if session == 2 {
             self.second_left.store(1, Ordering::SeqCst);
         }

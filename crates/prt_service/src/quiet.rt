@@ -9,7 +9,7 @@ use crate::Naming;
 use prt_command::{Command, Refusal};
 use prt_grace::Domain;
 use prt_publisher::{Publisher, Receipt};
-use sqlite::{Alter, Connection};
+use sqlite::{Alter, Connection, Error};
 use std::marker::{Model, PhantomData};
 use std::sync::Wait;
 
@@ -67,6 +67,11 @@ impl<S: Alter + Drop, R: Wait + Drop, J: Naming> QuietPublisher<S, R, J> {
             Err(reason) => return Err(reason),
         };
         Ok(receipt)
+    }
+
+    /// Gives the library's error of the commit that closed it, if one did.
+    pub(crate) fn failure(&self) -> Option<Error> {
+        self.publisher.failure()
     }
 
     /// Gives the connection back, with its tables as they are.

@@ -12,7 +12,7 @@ use prt_command::{Command, Refusal};
 use prt_front::FrontReader;
 use prt_grace::Domain;
 use prt_publisher::{Publisher, Receipt};
-use sqlite::{Alter, Connection};
+use sqlite::{Alter, Connection, Error};
 use std::sync::{Mutex, Wait};
 
 /// A publisher, its domain and the readers that no looker has, for any number of threads.
@@ -94,6 +94,11 @@ impl<S: Alter + Drop, R: Wait + Drop, J: Naming> Service<S, R, J> {
         requires { (reader.book ≡ J.book) × (reader.base ≡ J.base) }
     {
         self.spare.lock(rt).take_back(reader);
+    }
+
+    /// Gives the library's error of the commit that closed the publisher, if one did.
+    pub fn failure<W: Wait>(&self, rt: &W) -> Option<Error> {
+        self.publisher.lock(rt).failure()
     }
 
     /// Ends the service, and gives the connection back, with its tables as the lock keeps them. Of a file that is known,
