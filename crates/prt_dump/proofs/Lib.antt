@@ -5,3 +5,5 @@ pub mod Parts
 pub mod Words
 pub mod Line
 pub mod RouteLines
+pub mod RuleLines
+pub mod Remade

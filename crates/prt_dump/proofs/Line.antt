@@ -10,7 +10,10 @@ use Rattle.prt_command.specs.Reading.{before_comment, is_text_byte, line_words, 
 use Rattle.prt_command.specs.Requests.{refuse_if}
 use Rattle.prt_command.specs.Then.{◌>>=◌}
 use Rattle.prt_command.proofs.Splitting.{plain_line, plain_text}
-use Rattle.prt_dump.proofs.Parts.{IsText}
+use Rattle.prt_command.specs.declared.request.Command.{Command}
+use Rattle.prt_command.specs.declared.request.Request.{Request}
+use Rattle.prt_command.specs.declared.request.Request.TheVariants as requests
+use Rattle.prt_dump.proofs.Parts.{IsText, is_line_byte}
 
 not_long : (n l : ℕ) → l ≤ n → n ≤ 1024 → nat_lt longest_line l ≡ false
 not_long n l short fits = grind (arith, nat_tests)
@@ -25,3 +28,13 @@ words_of n line ws is fits =
 -- a line is read as its words are
 pub read_by_words : (n : ℕ) (line : List ℕ) (ws : List Word) → IsText n line ws → n ≤ 1024 → reading line ≡ words_request ws
 read_by_words n line ws is fits = ap (λ r. r >>= words_request) (words_of n line ws is fits)
+
+-- what a line with an object asks for
+abbrev pub one_request : Request → Result (Option Request) Refusal
+one_request request = Ok (Some request)
+
+-- A line of an input that asks for this command.
+pub record IsReadAs (line : List ℕ) (command : Command) : Type 0 where
+  pub plain : list_all is_line_byte line ≡ true
+  pub short : length line ≤ 1024
+  pub reads : reading line ≡ Ok (Some (requests.Command command))

@@ -1,6 +1,7 @@
 -- The line of a route asks for the route.
 use Rattle.std.proofs.Common.{◌≡◌, ℕ, ◌+◌, ◌^◌, ◌<◌, ◌≤◌, Bool, true, false, not, List, [], ◌∷◌, ◌++◌, Option, Some, None, Result, Ok, Err, IfSome, is_some, option_map, refl, sym, ap, ◌∙◌, subst, arith, nat_le, cond}
-use Rattle.std.specs.Prelude.{codes, decimal, is_none, ◌==◌, ◌&&◌, ◌||◌, if◌then◌else◌, unwrap_or}
+use Rattle.std.proofs.lemmas.List.{append-nil}
+use Rattle.std.specs.Prelude.{codes, decimal, is_none, nat_lt, ◌==◌, ◌&&◌, ◌||◌, if◌then◌else◌, unwrap_or}
 use Rattle.std.specs.Option.{ok_or}
 use Rattle.std.specs.List.{filter_map}
 use Rattle.std.proofs.lemmas.Bool.Decides.{nat_tests}
@@ -45,7 +46,7 @@ use Rattle.prt_dump.specs.Dump.{global_part, has_unsaid_scope, route_line}
 use Rattle.prt_dump.specs.Plain.{RouteFits, is_plain_name, is_plain_route}
 use Rattle.prt_dump.proofs.Digits.{number_back}
 use Rattle.prt_dump.proofs.Letters.{begin_more, no_item, no_kind, no_protocol, no_scope, no_table, no_to}
-use Rattle.prt_dump.proofs.Line.{read_by_words}
+use Rattle.prt_dump.proofs.Line.{IsReadAs, one_request, read_by_words}
 use Rattle.prt_dump.proofs.Parts.{IsText, IsWord, Reads, ReadsOne, joined, reads_keyword, reads_left_out, reads_none, reads_shown, word_text}
 use Rattle.prt_dump.proofs.Values.{address_back, address_begins, block_at, prefix_back, spelled_back}
 use Rattle.prt_dump.proofs.Words.{address_word, both_true, decimal_word, name_facts, named_word, prefix_word as prefix_is_word}
@@ -167,7 +168,7 @@ global_by true given new =
 -- ---- the kind and the destination
 
 -- The word of a destination.
-record IsDestination (w : Word) (p : Block) : Type 0 where
+pub record IsDestination (w : Word) (p : Block) : Type 0 where
   word : IsWord 18 w
   reads : prefix w ≡ Ok p
   no_item : word_in route_edit_words w ≡ None
@@ -319,7 +320,7 @@ asks_by table metric proto scope prefix Throw None None None ok = ap add_of (bar
 asks_by table metric proto scope prefix Throw via dev src ok = absurd cc
 
 -- What a plain route is.
-record IsPlainRoute (route : Route) : Type 0 where
+pub record IsPlainRoute (route : Route) : Type 0 where
   some : 1 ≤ route.table
   below : route.table < 2 ^ 32
   suits : suits route.kind route ≡ true
@@ -328,12 +329,24 @@ record IsPlainRoute (route : Route) : Type 0 where
 plain_facts : (route : Route) → is_plain_route route ≡ true → IsPlainRoute route
 plain_facts route h =
     let each = both_true (is_storable_route route) (is_plain_name route.dev) h in
-    let second = both_true _ (suits route.kind route) each.0 in
-    let first = both_true _ _ second.0 in
+    let second = both_true (nat_le 1 route.table && nat_lt route.table (2 ^ 32)) (suits route.kind route) each.0 in
+    let first = both_true (nat_le 1 route.table) (nat_lt route.table (2 ^ 32)) second.0 in
     record { some = grind (arith, nat_tests, first.0); below = grind (arith, nat_tests, first.1); suits = second.1; name = each.1 }
 
-request_of : (r : Result Items Refusal) (items : Items) → r ≡ Ok items → (r >>= route_request commands.RouteAdd) ≡ route_request commands.RouteAdd items
-request_of r items is = ap (λ r. r >>= route_request commands.RouteAdd) is
-
-pub route_read : (route : Route) → RouteFits route → is_plain_route route ≡ true → (reading (route_line route) ≡ Ok (Some (requests.Command (commands.RouteAdd route)))) × (IsText 183 (route_line route))
-route_read route fits plain = ?
+-- the line of a route
+pub route_read : (route : Route) → RouteFits route → is_plain_route route ≡ true → IsReadAs (route_line route) (commands.RouteAdd route)
+route_read route fits plain =
+    let facts = plain_facts route plain in
+    let r = route_reads route fits facts.some facts.below facts.name in
+    let parts : List (Option (List ℕ)) = route_parts route Shown ++ global_part route ∷ [] in
+    let text : IsText 183 (route_line route) (codes "route" ∷ codes "add" ∷ r.ws) =
+        joined 9 173 (codes "route add") (filter_map (λ text. text) parts) (codes "route" ∷ codes "add" ∷ []) r.ws (record { words = refl; plain = refl; short = omega arith }) r.text in
+    let items : items_of route_edit_line no_items r.ws ≡ Ok (said_of route) = ap (items_of route_edit_line no_items) (sym (append-nil r.ws)) ∙ r.goes [] in
+    record {
+      plain = text.plain;
+      short = omega (arith, text.short);
+      reads =
+          read_by_words 183 (route_line route) (codes "route" ∷ codes "add" ∷ r.ws) text (omega arith)
+          ∙ ap (λ r. (r >>= route_request commands.RouteAdd) >>= one_request) items
+          ∙ ap (λ r. r >>= one_request) (asks_by route.table route.metric route.proto route.scope route.prefix route.kind route.via route.dev route.src facts.suits);
+    }

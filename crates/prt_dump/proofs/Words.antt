@@ -143,12 +143,12 @@ mark_word_by : (m mask : ℕ) (b : Bool) → m < 2 ^ 32 → mask < 2 ^ 32 → Is
 mark_word_by m mask true fits masks =
     let e = length-append (digits 16 false m) [] in
     let l = length_hex m in
-    record { some = omega arith; plain = plain_each _ (each_append IsPlain (hex m) [] (plain_hex m fits) tt); short = omega (arith, e, l) }
+    record { some = omega arith; plain = plain_each (hex m ++ []) (each_append IsPlain (hex m) [] (plain_hex m fits) tt); short = omega (arith, e, l) }
 mark_word_by m mask false fits masks =
     let e = length-append (digits 16 false m) (47 ∷ hex mask) in
     let l = length_hex m in
     let k = length_hex mask in
-    record { some = omega arith; plain = plain_each _ (each_append IsPlain (hex m) (47 ∷ hex mask) (plain_hex m fits) (refl, plain_hex mask masks)); short = omega (arith, e, l, k) }
+    record { some = omega arith; plain = plain_each (hex m ++ 47 ∷ hex mask) (each_append IsPlain (hex m) (47 ∷ hex mask) (plain_hex m fits) (refl, plain_hex mask masks)); short = omega (arith, e, l, k) }
 
 pub mark_word : (m : Mark) → m.mark < 2 ^ 32 → m.mask < 2 ^ 32 → IsWord 133 (mark_text m)
 mark_word m fits masks = mark_word_by m.mark m.mask (m.mask == 2 ^ 32 - 1) fits masks
