@@ -7,3 +7,5 @@ pub mod Line
 pub mod RouteLines
 pub mod RuleLines
 pub mod Remade
+pub mod Sessions
+pub mod Texts

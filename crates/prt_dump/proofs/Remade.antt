@@ -6,7 +6,7 @@ use Rattle.std.specs.List.Sorted.{IsPermutation}
 use Rattle.std.proofs.lemmas.Bool.Decides.{nat_tests}
 use Rattle.std.proofs.lemmas.List.{append-nil}
 use Rattle.std.proofs.lemmas.List.Elements.{All-contains, All-contains_itself, All-from_recursion, Contains-get_or, recursion_from_All}
-use Rattle.std.proofs.lemmas.List.Sorted.{Contains-permutation, IsPermutation-filter_both, IsPermutation-sym}
+use Rattle.std.proofs.lemmas.List.Sorted.{Contains-permutation, IsPermutation-filter_both, IsPermutation-sym, length_permutation}
 use Rattle.std.proofs.lemmas.Map.Keys.{IsDistinct-IsPermutation}
 use Rattle.prt_addr.specs.Order.{insert_by}
 use Rattle.prt_addr.specs.Rising.{IsRising}
@@ -37,6 +37,12 @@ use Rattle.std.specs.Result.{result_err}
 use Rattle.prt_version.proofs.RowOrder.{either_listed, keys_both_ways}
 use Rattle.prt_version.proofs.SortedRows.{rising_apart}
 use Rattle.prt_version.proofs.RowOrder.{key_differs}
+use Rattle.prt_command.specs.declared.request.Query.TheVariants as queries
+use Rattle.prt_listing.specs.QueryText.{listing_text, table_shown}
+use Rattle.prt_listing.specs.RouteText.{route_text}
+use Rattle.prt_listing.specs.RuleText.{rule_text}
+use Rattle.prt_version.specs.Listing.{listing}
+use Rattle.prt_dump.specs.PutBack.{IsSameButForIds, ListsSame, without_id}
 use Rattle.prt_dump.specs.Dump.{dump_commands, first_rule, gateways_last, new_rule}
 
 abbrev pub state_of : ℕ → List Rule → List Route → State
@@ -144,7 +150,7 @@ record ArePlaced (count : ℕ) (todo placed : List Rule) : Type 0 where
   ahead : Each (λ (other : Rule). Each (Precedes other) todo) placed
 
 all_rules : (todo placed : List Rule) (count : ℕ) → AreInTurn todo → ArePlaced count todo placed → length placed + length todo ≤ MOST_RULES → count + length todo ≤ MOST_COMMANDS → Remakes (state_of count placed []) (map add todo) (state_of (count + length todo) (placed ++ renumbered (count + 4) todo) [])
-all_rules [] placed count turn are room counts = nothing_more _ _ (ap (λ rules. state_of count rules []) (sym (append-nil placed)) ∙ ap (λ n. state_of n (placed ++ []) []) {x = count} {y = count + length []} (omega arith))
+all_rules [] placed count turn are room counts = nothing_more _ _ (ap (λ rules. state_of count rules []) (sym (append-nil placed)) ∙ ap (λ n. state_of n (placed ++ []) []) {x = count} {y = count + length {A = Rule} []} (omega arith))
 all_rules (rule ∷ todo) placed count turn are room counts =
     let first : Each (IsPlaced count rule) placed = each_both (λ (other : Rule). other.id < count + 4) (λ (other : Rule). Each (Precedes other) (rule ∷ todo)) (IsPlaced count rule) (λ other id ahead. record { id = id; ahead = ahead.0 }) placed are.ids are.ahead in
     let new : Rule = numbered (count + 4) rule in
@@ -161,7 +167,7 @@ all_rules (rule ∷ todo) placed count turn are room counts =
   where
     same_end : (count : ℕ) (placed : List Rule) (new : Rule) (todo : List Rule) → state_of (count + 1 + length todo) ((placed ++ new ∷ []) ++ renumbered (count + 1 + 4) todo) [] ≡ state_of (count + length (new ∷ todo)) (placed ++ new ∷ renumbered (count + 4 + 1) todo) []
     same_end count placed new todo =
-        ap (λ n. state_of n ((placed ++ new ∷ []) ++ renumbered (count + 1 + 4) todo) []) {x = count + 1 + length todo} {y = count + length (new ∷ todo)} (omega arith)
+        ap (λ n. state_of n ((placed ++ new ∷ []) ++ renumbered (count + 1 + 4) todo) []) {x = count + 1 + length {A = Rule} todo} {y = count + length {A = Rule} (new ∷ todo)} (omega arith)
         ∙ ap (λ rules. state_of (count + length (new ∷ todo)) rules []) (append_assoc placed (new ∷ []) (renumbered (count + 1 + 4) todo))
         ∙ ap (λ id. state_of (count + length (new ∷ todo)) (placed ++ new ∷ renumbered id todo) []) {x = count + 1 + 4} {y = count + 4 + 1} (omega arith)
 
@@ -191,7 +197,7 @@ placed_all placed (route ∷ todo) = placed_all (insert_by is_listed_before rout
 
 all_routes : (todo placed : List Route) (count : ℕ) (rules : List Rule) → IsDistinct has_same_key todo → Each (λ route. Each (Differs route) placed) todo → length placed + length todo ≤ MOST_ROUTES → count + length todo ≤ MOST_COMMANDS → Remakes (state_of count rules placed) (map RouteAdd todo) (state_of (count + length todo) rules (placed_all placed todo))
 unfolding IsDistinct
-all_routes [] placed count rules apart differ room counts = nothing_more _ _ (ap (λ n. state_of n rules placed) {x = count} {y = count + length []} (omega arith))
+all_routes [] placed count rules apart differ room counts = nothing_more _ _ (ap (λ n. state_of n rules placed) {x = count} {y = count + length {A = Route} []} (omega arith))
 all_routes (route ∷ todo) placed count rules apart differ room counts =
     let made = made_by (state_of count rules placed) (RouteAdd route) (change.Route (Put route)) (add_route count rules placed route differ.0 (omega (arith, room)) (omega (arith, counts))) in
     let next : List Route = insert_by is_listed_before route placed in
@@ -200,7 +206,7 @@ all_routes (route ∷ todo) placed count rules apart differ room counts =
     let l : length next ≡ length placed + 1 = length_inserted is_listed_before route placed in
     let rest = all_routes todo next (count + 1) rules apart.1 later (omega (arith, l, room)) (omega (arith, counts)) in
     one_more _ _ _ (RouteAdd route) (map RouteAdd todo) made.0 (made.1 ∙ route_put count rules placed route differ.0)
-    (subst (Remakes (state_of (count + 1) rules next) (map RouteAdd todo)) (ap (λ n. state_of n rules (placed_all next todo)) {x = count + 1 + length todo} {y = count + length (route ∷ todo)} (omega arith)) rest)
+    (subst (Remakes (state_of (count + 1) rules next) (map RouteAdd todo)) (ap (λ n. state_of n rules (placed_all next todo)) {x = count + 1 + length {A = Route} todo} {y = count + length {A = Route} (route ∷ todo)} (omega arith)) rest)
 
 -- ---- where they stand
 
@@ -242,6 +248,16 @@ gateway_or route = by route.via
 moved : (routes : List Route) → IsPermutation routes (gateways_last routes)
 moved routes = IsPermutation-filter_both (λ route. is_none route.via) (λ route. is_some route.via) gateway_or routes
 
+each_none : (routes : List Route) → Each (λ route. Each (Differs route) []) routes
+each_none [] = tt
+each_none (route ∷ routes) = (tt, each_none routes)
+
+apart_moved : (routes : List Route) → IsRising is_listed_before routes → IsDistinct has_same_key (gateways_last routes)
+apart_moved routes rises = IsDistinct-IsPermutation has_same_key keys_both_ways routes (gateways_last routes) (moved routes) (rising_apart is_listed_before has_same_key key_differs routes rises)
+
+pub length_moved : (routes : List Route) → length (gateways_last routes) ≡ length routes
+length_moved routes = length_permutation routes (gateways_last routes) (moved routes)
+
 pub in_order : (routes : List Route) → IsRising is_listed_before routes → IsDistinct has_same_key (gateways_last routes) → placed_all [] (gateways_last routes) ≡ routes
 in_order routes rises apart =
     let moved_routes : List Route = gateways_last routes in
@@ -253,7 +269,47 @@ in_order routes rises apart =
     (placed_rise moved_routes [] apart (each_none moved_routes) tt) rises
     (λ x inside. All-contains (Contains routes) all x (All-from_recursion (Contains routes) all there) inside)
     (λ x inside. All-contains (Contains all) moved_routes x (All-from_recursion (Contains all) moved_routes back) (Contains-permutation routes moved_routes x (moved routes) inside))
-  where
-    each_none : (routes : List Route) → Each (λ route. Each (Differs route) []) routes
-    each_none [] = tt
-    each_none (route ∷ routes) = (tt, each_none routes)
+
+-- ---- all commands of a dump
+
+-- the state that a dump makes
+abbrev pub remade : State → State
+remade state = state_of (2 + length state.rules + length state.routes) (renumbered 6 state.rules) state.routes
+
+remade_is : (state : State) → IsSound state → state_of (2 + length state.rules + length (gateways_last state.routes)) (renumbered 6 state.rules) (placed_all [] (gateways_last state.routes)) ≡ remade state
+remade_is state sound =
+    ap (λ n. state_of (2 + length state.rules + n) (renumbered 6 state.rules) (placed_all [] (gateways_last state.routes))) (length_moved state.routes)
+    ∙ ap (λ routes. state_of (2 + length state.rules + length state.routes) (renumbered 6 state.rules) routes) (in_order state.routes sound.routes_rise (apart_moved state.routes sound.routes_rise))
+
+pub dump_remade : (state : State) → IsSound state → Remakes opening_state (dump_commands state) (remade state)
+dump_remade state sound =
+    let moved_routes : List Route = gateways_last state.routes in
+    let l : length moved_routes ≡ length state.routes = length_moved state.routes in
+    let rules : Remakes (state_of 2 [] []) (map add state.rules) (state_of (2 + length state.rules) (renumbered 6 state.rules) []) =
+        all_rules state.rules [] 2 (in_turn state.rules sound.rules_rise sound.distinct_rules) (record { ids = tt; ahead = tt }) (omega (arith, sound.rules_fit)) (omega (arith, sound.rules_fit)) in
+    let routes : Remakes (state_of (2 + length state.rules) (renumbered 6 state.rules) []) (map RouteAdd moved_routes) (state_of (2 + length state.rules + length moved_routes) (renumbered 6 state.rules) (placed_all [] moved_routes)) =
+        all_routes moved_routes [] (2 + length state.rules) (renumbered 6 state.rules) (apart_moved state.routes sound.routes_rise) (each_none moved_routes) (omega (arith, l, sound.routes_fit)) (omega (arith, l, sound.rules_fit, sound.routes_fit)) in
+    let both : Remakes (state_of 2 [] []) (map add state.rules ++ map RouteAdd moved_routes) (remade state) =
+        subst (Remakes (state_of 2 [] []) (map add state.rules ++ map RouteAdd moved_routes)) (remade_is state sound) (then_more (state_of 2 [] []) _ _ (map add state.rules) (map RouteAdd moved_routes) rules routes) in
+    one_more opening_state (apply opening_state RuleFlush) (remade state) RuleFlush (RuleDel first_rule ∷ (map add state.rules ++ map RouteAdd moved_routes)) refl refl
+    (one_more (apply opening_state RuleFlush) (state_of 2 [] []) (remade state) (RuleDel first_rule) (map add state.rules ++ map RouteAdd moved_routes) refl refl both)
+
+-- ---- it is the same
+
+same_rules : (id : ℕ) (rules : List Rule) → map without_id (renumbered id rules) ≡ map without_id rules
+same_rules id [] = refl
+same_rules id (rule ∷ rules) = ap (λ others. without_id rule ∷ others) (same_rules (id + 1) rules)
+
+pub remade_same : (state : State) → IsSameButForIds (remade state) state
+remade_same state = record { rules = same_rules 6 state.rules; routes = refl }
+
+shown_rules : (rules : List Rule) → map rule_text rules ≡ map rule_text (map without_id rules)
+shown_rules [] = refl
+shown_rules (rule ∷ rules) = ap (λ others. rule_text rule ∷ others) (shown_rules rules)
+
+-- states that are the same but for ids have the same listings
+pub lists_same : (state other : State) → IsSameButForIds state other → ListsSame state other
+lists_same state other same (queries.RouteShow selector) is = ap (λ routes. listing_text (map (λ route. route_text route (table_shown selector.table)) (listing selector routes))) same.routes
+lists_same state other same queries.RuleShow is =
+    ap listing_text (shown_rules state.rules ∙ ap (map rule_text) same.rules ∙ sym (shown_rules other.rules))
+lists_same state other same (queries.Get packet) is = absurd is

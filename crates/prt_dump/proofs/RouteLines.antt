@@ -127,7 +127,7 @@ table_by n false given new some fits =
     reads_keyword route_edit_line 5 10 given Table (codes "table") (table_text n) (item.Table n) refl (ap is_some new) (ap (λ o. map_ok item.Table (ok_or o BadTable)) (table_back n some fits))
     (record { some = omega arith; plain = refl; short = omega arith }) (named_word tables n refl fits)
 
-protocol_back : (n : ℕ) → n ≤ 255 → protocol (name_or_number protocols n) ≡ Some n
+pub protocol_back : (n : ℕ) → n ≤ 255 → protocol (name_or_number protocols n) ≡ Some n
 protocol_back n fits =
     ap (keep (λ n. nat_le n 255)) (spelled_back protocols n (refl, (refl, (refl, (refl, (refl, (refl, (refl, (refl, (refl, (refl, (refl, tt))))))))))) (λ b. no_protocol (decimal n) b) (omega arith))
     ∙ ap (λ b. if b then Some n else None) (is_byte n fits)
@@ -138,7 +138,7 @@ proto_by n false given new fits =
     reads_keyword route_edit_line 5 10 given Proto (codes "proto") (name_or_number protocols n) (item.Proto n) refl (ap is_some new) (ap (λ o. map_ok item.Proto (ok_or o BadNumber)) (protocol_back n fits))
     (record { some = omega arith; plain = refl; short = omega arith }) (named_word protocols n refl (omega arith))
 
-scope_back : (n : ℕ) → n ≤ 255 → scope (name_or_number scopes n) ≡ Some n
+pub scope_back : (n : ℕ) → n ≤ 255 → scope (name_or_number scopes n) ≡ Some n
 scope_back n fits =
     ap (keep (λ n. nat_le n 255)) (spelled_back scopes n (refl, (refl, (refl, (refl, (refl, tt))))) (λ b. no_scope (decimal n) b) (omega arith))
     ∙ ap (λ b. if b then Some n else None) (is_byte n fits)

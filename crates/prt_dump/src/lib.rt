@@ -1,4 +1,11 @@
 //! The dump of a version: lines that put its rules and routes back.
 #![tactic(auto)]
 
+mod dump;
+mod fits;
 mod laws;
+mod plain;
+mod refusal;
+
+pub use dump::dump_text;
+pub use refusal::NotDumped;
