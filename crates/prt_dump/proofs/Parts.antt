@@ -166,7 +166,7 @@ keyword_goes line given slot w v x begins new is rest =
 pub reads_keyword : (line : LineKind) (m n : ℕ) (given : Items) (slot : Slot) (w v : Word) (x : Item) → word_in line.entries w ≡ Some (Keyword slot) → has slot given ≡ false → value slot None v ≡ Ok x → IsWord m w → IsWord n v → ReadsOne line (m + (1 + n)) given (put x given) (Some (w ++ codes " " ++ v))
 reads_keyword line m n given slot w v x begins new is word val =
     let text : IsText (m + (1 + n)) (w ++ codes " " ++ v) (w ∷ v ∷ []) =
-        subst (λ t. IsText (m + (1 + n)) t (w ∷ v ∷ [])) (sym (append_assoc w (codes " ") v)) (spaced_texts m n w v (w ∷ []) (v ∷ []) (word_text m w word) (word_text n v val)) in
+    subst (λ t. IsText (m + (1 + n)) t (w ∷ v ∷ [])) (sym (append_assoc w (codes " ") v)) (spaced_texts m n w v (w ∷ []) (v ∷ []) (word_text m w word) (word_text n v val)) in
     reads_shown line (m + (1 + n)) given (put x given) (w ++ codes " " ++ v) (w ∷ v ∷ []) text (keyword_goes line given slot w v x begins new is)
 
 -- ---- a word that says an item alone

@@ -202,7 +202,7 @@ all_routes (route ∷ todo) placed count rules apart differ room counts =
     let made = made_by (state_of count rules placed) (RouteAdd route) (change.Route (Put route)) (add_route count rules placed route differ.0 (omega (arith, room)) (omega (arith, counts))) in
     let next : List Route = insert_by is_listed_before route placed in
     let later : Each (λ x. Each (Differs x) next) todo =
-        each_both (λ x. has_same_key route x ≡ false) (λ x. Each (Differs x) placed) (λ x. Each (Differs x) next) (λ x unlike others. each_inserted (Differs x) is_listed_before route placed unlike others) todo apart.0 differ.1 in
+    each_both (λ x. has_same_key route x ≡ false) (λ x. Each (Differs x) placed) (λ x. Each (Differs x) next) (λ x unlike others. each_inserted (Differs x) is_listed_before route placed unlike others) todo apart.0 differ.1 in
     let l : length next ≡ length placed + 1 = length_inserted is_listed_before route placed in
     let rest = all_routes todo next (count + 1) rules apart.1 later (omega (arith, l, room)) (omega (arith, counts)) in
     one_more _ _ _ (RouteAdd route) (map RouteAdd todo) made.0 (made.1 ∙ route_put count rules placed route differ.0)
@@ -217,7 +217,7 @@ placed_rise (route ∷ todo) placed apart differ rises =
     placed_rise todo (insert_by is_listed_before route placed) apart.1
     (each_both (λ x. has_same_key route x ≡ false) (λ x. Each (Differs x) placed) (λ x. Each (Differs x) (insert_by is_listed_before route placed)) (λ x unlike others. each_inserted (Differs x) is_listed_before route placed unlike others) todo apart.0 differ.1)
     (inserted_rises is_listed_before listing_order route placed
-        (each_implies (Differs route) (λ other. is_listed_before route other ≡ false → is_listed_before other route ≡ true) (λ other unlike after. either_listed other route after unlike) placed differ.0) rises)
+    (each_implies (Differs route) (λ other. is_listed_before route other ≡ false → is_listed_before other route ≡ true) (λ other unlike after. either_listed other route after unlike) placed differ.0) rises)
 
 each_placed : (P : Route → Type 0) (todo placed : List Route) → Each P placed → Each P todo → Each P (placed_all placed todo)
 each_placed P [] placed old new = old
@@ -286,11 +286,11 @@ dump_remade state sound =
     let moved_routes : List Route = gateways_last state.routes in
     let l : length moved_routes ≡ length state.routes = length_moved state.routes in
     let rules : Remakes (state_of 2 [] []) (map add state.rules) (state_of (2 + length state.rules) (renumbered 6 state.rules) []) =
-        all_rules state.rules [] 2 (in_turn state.rules sound.rules_rise sound.distinct_rules) (record { ids = tt; ahead = tt }) (omega (arith, sound.rules_fit)) (omega (arith, sound.rules_fit)) in
+    all_rules state.rules [] 2 (in_turn state.rules sound.rules_rise sound.distinct_rules) (record { ids = tt; ahead = tt }) (omega (arith, sound.rules_fit)) (omega (arith, sound.rules_fit)) in
     let routes : Remakes (state_of (2 + length state.rules) (renumbered 6 state.rules) []) (map RouteAdd moved_routes) (state_of (2 + length state.rules + length moved_routes) (renumbered 6 state.rules) (placed_all [] moved_routes)) =
-        all_routes moved_routes [] (2 + length state.rules) (renumbered 6 state.rules) (apart_moved state.routes sound.routes_rise) (each_none moved_routes) (omega (arith, l, sound.routes_fit)) (omega (arith, l, sound.rules_fit, sound.routes_fit)) in
+    all_routes moved_routes [] (2 + length state.rules) (renumbered 6 state.rules) (apart_moved state.routes sound.routes_rise) (each_none moved_routes) (omega (arith, l, sound.routes_fit)) (omega (arith, l, sound.rules_fit, sound.routes_fit)) in
     let both : Remakes (state_of 2 [] []) (map add state.rules ++ map RouteAdd moved_routes) (remade state) =
-        subst (Remakes (state_of 2 [] []) (map add state.rules ++ map RouteAdd moved_routes)) (remade_is state sound) (then_more (state_of 2 [] []) _ _ (map add state.rules) (map RouteAdd moved_routes) rules routes) in
+    subst (Remakes (state_of 2 [] []) (map add state.rules ++ map RouteAdd moved_routes)) (remade_is state sound) (then_more (state_of 2 [] []) _ _ (map add state.rules) (map RouteAdd moved_routes) rules routes) in
     one_more opening_state (apply opening_state RuleFlush) (remade state) RuleFlush (RuleDel first_rule ∷ (map add state.rules ++ map RouteAdd moved_routes)) refl refl
     (one_more (apply opening_state RuleFlush) (state_of 2 [] []) (remade state) (RuleDel first_rule) (map add state.rules ++ map RouteAdd moved_routes) refl refl both)
 

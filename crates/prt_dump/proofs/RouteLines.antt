@@ -340,7 +340,7 @@ route_read route fits plain =
     let r = route_reads route fits facts.some facts.below facts.name in
     let parts : List (Option (List ℕ)) = route_parts route Shown ++ global_part route ∷ [] in
     let text : IsText 183 (route_line route) (codes "route" ∷ codes "add" ∷ r.ws) =
-        joined 9 173 (codes "route add") (filter_map (λ text. text) parts) (codes "route" ∷ codes "add" ∷ []) r.ws (record { words = refl; plain = refl; short = omega arith }) r.text in
+    joined 9 173 (codes "route add") (filter_map (λ text. text) parts) (codes "route" ∷ codes "add" ∷ []) r.ws (record { words = refl; plain = refl; short = omega arith }) r.text in
     let items : items_of route_edit_line no_items r.ws ≡ Ok (said_of route) = ap (items_of route_edit_line no_items) (sym (append-nil r.ws)) ∙ r.goes [] in
     record {
       plain = text.plain;

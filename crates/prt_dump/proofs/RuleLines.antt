@@ -204,7 +204,7 @@ rule_read rule fits plain =
     let r = rule_reads rule fits facts.0 facts.1 in
     let parts : List (Option (List ℕ)) = part (codes "priority") (Some (decimal rule.priority)) ∷ rule_parts rule in
     let text : IsText 283 (rule_line rule) (codes "rule" ∷ codes "add" ∷ r.ws) =
-        joined 8 274 (codes "rule add") (filter_map (λ text. text) parts) (codes "rule" ∷ codes "add" ∷ []) r.ws (record { words = refl; plain = refl; short = omega arith }) r.text in
+    joined 8 274 (codes "rule add") (filter_map (λ text. text) parts) (codes "rule" ∷ codes "add" ∷ []) r.ws (record { words = refl; plain = refl; short = omega arith }) r.text in
     let items : items_of rule_edit_line no_items r.ws ≡ Ok (said_of rule) = ap (items_of rule_edit_line no_items) (sym (append-nil r.ws)) ∙ r.goes [] in
     record {
       plain = text.plain;

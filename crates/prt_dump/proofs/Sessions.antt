@@ -111,9 +111,9 @@ lines_go mode (line ∷ lines) (command ∷ commands) state left read accepted r
     let goes : stops_after mode (line_turn request_turn (settled state) line None).reply ≡ false = ap (λ (t : Turn DeskState). stops_after mode t.reply) turn ∙ goes_by mode next.count in
     let rest : IsAcceptedBy next (fold next commands) lines (run mode (left - 1) (lines_text lines) (settled next)) = lines_go mode lines commands next (left - 1) read.1 accepted.1 (omega (arith, room)) in
     let step : run mode left (lines_text (line ∷ lines)) (settled state) ≡ after_exchange (exchange_of request_turn (settled state) line None) (run mode (left - 1) (lines_text lines) (settled next)) =
-        ap (λ bytes. run mode left bytes (settled state)) (append_assoc line (codes "\n") (lines_text lines))
-        ∙ goes_on request_turn limits mode end_of_input left (settled state) (omega (arith, room)) line (lines_text lines) (no_newline line read.0.plain) (omega (arith, read.0.short)) goes
-        ∙ ap (λ (t : Turn DeskState). after_exchange (exchange_of request_turn (settled state) line None) (run mode (left - 1) (lines_text lines) t.desk)) turn in
+    ap (λ bytes. run mode left bytes (settled state)) (append_assoc line (codes "\n") (lines_text lines))
+    ∙ goes_on request_turn limits mode end_of_input left (settled state) (omega (arith, room)) line (lines_text lines) (no_newline line read.0.plain) (omega (arith, read.0.short)) goes
+    ∙ ap (λ (t : Turn DeskState). after_exchange (exchange_of request_turn (settled state) line None) (run mode (left - 1) (lines_text lines) t.desk)) turn in
     subst (IsAcceptedBy state (fold next commands) (line ∷ lines)) (sym step)
     (one_accepted state next (fold next commands) line lines (exchange_of request_turn (settled state) line None) (run mode (left - 1) (lines_text lines) (settled next)) (ap (λ (t : Turn DeskState). t.reply) turn) (apply_count state command accepted.0) rest)
 
@@ -138,11 +138,15 @@ each_moved : (P : Route → Type 0) (routes : List Route) → Each P routes → 
 each_moved P routes each = each_append P _ _ (each_filtered P (λ route. is_none route.via) routes each) (each_filtered P (λ route. is_some route.via) routes each)
 
 pub lines_read : (state : State) → StateFits state → IsPlainState state → AreReadAs (dump_lines state) (dump_commands state)
-lines_read state fits plain =
-    (record { plain = refl; short = omega arith; reads = refl }, (record { plain = refl; short = omega arith; reads = refl },
+lines_read state fits plain = (
+  record { plain = refl; short = omega arith; reads = refl },
+  (
+    record { plain = refl; short = omega arith; reads = refl },
     read_both (map rule_line state.rules) (map route_line (gateways_last state.routes)) (map (λ rule. RuleAdd (new_rule rule)) state.rules) (map RouteAdd (gateways_last state.routes))
-    (rules_read state.rules fits.rules plain.rules)
-    (routes_read (gateways_last state.routes) (each_moved RouteFits state.routes fits.routes) (each_moved (λ route. is_plain_route route ≡ true) state.routes plain.routes))))
+        (rules_read state.rules fits.rules plain.rules)
+        (routes_read (gateways_last state.routes) (each_moved RouteFits state.routes fits.routes) (each_moved (λ route. is_plain_route route ≡ true) state.routes plain.routes)),
+  ),
+)
 
 length_of_all : {X : Type 0} (f : X → List ℕ) (xs : List X) → length (map f xs) ≡ length xs
 length_of_all f [] = refl

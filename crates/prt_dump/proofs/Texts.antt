@@ -1,9 +1,10 @@
 -- Lines as they are written, piece by piece.
-use Rattle.std.proofs.Common.{◌≡◌, ℕ, ◌+◌, ◌-◌, ◌<◌, ◌≤◌, Bool, true, false, List, [], ◌∷◌, ◌++◌, Option, Some, None, refl, sym, ap, ◌∙◌, append_assoc, arith, length, take, drop}
-use Rattle.std.specs.Prelude.{codes, decimal, if◌then◌else◌}
-use Rattle.std.specs.List.{cons_option, filter_map, join_with_byte}
+use Rattle.std.proofs.Common.{◌≡◌, ℕ, ◌+◌, ◌-◌, ◌<◌, ◌≤◌, Bool, true, false, List, [], ◌∷◌, ◌++◌, Option, Some, None, refl, sym, ap, ◌∙◌, append_assoc, arith, length, drop, map, Result, Ok, Err, OnOk, cond}
+use Rattle.std.specs.Prelude.{codes, decimal, if◌then◌else◌, nat_lt, not, position}
+use Rattle.std.specs.List.{cons_option, filter_map, join_with_byte, position_or_len, AllByRecursion as Each}
+use Rattle.std.proofs.lemmas.Bool.Decides.{nat_tests}
 use Rattle.std.proofs.Math.Seq.{drop-append_seam}
-use Rattle.std.proofs.lemmas.List.{append-nil, length-append, length-drop, take_all}
+use Rattle.std.proofs.lemmas.List.{append-nil, length-append}
 use Rattle.std.proofs.lemmas.List.Elements.{filter_map-append}
 use Rattle.prt_route.specs.declared.kind.Kind.{Kind}
 use Rattle.prt_route.specs.declared.kind.Kind.TheVariants.{Unicast, Blackhole, Unreachable, Prohibit, Throw}
@@ -13,7 +14,14 @@ use Rattle.prt_listing.specs.Parts.{part, prefix_or, spaced}
 use Rattle.prt_listing.specs.RouteText.{kind_part, route_parts, route_text}
 use Rattle.prt_listing.specs.RuleText.{mark_part, not_part, rule_parts, rule_text, to_part}
 use Rattle.prt_listing.specs.declared.route.TablePart.TheVariants.{Shown}
-use Rattle.prt_dump.specs.Dump.{global_part, has_unsaid_scope, route_line, rule_line}
+use Rattle.prt_listing.specs.QueryText.{lines_text}
+use Rattle.prt_addr.proofs.Each.{each_implies}
+use Rattle.prt_route.specs.declared.choice.Range.TheVariants as ranges
+use Rattle.prt_route.specs.declared.choice.Selector.{Selector}
+use Rattle.prt_version.specs.Listing.{listing}
+use Rattle.prt_version.specs.State.{State}
+use Rattle.prt_dump.specs.Dump.{gateways_last, global_part, has_unsaid_scope, route_line, rule_line}
+use Rattle.prt_dump.specs.PutBack.{dump_text}
 
 -- the parts that are there
 abbrev texts : List (Option (List ℕ)) → List (List ℕ)
@@ -29,20 +37,19 @@ rule_line_is : (rule : Rule) → rule_line rule ≡ (codes "rule add priority " 
 rule_line_is rule = rule_by rule.inverted _ (decimal rule.priority) _
 
 -- what a listing shows of a rule after its priority
-pub after_priority : (rule : Rule) (listed rest : List ℕ) (at : ℕ) → listed ≡ rule_text rule → at ≡ length (decimal rule.priority) + 2 → rest ≡ take (length listed - at) (drop at listed) → rest ≡ spaced (rule_parts rule)
-after_priority rule listed rest at is place cut =
+pub after_priority : (rule : Rule) (listed priority rest : List ℕ) → listed ≡ rule_text rule → priority ≡ decimal rule.priority → rest ≡ drop (length priority + 2) listed → rest ≡ spaced (rule_parts rule)
+after_priority rule listed priority rest is said cut =
     let front : List ℕ = decimal rule.priority ++ codes ":\t" in
-    let l : length front ≡ at = length-append (decimal rule.priority) (codes ":\t") ∙ sym place in
+    let l : length priority + 2 ≡ length front = ap (λ xs. length xs + 2) said ∙ sym (length-append (decimal rule.priority) (codes ":\t")) in
     cut
-    ∙ take_all (length listed - at) (drop at listed) (omega (arith, length-drop at listed))
-    ∙ ap (drop at) is
-    ∙ ap (λ n. drop n (front ++ spaced (rule_parts rule))) (sym l)
+    ∙ ap (drop (length priority + 2)) is
+    ∙ ap (λ n. drop n (front ++ spaced (rule_parts rule))) l
     ∙ drop-append_seam front (spaced (rule_parts rule))
 
-pub within_listed : (rule : Rule) (listed : List ℕ) → listed ≡ rule_text rule → length (decimal rule.priority) + 2 ≤ length listed
-within_listed rule listed is =
+pub within_listed : (rule : Rule) (listed priority : List ℕ) → listed ≡ rule_text rule → priority ≡ decimal rule.priority → length priority + 2 ≤ length listed
+within_listed rule listed priority is said =
     let front : List ℕ = decimal rule.priority ++ codes ":\t" in
-    omega (arith, ap length is, length-append (decimal rule.priority) (codes ":\t"), length-append front (spaced (rule_parts rule)))
+    omega (arith, ap length is, ap length said, length-append (decimal rule.priority) (codes ":\t"), length-append front (spaced (rule_parts rule)))
 
 regroup_five : (old a d s r n : List ℕ) → ((((old ++ a) ++ d) ++ s) ++ r) ++ n ≡ old ++ (((a ++ d) ++ (s ++ r)) ++ n)
 regroup_five old a d s r n = simp append_assoc refl
@@ -94,3 +101,62 @@ route_pushed route old one two three new said first second third fourth is =
     ∙ ap (λ xs. (((old ++ codes "route add ") ++ route_text route Shown) ++ xs) ++ codes "\n") is
     ∙ regroup_four old (codes "route add ") (route_text route Shown) (said_scope (has_unsaid_scope route)) (codes "\n")
     ∙ ap (λ line. old ++ (line ++ codes "\n")) (sym (route_line_is route))
+
+-- ---- what calls give
+
+-- what follows where a call succeeds
+pub ok_then : {T E : Type 0} (r : Result T E) (P Q : Type 0) → (P → Q) → OnOk r P → OnOk r Q
+ok_then (Ok x) P Q gives p = gives p
+ok_then (Err e) P Q gives p = tt
+
+pub lines-append : (xs ys : List (List ℕ)) → lines_text (xs ++ ys) ≡ lines_text xs ++ lines_text ys
+lines-append [] ys = refl
+lines-append (x ∷ xs) ys = ap (λ t. (x ++ codes "\n") ++ t) (lines-append xs ys) ∙ sym (append_assoc (x ++ codes "\n") (lines_text xs) (lines_text ys))
+
+abbrev pub text_by : List Rule → List Route → List ℕ
+text_by rules routes = lines_text (codes "rule flush" ∷ codes "rule del priority 0" ∷ (map rule_line rules ++ map route_line (gateways_last routes)))
+
+-- a dump is pushed in three pieces
+pub text_pushed : (rules : List Rule) (routes moved : List Route) (old one two three : List ℕ) → old ≡ [] → one ≡ old ++ codes "rule flush\nrule del priority 0\n" → two ≡ one ++ lines_text (map rule_line rules) → three ≡ two ++ lines_text (map route_line moved) → moved ≡ gateways_last routes → three ≡ text_by rules routes
+text_pushed rules routes moved old one two three none first second third are =
+    let front : List ℕ = codes "rule flush\nrule del priority 0\n" in
+    third
+    ∙ ap (λ xs. xs ++ lines_text (map route_line moved)) (second ∙ ap (λ xs. xs ++ lines_text (map rule_line rules)) (first ∙ ap (λ xs. xs ++ front) none))
+    ∙ append_assoc front (lines_text (map rule_line rules)) (lines_text (map route_line moved))
+    ∙ ap (λ routes. front ++ (lines_text (map rule_line rules) ++ lines_text (map route_line routes))) are
+    ∙ ap (λ t. front ++ t) (sym (lines-append (map rule_line rules) (map route_line (gateways_last routes))))
+
+-- the text of what a state has
+pub text_of_state : (state : State) (rules : List Rule) (routes : List Route) (text : List ℕ) → text ≡ text_by rules routes → rules ≡ state.rules → routes ≡ state.routes → text ≡ dump_text state
+text_of_state state rules routes text is rules_are routes_are = is ∙ ap (λ rules. text_by rules routes) rules_are ∙ ap (λ routes. text_by state.rules routes) routes_are
+
+abbrev every : Selector
+every = record { table = None; range = ranges.All; kind = None; proto = None; scope = None; dev = None }
+
+-- a selector that names nothing takes each route
+pub every_listed : (routes : List Route) → listing every routes ≡ routes
+every_listed [] = refl
+every_listed (route ∷ routes) = ap (λ others. route ∷ others) (every_listed routes)
+
+-- ---- where no row fails a test
+
+none_fails_by : {X : Type 0} (q : X → Bool) (x : X) (xs : List X) (b : Bool) → q x ≡ b → (length xs ≤ position_or_len q xs → Each (λ x. q x ≡ false) xs) → length (x ∷ xs) ≤ cond b 0 (1 + position_or_len q xs) → Each (λ x. q x ≡ false) (x ∷ xs)
+none_fails_by q x xs true is rest over = absurd (omega (arith, over))
+none_fails_by q x xs false is rest over = (is, rest (omega (arith, over)))
+
+none_fails : {X : Type 0} (q : X → Bool) (xs : List X) → length xs ≤ position_or_len q xs → Each (λ x. q x ≡ false) xs
+none_fails q [] past = tt
+none_fails q (x ∷ xs) past = none_fails_by q x xs (q x) refl (none_fails q xs) past
+
+no_place : (l n : ℕ) (b : Bool) → nat_lt l n ≡ b → cond b (Some l) None ≡ None → n ≤ l
+no_place l n true is h = absurd cc
+no_place l n false is h = grind (arith, nat_tests, is)
+
+passes : (b : Bool) → not b ≡ false → b ≡ true
+passes true h = refl
+passes false h = absurd cc
+
+pub each_passes : {X : Type 0} (p : X → Bool) (xs : List X) → position (λ x. not (p x)) xs ≡ None → Each (λ x. p x ≡ true) xs
+each_passes p xs none =
+    each_implies (λ x. not (p x) ≡ false) (λ x. p x ≡ true) (λ x h. passes (p x) h) xs
+    (none_fails (λ x. not (p x)) xs (no_place (position_or_len (λ x. not (p x)) xs) (length xs) (nat_lt (position_or_len (λ x. not (p x)) xs) (length xs)) refl none))

@@ -121,10 +121,16 @@ unslashed n fits = each_implies IsDigit (λ c. (c == 47) ≡ false) no_slash (de
 pub whole_text : (P : ℕ → Type 0) → P 46 → ((n : ℕ) → n < 2 ^ 64 → Each P (decimal n)) → (a : Addr) → a.0 < 2 ^ 32 → Each P (addr_text a)
 whole_text P dot numbers a fits =
     subst (Each P) (sym (text_is a))
-    (each_append P (decimal (a.0 / 2 ^ 24)) _ (numbers _ (omega arith)) (dot,
-    each_append P (decimal (a.0 / 2 ^ 16 % 256)) _ (numbers _ (omega arith)) (dot,
-    each_append P (decimal (a.0 / 2 ^ 8 % 256)) _ (numbers _ (omega arith)) (dot,
-    numbers (a.0 % 256) (omega arith)))))
+    (each_append P (decimal (a.0 / 2 ^ 24)) _ (numbers _ (omega arith)) (
+      dot,
+      each_append P (decimal (a.0 / 2 ^ 16 % 256)) _ (numbers _ (omega arith)) (
+        dot,
+        each_append P (decimal (a.0 / 2 ^ 8 % 256)) _ (numbers _ (omega arith)) (
+          dot,
+          numbers (a.0 % 256) (omega arith),
+        ),
+      ),
+    ))
 
 pub address_begins : (a : Addr) → a.0 < 2 ^ 32 → BeginsWithDigit (addr_text a)
 address_begins a fits =

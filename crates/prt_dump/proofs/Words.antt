@@ -96,8 +96,8 @@ octet_length n fits = length-decimal-le 3 n (omega arith) (omega arith) (omega a
 address_length : (a : Addr) → a.0 < 2 ^ 32 → length (addr_text a) ≤ 15
 address_length a fits =
     let l : length (dots (a.0 / 2 ^ 24) (a.0 / 2 ^ 16 % 256) (a.0 / 2 ^ 8 % 256) (a.0 % 256)) ≤ 15 =
-        dots_length (decimal (a.0 / 2 ^ 24)) (decimal (a.0 / 2 ^ 16 % 256)) (decimal (a.0 / 2 ^ 8 % 256)) (decimal (a.0 % 256))
-        (octet_length (a.0 / 2 ^ 24) (omega arith)) (octet_length (a.0 / 2 ^ 16 % 256) (omega arith)) (octet_length (a.0 / 2 ^ 8 % 256) (omega arith)) (octet_length (a.0 % 256) (omega arith)) in
+    dots_length (decimal (a.0 / 2 ^ 24)) (decimal (a.0 / 2 ^ 16 % 256)) (decimal (a.0 / 2 ^ 8 % 256)) (decimal (a.0 % 256))
+    (octet_length (a.0 / 2 ^ 24) (omega arith)) (octet_length (a.0 / 2 ^ 16 % 256) (omega arith)) (octet_length (a.0 / 2 ^ 8 % 256) (omega arith)) (octet_length (a.0 % 256) (omega arith)) in
     subst (λ (t : List ℕ). length t ≤ 15) (sym (text_is a)) l
 
 some_begun : (w : Word) → BeginsWithDigit w → 0 < length w

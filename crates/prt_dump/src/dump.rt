@@ -1,12 +1,12 @@
 //! The lines that put a version back.
-ghost use Rattle.std.specs.Prelude.{◌≡◌, ◌++◌, ◌∷◌, [], IfErr, IfOk, OnOk, codes, if◌then◌else◌, map};
+ghost use Rattle.std.specs.Prelude.{◌≡◌, ◌+◌, ◌≤◌, ◌++◌, ◌∷◌, [], IfErr, IfOk, OnOk, codes, drop, if◌then◌else◌, length, map};
 ghost use Rattle.prt_addr.specs.declared.on_refusal.OnRefusal.{OnRefusal};
 ghost use Rattle.prt_listing.specs.QueryText.{lines_text};
 ghost use Rattle.prt_dump.specs.Dump.{gateways_last, has_unsaid_scope, route_line, rule_line};
 ghost use Rattle.prt_dump.specs.PutBack.{IsPlainState, IsPutBack, IsWhyNot, dump_text, session_of};
 
 use crate::fits::{recall_routes, recall_rules};
-use crate::plain::{first_unplain_route, first_unplain_rule};
+use crate::plain::find_unplain;
 use crate::refusal::NotDumped;
 use itoa::Buffer;
 use prt_listing::{TablePart, route_text, rule_text};
@@ -18,21 +18,19 @@ use std::alloc::{AllocError, Global};
 /// What stands after the priority in the text of a rule: a colon and a tab.
 const AFTER_PRIORITY: usize = 2;
 
-/// Takes each route of each table.
-const EVERY_ROUTE: Selector = Selector {
-    table: None,
-    range: Range::All,
-    kind: None,
-    proto: None,
-    scope: None,
-    dev: None,
-};
-
 /// Appends a text.
 fn push(out: &mut Vec<u8>, text: &str) -> Result<(), AllocError>
     ensures { OnOk result (out.new.items ≡ out.old.items ++ text.now) }
 {
     out.extend_from_slice(text.as_bytes())
+}
+
+/// Gives what stands after the priority in the text of a rule.
+fn after_priority<'a>(listed: &'a [u8], priority: &str) -> &'a [u8]
+    requires { length priority.now + 2 ≤ length listed.now }
+    ensures { result.now ≡ drop (length priority.now + 2) listed.now }
+{
+    &listed[priority.len() + AFTER_PRIORITY..]
 }
 
 /// Appends the line of a rule, and a newline.
@@ -44,11 +42,11 @@ fn push_rule_line(out: &mut Vec<u8>, rule: &Rule) -> Result<(), AllocError>
         return Err(AllocError);
     };
     let mut buffer = Buffer::new();
-    let priority = buffer.format(u64::from(rule.priority));
+    let priority = buffer.format(rule.priority);
     push(out, "rule add priority ")?;
     push(out, priority)?;
     push(out, " ")?;
-    out.extend_from_slice(&listed[priority.len() + AFTER_PRIORITY..])?;
+    out.extend_from_slice(after_priority(&listed, priority))?;
     push(out, "\n")
 }
 
@@ -129,7 +127,15 @@ fn text_of(alloc: Global, rules: &[Rule], routes: &[Route]) -> Result<Vec<u8>, A
 fn every_route(version: &Version) -> Result<Vec<Route>, AllocError>
     ensures { IfOk result (λ routes. routes.items ≡ version.now.routes) }
 {
-    let Ok(routes) = version.routes(&EVERY_ROUTE) else {
+    let selector = Selector {
+        table: None,
+        range: Range::All,
+        kind: None,
+        proto: None,
+        scope: None,
+        dev: None,
+    };
+    let Ok(routes) = version.routes(&selector) else {
         return Err(AllocError);
     };
     Ok(routes)
@@ -155,12 +161,7 @@ pub fn dump_text(alloc: Global, version: &Version) -> Result<Vec<u8>, NotDumped>
     let Ok(routes) = every_route(version) else {
         return Err(NotDumped::NoMemory);
     };
-    if let Some(place) = first_unplain_rule(version.rules()) {
-        return Err(NotDumped::Rule(place));
-    }
-    if let Some(place) = first_unplain_route(&routes) {
-        return Err(NotDumped::Route(place));
-    }
+    find_unplain(version.rules(), &routes)?;
     let _number = version.number();
     recall_rules(version.rules());
     recall_routes(&routes);

@@ -8,14 +8,12 @@ use prt_rule::{Action, Mark, Rule};
 /// Recalls that a number fits its type.
 fn recall_number(number: u32)
     ensures { number < 2 ^ 32 }
-{
-}
+{}
 
 /// Recalls that a number fits its type.
 fn recall_byte(number: u8)
     ensures { number ≤ 255 }
-{
-}
+{}
 
 /// Recalls that the number of an address fits its type.
 fn recall_addr(addr: Option<Addr>)

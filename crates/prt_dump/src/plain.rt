@@ -1,9 +1,11 @@
 //! Which rules and routes a line can spell.
-ghost use Rattle.std.specs.Prelude.{◌≡◌, not, position};
+ghost use Rattle.std.specs.Prelude.{◌≡◌, IfErr, None, OnOk, not, position};
 ghost use Rattle.std.specs.List.{list_all};
 ghost use Rattle.prt_route.specs.Name.{is_name};
 ghost use Rattle.prt_dump.specs.Plain.{is_plain_byte, is_plain_name, is_plain_route, is_plain_rule};
+ghost use Rattle.prt_dump.specs.PutBack.{IsWhyNot};
 
+use crate::refusal::NotDumped;
 use prt_route::{Dev, Route, read_dev};
 use prt_rule::Rule;
 
@@ -53,15 +55,33 @@ fn is_plain_route(route: &Route) -> bool
 }
 
 /// Gives the place of the first rule that no line can spell.
-pub(crate) fn first_unplain_rule(rules: &[Rule]) -> Option<usize>
+fn first_unplain_rule(rules: &[Rule]) -> Option<usize>
     ensures { result ≡ position (λ rule. not (is_plain_rule rule)) rules.now }
 {
     rules.iter().position(|rule| !is_plain_rule(rule))
 }
 
 /// Gives the place of the first route that no line can spell.
-pub(crate) fn first_unplain_route(routes: &[Route]) -> Option<usize>
+fn first_unplain_route(routes: &[Route]) -> Option<usize>
     ensures { result ≡ position (λ route. not (is_plain_route route)) routes.now }
 {
     routes.iter().position(|route| !is_plain_route(route))
+}
+
+/// Looks for a rule, and then for a route, that no line can spell.
+///
+/// # Errors
+///
+/// `Rule` or `Route` with the place of the first one.
+pub(crate) fn find_unplain(rules: &[Rule], routes: &[Route]) -> Result<(), NotDumped>
+    ensures plain { OnOk result ((position (λ rule. not (is_plain_rule rule)) rules.now ≡ None) × (position (λ route. not (is_plain_route route)) routes.now ≡ None)) }
+    ensures reason { IfErr result (λ reason. IsWhyNot (record { count = 0; rules = rules.now; routes = routes.now }) reason) }
+{
+    match first_unplain_rule(rules) {
+        Some(place) => Err(NotDumped::Rule(place)),
+        None => match first_unplain_route(routes) {
+            Some(place) => Err(NotDumped::Route(place)),
+            None => Ok(()),
+        },
+    }
 }
