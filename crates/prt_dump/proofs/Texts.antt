@@ -140,7 +140,7 @@ every_listed (route ∷ routes) = ap (λ others. route ∷ others) (every_listed
 
 -- ---- where no row fails a test
 
-none_fails_by : {X : Type 0} (q : X → Bool) (x : X) (xs : List X) (b : Bool) → q x ≡ b → (length xs ≤ position_or_len q xs → Each (λ x. q x ≡ false) xs) → length (x ∷ xs) ≤ cond b 0 (1 + position_or_len q xs) → Each (λ x. q x ≡ false) (x ∷ xs)
+none_fails_by : {X : Type 0} (q : X → Bool) (x : X) (xs : List X) (b : Bool) → q x ≡ b → (length xs ≤ position_or_len q xs → Each (λ x. q x ≡ false) xs) → length (x ∷ xs) ≤ cond (not b) (1 + position_or_len q xs) 0 → Each (λ x. q x ≡ false) (x ∷ xs)
 none_fails_by q x xs true is rest over = absurd (omega (arith, over))
 none_fails_by q x xs false is rest over = (is, rest (omega (arith, over)))
 
