@@ -1,16 +1,15 @@
 -- Digits that were written are read back.
-use Rattle.std.proofs.Common.{◌≡◌, ℕ, zero, suc, ◌+◌, ◌-◌, ◌*◌, ◌/◌, ◌%◌, ◌^◌, ◌<◌, ◌≤◌, Bool, true, false, not, List, [], ◌∷◌, ◌++◌, Option, Some, None, refl, sym, ap, ◌∙◌, subst, arith, length, get_or, cond, option_and_then, nat_le, nat_lt}
+use Rattle.std.proofs.Common.{◌≡◌, ℕ, zero, suc, ◌+◌, ◌*◌, ◌/◌, ◌%◌, ◌^◌, ◌<◌, ◌≤◌, Bool, true, false, List, [], ◌∷◌, ◌++◌, Option, Some, None, refl, ap, ◌∙◌, arith, length, get_or, option_and_then, nat_lt}
 use Rattle.std.specs.Prelude.{codes, decimal, slice_index, ◌==◌, ◌&&◌, ◌||◌, if◌then◌else◌}
 use Rattle.std.specs.Fmt.{digit_glyph, digits, digits_onto}
 use Rattle.std.specs.Char.{digit_value}
-use Rattle.std.specs.List.{list_all, AllByRecursion as Each}
-use Rattle.std.specs.Str.Parse.{AllDigits, digits_value, digits_value_after}
+use Rattle.std.specs.List.{AllByRecursion as Each}
+use Rattle.std.specs.Str.Parse.{AllDigits, digits_value_after}
 use Rattle.std.proofs.lemmas.Bool.Decides.{nat_tests}
 use Rattle.std.proofs.lemmas.Fmt.{decimal_is_IsNumeral, digits_is_IsNumeral, decimal_digit, first_decimal, length-decimal-le}
 use Rattle.prt_addr.specs.Decimal.{digit_of, followed_by, decimal_value, decimal_within, at_most, has_leading_zero}
 use Rattle.prt_addr.specs.Number.{number, begins_hex, hex_digit_of, hex_value}
 use Rattle.prt_addr.specs.Word.{Word}
-use Rattle.prt_dump.specs.Plain.{is_plain_byte}
 
 -- ---- digits
 

@@ -1,8 +1,7 @@
 -- Texts made of parts, and the items that their words are.
-use Rattle.std.proofs.Common.{◌≡◌, ℕ, zero, suc, ◌+◌, ◌<◌, ◌≤◌, Bool, true, false, not, List, [], ◌∷◌, ◌++◌, Option, Some, None, Result, Ok, refl, sym, ap, ◌∙◌, subst, append_assoc, arith, length, filter}
-use Rattle.std.specs.Prelude.{codes, ◌&&◌, ◌==◌, nat_le}
+use Rattle.std.proofs.Common.{◌≡◌, ℕ, ◌+◌, ◌<◌, ◌≤◌, Bool, true, false, not, List, [], ◌∷◌, ◌++◌, Option, Some, None, Ok, refl, sym, ap, ◌∙◌, subst, append_assoc, arith, length, filter}
+use Rattle.std.specs.Prelude.{codes, ◌&&◌, ◌==◌}
 use Rattle.std.specs.List.{filter_map, join_with_byte, list_all, onto_first, slice_split, AllByRecursion as Each}
-use Rattle.std.proofs.lemmas.Bool.{cases_eq}
 use Rattle.std.proofs.lemmas.Bool.Decides.{nat_tests}
 use Rattle.std.proofs.lemmas.List.{append-nil, length-append}
 use Rattle.std.proofs.lemmas.List.Elements.{All-from_recursion, filter-append}
@@ -17,8 +16,7 @@ use Rattle.prt_command.specs.Steps.{and_items}
 use Rattle.prt_command.specs.Values.{value}
 use Rattle.prt_command.specs.declared.item.Item.{Item}
 use Rattle.prt_command.specs.declared.item.Items.{Items}
-use Rattle.prt_command.specs.declared.item.ItemWord.{ItemWord}
-use Rattle.prt_command.specs.declared.item.ItemWord.TheVariants.{Keyword, Alone}
+use Rattle.prt_command.specs.declared.item.ItemWord.TheVariants.{Keyword}
 use Rattle.prt_command.specs.declared.item.Slot.{Slot}
 use Rattle.prt_listing.specs.Parts.{spaced}
 use Rattle.prt_dump.specs.Plain.{is_plain_byte}

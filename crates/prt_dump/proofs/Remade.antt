@@ -1,7 +1,7 @@
 -- The commands of a dump remake the state.
-use Rattle.std.proofs.Common.{◌≡◌, ℕ, ◌+◌, ◌<◌, ◌≤◌, Bool, true, false, not, ◌||◌, List, [], ◌∷◌, ◌++◌, Option, Some, None, Result, Ok, Err, length, map, refl, sym, ap, ◌∙◌, subst, append_assoc, arith, get_or, cond}
-use Rattle.std.specs.Prelude.{filter, is_none, is_some, ◌==◌, ◌&&◌, nat_lt, if◌then◌else◌}
-use Rattle.std.specs.List.{list_any, Contains, IsDistinct, AllByRecursion as Each}
+use Rattle.std.proofs.Common.{◌≡◌, ℕ, ◌+◌, ◌<◌, ◌≤◌, Bool, true, false, not, List, [], ◌∷◌, ◌++◌, Option, Some, None, Ok, Err, length, map, refl, sym, ap, ◌∙◌, subst, append_assoc, arith, get_or, cond}
+use Rattle.std.specs.Prelude.{filter, is_none, is_some, nat_lt, if◌then◌else◌}
+use Rattle.std.specs.List.{Contains, IsDistinct, AllByRecursion as Each}
 use Rattle.std.specs.List.Sorted.{IsPermutation}
 use Rattle.std.proofs.lemmas.Bool.Decides.{nat_tests}
 use Rattle.std.proofs.lemmas.List.{append-nil}
@@ -10,12 +10,10 @@ use Rattle.std.proofs.lemmas.List.Sorted.{Contains-permutation, IsPermutation-fi
 use Rattle.std.proofs.lemmas.Map.Keys.{IsDistinct-IsPermutation}
 use Rattle.prt_addr.specs.Order.{insert_by}
 use Rattle.prt_addr.specs.Rising.{IsRising}
-use Rattle.prt_addr.specs.declared.refusal.Refusal.{Refusal}
 use Rattle.prt_addr.specs.declared.refusal.Refusal.TheVariants.{Exists, Full, CountFull}
 use Rattle.prt_addr.proofs.Each.{any_none, each_append, each_implies}
 use Rattle.prt_addr.proofs.Orders.{each_inserted, inserted_rises, length_inserted, same_risings}
 use Rattle.std.proofs.lemmas.List.{length-append}
-use Rattle.prt_route.specs.Edit.{has_key, without_key}
 use Rattle.prt_route.specs.Route.{is_listed_before, is_same_key, key_of}
 use Rattle.prt_route.specs.declared.edit.RouteEdit.TheVariants.{Put}
 use Rattle.prt_route.specs.declared.route.Route.{Route}

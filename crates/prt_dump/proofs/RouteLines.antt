@@ -1,46 +1,42 @@
 -- The line of a route asks for the route.
-use Rattle.std.proofs.Common.{◌≡◌, ℕ, ◌+◌, ◌^◌, ◌<◌, ◌≤◌, Bool, true, false, not, List, [], ◌∷◌, ◌++◌, Option, Some, None, Result, Ok, Err, IfSome, is_some, option_map, refl, sym, ap, ◌∙◌, subst, arith, nat_le, cond}
+use Rattle.std.proofs.Common.{◌≡◌, ℕ, ◌+◌, ◌^◌, ◌<◌, ◌≤◌, Bool, true, false, not, List, [], ◌∷◌, ◌++◌, Option, Some, None, Result, Ok, IfSome, is_some, option_map, refl, sym, ap, ◌∙◌, arith, nat_le}
 use Rattle.std.proofs.lemmas.List.{append-nil}
 use Rattle.std.specs.Prelude.{codes, decimal, is_none, nat_lt, ◌==◌, ◌&&◌, ◌||◌, if◌then◌else◌, unwrap_or}
 use Rattle.std.specs.Option.{ok_or}
 use Rattle.std.specs.List.{filter_map}
 use Rattle.std.proofs.lemmas.Bool.Decides.{nat_tests}
-use Rattle.prt_addr.specs.Addr.{addr_text, address}
+use Rattle.prt_addr.specs.Addr.{addr_text}
 use Rattle.prt_addr.specs.Block.{Block}
-use Rattle.prt_addr.specs.Number.{number}
 use Rattle.prt_addr.specs.Prefix.{everything, prefix, prefix_text}
 use Rattle.prt_addr.specs.Sound.{IsPrefix}
 use Rattle.prt_addr.specs.Word.{Word, keep}
 use Rattle.prt_addr.specs.declared.addr.Addr.{Addr}
 use Rattle.prt_addr.specs.declared.refusal.Refusal.{Refusal}
-use Rattle.prt_addr.specs.declared.refusal.Refusal.TheVariants.{BadAddress, BadName, BadNumber, BadTable, NoNextHop, NextHopNotAllowed}
+use Rattle.prt_addr.specs.declared.refusal.Refusal.TheVariants.{BadAddress, BadName, BadNumber, BadTable, NoNextHop}
 use Rattle.prt_route.specs.Dev.{device}
 use Rattle.prt_route.specs.Kind.{kind_name}
-use Rattle.prt_route.specs.Names.{name_in, protocol, protocols, scope, scopes, spelled_number, table, tables}
+use Rattle.prt_route.specs.Names.{protocol, protocols, scope, scopes, table, tables}
 use Rattle.prt_route.specs.Storable.{is_storable_route, suits}
 use Rattle.prt_route.specs.declared.kind.Kind.{Kind}
 use Rattle.prt_route.specs.declared.kind.Kind.TheVariants.{Unicast, Blackhole, Unreachable, Prohibit, Throw}
 use Rattle.prt_route.specs.declared.route.Route.{Route}
-use Rattle.prt_command.specs.Items.{has, no_items, put}
+use Rattle.prt_command.specs.Items.{no_items}
 use Rattle.prt_command.specs.LineKinds.{is_to, route_edit_line, route_edit_words, word_in}
-use Rattle.prt_command.specs.Reading.{reading, words_request}
 use Rattle.prt_command.specs.Requests.{refuse_if, route_of, route_request, scope_of}
-use Rattle.prt_command.specs.Scan.{item_by, item_ends, items_of, one_more, plain_by, plain_from, plain_item, what_follows}
+use Rattle.prt_command.specs.Scan.{item_by, item_ends, items_of, one_more, plain_by, plain_from, what_follows}
 use Rattle.prt_command.specs.Steps.{and_items}
 use Rattle.prt_command.specs.Then.{◌>>=◌, map_ok}
-use Rattle.prt_command.specs.Values.{prefix_word, value}
-use Rattle.prt_command.specs.declared.item.Item.{Item}
+use Rattle.prt_command.specs.Values.{prefix_word}
 use Rattle.prt_command.specs.declared.item.Item.TheVariants as item
 use Rattle.prt_command.specs.declared.item.Items.{Items}
-use Rattle.prt_command.specs.declared.item.PrefixWord.{PrefixWord}
 use Rattle.prt_command.specs.declared.item.PrefixWord.TheVariants as before
 use Rattle.prt_command.specs.declared.item.Slot.TheVariants.{Destination, Via, Dev, Table, Proto, Scope, Src, Metric}
 use Rattle.prt_command.specs.declared.item.Target.{Target}
 use Rattle.prt_command.specs.declared.request.Command.TheVariants as commands
 use Rattle.prt_command.specs.declared.request.Request.{Request}
 use Rattle.prt_command.specs.declared.request.Request.TheVariants as requests
-use Rattle.prt_listing.specs.Parts.{is_everything, name_or_number, part, prefix_or, spaced, table_text}
-use Rattle.prt_listing.specs.RouteText.{kind_part, metric_part, protocol_part, route_parts, scope_part, table_part}
+use Rattle.prt_listing.specs.Parts.{is_everything, name_or_number, part, prefix_or, table_text}
+use Rattle.prt_listing.specs.RouteText.{kind_part, route_parts}
 use Rattle.prt_listing.specs.declared.route.TablePart.TheVariants.{Shown}
 use Rattle.prt_dump.specs.Dump.{global_part, has_unsaid_scope, route_line}
 use Rattle.prt_dump.specs.Plain.{RouteFits, is_plain_name, is_plain_route}

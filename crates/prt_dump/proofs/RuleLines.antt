@@ -1,6 +1,6 @@
 -- The line of a rule asks for the rule.
-use Rattle.std.proofs.Common.{◌≡◌, ℕ, ◌+◌, ◌^◌, ◌<◌, ◌≤◌, Bool, true, false, not, List, [], ◌∷◌, ◌++◌, Option, Some, None, Result, Ok, Err, IfSome, is_some, option_map, refl, sym, ap, ◌∙◌, arith, nat_le}
-use Rattle.std.specs.Prelude.{codes, decimal, is_none, ◌==◌, ◌&&◌, if◌then◌else◌, unwrap_or}
+use Rattle.std.proofs.Common.{◌≡◌, ℕ, ◌^◌, ◌<◌, ◌≤◌, Bool, true, false, not, List, [], ◌∷◌, Option, Some, None, Result, Ok, Err, IfSome, is_some, option_map, refl, sym, ap, ◌∙◌, arith, nat_le}
+use Rattle.std.specs.Prelude.{codes, decimal, ◌&&◌, if◌then◌else◌, unwrap_or}
 use Rattle.std.specs.Option.{ok_or}
 use Rattle.std.specs.List.{filter_map}
 use Rattle.std.proofs.lemmas.Bool.Decides.{nat_tests}
@@ -18,23 +18,21 @@ use Rattle.prt_rule.specs.declared.rule.Action as rule
 use Rattle.prt_rule.specs.declared.rule.Action.TheVariants as actions
 use Rattle.prt_rule.specs.declared.rule.Mark.{Mark}
 use Rattle.prt_rule.specs.declared.rule.Rule.{Rule}
-use Rattle.prt_command.specs.Items.{no_items, put}
+use Rattle.prt_command.specs.Items.{no_items}
 use Rattle.prt_command.specs.LineKinds.{rule_edit_line}
-use Rattle.prt_command.specs.Mark.{mark}
 use Rattle.prt_command.specs.Requests.{is_lookup, refuse_if, rule_add_request, rule_of}
 use Rattle.prt_command.specs.Scan.{items_of}
 use Rattle.prt_command.specs.Steps.{and_items}
 use Rattle.prt_command.specs.Then.{◌>>=◌, map_ok}
-use Rattle.prt_command.specs.declared.item.Item.{Item}
 use Rattle.prt_command.specs.declared.item.Item.TheVariants as item
 use Rattle.prt_command.specs.declared.item.Items.{Items}
-use Rattle.prt_command.specs.declared.item.Slot.TheVariants.{Inverted, From, To, Iif, Fwmark, Priority, Action, Suppress}
+use Rattle.prt_command.specs.declared.item.Slot.TheVariants.{From, To, Iif, Fwmark, Priority, Action, Suppress}
 use Rattle.prt_command.specs.declared.request.Command.TheVariants as commands
 use Rattle.prt_command.specs.declared.request.NewRule.{NewRule}
 use Rattle.prt_command.specs.declared.request.Request.{Request}
 use Rattle.prt_command.specs.declared.request.Request.TheVariants as requests
 use Rattle.prt_listing.specs.Parts.{is_everything, mark_text, part, prefix_or, table_text}
-use Rattle.prt_listing.specs.RuleText.{action_text, mark_part, not_part, rule_parts, to_part}
+use Rattle.prt_listing.specs.RuleText.{action_text, mark_part, not_part, rule_parts}
 use Rattle.prt_dump.specs.Dump.{new_rule, rule_line}
 use Rattle.prt_dump.specs.Plain.{ActionFits, RuleFits, is_plain_name, is_plain_rule}
 use Rattle.prt_dump.proofs.Digits.{number_back}

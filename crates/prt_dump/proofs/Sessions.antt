@@ -1,20 +1,17 @@
 -- A session over the lines of a dump.
-use Rattle.std.proofs.Common.{◌≡◌, ◌≢◌, ℕ, suc, ◌+◌, ◌-◌, ◌<◌, ◌≤◌, Bool, true, false, not, List, [], ◌∷◌, ◌++◌, Option, Some, None, Result, Ok, Err, length, map, refl, sym, ap, ◌∙◌, subst, append_assoc, arith}
+use Rattle.std.proofs.Common.{◌≡◌, ◌≢◌, ℕ, suc, ◌+◌, ◌-◌, ◌<◌, ◌≤◌, true, false, List, [], ◌∷◌, ◌++◌, None, length, map, refl, sym, ap, ◌∙◌, subst, append_assoc, arith}
 use Rattle.std.specs.Prelude.{codes, ◌==◌, is_none, is_some, nat_lt}
 use Rattle.std.specs.List.{list_all, AllByRecursion as Each}
 use Rattle.std.proofs.lemmas.Bool.Decides.{nat_tests}
-use Rattle.std.proofs.lemmas.List.{append-nil, length-append}
+use Rattle.std.proofs.lemmas.List.{length-append}
 use Rattle.prt_addr.specs.declared.on_refusal.OnRefusal.{OnRefusal}
 use Rattle.prt_addr.specs.declared.on_refusal.OnRefusal.TheVariants.{GoOn, Stop}
-use Rattle.prt_addr.specs.declared.refusal.Refusal.{Refusal}
 use Rattle.prt_addr.proofs.Each.{each_append, each_filtered}
 use Rattle.prt_route.specs.declared.route.Route.{Route}
 use Rattle.prt_rule.specs.declared.rule.Rule.{Rule}
 use Rattle.prt_command.specs.Lines.{Limits, limits, lines_of}
-use Rattle.prt_command.specs.Reading.{reading}
 use Rattle.prt_command.specs.declared.request.Command.{Command}
-use Rattle.prt_command.specs.declared.request.Command.TheVariants.{RouteAdd, RuleAdd, RuleDel, RuleFlush}
-use Rattle.prt_command.specs.declared.request.Request.TheVariants as requests
+use Rattle.prt_command.specs.declared.request.Command.TheVariants.{RouteAdd, RuleAdd}
 use Rattle.prt_listing.specs.QueryText.{lines_text}
 use Rattle.prt_version.specs.Accepted.{IsAccepted}
 use Rattle.prt_version.specs.Change.{apply, fold, refusal}
@@ -22,17 +19,16 @@ use Rattle.prt_version.specs.Sound.{IsSound}
 use Rattle.prt_version.specs.State.{State, opening_state}
 use Rattle.prt_version.proofs.Folds.{apply_count}
 use Rattle.prt_session.specs.Desk.{DeskState, Mishap, command_or_refusal, request_turn, settled}
-use Rattle.prt_session.specs.Session.{Ending, Exchange, Session, Turn, TurnsOf, after_exchange, end_of_input, exchange_of, line_turn, replies, replies_of, session, session_lines, stops_after, turn_on}
+use Rattle.prt_session.specs.Session.{Ending, Exchange, Session, Turn, TurnsOf, after_exchange, end_of_input, exchange_of, line_turn, replies, session, session_lines, stops_after, turn_on}
 use Rattle.prt_session.specs.Steps.{HasNoNewline}
-use Rattle.prt_session.specs.declared.reply.Reply.{Reply}
 use Rattle.prt_session.specs.declared.reply.Reply.TheVariants.{Accepted}
 use Rattle.prt_session.proofs.Lines.{whole_line}
-use Rattle.prt_dump.specs.Dump.{dump_commands, dump_lines, first_rule, gateways_last, new_rule, route_line, rule_line}
+use Rattle.prt_dump.specs.Dump.{dump_commands, dump_lines, gateways_last, new_rule, route_line, rule_line}
 use Rattle.prt_dump.specs.Plain.{RouteFits, RuleFits, is_plain_route, is_plain_rule}
 use Rattle.prt_dump.specs.PutBack.{IsPlainState, IsPutBack, StateFits, acceptances, dump_text, session_of}
 use Rattle.prt_dump.proofs.Line.{IsReadAs}
 use Rattle.prt_dump.proofs.Parts.{is_line_byte}
-use Rattle.prt_dump.proofs.Remade.{Remakes, dump_remade, length_moved, lists_same, remade, remade_same}
+use Rattle.prt_dump.proofs.Remade.{dump_remade, length_moved, lists_same, remade, remade_same}
 use Rattle.prt_dump.proofs.RouteLines.{route_read}
 use Rattle.prt_dump.proofs.RuleLines.{rule_read}
 use Rattle.prt_dump.proofs.Words.{both_true}

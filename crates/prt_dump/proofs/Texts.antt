@@ -1,5 +1,5 @@
 -- Lines as they are written, piece by piece.
-use Rattle.std.proofs.Common.{◌≡◌, ℕ, ◌+◌, ◌-◌, ◌<◌, ◌≤◌, Bool, true, false, List, [], ◌∷◌, ◌++◌, Option, Some, None, refl, sym, ap, ◌∙◌, append_assoc, arith, length, drop, map, Result, Ok, Err, OnOk, cond}
+use Rattle.std.proofs.Common.{◌≡◌, ℕ, ◌+◌, ◌<◌, ◌≤◌, Bool, true, false, List, [], ◌∷◌, ◌++◌, Option, Some, None, refl, sym, ap, ◌∙◌, append_assoc, arith, length, drop, map, Result, Ok, Err, OnOk, cond}
 use Rattle.std.specs.Prelude.{codes, decimal, if◌then◌else◌, nat_lt, not, position}
 use Rattle.std.specs.List.{cons_option, filter_map, join_with_byte, position_or_len, AllByRecursion as Each}
 use Rattle.std.proofs.lemmas.Bool.Decides.{nat_tests}
@@ -10,9 +10,9 @@ use Rattle.prt_route.specs.declared.kind.Kind.{Kind}
 use Rattle.prt_route.specs.declared.kind.Kind.TheVariants.{Unicast, Blackhole, Unreachable, Prohibit, Throw}
 use Rattle.prt_route.specs.declared.route.Route.{Route}
 use Rattle.prt_rule.specs.declared.rule.Rule.{Rule}
-use Rattle.prt_listing.specs.Parts.{part, prefix_or, spaced}
+use Rattle.prt_listing.specs.Parts.{spaced}
 use Rattle.prt_listing.specs.RouteText.{kind_part, route_parts, route_text}
-use Rattle.prt_listing.specs.RuleText.{mark_part, not_part, rule_parts, rule_text, to_part}
+use Rattle.prt_listing.specs.RuleText.{not_part, rule_parts, rule_text}
 use Rattle.prt_listing.specs.declared.route.TablePart.TheVariants.{Shown}
 use Rattle.prt_listing.specs.QueryText.{lines_text}
 use Rattle.prt_addr.proofs.Each.{each_implies}

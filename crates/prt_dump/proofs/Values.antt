@@ -1,15 +1,15 @@
 -- Values that were written are read back.
-use Rattle.std.proofs.Common.{◌≡◌, ℕ, zero, suc, ◌+◌, ◌-◌, ◌*◌, ◌/◌, ◌%◌, ◌^◌, ◌<◌, ◌≤◌, Bool, true, false, not, List, [], ◌∷◌, ◌++◌, Option, Some, None, Result, Ok, Err, refl, sym, ap, ◌∙◌, subst, append_assoc, arith, length, take, drop, cond, option_and_then, option_map, map, nat_le, nat_lt}
-use Rattle.std.specs.Prelude.{codes, decimal, ◌==◌, ◌&&◌, if◌then◌else◌, position, unwrap_or}
+use Rattle.std.proofs.Common.{◌≡◌, ℕ, ◌+◌, ◌-◌, ◌*◌, ◌/◌, ◌%◌, ◌^◌, ◌<◌, ◌≤◌, Bool, true, false, List, [], ◌∷◌, ◌++◌, Option, Some, None, Ok, refl, sym, ap, ◌∙◌, subst, append_assoc, arith, length, drop, cond, option_and_then, option_map, map, nat_le, nat_lt}
+use Rattle.std.specs.Prelude.{codes, decimal, ◌==◌, if◌then◌else◌, position, unwrap_or}
 use Rattle.std.specs.Fmt.{digits}
-use Rattle.std.specs.List.{list_all, position_or_len, slice_split, AllByRecursion as Each}
+use Rattle.std.specs.List.{position_or_len, AllByRecursion as Each}
 use Rattle.std.specs.Option.{option_or}
-use Rattle.std.proofs.Math.Seq.{drop-append_seam, drop-append-add, take-append_seam}
+use Rattle.std.proofs.Math.Seq.{drop-append-add, take-append_seam}
 use Rattle.std.proofs.lemmas.List.{append-nil}
 use Rattle.std.proofs.lemmas.Bool.Decides.{nat_tests}
 use Rattle.std.proofs.lemmas.List.Elements.{All-from_recursion}
 use Rattle.std.proofs.lemmas.List.Splits.{slice_split_at, slice_split_none}
-use Rattle.prt_addr.specs.Addr.{addr_text, address, address_of, octet, octets_of}
+use Rattle.prt_addr.specs.Addr.{addr_text, address, address_of, octet}
 use Rattle.prt_addr.specs.Block.{Block, host_bits}
 use Rattle.prt_addr.specs.Decimal.{decimal_within}
 use Rattle.prt_addr.specs.Number.{number}
@@ -17,13 +17,11 @@ use Rattle.prt_addr.specs.Prefix.{block, block_of, everything_words, masked, net
 use Rattle.prt_addr.specs.Sound.{IsPrefix}
 use Rattle.prt_addr.specs.Word.{Word, all_of, is_one_of, keep, parts_at}
 use Rattle.prt_addr.specs.declared.addr.Addr.{Addr}
-use Rattle.prt_addr.specs.declared.refusal.Refusal.{Refusal}
 use Rattle.prt_addr.proofs.Each.{each_append, each_implies}
 use Rattle.prt_route.specs.Names.{name_in, number_in, spelled_number}
 use Rattle.prt_rule.specs.declared.rule.Mark.{Mark}
 use Rattle.prt_command.specs.Then.{◌>>=◌}
 use Rattle.prt_command.specs.Mark.{is_slash, mark, mark_at, part}
-use Rattle.prt_dump.specs.Plain.{is_plain_byte}
 use Rattle.prt_dump.proofs.Digits.{IsDigit, IsHexDigit, decimal_is, hex_back, hex_is, number_back, within_back}
 use Rattle.prt_dump.proofs.Letters.{BeginsWithDigit, begin_more, digits_begin, no_everything}
 

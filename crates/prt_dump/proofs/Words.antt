@@ -1,5 +1,5 @@
 -- Values are written as words.
-use Rattle.std.proofs.Common.{◌≡◌, ℕ, suc, ◌+◌, ◌-◌, ◌*◌, ◌/◌, ◌%◌, ◌^◌, ◌<◌, ◌≤◌, Bool, true, false, not, List, [], ◌∷◌, ◌++◌, Option, Some, None, refl, sym, ap, ◌∙◌, subst, arith, length, nat_le, nat_lt}
+use Rattle.std.proofs.Common.{◌≡◌, ℕ, ◌-◌, ◌/◌, ◌%◌, ◌^◌, ◌<◌, ◌≤◌, Bool, true, false, List, [], ◌∷◌, ◌++◌, Option, Some, None, refl, sym, ap, ◌∙◌, subst, arith, length, nat_le}
 use Rattle.std.specs.Prelude.{codes, decimal, ◌==◌, ◌&&◌, if◌then◌else◌, unwrap_or}
 use Rattle.std.specs.Fmt.{digits}
 use Rattle.std.specs.List.{list_all, AllByRecursion as Each}
@@ -11,17 +11,17 @@ use Rattle.prt_addr.specs.Addr.{addr_text}
 use Rattle.prt_addr.specs.Block.{Block}
 use Rattle.prt_addr.specs.Prefix.{prefix_text}
 use Rattle.prt_addr.specs.Sound.{IsPrefix}
-use Rattle.prt_addr.specs.Word.{Word, is_one_of}
+use Rattle.prt_addr.specs.Word.{Word}
 use Rattle.prt_addr.specs.declared.addr.Addr.{Addr}
 use Rattle.prt_addr.proofs.Each.{each_append, each_implies}
-use Rattle.prt_route.specs.Name.{is_barred, is_name}
+use Rattle.prt_route.specs.Name.{is_name}
 use Rattle.prt_route.specs.Names.{name_in}
 use Rattle.prt_rule.specs.declared.rule.Mark.{Mark}
 use Rattle.prt_listing.specs.Parts.{mark_text}
 use Rattle.prt_dump.specs.Plain.{is_plain_byte, is_plain_name}
 use Rattle.prt_dump.proofs.Digits.{IsDigit, IsHexDigit, decimal_is, hex_is, length_hex}
 use Rattle.prt_dump.proofs.Letters.{BeginsWithDigit}
-use Rattle.prt_dump.proofs.Parts.{IsWord, all_of_each, each_of_all}
+use Rattle.prt_dump.proofs.Parts.{IsWord, all_of_each}
 use Rattle.prt_dump.proofs.Values.{address_begins, digits_of, dots, hex, text_is, whole_text}
 
 pub both_true : (p q : Bool) → p && q ≡ true → (p ≡ true) × (q ≡ true)

@@ -1,5 +1,5 @@
 -- The lines that put a state back: ip-rule(8), ip-route(8).
-use Rattle.std.specs.Prelude.{◌≡◌, ℕ, Bool, true, false, ◌&&◌, ◌==◌, is_none, is_some, if◌then◌else◌, List, [], ◌∷◌, ◌++◌, filter, map, Option, Some, None, codes, decimal}
+use Rattle.std.specs.Prelude.{ℕ, Bool, false, ◌&&◌, ◌==◌, is_none, is_some, if◌then◌else◌, List, [], ◌∷◌, ◌++◌, filter, map, Option, Some, None, codes, decimal}
 use Rattle.prt_route.specs.Names.{global_scope}
 use Rattle.prt_route.specs.RouteChoice.{is_same_kind}
 use Rattle.prt_route.specs.declared.kind.Kind.TheVariants.{Unicast}

@@ -1,6 +1,6 @@
 -- Which rules and routes a line can spell.
-use Rattle.std.specs.Prelude.{◌≡◌, ◌<◌, ◌≤◌, ◌^◌, ℕ, Bool, true, not, ◌&&◌, ◌==◌, nat_le, List, Option, Some, None, IfSome}
-use Rattle.std.specs.List.{list_all, AllByRecursion as Each}
+use Rattle.std.specs.Prelude.{◌<◌, ◌≤◌, ◌^◌, ℕ, Bool, true, not, ◌&&◌, ◌==◌, nat_le, Option, Some, None, IfSome}
+use Rattle.std.specs.List.{list_all}
 use Rattle.prt_addr.specs.Sound.{IsPrefix}
 use Rattle.prt_addr.specs.Word.{Word}
 use Rattle.prt_route.specs.Name.{is_name}
@@ -9,7 +9,6 @@ use Rattle.prt_route.specs.declared.route.Route.{Route}
 use Rattle.prt_rule.specs.Storable.{is_storable_rule}
 use Rattle.prt_rule.specs.declared.rule.Action.{Action}
 use Rattle.prt_rule.specs.declared.rule.Action.TheVariants.{Lookup}
-use Rattle.prt_rule.specs.declared.rule.Mark.{Mark}
 use Rattle.prt_rule.specs.declared.rule.Rule.{Rule}
 
 -- from `!` to `~`, and no `#`
