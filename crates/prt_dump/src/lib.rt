@@ -8,4 +8,5 @@ mod plain;
 mod refusal;
 
 pub use dump::dump_text;
+pub use laws::{dump_is_put_back, dump_remakes, lines_are_read, values_read_back};
 pub use refusal::NotDumped;
