@@ -4,7 +4,7 @@ _prt() {
   local word=${COMP_WORDS[COMP_CWORD]} before=${COMP_WORDS[COMP_CWORD - 1]} options=
   COMPREPLY=()
   if [ "$COMP_CWORD" -eq 1 ]; then
-    mapfile -t COMPREPLY < <(compgen -W 'batch check replay serve help --help --version' -- "$word")
+    mapfile -t COMPREPLY < <(compgen -W 'batch check dump replay serve help --help --version' -- "$word")
     return
   fi
   case $before in
@@ -22,10 +22,11 @@ _prt() {
   case ${COMP_WORDS[1]} in
     batch) options='--force --db --verbose --help' ;;
     check | replay) options=--help ;;
+    dump) options='--db --help' ;;
     serve) options='--db --listen --workers --sessions --idle --help' ;;
-    help) options='batch check replay serve' ;;
+    help) options='batch check dump replay serve' ;;
   esac
-  if [[ $word == -* || ${COMP_WORDS[1]} == help || ${COMP_WORDS[1]} == serve ]]; then
+  if [[ $word == -* || ${COMP_WORDS[1]} == help || ${COMP_WORDS[1]} == serve || ${COMP_WORDS[1]} == dump ]]; then
     mapfile -t COMPREPLY < <(compgen -W "$options" -- "$word")
   else
     compopt -o filenames

@@ -2,10 +2,12 @@
 #![tactic(auto)]
 
 mod cause;
+mod dump;
 mod files;
 mod server;
 mod telling;
 
+use dump::dump;
 use files::DatabaseFiles;
 use prt_program::{Next, Noting, cause_message, program};
 use prt_words::{report, words_fault};
@@ -76,6 +78,11 @@ fn main(rt: HostRuntime) -> ExitCode {
             &mut output,
             errors,
         ),
+        Next::Dump(path) => {
+            let status = dump(&rt, rt, alloc, path, &mut output, &mut errors);
+            tell_failure(alloc, "standard output", &output, &mut errors);
+            status
+        }
     };
     ExitCode::from(status)
 }

@@ -17,6 +17,7 @@ use prt_grace::Domain;
 use prt_listing::query_text;
 use prt_publisher::{Phase, Publisher};
 use prt_session::{Command, Desk, Observer, OnRefusal, Query, Refusal, ScriptEnd, run_script};
+use prt_version::Version;
 use sqlite::{Alter, Connection, Error};
 use std::alloc::Global;
 use std::io::{Read, Write};
@@ -79,6 +80,13 @@ impl<S: Alter + Drop, H: Wait + Drop> StoreDesk<S, H> {
     /// Gives the library's error of the commit that closed it, if one did.
     pub fn failure(&self) -> Option<Error> {
         self.publisher.failure()
+    }
+
+    /// Gives the version that was published last.
+    pub fn version(&self) -> &Version
+        ensures { result.now ≡ published self.now }
+    {
+        self.publisher.published()
     }
 
     /// Gives the connection back, with its tables as they are.

@@ -9,4 +9,6 @@ pub enum Next<'a> {
     Exit(u8),
     /// To serve these sessions. Nothing was opened, read or written yet.
     Serve(Serving<'a>),
+    /// To print commands that make the database at this path anew. Nothing was opened, read or written yet.
+    Dump(&'a str),
 }

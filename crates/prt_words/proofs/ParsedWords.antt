@@ -42,6 +42,7 @@ record IsOther (word : Text) : Type 0 where
   no_check : bytes_eq (codes "check") word ≡ false
   no_replay : bytes_eq (codes "replay") word ≡ false
   no_serve : bytes_eq (codes "serve") word ≡ false
+  no_dump : bytes_eq (codes "dump") word ≡ false
   no_help : bytes_eq (codes "help") word ≡ false
 
 first_empty : First []
@@ -54,7 +55,7 @@ first_hyphen = mistake refl refl refl
 
 first_plain : (byte : ℕ) (rest : Text) → (byte == 45) ≡ false → IsOther (byte ∷ rest) → First (byte ∷ rest)
 unfolding clap_on_literals
-first_plain byte rest plain other = mistake (rw plain refl) (rw plain refl) (rw (other.no_batch, other.no_check, other.no_replay, other.no_serve, other.no_help, plain, plain) refl)
+first_plain byte rest plain other = mistake (rw plain refl) (rw plain refl) (rw (other.no_batch, other.no_check, other.no_replay, other.no_serve, other.no_dump, other.no_help, plain, plain) refl)
 
 first_short : (byte : ℕ) (rest : Text) (letter : Option ℕ) → (byte == 45) ≡ false → slice_get (chars (byte ∷ rest)) 0 ≡ letter → First (45 ∷ byte ∷ rest)
 unfolding walked bundle_met flags_fault
@@ -76,16 +77,16 @@ first_long_other byte rest no_help no_version turn =
 
 no_long : (word name : Text) (value : Option Text) → bytes_eq word (codes "--") ≡ false → IsOther word
     → long_of word ≡ Some (name, value) → bytes_eq (codes "help") name ≡ false → bytes_eq (codes "version") name ≡ false → IsMistake (first_turn word)
-no_long word name value plain other long no_help no_version = rw (other.no_batch, other.no_check, other.no_replay, other.no_serve, other.no_help, plain, long, no_help, no_version) refl
+no_long word name value plain other long no_help no_version = rw (other.no_batch, other.no_check, other.no_replay, other.no_serve, other.no_dump, other.no_help, plain, long, no_help, no_version) refl
 
 help_valued : (word value : Text) → bytes_eq word (codes "--") ≡ false → IsOther word → long_of word ≡ Some (codes "help", Some value) → IsMistake (first_turn word)
-help_valued word value plain other long = rw (other.no_batch, other.no_check, other.no_replay, other.no_serve, other.no_help, plain, long) refl
+help_valued word value plain other long = rw (other.no_batch, other.no_check, other.no_replay, other.no_serve, other.no_dump, other.no_help, plain, long) refl
 
 version_valued : (word value : Text) → bytes_eq word (codes "--") ≡ false → IsOther word → long_of word ≡ Some (codes "version", Some value) → IsMistake (first_turn word)
-version_valued word value plain other long = rw (other.no_batch, other.no_check, other.no_replay, other.no_serve, other.no_help, plain, long) refl
+version_valued word value plain other long = rw (other.no_batch, other.no_check, other.no_replay, other.no_serve, other.no_dump, other.no_help, plain, long) refl
 
 long_other : (rest : Text) → IsOther (45 ∷ 45 ∷ rest)
-long_other rest = record { no_batch = refl; no_check = refl; no_replay = refl; no_serve = refl; no_help = refl }
+long_other rest = record { no_batch = refl; no_check = refl; no_replay = refl; no_serve = refl; no_dump = refl; no_help = refl }
 
 -- one with a value
 first_valued : (byte : ℕ) (rest name : Text) → name ≡ long_name (byte ∷ rest) → has_byte 61 (byte ∷ rest) ≡ true
@@ -189,6 +190,11 @@ serve_named : (program : Text) (words : List Text) → subcommand_name (subcomma
 unfolding walked
 serve_named program words = ap (λ (at : Walk). subcommand_name (entered (built command_line) at.stopped)) (stays (codes "serve") [] words)
 
+-- and so is `dump`
+dump_named : (program : Text) (words : List Text) → subcommand_name (subcommand_of command_line (program ∷ codes "dump" ∷ words)) ≡ Some (codes "dump")
+unfolding walked
+dump_named program words = ap (λ (at : Walk). subcommand_name (entered (built command_line) at.stopped)) (stays (codes "dump") [] words)
+
 own_words_agree : (s : Subcommand) (words : List Text) → Agrees (asked_by s words anywhere nothing_given) (own_fault s words) (found_by s words)
 own_words_agree Batch words = subcommand_reads Batch words
 own_words_agree Check words = subcommand_reads Check words
@@ -219,13 +225,13 @@ after_delimiter program [] = refl
 after_delimiter program (word ∷ words) = refl
 
 asks_help : (word : Word) (words : List Word) → IsOther word → is_help word ≡ true → invocation (word ∷ words) ≡ help
-asks_help word words other h = rw (flipped (codes "batch") word other.no_batch, flipped (codes "check") word other.no_check, flipped (codes "replay") word other.no_replay, flipped (codes "serve") word other.no_serve, flipped (codes "help") word other.no_help, h) refl
+asks_help word words other h = rw (flipped (codes "batch") word other.no_batch, flipped (codes "check") word other.no_check, flipped (codes "replay") word other.no_replay, flipped (codes "serve") word other.no_serve, flipped (codes "dump") word other.no_dump, flipped (codes "help") word other.no_help, h) refl
 
 tells_version : (word : Word) (words : List Word) → IsOther word → is_help word ≡ false → is_version word ≡ true → invocation (word ∷ words) ≡ version
-tells_version word words other h v = rw (flipped (codes "batch") word other.no_batch, flipped (codes "check") word other.no_check, flipped (codes "replay") word other.no_replay, flipped (codes "serve") word other.no_serve, flipped (codes "help") word other.no_help, h, v) refl
+tells_version word words other h v = rw (flipped (codes "batch") word other.no_batch, flipped (codes "check") word other.no_check, flipped (codes "replay") word other.no_replay, flipped (codes "serve") word other.no_serve, flipped (codes "dump") word other.no_dump, flipped (codes "help") word other.no_help, h, v) refl
 
 asks_nothing : (word : Word) (words : List Word) → IsOther word → is_help word ≡ false → is_version word ≡ false → invocation (word ∷ words) ≡ usage_error
-asks_nothing word words other h v = rw (flipped (codes "batch") word other.no_batch, flipped (codes "check") word other.no_check, flipped (codes "replay") word other.no_replay, flipped (codes "serve") word other.no_serve, flipped (codes "help") word other.no_help, h, v) refl
+asks_nothing word words other h v = rw (flipped (codes "batch") word other.no_batch, flipped (codes "check") word other.no_check, flipped (codes "replay") word other.no_replay, flipped (codes "serve") word other.no_serve, flipped (codes "dump") word other.no_dump, flipped (codes "help") word other.no_help, h, v) refl
 
 agrees_on_first : (program word : Text) (words : List Text) → First word → IsOther word → AgreesOn (invocation (word ∷ words)) (program ∷ word ∷ words)
 unfolding chars
@@ -238,21 +244,23 @@ agrees_on_first program word words (tells h v turn) other =
 agrees_on_first program word words (mistake h v turn) other =
     subst (λ i. AgreesOn i (program ∷ word ∷ words)) (sym (asks_nothing word words other h v)) (first_mistaken program word words turn)
 
-agrees_on_words : (program word : Text) (words : List Text) (is_batch is_check is_replay is_serve is_topic : Bool) → bytes_eq word (codes "batch") ≡ is_batch → bytes_eq word (codes "check") ≡ is_check
-    → bytes_eq word (codes "replay") ≡ is_replay → bytes_eq word (codes "serve") ≡ is_serve → bytes_eq word (codes "help") ≡ is_topic → AgreesOn (invocation (word ∷ words)) (program ∷ word ∷ words)
+agrees_on_words : (program word : Text) (words : List Text) (is_batch is_check is_replay is_serve is_dump is_topic : Bool) → bytes_eq word (codes "batch") ≡ is_batch → bytes_eq word (codes "check") ≡ is_check
+    → bytes_eq word (codes "replay") ≡ is_replay → bytes_eq word (codes "serve") ≡ is_serve → bytes_eq word (codes "dump") ≡ is_dump → bytes_eq word (codes "help") ≡ is_topic → AgreesOn (invocation (word ∷ words)) (program ∷ word ∷ words)
 unfolding walked walk_fault
-agrees_on_words program word words true is_check is_replay is_serve is_topic b c r s h =
+agrees_on_words program word words true is_check is_replay is_serve is_dump is_topic b c r s d h =
     subst (λ w. AgreesOn (invocation (w ∷ words)) (program ∷ w ∷ words)) (sym (same_bytes word (codes "batch") b)) (agrees_on_subcommand Batch program words)
-agrees_on_words program word words false true is_replay is_serve is_topic b c r s h =
+agrees_on_words program word words false true is_replay is_serve is_dump is_topic b c r s d h =
     subst (λ w. AgreesOn (invocation (w ∷ words)) (program ∷ w ∷ words)) (sym (same_bytes word (codes "check") c)) (agrees_on_subcommand Check program words)
-agrees_on_words program word words false false true is_serve is_topic b c r s h =
+agrees_on_words program word words false false true is_serve is_dump is_topic b c r s d h =
     subst (λ w. AgreesOn (invocation (w ∷ words)) (program ∷ w ∷ words)) (sym (same_bytes word (codes "replay") r)) (agrees_on_subcommand Replay program words)
-agrees_on_words program word words false false false true is_topic b c r s h =
+agrees_on_words program word words false false false true is_dump is_topic b c r s d h =
     subst (λ w. AgreesOn (invocation (w ∷ words)) (program ∷ w ∷ words)) (sym (same_bytes word (codes "serve") s)) (serve_named program words)
-agrees_on_words program word words false false false false true b c r s h =
+agrees_on_words program word words false false false false true is_topic b c r s d h =
+    subst (λ w. AgreesOn (invocation (w ∷ words)) (program ∷ w ∷ words)) (sym (same_bytes word (codes "dump") d)) (dump_named program words)
+agrees_on_words program word words false false false false false true b c r s d h =
     subst (λ w. AgreesOn (invocation (w ∷ words)) (program ∷ w ∷ words)) (sym (same_bytes word (codes "help") h)) (first_refused program (codes "help") words (kind.DisplayHelp ∷ kind.InvalidSubcommand ∷ []) refl)
-agrees_on_words program word words false false false false false b c r s h =
-    let other : IsOther word = record { no_batch = flipped word (codes "batch") b; no_check = flipped word (codes "check") c; no_replay = flipped word (codes "replay") r; no_serve = flipped word (codes "serve") s; no_help = flipped word (codes "help") h } in
+agrees_on_words program word words false false false false false false b c r s d h =
+    let other : IsOther word = record { no_batch = flipped word (codes "batch") b; no_check = flipped word (codes "check") c; no_replay = flipped word (codes "replay") r; no_serve = flipped word (codes "serve") s; no_dump = flipped word (codes "dump") d; no_help = flipped word (codes "help") h } in
     agrees_on_first program word words (first_of_word word other) other
 
 -- what a parse finds of the words is what they ask for
@@ -260,4 +268,4 @@ pub words_agree : (words : List Text) → AgreesOn (invocation (drop 1 words)) w
 unfolding walk_fault defaults_fault
 words_agree [] = refl
 words_agree (program ∷ []) = refl
-words_agree (program ∷ word ∷ words) = agrees_on_words program word words _ _ _ _ _ refl refl refl refl refl
+words_agree (program ∷ word ∷ words) = agrees_on_words program word words _ _ _ _ _ _ refl refl refl refl refl refl

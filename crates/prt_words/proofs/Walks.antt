@@ -11,7 +11,7 @@ use Rattle.prt_addr.specs.Word.{Word}
 use Rattle.prt_addr.specs.declared.on_refusal.OnRefusal.{OnRefusal}
 use Rattle.prt_addr.specs.declared.on_refusal.OnRefusal.TheVariants.{Stop, GoOn}
 use Rattle.prt_words.specs.CommandLine.{flag_text, named_database, named_file, subcommand_name}
-use Rattle.prt_words.specs.Invocation.{Invocation, ArgumentPlace, Part, Given, Subcommand, Batch, Check, Replay, asked_by, asked_with, batch, check, file_of, help, help_on, part_at, replay, serve, usage_error, version}
+use Rattle.prt_words.specs.Invocation.{Invocation, ArgumentPlace, Part, Given, Subcommand, Batch, Check, Replay, asked_by, asked_with, batch, check, file_of, help, help_on, part_at, replay, serve, dump, usage_error, version}
 use Rattle.prt_words.proofs.WordClasses.{IsMistake, mistaken_or, rules_of, shape_of}
 
 abbrev pub text_of_flag : Bool → Text
@@ -45,6 +45,7 @@ Agrees (replay file) kinds found =
     × (subcommand_name found ≡ Some (codes "replay"))
     × (option_and_then file_of (named_file found) ≡ file)
 Agrees serve kinds found = subcommand_name found ≡ Some (codes "serve")
+Agrees dump kinds found = subcommand_name found ≡ Some (codes "dump")
 Agrees help kinds found = kinds ≡ kind.DisplayHelp ∷ []
 Agrees version kinds found = kinds ≡ kind.DisplayVersion ∷ []
 Agrees help_on kinds found = kinds ≡ kind.DisplayHelp ∷ kind.InvalidSubcommand ∷ []

@@ -5,10 +5,10 @@ use Rattle.clap.specs.Simple.{on_top}
 use Rattle.clap.specs.declared.builder.action.ArgAction.TheVariants.{SetTrue}
 use Rattle.clap.specs.declared.builder.command.Command.{Command}
 use Rattle.clap.specs.declared.builder.command.Command.TheViews.{out-Command}
-use Rattle.prt_words.specs.Invocation.{Invocation, batch, check, file_of, replay, serve}
+use Rattle.prt_words.specs.Invocation.{Invocation, batch, check, dump, file_of, replay, serve}
 use Rattle.prt_words.specs.declared.serving.Serving.{Serving}
 use Rattle.prt_words.specs.declared.task.Task.{Task}
-use Rattle.prt_words.specs.declared.task.Task.TheVariants.{Batch, Check, Replay, Serve}
+use Rattle.prt_words.specs.declared.task.Task.TheVariants.{Batch, Check, Dump, Replay, Serve}
 use Rattle.prt_addr.specs.declared.on_refusal.OnRefusal.TheVariants.{Stop, GoOn}
 
 abbrev pub flag_rule : Text → Rule
@@ -42,11 +42,14 @@ number_rule name missing = record (option_rule name) { defaults = missing ∷ []
 abbrev pub serve_line : App
 serve_line = with_rule (with_rule (with_rule (with_rule (with_rule (new_app (codes "serve")) (needed_rule (codes "db"))) (needed_rule (codes "listen"))) (number_rule (codes "workers") (codes "4"))) (number_rule (codes "sessions") (codes "0"))) (number_rule (codes "idle") (codes "0"))
 
+abbrev pub dump_line : App
+dump_line = with_rule (new_app (codes "dump")) (needed_rule (codes "db"))
+
 abbrev pub opening_line : App
 opening_line = on_top (λ top. record top { subcommand_required = true; arg_required_else_help = true; has_version = true }) (new_app (codes "prt"))
 
 abbrev pub command_line : App
-command_line = with_subcommand (with_subcommand (with_subcommand (with_subcommand opening_line batch_line.top) check_line.top) replay_line.top) serve_line.top
+command_line = with_subcommand (with_subcommand (with_subcommand (with_subcommand (with_subcommand opening_line batch_line.top) check_line.top) replay_line.top) serve_line.top) dump_line.top
 
 -- whether an argument of the command is one of its subcommands too
 abbrev pub has_globals : Command → Bool
@@ -65,7 +68,7 @@ named_database = option_and_then (λ p. first_of (codes "db") p.1)
 abbrev pub flag_text : Text → Option (Text × List Row) → Option Text
 flag_text name = option_and_then (λ p. one_of name p.1)
 
--- the task is that of the subcommand that a parse found, other than `serve`
+-- the task is that of the subcommand that a parse found, other than `serve` and `dump`
 abbrev pub IsTaskOf : Option (Text × List Row) → Task → Type 0
 IsTaskOf found (Batch script) =
     (subcommand_name found ≢ Some (codes "check"))
@@ -83,6 +86,7 @@ IsTaskOf found (Replay file) =
     (subcommand_name found ≡ Some (codes "replay"))
     × (option_map (λ path. path.now) file ≡ option_and_then file_of (named_file found))
 IsTaskOf found (Serve serving) = ⊥
+IsTaskOf found (Dump path) = ⊥
 
 -- what a task was asked for by
 abbrev pub invocation_of : Task → Invocation
@@ -95,6 +99,7 @@ invocation_of (Batch script) = batch (record {
 invocation_of (Check file) = check (option_map (λ path. path.now) file)
 invocation_of (Replay file) = replay (option_map (λ path. path.now) file)
 invocation_of (Serve serving) = serve
+invocation_of (Dump path) = dump
 
 -- 1 to 64 workers, at most 1,000,000 sessions, and at most as many seconds without a byte
 abbrev pub IsServing : Serving → Type 0

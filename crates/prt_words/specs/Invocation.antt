@@ -1,4 +1,4 @@
--- What the words after the program's name ask for: `batch [--force] [--db PATH] [--verbose] [FILE]`, `check [FILE]`, `replay [FILE]`, `serve` with its options, the version, or help.
+-- What the words after the program's name ask for: `batch [--force] [--db PATH] [--verbose] [FILE]`, `check [FILE]`, `replay [FILE]`, `serve` and `dump` with their options, the version, or help.
 -- Options and operands are told apart as POSIX.1 does (Base Definitions, section 12.2, guidelines 4, 10 and 13), but options may follow operands, and `--db=PATH` is `--db PATH`.
 use Rattle.std.specs.Prelude.{ℕ, ◌==◌, ◌||◌, Bool, true, false, List, [], ◌∷◌, Option, Some, None, is_some, if◌then◌else◌, map, drop, codes, option_and_then, slice_get, chars, bytes_eq, String, string_bytes}
 use Rattle.std.specs.List.{before_first, after_first}
@@ -25,6 +25,8 @@ pub data Invocation : Type 0 where
   replay : Option Word → Invocation
   -- the word `serve`: sessions over TCP, help on that, or bad words
   serve : Invocation
+  -- the word `dump`: the lines that put a database back, help on that, or bad words
+  dump : Invocation
   help : Invocation
   -- the version, and the formats of database file that are read
   version : Invocation
@@ -193,6 +195,7 @@ invocation (word ∷ words) =
     else (if bytes_eq word (codes "check") then asked_by Check words anywhere nothing_given
     else (if bytes_eq word (codes "replay") then asked_by Replay words anywhere nothing_given
     else (if bytes_eq word (codes "serve") then serve
+    else (if bytes_eq word (codes "dump") then dump
     else (if bytes_eq word (codes "help") then help_on
     else (if is_help word then help
-    else (if is_version word then version else usage_error))))))
+    else (if is_version word then version else usage_error)))))))

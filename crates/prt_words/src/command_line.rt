@@ -1,7 +1,7 @@
 //! The words that the program knows, as clap reads them.
 ghost use Rattle.std.specs.Prelude.{◌≡◌, IfOk, false};
 ghost use Rattle.clap.specs.Words.{app_of, rule_of};
-ghost use Rattle.prt_words.specs.CommandLine.{batch_line, check_line, command_line, database_rule, file_rule, flag_rule, has_globals, needed_rule, number_rule, option_rule, replay_line, serve_line};
+ghost use Rattle.prt_words.specs.CommandLine.{batch_line, check_line, command_line, database_rule, dump_line, file_rule, flag_rule, has_globals, needed_rule, number_rule, option_rule, replay_line, serve_line};
 
 use crate::version::VERSION;
 use clap::{Arg, ArgAction, Command};
@@ -174,6 +174,22 @@ pub(crate) fn serve_line<'a>(alloc: Global) -> Result<Command<'a>, AllocError>
         .arg(idle)
 }
 
+/// Says which words may follow `dump`.
+pub(crate) fn dump_line<'a>(alloc: Global) -> Result<Command<'a>, AllocError>
+    ensures line { IfOk result (λ command. app_of command ≡ dump_line) }
+    ensures own { IfOk result (λ command. has_globals command ≡ false) }
+{
+    let database = needed_option(
+        alloc,
+        "db",
+        "PATH",
+        "The database file, made where there is none",
+    );
+    Command::new(alloc, "dump")
+        .about("Prints commands that make the rules and routes of a database anew")
+        .arg(database)
+}
+
 /// Says which words the program knows.
 pub(crate) fn command_line<'a>(alloc: Global) -> Result<Command<'a>, AllocError>
     ensures { IfOk result (λ command. app_of command ≡ command_line) }
@@ -182,6 +198,7 @@ pub(crate) fn command_line<'a>(alloc: Global) -> Result<Command<'a>, AllocError>
     let check = check_line(alloc)?;
     let replay = replay_line(alloc)?;
     let serve = serve_line(alloc)?;
+    let dump = dump_line(alloc)?;
     Command::new(alloc, "prt")
         .bin_name("prt")?
         .about("The table service of an IPv4 policy router")
@@ -191,5 +208,6 @@ pub(crate) fn command_line<'a>(alloc: Global) -> Result<Command<'a>, AllocError>
         .subcommand(batch)?
         .subcommand(check)?
         .subcommand(replay)?
-        .subcommand(serve)
+        .subcommand(serve)?
+        .subcommand(dump)
 }

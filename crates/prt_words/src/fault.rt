@@ -3,10 +3,10 @@ ghost use Rattle.std.specs.Prelude.{◌≡◌, ◌≢◌, IfOk};
 ghost use Rattle.clap.specs.Words.{kind_of};
 ghost use Rattle.prt_addr.specs.declared.refusal.Refusal.TheVariants.{NoMemory};
 ghost use Rattle.prt_words.specs.Faults.{FaultOf, IsWordsFault, fault_status};
-ghost use Rattle.prt_words.specs.Invocation.{serve, usage_error};
+ghost use Rattle.prt_words.specs.Invocation.{dump, serve, usage_error};
 ghost use Rattle.prt_words.specs.declared.fault.Fault.TheVariants.{Opening};
 
-use crate::command_line::{command_line, serve_line};
+use crate::command_line::{command_line, dump_line, serve_line};
 use clap::error::ErrorKind;
 use prt_addr::Refusal;
 use std::alloc::{AllocError, Global};
@@ -100,6 +100,25 @@ pub(crate) fn serving_fault(alloc: Global, text: &str) -> Fault
     ensures { IsWordsFault serve result }
 {
     match serving_error(alloc, text) {
+        Ok(error) => Fault::Words(error),
+        Err(_) => Fault::Opening(Refusal::NoMemory),
+    }
+}
+
+/// Makes the error of words of `dump` of which the text tells what is wrong, in the form of those of a parse.
+fn dumping_error(alloc: Global, text: &str) -> Result<clap::Error, AllocError>
+    ensures { IfOk result (λ error. kind_of error ≡ ErrorKind.ValueValidation) }
+{
+    dump_line(alloc)?
+        .bin_name("prt dump")?
+        .error(ErrorKind::ValueValidation, text)
+}
+
+/// Tells what is wrong with the words of `dump`, in this text.
+pub(crate) fn dumping_fault(alloc: Global, text: &str) -> Fault
+    ensures { IsWordsFault dump result }
+{
+    match dumping_error(alloc, text) {
         Ok(error) => Fault::Words(error),
         Err(_) => Fault::Opening(Refusal::NoMemory),
     }

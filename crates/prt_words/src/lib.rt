@@ -2,6 +2,7 @@
 #![tactic(auto)]
 
 mod command_line;
+mod dumping;
 mod fault;
 mod serving;
 mod task;

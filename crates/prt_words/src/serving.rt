@@ -11,7 +11,7 @@ use std::alloc::Global;
 use std::net::{Ipv4Addr, SocketAddrV4};
 
 /// What is wrong where no database is named.
-const NO_DATABASE: &str = "a value is required for '--db <PATH>'";
+pub(crate) const NO_DATABASE: &str = "a value is required for '--db <PATH>'";
 
 /// What is wrong with a place to listen at.
 const BAD_LISTEN: &str =

@@ -7,6 +7,7 @@ ghost use Rattle.prt_words.specs.Invocation.{arguments, file_of, invocation};
 
 use crate::command_line::command_line;
 use crate::fault::Fault;
+use crate::dumping::dumped_database;
 use crate::serving::{Serving, serving_of};
 use clap::ArgMatches;
 use prt_addr::OnRefusal;
@@ -20,6 +21,9 @@ const REPLAY: &str = "replay";
 
 /// The subcommand that serves sessions.
 const SERVE: &str = "serve";
+
+/// The subcommand that prints the commands of a database.
+const DUMP: &str = "dump";
 
 /// The word for standard input in the place of a file.
 pub const STANDARD_INPUT: &str = "-";
@@ -48,6 +52,8 @@ pub enum Task<'a> {
     Replay(Option<&'a str>),
     /// To serve sessions over TCP.
     Serve(Serving<'a>),
+    /// To print commands that make the database at this path anew.
+    Dump(&'a str),
 }
 
 /// Gives the path of an operand; none for `-`, which is standard input.
@@ -95,7 +101,7 @@ fn mode_in(matches: &ArgMatches<'_>) -> OnRefusal
     }
 }
 
-/// Tells what the matches of all words ask for, where that is not to serve.
+/// Tells what the matches of all words ask for, where that is neither to serve nor to dump.
 fn task_of<'a>(matches: &ArgMatches<'a>) -> Task<'a>
     ensures { IsTaskOf (subcommand_rows_of matches.now) result }
 {
@@ -135,6 +141,9 @@ pub fn read_words<'a>(alloc: Global, words: &'a [String]) -> Result<Task<'a>, Fa
     let matches = command_line(alloc)?.try_get_matches_from(words)?;
     match matches.subcommand_matches(SERVE) {
         Some(found) => Ok(Task::Serve(serving_of(alloc, found)?)),
-        None => Ok(task_of(&matches)),
+        None => match matches.subcommand_matches(DUMP) {
+            Some(found) => Ok(Task::Dump(dumped_database(alloc, found)?)),
+            None => Ok(task_of(&matches)),
+        },
     }
 }

@@ -1,4 +1,4 @@
-# Puts a listing of rules back into a new database, as docs/COMMANDS.md says, and lists that one.
+# Puts a listing of rules back into a new database, line by line, and lists that one.
 set -u
 program=$1
 

@@ -7,7 +7,7 @@ use Rattle.prt_words.specs.CommandLine.{command_line}
 use Rattle.prt_words.specs.Invocation.{invocation, arguments}
 use Rattle.prt_words.proofs.WordClasses.{simple_line, free_line}
 use Rattle.prt_words.proofs.ParsedWords.{words_agree}
-use Rattle.prt_words.proofs.WordsRead.{other_is, served_is, words_fault}
+use Rattle.prt_words.proofs.WordsRead.{dumped_is, other_is, served_is, words_fault}
 use Rattle.prt_words.proofs.task.read_words.Goals as goal
 
 pub returns-in_err-matches-clause-fault : goal.returns-in_err-matches-clause-fault
@@ -37,6 +37,22 @@ returns-in-Some-clause-task c =
     let none = sym (ap (λ (a : App). fault_of a texts) line) ∙ c.in_ok-matches.ensures.kinds (ap is_simple_and_free line ∙ free_line) in
     served_is texts c.in_ok-matches.matches found none (c.subcommand_matches.ensures.found.0 (ap is_some c.in-Some.is))
 
+pub returns-in_err-dumped_database-in-Some-subcommand_matches-clause-fault : goal.returns-in_err-dumped_database-in-Some-subcommand_matches-clause-fault
+returns-in_err-dumped_database-in-Some-subcommand_matches-clause-fault c =
+    let texts : List (List ℕ) = map string_bytes c.args.words.now in
+    let line = c.in_ok-command_line.ensures in
+    let found = (c.in_ok-matches.ensures.matches (ap is_simple line ∙ simple_line)).1 ∙ ap (λ (a : App). subcommand_of a texts) line in
+    let none = sym (ap (λ (a : App). fault_of a texts) line) ∙ c.in_ok-matches.ensures.kinds (ap is_simple_and_free line ∙ free_line) in
+    rw (dumped_is texts c.in_ok-matches.matches found none (c.subcommand_matches-in-None.ensures.found.0 (ap is_some c.in-Some-subcommand_matches.is))) (search rules)
+
+pub returns-in-Some-subcommand_matches-clause-task : goal.returns-in-Some-subcommand_matches-clause-task
+returns-in-Some-subcommand_matches-clause-task c =
+    let texts : List (List ℕ) = map string_bytes c.args.words.now in
+    let line = c.in_ok-command_line.ensures in
+    let found = (c.in_ok-matches.ensures.matches (ap is_simple line ∙ simple_line)).1 ∙ ap (λ (a : App). subcommand_of a texts) line in
+    let none = sym (ap (λ (a : App). fault_of a texts) line) ∙ c.in_ok-matches.ensures.kinds (ap is_simple_and_free line ∙ free_line) in
+    dumped_is texts c.in_ok-matches.matches found none (c.subcommand_matches-in-None.ensures.found.0 (ap is_some c.in-Some-subcommand_matches.is))
+
 pub returns-clause-task : goal.returns-clause-task
 returns-clause-task c =
     let texts : List (List ℕ) = map string_bytes c.args.words.now in
@@ -44,4 +60,5 @@ returns-clause-task c =
     let found = (c.in_ok-matches.ensures.matches (ap is_simple line ∙ simple_line)).1 ∙ ap (λ (a : App). subcommand_of a texts) line in
     let none = sym (ap (λ (a : App). fault_of a texts) line) ∙ c.in_ok-matches.ensures.kinds (ap is_simple_and_free line ∙ free_line) in
     other_is texts c.in_ok-matches.matches c.task_of.result found none
-    (λ named. absurd (true≢false (sym (c.subcommand_matches.ensures.found.1 named) ∙ ap is_some c.in-None.is))) c.task_of.ensures
+    (λ named. absurd (true≢false (sym (c.subcommand_matches.ensures.found.1 named) ∙ ap is_some c.in-None.is)))
+    (λ named. absurd (true≢false (sym (c.subcommand_matches-in-None.ensures.found.1 named) ∙ ap is_some c.in-None-subcommand_matches.is))) c.task_of.ensures

@@ -1,0 +1,12 @@
+//! The dump of a version: lines that put its rules and routes back.
+#![tactic(auto)]
+
+mod dump;
+mod fits;
+mod laws;
+mod plain;
+mod refusal;
+
+pub use dump::dump_text;
+pub use laws::{dump_is_put_back, dump_remakes, lines_are_read, values_read_back};
+pub use refusal::NotDumped;

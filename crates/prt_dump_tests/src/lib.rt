@@ -1,0 +1,5 @@
+//! Tests of dumps.
+#![tactic(auto)]
+
+#[cfg(test)]
+mod dumps;
