@@ -63,3 +63,4 @@ opened 'a CHECK' 'DROP TABLE meta; CREATE TABLE meta (id INTEGER PRIMARY KEY NOT
 
 # A server tells the same.
 "$prt" serve --db routes.db --listen 127.0.0.1:0 --sessions 1 2>&1
+echo "status $?"
