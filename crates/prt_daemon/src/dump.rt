@@ -42,7 +42,10 @@ fn report_none<W: Write, E: Write>(
             NO_LINE
         }
         NotDumped::Route(place) => {
-            tell(none_message(alloc, path, "route show table all", place), errors);
+            tell(
+                none_message(alloc, path, "route show table all", place),
+                errors,
+            );
             NO_LINE
         }
         NotDumped::NoMemory => report(&Fault::Opening(Refusal::NoMemory), output, errors),

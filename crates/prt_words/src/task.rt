@@ -6,8 +6,8 @@ ghost use Rattle.prt_words.specs.Faults.{IsWordsFault};
 ghost use Rattle.prt_words.specs.Invocation.{arguments, file_of, invocation};
 
 use crate::command_line::command_line;
-use crate::fault::Fault;
 use crate::dumping::dumped_database;
+use crate::fault::Fault;
 use crate::serving::{Serving, serving_of};
 use clap::ArgMatches;
 use prt_addr::OnRefusal;
