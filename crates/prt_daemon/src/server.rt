@@ -7,10 +7,10 @@ use crate::telling::Telling;
 use prt_grace::Domain;
 use prt_program::{cause_message, log_message};
 use prt_publisher::{Publisher, publisher_over};
-use prt_serve::{Accepting, Limits, serve_all};
+use prt_serve::{Accepting, Limits, ServeEnd, serve_all};
 use prt_service::{Naming, Service};
 use prt_words::{DONE, Fault, Serving, report};
-use sqlite::{Connection, Error, FileStore};
+use sqlite::{Alter, Connection, Error, FileStore};
 use sqlite_disk::Disk;
 use std::alloc::Global;
 use std::fmt::Display;
@@ -60,15 +60,6 @@ fn idle_of(seconds: u64) -> Option<Duration> {
     }
 }
 
-/// How serving ended.
-#[derive(Drop)]
-struct Served {
-    /// Why not all that was asked for was served.
-    fault: Option<Fault>,
-    /// Whether the log of the database was moved into its file.
-    closed: Result<(), Error>,
-}
-
 /// Gives how much is to be served.
 fn limits_of(asked: &Serving<'_>) -> Limits {
     Limits {
@@ -78,27 +69,27 @@ fn limits_of(asked: &Serving<'_>) -> Limits {
     }
 }
 
-/// Serves what a listener accepts, by a service that is named here, and closes the database at the end. Tells on `errors`
-/// why a commit failed.
+/// Serves what a listener accepts, by a service that is named here, and tells on `errors` why a commit failed. Gives how
+/// that ended, and the connection. For databases of whatever kind, so that the proof knows nothing of files.
 fn serve_named<
     J: Naming + Send,
-    D: Disk + Drop + Send,
+    S: Alter + Drop + Send,
     H: Net<Listener = TcpListener, Stream = TcpStream> + Threads + Wait + Sync,
     R: Wait + Drop + Send,
     E: Write + Drop + Send,
 >(
     rt: &H,
     alloc: Global,
-    publisher: Publisher<FileStore<D>, R>,
+    publisher: Publisher<S, R>,
     domain: Domain,
     listener: &TcpListener,
     asked: &Serving<'_>,
     errors: &Mutex<E>,
-) -> Served
+) -> (ServeEnd, Connection<S>)
     requires quiet { IsQuiet publisher.phase }
     requires of { (publisher.line.book ≡ J.book) × (publisher.line.base ≡ J.base) }
 {
-    let service: Service<FileStore<D>, R, J> = Service::new(publisher, domain);
+    let service: Service<S, R, J> = Service::new(publisher, domain);
     let telling = Telling {
         rt,
         alloc,
@@ -107,13 +98,16 @@ fn serve_named<
         errors,
     };
     let end = serve_all(rt, alloc, &service, &telling, listener, limits_of(asked));
-    let closed = service.release().close();
-    let fault = match (end.accepting, end.refused) {
+    (end, service.release())
+}
+
+/// Gives why not all that was asked for was served.
+fn fault_of(end: ServeEnd) -> Option<Fault> {
+    match (end.accepting, end.refused) {
         (Accepting::Failed, _) => Some(Fault::Listener),
         (Accepting::Ended, Some(reason)) => Some(Fault::Opening(reason)),
         (Accepting::Ended, None) => None,
-    };
-    Served { fault, closed }
+    }
 }
 
 /// Serves the database of a connection that an open gave, and gives the exit status. Listens once the database is open.
@@ -157,17 +151,17 @@ pub(crate) fn serve<
         }
     };
     let errors = Mutex::new(errors);
-    let served = serve_named::<Brand, _, _, _, _>(
+    let (end, connection) = serve_named::<Brand, _, _, _, _>(
         rt, alloc, publisher, domain, &listener, asked, &errors,
     );
     let mut errors = errors.into_inner();
-    if let Err(reason) = &served.closed {
-        if let Ok(message) = log_message(alloc, asked.database, reason) {
+    if let Err(reason) = connection.close() {
+        if let Ok(message) = log_message(alloc, asked.database, &reason) {
             let _ = errors.write_all(message.as_bytes());
         }
     }
-    match &served.fault {
-        Some(fault) => report(fault, output, &mut errors),
+    match fault_of(end) {
+        Some(fault) => report(&fault, output, &mut errors),
         None => DONE,
     }
 }
