@@ -26,11 +26,13 @@ route add default via 192.0.2.1 metric 10
 
 /// The version after the command of this line.
 fn next_version(version: &Version, line: &str) -> Result<Version, Refusal> {
-    let Some(Request::Command(command)) = read_line(line.as_bytes())? else {
-        return Err(Refusal::UnknownVerb);
-    };
-    let change = version.check(&command)?;
-    version.next(&change)
+    match read_line(line.as_bytes())? {
+        Some(Request::Command(command)) => match version.check(&command) {
+            Ok(change) => version.next(&change),
+            Err(reason) => Err(reason),
+        },
+        _ => Err(Refusal::UnknownVerb),
+    }
 }
 
 /// The dump of a new database after the commands of this script.
