@@ -1,7 +1,7 @@
 # A server tells at once, and once, why a commit failed: no file of it may grow any more once it listens. Queries go on.
 (trap '' XFSZ; exec "$1" serve --listen 127.0.0.1:0 --db routes.db --sessions 1 >said 2>errors) &
 until [ -s said ]; do sleep 0.1; done
-prlimit --pid $! --fsize=100
+prlimit --pid $! --fsize=1000
 exec 3<>"/dev/tcp/127.0.0.1/$(sed 's/.*://' said)"
 ask() {
   echo "$1" >&3
