@@ -62,6 +62,8 @@ pub enum Refusal {
     TooBroad,
     /// Only a rule that looks up a table suppresses short prefixes.
     SuppressNotAllowed,
+    /// A file of changes that are made together has more commands than the limit.
+    TooManyCommands,
     /// The publisher is closed since a commit or a publication failed.
     Closed,
     /// The route's key, or an equal rule, is there already.
@@ -118,6 +120,7 @@ impl Refusal {
             Refusal::NextHopNotAllowed => (16, "NextHopNotAllowed"),
             Refusal::TooBroad => (17, "TooBroad"),
             Refusal::SuppressNotAllowed => (18, "SuppressNotAllowed"),
+            Refusal::TooManyCommands => (19, "TooManyCommands"),
             Refusal::Closed => (20, "Closed"),
             Refusal::Exists => (21, "Exists"),
             Refusal::NoSuch => (22, "NoSuch"),

@@ -1,9 +1,9 @@
 -- States after commands.
-use Rattle.std.proofs.Common.{◌≡◌, ◌+◌, List, [], ◌∷◌, ◌++◌, None, Result, Ok, Err, length, refl, arith}
+use Rattle.std.proofs.Common.{◌≡◌, ◌+◌, List, [], ◌∷◌, ◌++◌, Option, Some, None, Result, Ok, Err, length, refl, arith}
 use Rattle.std.specs.Result.{result_err}
 use Rattle.prt_addr.specs.declared.refusal.Refusal.{Refusal}
 use Rattle.prt_command.specs.declared.request.Command.{Command}
-use Rattle.prt_version.specs.Accepted.{IsAccepted}
+use Rattle.prt_version.specs.Accepted.{IsAccepted, or_later, refusal_all}
 use Rattle.prt_version.specs.Change.{apply, check, fold, put, put_if, refusal}
 use Rattle.prt_version.specs.State.{State}
 use Rattle.prt_version.specs.declared.change.Change.{Change}
@@ -39,3 +39,34 @@ count_fold state (command ∷ commands) accepted =
 pub accepted_grown : (state : State) (commands : List Command) (command : Command) → IsAccepted state commands → refusal (fold state commands) command ≡ None → IsAccepted state (commands ++ command ∷ [])
 accepted_grown state [] command accepted allowed = (allowed, tt)
 accepted_grown state (first ∷ commands) command accepted allowed = (accepted.0, accepted_grown (apply state first) commands command accepted.1 allowed)
+
+-- ---- several commands more
+
+pub fold_append : (state : State) (commands more : List Command) → fold state (commands ++ more) ≡ fold (fold state commands) more
+fold_append state [] more = refl
+fold_append state (first ∷ commands) more = fold_append (apply state first) commands more
+
+pub accepted_append : (state : State) (commands more : List Command) → IsAccepted state commands → IsAccepted (fold state commands) more → IsAccepted state (commands ++ more)
+accepted_append state [] more accepted all = all
+accepted_append state (first ∷ commands) more accepted all = (accepted.0, accepted_append (apply state first) commands more accepted.1 all)
+
+neither : (first later : Option Refusal) → or_later first later ≡ None → (first ≡ None) × (later ≡ None)
+neither None later none = (refl, none)
+neither (Some reason) later none = absurd none
+
+both_none : (first later : Option Refusal) → first ≡ None → later ≡ None → or_later first later ≡ None
+both_none None later first_none none = none
+both_none (Some reason) later first_none none = absurd first_none
+
+-- commands of which none is refused are accepted
+pub accepted_all : (state : State) (commands : List Command) → refusal_all state commands ≡ None → IsAccepted state commands
+accepted_all state [] none = tt
+accepted_all state (command ∷ commands) none =
+    let two = neither (refusal state command) (refusal_all (apply state command) commands) none in
+    (two.0, accepted_all (apply state command) commands two.1)
+
+-- of accepted commands none is refused
+pub none_refused : (state : State) (commands : List Command) → IsAccepted state commands → refusal_all state commands ≡ None
+none_refused state [] accepted = refl
+none_refused state (command ∷ commands) accepted =
+    both_none (refusal state command) (refusal_all (apply state command) commands) accepted.0 (none_refused (apply state command) commands accepted.1)

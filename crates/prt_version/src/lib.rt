@@ -11,6 +11,7 @@ mod limits;
 pub mod owners;
 mod rows;
 mod select;
+mod several;
 mod tables;
 mod version;
 

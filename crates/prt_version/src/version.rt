@@ -1,8 +1,9 @@
-ghost use Rattle.std.specs.Prelude.{◌≡◌, ◌⊎◌, IfErr, IfOk, None};
+ghost use Rattle.std.specs.Prelude.{◌≡◌, ◌⊎◌, IfErr, IfOk, None, OnOk};
 ghost use Rattle.std.specs.Arc.{arc_value};
 ghost use Rattle.prt_addr.specs.declared.refusal.Refusal.TheVariants.{Damaged, NoMemory};
 ghost use Rattle.prt_rule.specs.Sound.{IsInOrder};
-ghost use Rattle.prt_version.specs.Change.{IsChecked, check, put, rule_of};
+ghost use Rattle.prt_version.specs.Accepted.{IsAccepted, IsRefusedFor, changes_of};
+ghost use Rattle.prt_version.specs.Change.{IsChecked, check, fold, put, rule_of};
 ghost use Rattle.prt_version.specs.Listing.{listing};
 ghost use Rattle.prt_version.specs.RowsSpell.{RowsSpell, RowsSpellNone};
 ghost use Rattle.prt_version.specs.Select.{select};
@@ -14,6 +15,7 @@ use crate::from_rows::{ordered_routes, ordered_rules};
 use crate::owners::first_owner;
 use crate::rows::{flushed_rules, with_rule, without_rule};
 use crate::select::verdict_of;
+use crate::several::make_all;
 use crate::tables::Tables;
 use crate::{
     Action, Answer, Change, Command, MOST_COMMANDS, NewRule, Packet, Refusal, Route, Rule,
@@ -258,6 +260,35 @@ impl Version {
             rules: self.rules_after(change)?,
             routes: self.routes_after(change)?,
         })
+    }
+
+    /// Gives this version once more, with the same rules and routes.
+    fn again(&self) -> Result<Version, AllocError>
+        ensures { IfOk result (λ version. version ≡ self.now) }
+    {
+        Ok(Version {
+            count: self.count,
+            rules: Arc::try_clone(&self.rules)?,
+            routes: Arc::try_clone(&self.routes)?,
+        })
+    }
+
+    /// Gives the changes that commands make of this version, which stays as it is, one after the other, and the version
+    /// after them. At most two of the versions between are held at a time.
+    ///
+    /// # Errors
+    ///
+    /// What `check` refuses the first command for that it refuses, in the version after those before it. `NoMemory` may
+    /// come before that.
+    pub fn after_all(&self, commands: &[Command]) -> Result<(Vec<Change>, Version), Refusal>
+        ensures changes { IfOk result (λ made. made.0.items ≡ changes_of self.now commands.now) }
+        ensures version { IfOk result (λ made. made.1 ≡ fold self.now commands.now) }
+        ensures accepted { OnOk result (IsAccepted self.now commands.now) }
+        ensures reason { IfErr result (IsRefusedFor self.now commands.now) }
+    {
+        let mut changes = Vec::with_capacity(*self.rules.allocator(), commands.len())?;
+        let last = make_all(self.again()?, commands, &mut changes)?;
+        Ok((changes, last))
     }
 
     /// Tells what becomes of a packet: what the first rule that decides says of it (`ip-rule(8)`). It takes no memory.
