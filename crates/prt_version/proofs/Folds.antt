@@ -52,11 +52,11 @@ accepted_append state (first ∷ commands) more accepted all = (accepted.0, acce
 
 neither : (first later : Option Refusal) → or_later first later ≡ None → (first ≡ None) × (later ≡ None)
 neither None later none = (refl, none)
-neither (Some reason) later none = absurd none
+neither (Some reason) later none = absurd (cc none)
 
 both_none : (first later : Option Refusal) → first ≡ None → later ≡ None → or_later first later ≡ None
 both_none None later first_none none = none
-both_none (Some reason) later first_none none = absurd first_none
+both_none (Some reason) later first_none none = absurd (cc first_none)
 
 -- commands of which none is refused are accepted
 pub accepted_all : (state : State) (commands : List Command) → refusal_all state commands ≡ None → IsAccepted state commands
