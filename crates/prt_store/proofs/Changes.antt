@@ -52,7 +52,7 @@ use Rattle.prt_store.proofs.Lengths.{HaveOwnIds, has_length, id_cmp, keyed_lengt
 use Rattle.prt_store.proofs.Members.{has_itself, has_other, inserted_has}
 use Rattle.prt_store.specs.Lengths.{length_of, lengths_of}
 use Rattle.prt_store.specs.Made.{RunsWith, WritesRows}
-use Rattle.prt_store.specs.Stored.{Stores}
+use Rattle.prt_store.specs.Stored.{FitsTables, Stores}
 use Rattle.prt_store.specs.Written.{IsTyped, length_put, text_of, values_of}
 
 -- the rules and routes are those of the next state, and the count is still to be set
@@ -138,18 +138,6 @@ covers_one_more rows more rules rule length covers own sound here complete = rec
 }
 
 module _ (old : Database) (state : State) (held : Stores old state) where
-  has_rule_table : Has old.schema.tables rule_table
-  has_rule_table = subst (λ (s : Schema). Has s.tables rule_table) (sym held.tables.is) (inl refl)
-
-  has_route_table : Has old.schema.tables route_table
-  has_route_table = subst (λ (s : Schema). Has s.tables route_table) (sym held.tables.is) (inr (inl refl))
-
-  pub has_meta_table : Has old.schema.tables meta_table
-  has_meta_table = subst (λ (s : Schema). Has s.tables meta_table) (sym held.tables.is) (inr (inr (inl refl)))
-
-  has_length_table : Has old.schema.tables suppress_table
-  has_length_table = subst (λ (s : Schema). Has s.tables suppress_table) (sym held.tables.is) (inr (inr (inr (inl refl))))
-
   abbrev own_ids : HaveOwnIds state.rules
   own_ids = held.fits.sound.distinct_ids
 
@@ -174,7 +162,43 @@ module _ (old : Database) (state : State) (held : Stores old state) where
       let back = IsPermutation-sym (old.trees 0) (map kept_rule state.rules) held.rules in
       keyed-permutation (map kept_rule state.rules) (old.trees 0) back (λ row there. has_permuted (map kept_rule state.rules) (old.trees 0) row back there) (keyed_rules state.rules held.fits.sound.distinct_ids)
 
-module _ (old mid : Conn) (state : State) (held : Stores old.now state) (count : ℕ) where
+-- The tables hold the rules, with their lengths, and the routes of this state, whatever their count.
+pub record Holds (db : Database) (state : State) : Type 0 where
+  pub tables : IsFormat2 db.schema
+  pub rules_keyed : IsKeyed (db.trees 0)
+  pub routes_keyed : IsKeyed (db.trees 1)
+  pub rules : Covers IsRuleRow (db.trees 0) state.rules
+  pub routes : Covers IsRouteRow (db.trees 1) state.routes
+  pub lengths_keyed : IsKeyed (db.trees 4)
+  pub lengths : Covers IsLengthRow (db.trees 4) (lengths_of state.rules)
+  pub fits : FitsTables state
+
+pub holds : (db : Database) (state : State) → Stores db state → Holds db state
+holds db state held = record {
+  tables = held.tables;
+  rules_keyed = rules_keyed db state held;
+  routes_keyed = held.keyed;
+  rules = rules_covered db state held;
+  routes = routes_covered db state held;
+  lengths_keyed = lengths_are_keyed db state held;
+  lengths = lengths_covered db state held;
+  fits = held.fits;
+}
+
+module _ (db : Database) (tables : IsFormat2 db.schema) where
+  rule_table_there : Has db.schema.tables rule_table
+  rule_table_there = subst (λ (s : Schema). Has s.tables rule_table) (sym tables.is) (inl refl)
+
+  route_table_there : Has db.schema.tables route_table
+  route_table_there = subst (λ (s : Schema). Has s.tables route_table) (sym tables.is) (inr (inl refl))
+
+  meta_table_there : Has db.schema.tables meta_table
+  meta_table_there = subst (λ (s : Schema). Has s.tables meta_table) (sym tables.is) (inr (inr (inl refl)))
+
+  length_table_there : Has db.schema.tables suppress_table
+  length_table_there = subst (λ (s : Schema). Has s.tables suppress_table) (sym tables.is) (inr (inr (inr (inl refl))))
+
+module _ (old mid : Conn) (state : State) (held : Holds old.now state) (count : ℕ) where
   -- what was not the table of the statement stays
   stays : (table other : Table) → ChangesOnly table old.now mid.now → Has old.now.schema.tables other → (other.tree == table.tree) ≡ false → mid.now.trees other.tree ≡ old.now.trees other.tree
   stays table other only there differ = only.others other there (eqb-false other.tree table.tree differ)
@@ -183,34 +207,34 @@ module _ (old mid : Conn) (state : State) (held : Stores old.now state) (count :
   routes_changed : (next : State) → next.rules ≡ state.rules → ChangesOnly route_table old.now mid.now → IsKeyed (mid.now.trees 1) → Covers IsRouteRow (mid.now.trees 1) next.routes → IsChanged old.now mid.now next
   routes_changed next same only keyed routes = record {
     schema = only.schema;
-    rules_keyed = subst IsKeyed (sym rows) (rules_keyed old.now state held);
+    rules_keyed = subst IsKeyed (sym rows) held.rules_keyed;
     routes_keyed = keyed;
-    rules = subst (λ rules. Covers IsRuleRow (mid.now.trees 0) rules) (sym same) (subst (λ rows. Covers IsRuleRow rows state.rules) (sym rows) (rules_covered old.now state held));
+    rules = subst (λ rules. Covers IsRuleRow (mid.now.trees 0) rules) (sym same) (subst (λ rows. Covers IsRuleRow rows state.rules) (sym rows) held.rules);
     routes = routes;
-    count = stays route_table meta_table only (has_meta_table old.now state held) refl;
-    lengths_keyed = subst IsKeyed (sym lengths) (lengths_are_keyed old.now state held);
-    lengths = subst (λ rules. Covers IsLengthRow (mid.now.trees 4) (lengths_of rules)) (sym same) (subst (λ rows. Covers IsLengthRow rows (lengths_of state.rules)) (sym lengths) (lengths_covered old.now state held));
+    count = stays route_table meta_table only (meta_table_there old.now held.tables) refl;
+    lengths_keyed = subst IsKeyed (sym lengths) held.lengths_keyed;
+    lengths = subst (λ rules. Covers IsLengthRow (mid.now.trees 4) (lengths_of rules)) (sym same) (subst (λ rows. Covers IsLengthRow rows (lengths_of state.rules)) (sym lengths) held.lengths);
     others = λ table there no_rules no_routes no_lengths. only.others table there no_routes;
   }
     where
       rows : mid.now.trees 0 ≡ old.now.trees 0
-      rows = stays route_table rule_table only (has_rule_table old.now state held) refl
+      rows = stays route_table rule_table only (rule_table_there old.now held.tables) refl
 
       lengths : mid.now.trees 4 ≡ old.now.trees 4
-      lengths = stays route_table suppress_table only (has_length_table old.now state held) refl
+      lengths = stays route_table suppress_table only (length_table_there old.now held.tables) refl
 
   -- the rules and their lengths are those of the next state
   rules_changed : (next : State) → next.routes ≡ state.routes → ChangesTwo rule_table suppress_table old.now mid.now → IsKeyed (mid.now.trees 0) → Covers IsRuleRow (mid.now.trees 0) next.rules → IsKeyed (mid.now.trees 4)
       → Covers IsLengthRow (mid.now.trees 4) (lengths_of next.rules) → IsChanged old.now mid.now next
   rules_changed next same only keyed rules lengths_keyed lengths =
-      let rows = only.others route_table (has_route_table old.now state held) (λ e. absurd (cc)) (λ e. absurd (cc)) in
+      let rows = only.others route_table (route_table_there old.now held.tables) (λ e. absurd (cc)) (λ e. absurd (cc)) in
       record {
         schema = only.schema;
         rules_keyed = keyed;
-        routes_keyed = subst IsKeyed (sym rows) held.keyed;
+        routes_keyed = subst IsKeyed (sym rows) held.routes_keyed;
         rules = rules;
-        routes = subst (λ routes. Covers IsRouteRow (mid.now.trees 1) routes) (sym same) (subst (λ rows. Covers IsRouteRow rows state.routes) (sym rows) (routes_covered old.now state held));
-        count = only.others meta_table (has_meta_table old.now state held) (λ e. absurd (cc)) (λ e. absurd (cc));
+        routes = subst (λ routes. Covers IsRouteRow (mid.now.trees 1) routes) (sym same) (subst (λ rows. Covers IsRouteRow rows state.routes) (sym rows) held.routes);
+        count = only.others meta_table (meta_table_there old.now held.tables) (λ e. absurd (cc)) (λ e. absurd (cc));
         lengths_keyed = lengths_keyed;
         lengths = lengths;
         others = λ table there no_rules no_routes no_lengths. only.others table there no_rules no_lengths;
@@ -225,20 +249,20 @@ module _ (old mid : Conn) (state : State) (held : Stores old.now state) (count :
     lengths_left = record {
       sound = λ row there.
           let was = made.lengths_sound row there in
-          let length = (lengths_covered old.now state held).sound row was.0 in
+          let length = held.lengths.sound row was.0 in
           let rule = was_length state.rules length.0 length.1 in
-          let kept = (rules_covered old.now state held).complete rule.0 rule.1 in
+          let kept = held.rules.complete rule.0 rule.1 in
           let same : has_same_rowid row kept.0 ≡ true = (λ i. has_same_rowid (length.2 i) (kept.2 i)) ∙ own_row rule.0 length.0 rule.2 in
           let stays : remains rule.0 ≡ true = not-false (remains rule.0) (sym (agree rule.0 kept.0 rule.1 kept.2) ∙ was.1 kept.0 kept.1 same) in
           (length.0, has_length (filter remains state.rules) rule.0 length.0 (has_kept remains state.rules rule.0 rule.1 stays) rule.2, length.2);
       complete = λ length there.
           let rule = was_length (filter remains state.rules) length there in
           let left = has_filtered remains state.rules rule.0 rule.1 in
-          let row = (lengths_covered old.now state held).complete length (has_length state.rules rule.0 length left.0 rule.2) in
+          let row = held.lengths.complete length (has_length state.rules rule.0 length left.0 rule.2) in
           let none : IsOfNone tests params (old.now.trees 0) row.0 = λ other among same.
-          let whose = (rules_covered old.now state held).sound other among in
+          let whose = held.rules.sound other among in
           let ids : length.rule ≡ whose.0.id = eqb-true length.rule whose.0.id (sym (id_cmp length.rule whose.0.id) ∙ (λ i. has_same_rowid (sym row.2 i) (sym whose.2 i)) ∙ same) in
-          let one : whose.0 ≡ rule.0 = one_by_id state.rules (own_ids old.now state held) whose.0 rule.0 whose.1 left.0 (sym ids ∙ of_rule rule.0 length rule.2) in
+          let one : whose.0 ≡ rule.0 = one_by_id state.rules held.fits.sound.distinct_ids whose.0 rule.0 whose.1 left.0 (sym ids ∙ of_rule rule.0 length rule.2) in
           agree whose.0 other whose.1 whose.2 ∙ ap (λ r. not (remains r)) one ∙ ap not left.1 in
           (row.0, made.lengths_complete row.0 row.1 none, row.2);
     }
@@ -246,32 +270,32 @@ module _ (old mid : Conn) (state : State) (held : Stores old.now state) (count :
   -- the row of the rule is there beside the others
   rule_placed : (rule : Rule) → Adds rule_table (kept_rule rule) old.now mid.now → Covers IsRuleRow (mid.now.trees 0) (insert_by is_before rule state.rules)
   rule_placed rule made =
-      let placed = covers_placed IsRuleRow (old.now.trees 0) (mid.now.trees 0) state.rules (rules_covered old.now state held) (λ _. false) (λ _. true) (λ _ _ _ _. refl) (λ row was _. made.complete row was) is_before rule
+      let placed = covers_placed IsRuleRow (old.now.trees 0) (mid.now.trees 0) state.rules held.rules (λ _. false) (λ _. true) (λ _ _ _ _. refl) (λ row was _. made.complete row was) is_before rule
       (λ row there. elim (made.sound row there) [ inl is ↦ inl is | inr was ↦ inr (was, refl) ]) (kept_rule rule, made.here, refl) in
       subst (λ rules. Covers IsRuleRow (mid.now.trees 0) (insert_by is_before rule rules)) (filter_all state.rules) placed
 
   puts : (route : Route) → Executes put_route (route_row route) old mid (Ok count) → IsChanged old.now mid.now (put state (change.Route (Put route)))
   puts route ran =
       let t = held.tables in
-      let made = puts_route t.tables t.indexes t.views t.others t.free old mid route count t.is (λ row there. let was = (routes_covered old.now state held).sound row there in (was.0, was.2)) held.keyed ran in
+      let made = puts_route t.tables t.indexes t.views t.others t.free old mid route count t.is (λ row there. let was = held.routes.sound row there in (was.0, was.2)) held.routes_keyed ran in
       routes_changed (put state (change.Route (Put route))) refl made.only made.keyed
-      (covers_placed IsRouteRow (old.now.trees 1) (mid.now.trees 1) state.routes (routes_covered old.now state held) (passes has_key (key_values (key_of route))) (λ other. not (is_same_key (key_of other) (key_of route)))
+      (covers_placed IsRouteRow (old.now.trees 1) (mid.now.trees 1) state.routes held.routes (passes has_key (key_values (key_of route))) (λ other. not (is_same_key (key_of other) (key_of route)))
       (λ other row there is. row_has_key row other route is ∙ not_not _) made.complete is_listed_before route made.sound made.here)
 
   removes : (key : RouteKey) → Executes delete_route (key_values key) old mid (Ok count) → IsChanged old.now mid.now (put state (change.Route (Remove key)))
   removes key ran =
       let t = held.tables in
-      let made = deletes_route t.tables t.indexes t.views t.others old mid t.is (key_values key) count held.keyed ran in
+      let made = deletes_route t.tables t.indexes t.views t.others old mid t.is (key_values key) count held.routes_keyed ran in
       routes_changed (put state (change.Route (Remove key))) refl made.only made.keyed
-      (covers_left IsRouteRow (old.now.trees 1) (mid.now.trees 1) state.routes (routes_covered old.now state held) (passes has_key (key_values key)) (λ other. not (is_same_key (key_of other) key))
+      (covers_left IsRouteRow (old.now.trees 1) (mid.now.trees 1) state.routes held.routes (passes has_key (key_values key)) (λ other. not (is_same_key (key_of other) key))
       (λ other row there is. ap (passes has_key (key_values key)) (split row other is) ∙ passes_key (rowid row) other key ∙ not_not _) made.complete made.sound)
 
   selects : (selector : Selector) → IsSelector selector → Executes flush_routes (selector_row selector) old mid (Ok count) → IsChanged old.now mid.now (put state (change.Route (Flush selector)))
   selects selector is ran =
       let t = held.tables in
-      let made = deletes_routes t.tables t.indexes t.views t.others old mid t.is (selector_row selector) count held.keyed ran in
+      let made = deletes_routes t.tables t.indexes t.views t.others old mid t.is (selector_row selector) count held.routes_keyed ran in
       routes_changed (put state (change.Route (Flush selector))) refl made.only made.keyed
-      (covers_left IsRouteRow (old.now.trees 1) (mid.now.trees 1) state.routes (routes_covered old.now state held) (passes is_flushed (selector_row selector)) (λ other. not (is_selected selector other))
+      (covers_left IsRouteRow (old.now.trees 1) (mid.now.trees 1) state.routes held.routes (passes is_flushed (selector_row selector)) (λ other. not (is_selected selector other))
       (λ other row there same.
       ap (passes is_flushed (selector_row selector)) (split row other same) ∙ passes_selector (rowid row) other selector (held.fits.routes other there).prefix is ∙ not_not _)
       made.complete made.sound)
@@ -280,28 +304,28 @@ module _ (old mid : Conn) (state : State) (held : Stores old.now state) (count :
   inserts rule none ran =
       let t = held.tables in
       let made = adds_rule t.tables t.indexes t.views t.others old mid rule count t.is ran in
-      let rows = stays rule_table suppress_table made.only (has_length_table old.now state held) refl in
-      rules_changed (put state (change.RulePut rule)) refl (record { schema = made.only.schema; others = λ table there no_rules no_lengths. made.only.others table there no_rules }) (made.keyed (rules_keyed old.now state held))
-      (rule_placed rule made) (subst IsKeyed (sym rows) (lengths_are_keyed old.now state held))
-      (subst (λ rows. Covers IsLengthRow rows (lengths_of (insert_by is_before rule state.rules))) (sym rows) (covers_more (old.now.trees 4) state.rules rule (lengths_covered old.now state held) none))
+      let rows = stays rule_table suppress_table made.only (length_table_there old.now held.tables) refl in
+      rules_changed (put state (change.RulePut rule)) refl (record { schema = made.only.schema; others = λ table there no_rules no_lengths. made.only.others table there no_rules }) (made.keyed held.rules_keyed)
+      (rule_placed rule made) (subst IsKeyed (sym rows) held.lengths_keyed)
+      (subst (λ rows. Covers IsLengthRow rows (lengths_of (insert_by is_before rule state.rules))) (sym rows) (covers_more (old.now.trees 4) state.rules rule held.lengths none))
 
   drops : (id : ℕ) → Executes delete_rule (id_values id) old mid (Ok count) → IsChanged old.now mid.now (put state (change.RuleDrop id))
   drops id ran =
       let t = held.tables in
-      let made = deletes_rule t.tables t.indexes t.views t.others old mid t.is (id_values id) count (rules_keyed old.now state held) (lengths_are_keyed old.now state held) ran in
+      let made = deletes_rule t.tables t.indexes t.views t.others old mid t.is (id_values id) count held.rules_keyed held.lengths_keyed ran in
       let agree = λ (rule : Rule) (row : Row) (there : Has state.rules rule) (is : IsRuleRow rule row). ap (passes has_id (id_values id)) is ∙ passes_id rule id ∙ not_not _ in
       rules_changed (put state (change.RuleDrop id)) refl made.only made.keyed
-      (covers_left IsRuleRow (old.now.trees 0) (mid.now.trees 0) state.rules (rules_covered old.now state held) (passes has_id (id_values id)) (λ rule. not (rule.id == id)) agree
+      (covers_left IsRuleRow (old.now.trees 0) (mid.now.trees 0) state.rules held.rules (passes has_id (id_values id)) (λ rule. not (rule.id == id)) agree
       made.complete made.sound)
       made.lengths_keyed (lengths_left has_id (id_values id) (λ rule. not (rule.id == id)) agree made)
 
   flushes : Executes flush_rules [] old mid (Ok count) → IsChanged old.now mid.now (put state change.RuleFlush)
   flushes ran =
       let t = held.tables in
-      let made = flushes_rules t.tables t.indexes t.views t.others old mid t.is [] count (rules_keyed old.now state held) (lengths_are_keyed old.now state held) ran in
+      let made = flushes_rules t.tables t.indexes t.views t.others old mid t.is [] count held.rules_keyed held.lengths_keyed ran in
       let agree = λ (rule : Rule) (row : Row) (there : Has state.rules rule) (is : IsRuleRow rule row). ap (passes has_priority []) is ∙ passes_priority rule in
       rules_changed (put state change.RuleFlush) refl made.only made.keyed
-      (covers_left IsRuleRow (old.now.trees 0) (mid.now.trees 0) state.rules (rules_covered old.now state held) (passes has_priority []) (λ rule. rule.priority == 0) agree
+      (covers_left IsRuleRow (old.now.trees 0) (mid.now.trees 0) state.rules held.rules (passes has_priority []) (λ rule. rule.priority == 0) agree
       made.complete made.sound)
       made.lengths_keyed (lengths_left has_priority [] (λ rule. rule.priority == 0) agree made)
 
@@ -315,7 +339,7 @@ module _ (old mid : Conn) (state : State) (held : Stores old.now state) (count :
   changed change.RuleFlush none typed ran = flushes ran
 
 -- a rule is put, and then its length
-module _ (old mid last : Conn) (state : State) (held : Stores old.now state) (rule : Rule) (length : RuleLength) (own : length_of rule ≡ Some length) where
+module _ (old mid last : Conn) (state : State) (held : Holds old.now state) (rule : Rule) (length : RuleLength) (own : length_of rule ≡ Some length) where
   length_inserted : (one two : ℕ) → Executes insert_rule (rule_row rule) old mid (Ok one) → Executes insert_suppress (suppress_row length) mid last (Ok two) → IsChanged old.now last.now (put state (change.RulePut rule))
   length_inserted one two first second =
       let t = held.tables in
@@ -323,17 +347,17 @@ module _ (old mid last : Conn) (state : State) (held : Stores old.now state) (ru
       let is : mid.now.schema ≡ schema_with t.tables t.indexes t.views = rules.only.schema ∙ t.is in
       let made = adds_length t.tables t.indexes t.views t.others mid last length two is second in
       let in_mid = λ (table : Table) (there : Has old.now.schema.tables table). subst (λ (s : Schema). Has s.tables table) (sym rules.only.schema) there in
-      let rule_rows : last.now.trees 0 ≡ mid.now.trees 0 = made.only.others rule_table (in_mid rule_table (has_rule_table old.now state held)) (λ e. absurd (cc)) in
-      let length_rows : mid.now.trees 4 ≡ old.now.trees 4 = rules.only.others suppress_table (has_length_table old.now state held) (λ e. absurd (cc)) in
-      let covers = subst (λ rows. Covers IsLengthRow rows (lengths_of state.rules)) (sym length_rows) (lengths_covered old.now state held) in
+      let rule_rows : last.now.trees 0 ≡ mid.now.trees 0 = made.only.others rule_table (in_mid rule_table (rule_table_there old.now held.tables)) (λ e. absurd (cc)) in
+      let length_rows : mid.now.trees 4 ≡ old.now.trees 4 = rules.only.others suppress_table (length_table_there old.now held.tables) (λ e. absurd (cc)) in
+      let covers = subst (λ rows. Covers IsLengthRow rows (lengths_of state.rules)) (sym length_rows) held.lengths in
       rules_changed old last state held two (put state (change.RulePut rule)) refl (record {
         schema = made.only.schema ∙ rules.only.schema;
         others = λ table there no_rules no_lengths. made.only.others table (in_mid table there) no_lengths ∙ rules.only.others table there no_rules;
-      }) (subst IsKeyed (sym rule_rows) (rules.keyed (rules_keyed old.now state held))) (subst (λ rows. Covers IsRuleRow rows (insert_by is_before rule state.rules)) (sym rule_rows) (rule_placed old mid state held one rule rules))
-      (made.keyed (subst IsKeyed (sym length_rows) (lengths_are_keyed old.now state held))) (covers_one_more (mid.now.trees 4) (last.now.trees 4) state.rules rule length covers own made.sound made.here made.complete)
+      }) (subst IsKeyed (sym rule_rows) (rules.keyed held.rules_keyed)) (subst (λ rows. Covers IsRuleRow rows (insert_by is_before rule state.rules)) (sym rule_rows) (rule_placed old mid state held one rule rules))
+      (made.keyed (subst IsKeyed (sym length_rows) held.lengths_keyed)) (covers_one_more (mid.now.trees 4) (last.now.trees 4) state.rules rule length covers own made.sound made.here made.complete)
 
 -- what the writing of a change leaves
-pub changed_by : {S : Type 0} (g : Ghosts S) (made : Change) (old mid : Held S) (state_now : State) → Stores (state g old).now state_now → IsTyped made → WritesRows g made old mid → IsChanged (state g old).now (state g mid).now (put state_now made)
+pub changed_by : {S : Type 0} (g : Ghosts S) (made : Change) (old mid : Held S) (state_now : State) → Holds (state g old).now state_now → IsTyped made → WritesRows g made old mid → IsChanged (state g old).now (state g mid).now (put state_now made)
 changed_by g (change.Route (Put route)) old mid now held typed ran = changed (state g old) (state g mid) now held ran.0 (change.Route (Put route)) refl typed ran.1
 changed_by g (change.Route (Remove key)) old mid now held typed ran = changed (state g old) (state g mid) now held ran.0 (change.Route (Remove key)) refl typed ran.1
 changed_by g (change.Route (Flush selector)) old mid now held typed ran = changed (state g old) (state g mid) now held ran.0 (change.Route (Flush selector)) refl typed ran.1

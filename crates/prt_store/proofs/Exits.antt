@@ -1,5 +1,5 @@
 -- What the exits of an opening, a load and a commit say together.
-use Rattle.std.proofs.Common.{◌≡◌, ◌⊎◌, inl, inr, ℕ, Bool, true, [], ◌∷◌, drop, map, IsPermutation, refl, sym, subst, ◌∙◌, arith}
+use Rattle.std.proofs.Common.{◌≡◌, ◌⊎◌, inl, inr, ℕ, Bool, true, sym, subst, arith}
 use Rattle.std.specs.Prelude.{IsTrue}
 use Rattle.sqlite.proofs.StateLemmas.{survives_then}
 use Rattle.sqlite.specs.Effect.{Database, IsDatabase}
@@ -8,7 +8,6 @@ use Rattle.sqlite.specs.State.{HasCleanDisk, IsUnchanged, Survives}
 use Rattle.sqlite.specs.Store.{Ghosts}
 use Rattle.sqlite.specs.Schema.{Schema}
 use Rattle.sqlite.specs.Tree.{Trees}
-use Rattle.sqlite_rules.specs.Lists.{Has}
 use Rattle.prt_addr.specs.declared.refusal.Refusal.{Refusal}
 use Rattle.prt_addr.specs.declared.refusal.Refusal.TheVariants.{StoreFailed}
 use Rattle.prt_addr.specs.declared.refusal.StoreCall.TheVariants.{Commit}
@@ -110,21 +109,29 @@ found_is found version stored opens sound spells =
 pub next_spelled : (old : Database) (next : State) (schema : Schema) (trees : Trees) → MakesNext old next (database schema trees) → Spells trees next
 next_spelled old next schema trees makes = record { schema = schema; sound = makes.sound; stores = makes.stores }
 
+module _ {S : Type 0} (g : Ghosts S) (old new : Held S) (next : State) where
+  -- the next state is stored
+  pub stored_next : MakesNext (state g old).now next (state g new).now → ((trees : Trees) → (state g new).may_leave trees → trees ≡ (state g new).now.trees) → IsStored g new next
+  stored_next made leaves = record {
+    now = made.stores;
+    durable = λ trees left. subst (λ (t : Trees). Spells t next) (sym (leaves trees left)) (next_spelled (state g old).now next (state g new).now.schema (state g new).now.trees made);
+  }
+
+  -- a crash leaves the state before or, only where the commit call failed, the next one
+  pub left_either : (before : State) (reason : Refusal) → IsStored g old before
+      → ((trees : Trees) → (state g new).may_leave trees → (state g old).may_leave trees ⊎ ((reason ≡ StoreFailed Commit) × MakesNext (state g old).now next (database (state g old).now.schema trees)))
+      → (left : State) → MayLeave g new left → (left ≡ before) ⊎ ((reason ≡ StoreFailed Commit) × (left ≡ next))
+  left_either before reason stored leaves left may =
+      let trees = may.0 in
+      elim (leaves trees may.1) [
+        | inl was ↦ inl (spelled_once trees left before may.2 (stored.durable trees was))
+        | inr more ↦ inr (more.0, spelled_once trees left next may.2 (next_spelled (state g old).now next (state g old).now.schema trees more.1))
+      ]
+
 module _ {S : Type 0} (g : Ghosts S) (ours_first : Bool) (old new : Held S) (published : State) (made : Change) (number : ℕ) (next : IsNext published made number)
     (clean : HasCleanDisk (state g new) → HasCleanDisk (state g old)) (kept : IsKnown g ours_first old → IsStored g old published) where
   held : IsKnown g ours_first new → IsStored g old published
   held known = kept (known.0, clean known.1)
-
-  -- the next state is stored
-  pub stored_after : (HasCleanDisk (state g new) → (before : State) → IsNext before made number → Stores (state g old).now before → MakesNext (state g old).now (put before made) (state g new).now)
-      → (HasCleanDisk (state g new) → (trees : Trees) → (state g new).may_leave trees → trees ≡ (state g new).now.trees)
-      → IsKnown g ours_first new → IsStored g new (put published made)
-  stored_after makes leaves known =
-      let after = makes known.1 published next (held known).now in
-      record {
-        now = after.stores;
-        durable = λ trees left. subst (λ (t : Trees). Spells t (put published made)) (sym (leaves known.1 trees left)) (next_spelled (state g old).now (put published made) (state g new).now.schema (state g new).now.trees after);
-      }
 
   -- and the other tables stay
   pub spares_after : (HasCleanDisk (state g new) → (before : State) → IsNext before made number → Stores (state g old).now before → MakesNext (state g old).now (put before made) (state g new).now)
@@ -140,12 +147,3 @@ module _ {S : Type 0} (g : Ghosts S) (ours_first : Bool) (old new : Held S) (pub
       | inl was ↦ (published, (held known).durable trees was)
       | inr more ↦ (put published made, next_spelled (state g old).now (put published made) (state g old).now.schema trees more.1)
     ]
-
-    -- the state after only where the commit call failed
-    pub either_left : IsKnown g ours_first new → (left : State) → MayLeave g new left → (left ≡ published) ⊎ ((reason ≡ StoreFailed Commit) × (left ≡ put published made))
-    either_left known left may =
-        let trees = may.0 in
-        elim (leaves known.1 published next (held known).now trees may.1) [
-          | inl was ↦ inl (spelled_once trees left published may.2 ((held known).durable trees was))
-          | inr more ↦ inr (more.0, spelled_once trees left (put published made) may.2 (next_spelled (state g old).now (put published made) (state g old).now.schema trees more.1))
-        ]

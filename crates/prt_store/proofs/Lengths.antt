@@ -1,5 +1,5 @@
 -- Rules and the lengths up to which they suppress prefixes, apart and together.
-use Rattle.std.proofs.Common.{◌≡◌, inl, inr, ℕ, suc, ◌<◌, pos, ℤ, int_lt, Bool, true, false, cond, List, [], ◌∷◌, Option, Some, None, drop, drop-cons, get_or, length, map, ◌++◌, append_assoc, IsPermutation, ◌==◌, refl, sym, ap, subst, ◌∙◌, arith, true≢false}
+use Rattle.std.proofs.Common.{◌≡◌, inl, inr, ℕ, suc, ◌<◌, pos, ℤ, int_lt, Bool, true, false, cond, List, [], ◌∷◌, Option, Some, None, drop, drop-cons, get_or, length, map, ◌++◌, append_assoc, IsPermutation, ◌==◌, refl, sym, ap, subst, ◌∙◌, arith}
 use Rattle.std.proofs.lemmas.Bool.{eqb-false, eqb-true, and_parts}
 use Rattle.std.proofs.lemmas.Grind.{common_steps}
 use Rattle.std.proofs.lemmas.List.Sorted.{IsPermutation-sym}

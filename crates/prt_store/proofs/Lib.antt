@@ -19,3 +19,5 @@ pub mod Exits
 pub mod Stops
 pub mod StoppedCommits
 pub mod Anywhere
+pub mod Several
+pub mod Ones

@@ -1,21 +1,20 @@
 -- What the migration of a file does.
-use Rattle.std.proofs.Common.{◌≡◌, inl, inr, ℕ, Bool, true, false, List, [], Option, Some, None, Ok, Err, Result, IsErr, OnErr, OnOk, IsTrue, true≢false, refl, sym, subst, ◌∙◌, arith}
+use Rattle.std.proofs.Common.{◌≡◌, inl, inr, ℕ, Bool, true, false, List, [], Option, Some, None, Ok, Err, Result, OnErr, OnOk, IsTrue, sym, subst, ◌∙◌, arith}
 use Rattle.std.proofs.lemmas.Result.{on_err_weaker, on_ok_weaker}
 use Rattle.std.specs.Prelude.{MatchBool, is_some}
 use Rattle.sqlite.proofs.Callers.{runs_as}
 use Rattle.sqlite.proofs.StateLemmas.{survives_then, survives_weaker}
 use Rattle.sqlite.specs.Effect.{Database, IsDatabase}
 use Rattle.sqlite.specs.Held.{Held, state}
-use Rattle.sqlite.specs.State.{CommitsShowing, FailsToQuery, HasCleanDisk, IsLive, IsUnchanged, Shown, Survives}
+use Rattle.sqlite.specs.State.{CommitsShowing, FailsToQuery, HasCleanDisk, IsLive, Shown, Survives}
 use Rattle.sqlite.specs.Store.{Ghosts}
-use Rattle.sqlite.specs.Tree.{Trees}
 use Rattle.sqlite.specs.declared.error.Error.{Error}
 use Rattle.sqlite_value.specs.Order.{Row}
 use Rattle.prt_addr.specs.declared.refusal.Refusal.{Refusal}
 use Rattle.prt_rows.proofs.Migrating.{sets_format}
 use Rattle.prt_rows.proofs.Texts.{migrate_is}
 use Rattle.prt_rows.specs.Decodes.{Decodes}
-use Rattle.prt_rows.specs.Effects.{IsOfFormat1, Migrates}
+use Rattle.prt_rows.specs.Effects.{Migrates}
 use Rattle.prt_rows.specs.Format.{IsFormat2}
 use Rattle.prt_rows.specs.Meanings.{migrate_command}
 use Rattle.prt_rows.specs.MetaRow.{IsCount, meta_rows_1}
@@ -23,7 +22,6 @@ use Rattle.prt_rows.specs.Statements.{migrate, read_meta}
 use Rattle.prt_rows.specs.Tables.{schema_with}
 use Rattle.prt_store.proofs.Loads.{count_quiet, count_unchanged, failed_query, format_missing, format_read, plain_meta, stays_settled}
 use Rattle.prt_store.proofs.Looks.{still_there}
-use Rattle.prt_store.proofs.Openings.{on_any}
 use Rattle.prt_store.specs.Adopted.{IsSettled, LeavesMigrated}
 use Rattle.prt_store.specs.Openings.{Commits, HasDone, HasLeft, IsDue, NamesFormat1, Ran, Sees, begun_from}
 

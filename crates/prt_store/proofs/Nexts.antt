@@ -104,7 +104,7 @@ module _ (state : State) (made : Change) (number : ℕ) (next : IsNext state mad
   pub number_is : number ≡ (put state made).count
   number_is = next.counts ∙ sym (put_count made)
 
-  next_is_sound : IsSound (put state made)
+  pub next_is_sound : IsSound (put state made)
   next_is_sound =
       let parts = next_sound state state made (put state made).rules (put state made).routes refl next.sound (record { command = next.command; makes = next.makes }) refl refl in
       subst (λ n. IsSound (record { count = n; rules = (put state made).rules; routes = (put state made).routes })) (sym (put_count made)) parts

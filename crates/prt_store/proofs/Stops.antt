@@ -1,5 +1,6 @@
 -- The calls of a commit, and what is left where it is stopped in one of them.
-use Rattle.std.proofs.Common.{◌≡◌, inl, inr, ℕ, false, IsTrue, Result, refl, sym, subst, arith}
+use Rattle.std.proofs.Common.{◌≡◌, inl, inr, ℕ, List, false, IsTrue, Result, refl, sym, subst, arith}
+use Rattle.std.specs.List.{AllByRecursion as Each}
 use Rattle.std.specs.Result.{is_err}
 use Rattle.sqlite.proofs.Callers.{survives_begin}
 use Rattle.sqlite.proofs.StateLemmas.{survives_then, survives_weaker}
@@ -18,10 +19,10 @@ use Rattle.prt_version.specs.Change.{put}
 use Rattle.prt_version.specs.declared.change.Change.{Change}
 use Rattle.prt_store.proofs.Calls.{makes_next}
 use Rattle.prt_store.proofs.Transactions.{of_ok, statement_works, survives_itself}
-use Rattle.prt_store.specs.Made.{MakesChange, WritesRows}
+use Rattle.prt_store.specs.Made.{MakesChange, WritesAll}
 use Rattle.prt_store.specs.Next.{MakesNext}
 use Rattle.prt_store.specs.Openings.{HasLeft, Works, begun_from}
-use Rattle.prt_store.specs.Stops.{Counts, LeavesAState, MakesCalls, MayCommit, RanInside, StoppedIn, Writes}
+use Rattle.prt_store.specs.Stops.{AllStoppedIn, Counts, LeavesAState, MakesAllCalls, MayCommit, RanInside, StoppedIn, WritesEach}
 use Rattle.prt_store.specs.Written.{CommitsNothing, IsTyped, RunsInside}
 
 -- one call after another, of which none commits
@@ -36,14 +37,14 @@ ran_inside g sql params a b result fine runs quiet clean inside = let did = of_o
 pub stopped_in_write : {S : Type 0} (g : Ghosts S) (old begun failed end : Held S) → begun ≡ begun_from old → CommitsNothing g begun failed → CommitsNothing g failed end → CommitsNothing g (begun_from old) end
 stopped_in_write g old begun failed end was one two = subst (λ h. CommitsNothing g h end) was (quiet_then g begun failed end one two)
 
-module _ {S : Type 0} (g : Ghosts S) (made : Change) (number : ℕ) (old begun written : Held S) (first : Result ℕ Error) (was : begun ≡ begun_from old) (typed : IsTyped made) (fine : is_err first ≡ false)
-    (writes : Works g (WritesRows g made) begun written first) where
-  pub wrote : HasCleanDisk (state g written) → Writes g made old written × IsTrue (state g written).in_transaction
+module _ {S : Type 0} (g : Ghosts S) (changes : List Change) (number : ℕ) (old begun written : Held S) (first : Result ℕ Error) (was : begun ≡ begun_from old) (typed : Each IsTyped changes) (fine : is_err first ≡ false)
+    (writes : Works g (WritesAll g changes) begun written first) where
+  pub wrote : HasCleanDisk (state g written) → WritesEach g changes old written × IsTrue (state g written).in_transaction
   wrote clean =
       let did = of_ok first fine (writes.done clean (rw was)) in
-      ((typed, subst (λ h. WritesRows g made h written × CommitsNothing g h written) was (did.0, writes.quiet)), did.1)
+      ((typed, subst (λ h. WritesAll g changes h written × CommitsNothing g h written) was (did.0, writes.quiet)), did.1)
 
-  pub stopped_in_count : (failed end : Held S) → CommitsNothing g written failed → CommitsNothing g failed end → HasCleanDisk (state g end) → StoppedIn g made number old Count end
+  pub stopped_in_count : (failed end : Held S) → CommitsNothing g written failed → CommitsNothing g failed end → HasCleanDisk (state g end) → AllStoppedIn g changes number old Count end
   stopped_in_count failed end one two clean =
       let rest = quiet_then g written failed end one two in
       (written, (wrote (omega (arith, rest.clean, clean))).0, rest)
@@ -59,10 +60,10 @@ module _ {S : Type 0} (g : Ghosts S) (made : Change) (number : ℕ) (old begun w
     pub counted_too : Counts g number written counted
     counted_too = (ran_inside g set_count (count_values number) written counted second fine_too counts quiet_too clean_counted (wrote clean_written).1).0
 
-    pub stopped_in_commit : StoppedIn g made number old Commit end
+    pub stopped_in_commit : AllStoppedIn g changes number old Commit end
     stopped_in_commit = (written, (wrote clean_written).0, counted, counted_too, commits)
 
-    pub calls_made : (state g end).committed ≡ (state g counted).now → MakesCalls g made number old end
+    pub calls_made : (state g end).committed ≡ (state g counted).now → MakesAllCalls g changes number old end
     calls_made is = record { written = written; counted = counted; write = (wrote clean_written).0; count = counted_too; commit = (commits, is) }
 
 -- ---- what is left

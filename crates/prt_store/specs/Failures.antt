@@ -1,5 +1,5 @@
 -- Why the library failed a commit.
-use Rattle.std.specs.Prelude.{◌≡◌, ◌⊎◌, ℕ, Option, Some, None, Err, IfErr, IsTrue, Result}
+use Rattle.std.specs.Prelude.{◌≡◌, ◌⊎◌, ℕ, List, [], ◌∷◌, Option, Some, None, Err, IfErr, IsTrue, Result}
 use Rattle.sqlite.specs.Held.{Held, state}
 use Rattle.sqlite.specs.State.{ExecutesInside, HasCleanDisk}
 use Rattle.sqlite.specs.Steps.{FailsToCommit}
@@ -14,8 +14,9 @@ use Rattle.prt_rows.specs.Statements.{insert_suppress, set_count}
 use Rattle.prt_rows.specs.SuppressRow.{suppress_row}
 use Rattle.prt_rows.specs.declared.suppress_row.RuleLength.{RuleLength}
 use Rattle.prt_version.specs.declared.change.Change.{Change}
+use Rattle.prt_store.specs.Made.{WritesRows}
 use Rattle.prt_store.specs.Openings.{InTurn, Ran, begun_from}
-use Rattle.prt_store.specs.Stops.{Counts, Writes}
+use Rattle.prt_store.specs.Stops.{Counts, Writes, WritesEach}
 use Rattle.prt_store.specs.Written.{length_put, text_of, values_of}
 
 -- the statement was refused with this error
@@ -44,3 +45,20 @@ FailsFor {S = S} g made number old Count left failure =
     (error : Error) × (failure ≡ Some error) × (HasCleanDisk (state g left) → (written : Held S) × Writes g made old written × (refused : Held S) × Refuses g set_count (count_values number) error written refused)
 FailsFor {S = S} g made number old Commit left failure =
     (error : Error) × (failure ≡ Some error) × (HasCleanDisk (state g left) → (written : Held S) × Writes g made old written × (counted : Held S) × Counts g number written counted × FailsToCommit (state g counted) (state g left) error)
+
+-- ---- several changes
+
+-- the rows of one of the changes were not written, for this error, after those of the changes before it
+abbrev pub RefusesOneOf : {S : Type 0} → Ghosts S → List Change → Error → Held S → Held S → Type 0
+RefusesOneOf g [] error old new = ⊥
+RefusesOneOf g (made ∷ more) error old new = RefusesRows g made error old new ⊎ InTurn (WritesRows g made) (RefusesOneOf g more error) old new
+
+-- the same as FailsFor, of several changes
+abbrev pub AllFailFor : {S : Type 0} → Ghosts S → List Change → ℕ → Held S → StoreCall → Held S → Option Error → Type 0
+AllFailFor g changes number old Begin left failure = failure ≡ None
+AllFailFor {S = S} g changes number old Write left failure =
+    (error : Error) × (failure ≡ Some error) × (HasCleanDisk (state g left) → (refused : Held S) × RefusesOneOf g changes error (begun_from old) refused)
+AllFailFor {S = S} g changes number old Count left failure =
+    (error : Error) × (failure ≡ Some error) × (HasCleanDisk (state g left) → (written : Held S) × WritesEach g changes old written × (refused : Held S) × Refuses g set_count (count_values number) error written refused)
+AllFailFor {S = S} g changes number old Commit left failure =
+    (error : Error) × (failure ≡ Some error) × (HasCleanDisk (state g left) → (written : Held S) × WritesEach g changes old written × (counted : Held S) × Counts g number written counted × FailsToCommit (state g counted) (state g left) error)

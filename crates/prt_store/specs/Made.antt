@@ -1,5 +1,5 @@
 -- What the transaction of a commit does.
-use Rattle.std.specs.Prelude.{ℕ, Option, Some, None}
+use Rattle.std.specs.Prelude.{◌≡◌, ℕ, List, [], ◌∷◌, Option, Some, None}
 use Rattle.sqlite.specs.Held.{Held}
 use Rattle.sqlite.specs.Store.{Ghosts}
 use Rattle.sqlite_value.specs.Order.{Row}
@@ -24,3 +24,14 @@ WritesRows g made = RunsWith g (text_of made) (values_of made) (length_put made)
 -- the change was made, and then the count set
 abbrev pub MakesChange : {S : Type 0} → Ghosts S → Change → ℕ → Held S → Held S → Type 0
 MakesChange g made number = InTurn (WritesRows g made) (Ran g set_count (count_values number))
+
+-- ---- several changes
+
+-- the rows of each change were written, one change after the other
+abbrev pub WritesAll : {S : Type 0} → Ghosts S → List Change → Held S → Held S → Type 0
+WritesAll g [] old new = new ≡ old
+WritesAll g (made ∷ more) old new = InTurn (WritesRows g made) (WritesAll g more) old new
+
+-- the changes were made, and then the count set, once
+abbrev pub MakesChanges : {S : Type 0} → Ghosts S → List Change → ℕ → Held S → Held S → Type 0
+MakesChanges g changes number = InTurn (WritesAll g changes) (Ran g set_count (count_values number))

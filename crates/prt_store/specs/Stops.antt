@@ -1,5 +1,6 @@
 -- The calls that a commit makes in turn, and what is left where it is stopped in one of them.
-use Rattle.std.specs.Prelude.{◌≡◌, ◌⊎◌, ℕ}
+use Rattle.std.specs.Prelude.{◌≡◌, ◌⊎◌, ℕ, List}
+use Rattle.std.specs.List.{AllByRecursion as Each}
 use Rattle.sqlite.specs.Held.{Held, state}
 use Rattle.sqlite.specs.State.{HasCleanDisk, Survives}
 use Rattle.sqlite.specs.Store.{Ghosts}
@@ -14,7 +15,7 @@ use Rattle.prt_version.specs.Change.{put}
 use Rattle.prt_version.specs.State.{State}
 use Rattle.prt_version.specs.declared.change.Change.{Change}
 use Rattle.prt_store.specs.Adopted.{IsAtRest}
-use Rattle.prt_store.specs.Made.{WritesRows}
+use Rattle.prt_store.specs.Made.{WritesAll, WritesRows}
 use Rattle.prt_store.specs.Next.{IsNext, MakesNext}
 use Rattle.prt_store.specs.Openings.{Ran, begun_from}
 use Rattle.prt_store.specs.Stored.{Stores}
@@ -56,3 +57,24 @@ abbrev pub LeavesAState : {S : Type 0} → Ghosts S → Type 0
 LeavesAState {S = S} g = (before : State) (made : Change) (number : ℕ) (old left : Held S) (call : StoreCall) → IsNext before made number → Stores (state g old).now before → IsAtRest g old
     → StoppedIn g made number old call left → HasCleanDisk (state g left) → (trees : Trees) → (state g left).may_leave trees
     → (trees ≡ (state g old).now.trees) ⊎ ((call ≡ Commit) × MakesNext (state g old).now (put before made) (record { schema = (state g old).now.schema; trees = trees }))
+
+-- ---- several changes
+
+-- in a transaction that had just begun the rows of each change were written, with values in the ranges of their columns, and nothing was committed
+abbrev pub WritesEach : {S : Type 0} → Ghosts S → List Change → Held S → Held S → Type 0
+WritesEach g changes old written = Each IsTyped changes × (WritesAll g changes (begun_from old) written × CommitsNothing g (begun_from old) written)
+
+-- the calls of the commit of several changes, each on the connection that the one before it left
+pub record MakesAllCalls {S : Type 0} (g : Ghosts S) (changes : List Change) (number : ℕ) (old new : Held S) : Type 0 where
+  pub written : Held S
+  pub counted : Held S
+  pub write : WritesEach g changes old written
+  pub count : Counts g number written counted
+  pub commit : MayCommit g counted new × ((state g new).committed ≡ (state g counted).now)
+
+-- the same as StoppedIn, of several changes
+abbrev pub AllStoppedIn : {S : Type 0} → Ghosts S → List Change → ℕ → Held S → StoreCall → Held S → Type 0
+AllStoppedIn g changes number old Begin left = left ≡ old
+AllStoppedIn g changes number old Write left = CommitsNothing g (begun_from old) left
+AllStoppedIn {S = S} g changes number old Count left = (written : Held S) × WritesEach g changes old written × CommitsNothing g written left
+AllStoppedIn {S = S} g changes number old Commit left = (written : Held S) × WritesEach g changes old written × (counted : Held S) × Counts g number written counted × MayCommit g counted left

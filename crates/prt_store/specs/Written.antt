@@ -1,5 +1,5 @@
 -- What the statements of a commit do.
-use Rattle.std.specs.Prelude.{◌≡◌, ◌≤◌, ◌<◌, ◌^◌, ℕ, [], Option, None, Result, IsTrue}
+use Rattle.std.specs.Prelude.{◌≤◌, ◌<◌, ◌^◌, ℕ, [], Option, None, Result, IsTrue}
 use Rattle.sqlite.specs.Held.{Held, state}
 use Rattle.sqlite.specs.State.{ExecutesInside, HasCleanDisk, Survives}
 use Rattle.sqlite.specs.Store.{Ghosts}

@@ -1,16 +1,17 @@
-//! One change in one transaction.
+//! Changes in one transaction.
 
 ghost use Rattle.std.specs.Prelude.{◌≡◌, ◌↔◌, ◌≤◌, ◌<◌, ◌^◌, Err, IfErr, IsTrue, None, OnErr, OnOk};
+ghost use Rattle.std.specs.List.{AllByRecursion as Each};
 ghost use Rattle.sqlite.specs.Held.{state};
 ghost use Rattle.sqlite.specs.State.{HasCleanDisk, Survives};
 ghost use Rattle.prt_rows.specs.RuleRow.{IsRule, rule_row};
 ghost use Rattle.prt_rows.specs.Statements.{insert_rule};
 ghost use Rattle.prt_store.specs.Adopted.{IsSettled};
-ghost use Rattle.prt_store.specs.Failures.{FailsFor, FailsInside, RefusesRows, RefusesWith};
+ghost use Rattle.prt_store.specs.Failures.{AllFailFor, FailsInside, RefusesOneOf, RefusesRows, RefusesWith};
 ghost use Rattle.prt_store.specs.Lengths.{length_of, plain};
-ghost use Rattle.prt_store.specs.Made.{MakesChange, RunsWith, WritesRows};
+ghost use Rattle.prt_store.specs.Made.{MakesChanges, RunsWith, WritesAll, WritesRows};
 ghost use Rattle.prt_store.specs.Openings.{HasDone, HasLeft, Works};
-ghost use Rattle.prt_store.specs.Stops.{MakesCalls, StoppedIn};
+ghost use Rattle.prt_store.specs.Stops.{AllStoppedIn, MakesAllCalls};
 ghost use Rattle.prt_store.specs.Written.{HasStorableIds, IsTyped};
 
 use crate::statements::{
@@ -71,21 +72,40 @@ fn write<S: Alter>(tx: &mut Transaction<'_, S>, change: &Change) -> Result<usize
     }
 }
 
-/// Makes the change and sets the count in one transaction: begin, write, count, commit. Keeps the library's error in
-/// `failure`, where one of its calls fails.
+/// Writes the rows of each change in turn, up to the first that is refused.
+fn write_all<S: Alter>(tx: &mut Transaction<'_, S>, changes: &[Change]) -> Result<usize, Error>
+    requires { Each HasStorableIds changes.now }
+    ensures same_reference { tx.new.conn.ghost_name ≡ tx.old.conn.ghost_name }
+    ensures works { Works S.Store (WritesAll S.Store changes.now) tx.old.conn.now tx.new.conn.now result }
+    ensures fails { FailsInside S.Store (RefusesOneOf S.Store changes.now) tx.old.conn.now tx.new.conn.now result }
+    ensures typed { OnOk result (Each IsTyped changes.now) }
+{
+    match changes.split_first() {
+        None => Ok(0),
+        Some((first, rest)) => {
+            if let Err(error) = write(tx, first) {
+                return Err(error);
+            }
+            write_all(tx, rest)
+        }
+    }
+}
+
+/// Makes the changes and sets the count in one transaction: begin, a write for each, count, commit. Keeps the library's
+/// error in `failure`, where one of its calls fails.
 ///
 /// # Errors
 ///
-/// The call that failed. Nothing is changed then, unless the commit failed: it may have been made.
-pub(crate) fn make_change<S: Alter>(
+/// The call that failed. Nothing is changed then, unless the commit failed: all of them may have been made.
+pub(crate) fn make_changes<S: Alter>(
     conn: &mut Connection<S>,
-    change: &Change,
+    changes: &[Change],
     number: u64,
     failure: &mut Option<Error>,
 ) -> Result<(), StoreCall>
-    requires ids { HasStorableIds change.now }
+    requires ids { Each HasStorableIds changes.now }
     requires number { number < 2 ^ 63 }
-    ensures ok { HasCleanDisk (state S.Store conn.new) → OnOk result (IsTyped change.now × HasDone S.Store (MakesChange S.Store change.now number) conn.old (state S.Store conn.new).committed × IsSettled S.Store conn.new) }
+    ensures ok { HasCleanDisk (state S.Store conn.new) → OnOk result (Each IsTyped changes.now × HasDone S.Store (MakesChanges S.Store changes.now number) conn.old (state S.Store conn.new).committed × IsSettled S.Store conn.new) }
     ensures clean { HasCleanDisk (state S.Store conn.new) → OnOk result (HasCleanDisk (state S.Store conn.old)) }
     ensures begin { (result ≡ Err StoreCall.Begin) ↔ IsTrue conn.old.in_transaction }
     ensures not_begun { result ≡ Err StoreCall.Begin → conn.new ≡ conn.old }
@@ -93,18 +113,18 @@ pub(crate) fn make_change<S: Alter>(
     ensures err { HasCleanDisk (state S.Store conn.new) → IsTrue (state S.Store conn.new).is_open →
         OnErr result (((state S.Store conn.new).now ≡ (state S.Store conn.old).now) × ((state S.Store conn.new).committed ≡ (state S.Store conn.old).committed)) }
     ensures crash_err { IfErr result (λ call. Survives (state S.Store conn.old) (state S.Store conn.new)
-        (λ trees. (call ≡ StoreCall.Commit) × IsTyped change.now × HasLeft S.Store (MakesChange S.Store change.now number) conn.old trees)) }
-    ensures calls { HasCleanDisk (state S.Store conn.new) → OnOk result (MakesCalls S.Store change.now number conn.old conn.new) }
-    ensures stopped { HasCleanDisk (state S.Store conn.new) → IfErr result (λ call. StoppedIn S.Store change.now number conn.old call conn.new) }
+        (λ trees. (call ≡ StoreCall.Commit) × Each IsTyped changes.now × HasLeft S.Store (MakesChanges S.Store changes.now number) conn.old trees)) }
+    ensures calls { HasCleanDisk (state S.Store conn.new) → OnOk result (MakesAllCalls S.Store changes.now number conn.old conn.new) }
+    ensures stopped { HasCleanDisk (state S.Store conn.new) → IfErr result (λ call. AllStoppedIn S.Store changes.now number conn.old call conn.new) }
     ensures unfailed { OnOk result (failure.new ≡ None) }
-    ensures failure { IfErr result (λ call. FailsFor S.Store change.now number conn.old call conn.new failure.new) }
+    ensures failure { IfErr result (λ call. AllFailFor S.Store changes.now number conn.old call conn.new failure.new) }
 {
     *failure = None;
     if !conn.is_autocommit() {
         return Err(StoreCall::Begin);
     }
     let mut tx = conn.transaction();
-    if let Err(error) = write(&mut tx, change) {
+    if let Err(error) = write_all(&mut tx, changes) {
         *failure = Some(error);
         return Err(StoreCall::Write);
     }

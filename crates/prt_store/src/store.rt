@@ -14,21 +14,22 @@ ghost use Rattle.prt_version.specs.State.{State};
 ghost use Rattle.prt_rows.specs.Format.{IsFormat2};
 ghost use Rattle.prt_store.specs.Adopted.{IsSettled};
 ghost use Rattle.prt_store.specs.Exits.{IsStored, MayLeave};
-ghost use Rattle.prt_store.specs.Failures.{FailsFor};
+ghost use Rattle.prt_store.specs.Failures.{AllFailFor, FailsFor};
 ghost use Rattle.prt_store.specs.Loaded.{StaysSettled};
-ghost use Rattle.prt_store.specs.Made.{MakesChange};
-ghost use Rattle.prt_store.specs.Next.{IsNext, MakesNext};
+ghost use Rattle.prt_store.specs.Made.{MakesChange, MakesChanges};
+ghost use Rattle.prt_store.specs.Next.{AreNext, IsNext, MakesNext, put_all};
 ghost use Rattle.prt_store.specs.Openings.{HasDone};
-ghost use Rattle.prt_store.specs.Stops.{MakesCalls, StoppedIn};
+ghost use Rattle.prt_store.specs.Stops.{AllStoppedIn, MakesAllCalls, MakesCalls, StoppedIn};
 ghost use Rattle.prt_store.specs.Stored.{Stores};
 ghost use Rattle.prt_store.specs.Written.{CommitsNothing};
 
-use crate::commit::make_change;
+use crate::commit::make_changes;
 use crate::load::load;
 use prt_addr::Refusal;
 use prt_version::{Change, Version};
 use sqlite::{Alter, Connection, Error};
 use std::alloc::Global;
+use std::slice;
 
 /// Says that the command of this number was committed. A commit alone makes one.
 #[derive(Debug, Drop)]
@@ -137,7 +138,54 @@ impl<S: Alter + Drop> Store<S> {
         ensures unfailed { OnOk result (self.new.failure ≡ None) }
         ensures failure { (call : FailedCall) → result ≡ Err (StoreFailed call) → FailsFor S.Store change.now number self.old.conn call self.new.conn self.new.failure }
     {
-        match make_change(&mut self.conn, change, number, &mut self.failure) {
+        self.commit_all(slice::from_ref(change), number)
+    }
+
+    /// Makes the changes that commands make of the stored state, one after the other, in one transaction. The number is
+    /// that of the last command.
+    ///
+    /// After `Ok` the statements of each change ran in turn on the tables as they were, then the one that sets the count,
+    /// once, and what they left is committed, whatever the file; nothing is pending. Where the tables spelled the state,
+    /// they spell the state after all of the changes, all other tables are as they were, and a crash leaves exactly that.
+    ///
+    /// # Errors
+    ///
+    /// `StoreFailed` names the call that failed: `Begin` where the connection is in a transaction, and nowhere else;
+    /// `Count` only after all changes were written, `Commit` only after the count was set too. The tables are as they
+    /// were, if the connection is still open; a crash leaves what it could leave before or, only where the commit
+    /// failed, possibly what it leaves after `Ok`: all of the changes or none. `failure` then gives the library's error.
+    pub fn commit_all(&mut self, changes: &[Change], number: u64) -> Result<Stamp, Refusal>
+        requires { (before : State) × AreNext before changes.now number }
+        ensures stamp { IfOk result (λ stamp. stamp.number ≡ number) }
+        ensures reason { IfErr result (λ reason. (call : FailedCall) × (reason ≡ StoreFailed call)) }
+        ensures clean { HasCleanDisk (state S.Store self.new.conn) → HasCleanDisk (state S.Store self.old.conn) }
+        ensures begin { (result ≡ Err (StoreFailed Begin)) ↔ IsTrue (state S.Store self.old.conn).in_transaction }
+        ensures not_begun { result ≡ Err (StoreFailed Begin) → self.new.conn ≡ self.old.conn }
+        ensures ok { HasCleanDisk (state S.Store self.new.conn) → OnOk result ((before : State) → AreNext before changes.now number →
+            Stores (state S.Store self.old.conn).now before → MakesNext (state S.Store self.old.conn).now (put_all before changes.now) (state S.Store self.new.conn).now) }
+        ensures ran { HasCleanDisk (state S.Store self.new.conn) → OnOk result (HasDone S.Store (MakesChanges S.Store changes.now number) self.old.conn (state S.Store self.new.conn).committed) }
+        ensures calls { HasCleanDisk (state S.Store self.new.conn) → OnOk result (MakesAllCalls S.Store changes.now number self.old.conn self.new.conn) }
+        ensures stopped { HasCleanDisk (state S.Store self.new.conn) → (call : FailedCall) → result ≡ Err (StoreFailed call) → AllStoppedIn S.Store changes.now number self.old.conn call self.new.conn }
+        ensures settled { HasCleanDisk (state S.Store self.new.conn) → OnOk result (IsSettled S.Store self.new.conn) }
+        ensures crash_ok { HasCleanDisk (state S.Store self.new.conn) → OnOk result ((trees : Trees) →
+            (state S.Store self.new.conn).may_leave trees → trees ≡ (state S.Store self.new.conn).now.trees) }
+        ensures stored { HasCleanDisk (state S.Store self.new.conn) → OnOk result ((before : State) → AreNext before changes.now number →
+            IsStored S.Store self.old.conn before → IsStored S.Store self.new.conn (put_all before changes.now)) }
+        ensures err { HasCleanDisk (state S.Store self.new.conn) → IsTrue (state S.Store self.new.conn).is_open →
+            OnErr result ((state S.Store self.new.conn).now ≡ (state S.Store self.old.conn).now) }
+        ensures still_settled { HasCleanDisk (state S.Store self.new.conn) → IsTrue (state S.Store self.new.conn).is_open → IsSettled S.Store self.old.conn →
+            OnErr result (IsSettled S.Store self.new.conn) }
+        ensures crash_err { HasCleanDisk (state S.Store self.new.conn) → IfErr result (λ reason. (before : State) → AreNext before changes.now number →
+            Stores (state S.Store self.old.conn).now before → (trees : Trees) → (state S.Store self.new.conn).may_leave trees →
+            (state S.Store self.old.conn).may_leave trees
+            ⊎ ((reason ≡ StoreFailed Commit) × MakesNext (state S.Store self.old.conn).now (put_all before changes.now) (record { schema = (state S.Store self.old.conn).now.schema; trees = trees }))) }
+        ensures left { HasCleanDisk (state S.Store self.new.conn) → IfErr result (λ reason. (before : State) → AreNext before changes.now number →
+            IsStored S.Store self.old.conn before → (left : State) → MayLeave S.Store self.new.conn left →
+            (left ≡ before) ⊎ ((reason ≡ StoreFailed Commit) × (left ≡ put_all before changes.now))) }
+        ensures unfailed { OnOk result (self.new.failure ≡ None) }
+        ensures failure { (call : FailedCall) → result ≡ Err (StoreFailed call) → AllFailFor S.Store changes.now number self.old.conn call self.new.conn self.new.failure }
+    {
+        match make_changes(&mut self.conn, changes, number, &mut self.failure) {
             Ok(()) => Ok(Stamp { number }),
             Err(call) => Err(Refusal::StoreFailed(call)),
         }

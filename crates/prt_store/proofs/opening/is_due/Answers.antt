@@ -1,4 +1,4 @@
-use Rattle.std.proofs.Common.{Ok, false, subst}
+use Rattle.std.proofs.Common.{Ok, subst}
 use Rattle.prt_store.proofs.Anywhere.{finds_fails, finds_format, finds_not}
 use Rattle.prt_store.proofs.Looks.{is_due_if, named_if_due, sees_both, sees_fails, sees_not, sees_same}
 use Rattle.prt_store.specs.Openings.{Finds, IsDue, IsEmpty, NamesFormat1, Sees, ShowsFormat1, ShowsNoRow}

@@ -1,4 +1,4 @@
-use Rattle.std.proofs.Common.{Option, ℕ, subst}
+use Rattle.std.proofs.Common.{subst}
 use Rattle.prt_rows.specs.Decodes.{Decodes}
 use Rattle.prt_rows.specs.MetaRow.{IsCount, meta_rows_1}
 use Rattle.prt_store.proofs.Anywhere.{format_found, format_not_found}

@@ -1,77 +1,81 @@
-use Rattle.std.proofs.Common.{◌≡◌, inl, inr, refl, true, sym, ap, subst, ◌∙◌, arith}
-use Rattle.sqlite.specs.Effect.{Database}
+use Rattle.std.proofs.Common.{◌≡◌, ◌⊎◌, List, [], ◌∷◌, sym, subst}
+use Rattle.std.proofs.lemmas.Result.{IfErr-weaker, on_ok_weaker}
 use Rattle.sqlite.specs.Held.{state}
 use Rattle.prt_addr.specs.declared.refusal.Refusal.TheVariants.{StoreFailed}
-use Rattle.prt_addr.specs.declared.refusal.StoreCall.{StoreCall}
-use Rattle.prt_version.specs.Change.{put}
-use Rattle.prt_store.proofs.Calls.{makes_next}
-use Rattle.prt_store.proofs.Exits.{either_left, stored_after}
-use Rattle.prt_store.proofs.Nexts.{small_ids, small_number}
-use Rattle.prt_store.specs.Failures.{FailsFor}
-use Rattle.prt_store.specs.Next.{MakesNext}
-use Rattle.prt_store.specs.Stops.{StoppedIn}
+use Rattle.prt_addr.specs.declared.refusal.StoreCall.TheVariants.{Commit}
+use Rattle.prt_version.specs.declared.change.Change.{Change}
+use Rattle.prt_store.proofs.Ones.{calls_one, done_one, fails_one, next_one, stopped_one}
+use Rattle.prt_store.specs.Exits.{IsStored}
+use Rattle.prt_store.specs.Failures.{AllFailFor}
+use Rattle.prt_store.specs.Made.{MakesChanges}
+use Rattle.prt_store.specs.Next.{AreNext, MakesNext, put_all}
+use Rattle.prt_store.specs.Openings.{HasDone}
+use Rattle.prt_store.specs.Stops.{AllStoppedIn, MakesAllCalls}
 use Rattle.prt_store.proofs.store.Store.commit.Goals as goal
 
-pub make_change-requires-clause-ids : goal.make_change-requires-clause-ids
-make_change-requires-clause-ids g c = small_ids c.requires.0 c.args.change.now c.args.number c.requires.1
+pub commit_all-requires : goal.commit_all-requires
+commit_all-requires g c = (c.requires.0, subst (λ (changes : List Change). AreNext c.requires.0 changes c.args.number) (sym c.from_ref.ensures.value) (next_one c.requires.0 c.args.change.now c.args.number c.requires.1))
 
-pub make_change-requires-clause-number : goal.make_change-requires-clause-number
-make_change-requires-clause-number g c = small_number c.requires.0 c.args.change.now c.args.number c.requires.1
+pub returns-clause-ok : goal.returns-clause-ok
+returns-clause-ok g c clean =
+    let change = c.args.change.now in
+    let is : c.from_ref.result.now ≡ change ∷ [] = c.from_ref.ensures.value in
+    on_ok_weaker c.commit_all.result (λ all before next held.
+    subst (λ (changes : List Change). MakesNext (state g.S.Store c.args.self.now.conn).now (put_all before changes) (state g.S.Store c.commit_all.new.self.conn).now) is
+    (all before (subst (λ (changes : List Change). AreNext before changes c.args.number) (sym is) (next_one before change c.args.number next)) held))
+    (c.commit_all.ensures.ok clean)
 
-pub returns-in-Ok-clause-ok : goal.returns-in-Ok-clause-ok
-returns-in-Ok-clause-ok g c clean before next held =
-    let done = c.in-Ok.ensures.ok clean in
-    subst (MakesNext (state g.S.Store c.args.self.now.conn).now (put before c.args.change.now)) (sym done.2.committed) (makes_next g.S.Store c.args.change.now c.args.number c.args.self.now.conn _ before next done.0 held done.1)
+pub returns-clause-ran : goal.returns-clause-ran
+returns-clause-ran g c clean =
+    let old = c.args.self.now.conn in
+    let db = (state g.S.Store c.commit_all.new.self.conn).committed in
+    on_ok_weaker c.commit_all.result (λ done. done_one g.S.Store c.args.change.now c.args.number old db (subst (λ (changes : List Change). HasDone g.S.Store (MakesChanges g.S.Store changes c.args.number) old db) c.from_ref.ensures.value done))
+    (c.commit_all.ensures.ran clean)
 
-pub returns-in-Ok-clause-ran : goal.returns-in-Ok-clause-ran
-returns-in-Ok-clause-ran g c clean = (c.in-Ok.ensures.ok clean).1
+pub returns-clause-calls : goal.returns-clause-calls
+returns-clause-calls g c clean =
+    let old = c.args.self.now.conn in
+    let new = c.commit_all.new.self.conn in
+    on_ok_weaker c.commit_all.result (λ calls. calls_one g.S.Store c.args.change.now c.args.number old new (subst (λ (changes : List Change). MakesAllCalls g.S.Store changes c.args.number old new) c.from_ref.ensures.value calls))
+    (c.commit_all.ensures.calls clean)
 
-pub returns-in-Ok-clause-calls : goal.returns-in-Ok-clause-calls
-returns-in-Ok-clause-calls g c clean = c.in-Ok.ensures.calls clean
+pub returns-clause-stopped : goal.returns-clause-stopped
+returns-clause-stopped g c clean call is =
+    let old = c.args.self.now.conn in
+    let new = c.commit_all.new.self.conn in
+    stopped_one g.S.Store c.args.change.now c.args.number old call new (subst (λ (changes : List Change). AllStoppedIn g.S.Store changes c.args.number old call new) c.from_ref.ensures.value (c.commit_all.ensures.stopped clean call is))
 
-pub returns-in-Err-clause-stopped : goal.returns-in-Err-clause-stopped
-returns-in-Err-clause-stopped g c clean call is =
-    let same : c.in-Err.call ≡ call = cc in
-    subst (λ (failed : StoreCall). StoppedIn g.S.Store c.args.change.now c.args.number c.args.self.now.conn failed c.make_change.new.conn) same (c.in-Err.ensures.stopped clean)
+pub returns-clause-failure : goal.returns-clause-failure
+returns-clause-failure g c call is =
+    let old = c.args.self.now.conn in
+    let new = c.commit_all.new.self.conn in
+    let failure = c.commit_all.new.self.failure in
+    fails_one g.S.Store c.args.change.now c.args.number old call new failure (subst (λ (changes : List Change). AllFailFor g.S.Store changes c.args.number old call new failure) c.from_ref.ensures.value (c.commit_all.ensures.failure call is))
 
-pub returns-in-Err-clause-failure : goal.returns-in-Err-clause-failure
-returns-in-Err-clause-failure g c call is =
-    let same : c.in-Err.call ≡ call = cc in
-    subst (λ (failed : StoreCall). FailsFor g.S.Store c.args.change.now c.args.number c.args.self.now.conn failed c.make_change.new.conn c.make_change.new.failure) same c.in-Err.ensures.failure
+pub returns-clause-stored : goal.returns-clause-stored
+returns-clause-stored g c clean =
+    let change = c.args.change.now in
+    let is : c.from_ref.result.now ≡ change ∷ [] = c.from_ref.ensures.value in
+    on_ok_weaker c.commit_all.result (λ all before next stored.
+    subst (λ (changes : List Change). IsStored g.S.Store c.commit_all.new.self.conn (put_all before changes)) is
+    (all before (subst (λ (changes : List Change). AreNext before changes c.args.number) (sym is) (next_one before change c.args.number next)) stored))
+    (c.commit_all.ensures.stored clean)
 
-pub returns-in-Ok-clause-settled : goal.returns-in-Ok-clause-settled
-returns-in-Ok-clause-settled g c clean = (c.in-Ok.ensures.ok clean).2
+pub returns-clause-crash_err : goal.returns-clause-crash_err
+returns-clause-crash_err g c clean =
+    let change = c.args.change.now in
+    let old = c.args.self.now.conn in
+    let is : c.from_ref.result.now ≡ change ∷ [] = c.from_ref.ensures.value in
+    IfErr-weaker c.commit_all.result _ _ (λ reason all before next held trees leaves.
+    subst (λ (changes : List Change). (state g.S.Store old).may_leave trees ⊎ ((reason ≡ StoreFailed Commit) × MakesNext (state g.S.Store old).now (put_all before changes) (record { schema = (state g.S.Store old).now.schema; trees = trees }))) is
+    (all before (subst (λ (changes : List Change). AreNext before changes c.args.number) (sym is) (next_one before change c.args.number next)) held trees leaves))
+    (c.commit_all.ensures.crash_err clean)
 
-pub returns-in-Err-clause-still_settled : goal.returns-in-Err-clause-still_settled
-returns-in-Err-clause-still_settled g c clean still_open was =
-    let same = c.in-Err.ensures.err clean still_open in
-    record { is_open = still_open; autocommit = c.in-Err.ensures.mode ∙ was.autocommit; committed = same.0 ∙ was.committed ∙ sym same.1 }
-
-pub returns-in-Err-clause-crash_err : goal.returns-in-Err-clause-crash_err
-returns-in-Err-clause-crash_err g c clean before next held trees leaves = elim (c.in-Err.ensures.crash_err.crash clean trees leaves) [
-  | inl was ↦ inl was
-  | inr made ↦
-      let it = made.2 in
-      let old = c.args.self.now.conn in
-      let all = makes_next g.S.Store c.args.change.now c.args.number old it.0 before next made.1 held it.1 in
-      inr (ap StoreFailed made.0, subst (MakesNext (state g.S.Store old).now (put before c.args.change.now)) (λ i. record { schema = all.schema i; trees = sym it.2 i }) all)
-]
-
-pub returns-in-Ok-clause-clean : goal.returns-in-Ok-clause-clean
-returns-in-Ok-clause-clean g c clean = c.in-Ok.ensures.clean clean
-
-pub returns-in-Err-clause-clean : goal.returns-in-Err-clause-clean
-returns-in-Err-clause-clean g c clean = omega (arith, c.in-Err.ensures.crash_err.clean, clean)
-
-pub returns-in-Err-clause-err : goal.returns-in-Err-clause-err
-returns-in-Err-clause-err g c clean still_open = (c.in-Err.ensures.err clean still_open).0
-
-pub returns-in-Ok-clause-stored : goal.returns-in-Ok-clause-stored
-returns-in-Ok-clause-stored g c clean before next stored =
-    let settled = (c.in-Ok.ensures.ok clean).2 in
-    stored_after g.S.Store true c.args.self.now.conn c.make_change.new.conn before c.args.change.now c.args.number next c.in-Ok.ensures.clean (λ _. stored) (returns-in-Ok-clause-ok g c)
-    (λ _ trees may. g.met.S.Store.settled c.make_change.new.conn.store trees settled.is_open may ∙ ap (λ (db : Database). db.trees) (sym settled.committed)) (refl, clean)
-
-pub returns-in-Err-clause-left : goal.returns-in-Err-clause-left
-returns-in-Err-clause-left g c clean before next stored left may =
-    either_left g.S.Store true c.args.self.now.conn c.make_change.new.conn before c.args.change.now c.args.number next (returns-in-Err-clause-clean g c) (λ _. stored) _ (returns-in-Err-clause-crash_err g c) (refl, clean) left may
+pub returns-clause-left : goal.returns-clause-left
+returns-clause-left g c clean =
+    let change = c.args.change.now in
+    let is : c.from_ref.result.now ≡ change ∷ [] = c.from_ref.ensures.value in
+    IfErr-weaker c.commit_all.result _ _ (λ reason all before next stored left may.
+    subst (λ (changes : List Change). (left ≡ before) ⊎ ((reason ≡ StoreFailed Commit) × (left ≡ put_all before changes))) is
+    (all before (subst (λ (changes : List Change). AreNext before changes c.args.number) (sym is) (next_one before change c.args.number next)) stored left may))
+    (c.commit_all.ensures.left clean)
