@@ -5,7 +5,7 @@ use Rattle.logbook.specs.Pages.{Book}
 use Rattle.prt_command.specs.declared.request.Command.{Command}
 use Rattle.prt_version.specs.Accepted.{IsAccepted}
 use Rattle.prt_version.specs.State.{State}
-use Rattle.prt_front.specs.History.{base_of, commands_of, entries, line_of}
+use Rattle.prt_front.specs.History.{asked_commands, base_of, commands_of, entries, line_of}
 use Rattle.prt_front.specs.Line.{Line}
 use Rattle.prt_front.specs.declared.history.Entry.{Entry}
 use Rattle.prt_front.specs.declared.history.Entry.TheVariants.{Accepted, Loaded}
@@ -17,9 +17,9 @@ pub commands_back : (list : List Command) → commands_of (map Accepted list) �
 commands_back [] = refl
 commands_back (command ∷ list) = ap (λ rest. command ∷ rest) (commands_back list)
 
-pub entries_grown : (list : List Command) (command : Command) → map Accepted list ++ Accepted command ∷ [] ≡ map Accepted (list ++ command ∷ [])
-entries_grown [] command = refl
-entries_grown (first ∷ list) command = ap (λ rest. Accepted first ∷ rest) (entries_grown list command)
+pub entries_grown : (list more : List Command) → map Accepted list ++ map Accepted more ≡ map Accepted (list ++ more)
+entries_grown [] more = refl
+entries_grown (first ∷ list) more = ap (λ rest. Accepted first ∷ rest) (entries_grown list more)
 
 pub entries_length : (list : List Command) → length (map Accepted list) ≡ length list
 entries_length [] = refl
@@ -55,12 +55,12 @@ shorter_spelled xs ys base other first second both one two p q shorter =
     let same : other ≡ base = cc (begins.1) in
     (same, commands_begin xs ys (begins.0, cc (begins.1)))
 
--- ---- one command more
+-- ---- commands more
 
--- the log that the step leaves has one command more
-pub added : (base : State) (list : List Command) (command : Command) (log again before : List Entry) (ask : Entry) → log ≡ again ++ ask ∷ [] → again ≡ before → ask ≡ Accepted command → before ≡ entries base list → log ≡ entries base (list ++ command ∷ [])
-added base list command log again before ask grows same asks is =
+-- the log that the step leaves has the commands more that it asked for
+pub added : (base : State) (list : List Command) (log again before : List Entry) (ask made : Entry) → log ≡ again ++ map Accepted (asked_commands ask) → again ≡ before → ask ≡ made → before ≡ entries base list → log ≡ entries base (list ++ asked_commands made)
+added base list log again before ask made grows same asks is =
     grows
-    ∙ (ap (λ (earlier : List Entry). earlier ++ ask ∷ []) (same ∙ is)
-    ∙ (ap (λ (entry : Entry). entries base list ++ entry ∷ []) asks
-    ∙ ap (λ (rest : List Entry). Loaded base ∷ rest) (entries_grown list command)))
+    ∙ (ap (λ (earlier : List Entry). earlier ++ map Accepted (asked_commands ask)) (same ∙ is)
+    ∙ (ap (λ (entry : Entry). entries base list ++ map Accepted (asked_commands entry)) asks
+    ∙ ap (λ (rest : List Entry). Loaded base ∷ rest) (entries_grown list (asked_commands made))))

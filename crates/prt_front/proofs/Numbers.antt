@@ -1,18 +1,17 @@
 -- The number of a published version.
-use Rattle.std.proofs.Common.{◌≡◌, ◌+◌, None, length, ap, ◌∙◌, arith}
+use Rattle.std.proofs.Common.{◌≡◌, ◌+◌, List, length, ap, ◌∙◌}
 use Rattle.prt_command.specs.declared.request.Command.{Command}
 use Rattle.prt_version.specs.Accepted.{IsAccepted}
-use Rattle.prt_version.specs.Change.{refusal}
 use Rattle.prt_version.specs.State.{State}
-use Rattle.prt_version.proofs.Folds.{apply_count, count_fold, fold_push}
-use Rattle.prt_front.specs.Line.{Line, grown, line_state}
+use Rattle.prt_version.proofs.Folds.{count_fold, fold_append}
+use Rattle.prt_front.specs.Line.{Line, grown_by, line_state}
 
 -- the loaded number, and that of the commands since
 pub number_is : (line : Line) → IsAccepted line.base line.list → (line_state line).count ≡ line.base.count + length line.list
 number_is line accepted = count_fold line.base line.list accepted
 
--- one command more adds one
-pub number_next : (line : Line) (command : Command) → IsAccepted line.base line.list → refusal (line_state line) command ≡ None → (line_state (grown line command)).count ≡ line.base.count + length line.list + 1
-number_next line command accepted allowed =
-    ap (λ (state : State). state.count) (fold_push line.base line.list command)
-    ∙ (apply_count (line_state line) command allowed ∙ ap (λ n. n + 1) (number_is line accepted))
+-- commands more add theirs
+pub number_next : (line : Line) (commands : List Command) → IsAccepted line.base line.list → IsAccepted (line_state line) commands → (line_state (grown_by line commands)).count ≡ line.base.count + length line.list + length commands
+number_next line commands accepted all =
+    ap (λ (state : State). state.count) (fold_append line.base line.list commands)
+    ∙ (count_fold (line_state line) commands all ∙ ap (λ n. n + length commands) (number_is line accepted))

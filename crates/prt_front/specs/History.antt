@@ -6,7 +6,7 @@ use Rattle.prt_version.specs.Accepted.{IsAccepted}
 use Rattle.prt_version.specs.State.{State, opening_state}
 use Rattle.prt_front.specs.Line.{Line}
 use Rattle.prt_front.specs.declared.history.Entry.{Entry}
-use Rattle.prt_front.specs.declared.history.Entry.TheVariants.{Accepted, Loaded}
+use Rattle.prt_front.specs.declared.history.Entry.TheVariants.{Accepted, Asked, Loaded}
 
 -- ---- a list and its entries
 
@@ -17,11 +17,19 @@ abbrev pub base_of : List Entry → State
 base_of [] = opening_state
 base_of (Loaded state ∷ log) = state
 base_of (Accepted command ∷ log) = opening_state
+base_of (Asked commands ∷ log) = opening_state
 
 abbrev pub commands_of : List Entry → List Command
 commands_of [] = []
 commands_of (Loaded state ∷ log) = commands_of log
 commands_of (Accepted command ∷ log) = command ∷ commands_of log
+commands_of (Asked commands ∷ log) = commands_of log
+
+-- the commands that a step asks for
+abbrev pub asked_commands : Entry → List Command
+asked_commands (Asked commands) = commands.items
+asked_commands (Accepted command) = command ∷ []
+asked_commands (Loaded state) = []
 
 abbrev pub line_of : Book → List Entry → Line
 line_of book log = record { book = book; base = base_of log; list = commands_of log }
@@ -44,6 +52,6 @@ pub record IsKept (cells : List Cell) (log : List Entry) : Type 0 where
 abbrev pub length_of : Book → Named
 length_of book = record { tracked = true; key = 0; book = book }
 
--- the command is added to all that was seen, where the word is as expected
+-- each command is added to all that was seen, where the word is as expected
 abbrev pub Adds : Step Entry → View Entry ℕ → ℕ → View Entry ℕ → Type 0
-Adds step before found after = MatchBool (found == step.old) (after.0 ≡ before.0 ++ step.ask ∷ []) (Unit {0})
+Adds step before found after = MatchBool (found == step.old) (after.0 ≡ before.0 ++ map Accepted (asked_commands step.ask)) (Unit {0})

@@ -16,9 +16,13 @@ pub record Line : Type 0 where
 abbrev pub line_state : Line → State
 line_state line = fold line.base line.list
 
+-- these commands more
+abbrev pub grown_by : Line → List Command → Line
+grown_by line commands = record line { list = line.list ++ commands }
+
 -- one command more
 abbrev pub grown : Line → Command → Line
-grown line command = record line { list = line.list ++ command ∷ [] }
+grown line command = grown_by line (command ∷ [])
 
 -- the later one is of the same front, and its list begins with the whole earlier one
 abbrev pub Begins : Line → Line → Type 0

@@ -1,9 +1,9 @@
 //! The writer of a front.
-ghost use Rattle.std.specs.Prelude.{◌≡◌, ◌+◌, ◌<◌, ◌^◌, [], None, All, length, IfErr, IfOk, MatchResult, OnOk};
+ghost use Rattle.std.specs.Prelude.{◌≡◌, ◌+◌, ◌<◌, ◌^◌, [], All, length, IfErr, IfOk, MatchResult, OnOk};
 ghost use Rattle.std.specs.Arc.{arc_value};
 ghost use Rattle.prt_version.specs.Accepted.{IsAccepted};
-ghost use Rattle.prt_version.specs.Change.{apply, refusal};
-ghost use Rattle.prt_front.specs.Line.{grown, line_state};
+ghost use Rattle.prt_version.specs.Change.{fold};
+ghost use Rattle.prt_front.specs.Line.{grown_by, line_state};
 
 use crate::copies::{CopyWriter, show};
 use crate::history::Length;
@@ -15,7 +15,6 @@ use prt_store::Stamp;
 use prt_version::{Command, Refusal, Version};
 use std::alloc::Global;
 use std::marker::Model;
-use std::snapshot::Snapshot;
 use std::sync::{Arc, Wait};
 
 /// The writer of a front. Contracts see it as the published list.
@@ -85,26 +84,26 @@ impl<R: Wait + Drop> Front<R> {
         self.known.again()
     }
 
-    /// Publishes a version in one swap: the one after the published one by this command, whose commit gave the stamp. It
-    /// waits for readers that are inside the other copy. The list that is published then, to be told to readers.
+    /// Publishes a version in one swap: the one after the published one by these commands, whose commit gave the stamp.
+    /// It waits for readers that are inside the other copy. The list that is published then, to be told to readers.
     ///
     /// Err(NotPublished) where the swap is refused; then readers go on with the version that they had.
-    pub fn publish(
+    pub fn publish_all(
         &mut self,
         stamp: Stamp,
-        command: Snapshot<Command>,
+        commands: &Vec<Command>,
         version: Arc<Version>,
     ) -> Result<Told, Refusal>
-        requires stamp { stamp.number ≡ self.old.base.count + length self.old.list + 1 }
-        requires accepted { refusal (line_state self.old) command.value ≡ None }
-        requires next { arc_value version ≡ apply (line_state self.old) command.value }
-        requires room { length self.old.list < 2 ^ 62 }
-        ensures list { MatchResult result (λ told. (self.new ≡ grown self.old command.value) × (told ≡ self.new)) (λ _. self.new ≡ self.old) }
+        requires stamp { stamp.number ≡ self.old.base.count + length self.old.list + length commands.now.items }
+        requires accepted { IsAccepted (line_state self.old) commands.now.items }
+        requires next { arc_value version ≡ fold (line_state self.old) commands.now.items }
+        requires room { length self.old.list + length commands.now.items < 2 ^ 62 }
+        ensures list { MatchResult result (λ told. (self.new ≡ grown_by self.old commands.now.items) × (told ≡ self.new)) (λ _. self.new ≡ self.old) }
         ensures accepted { OnOk result (IsAccepted self.new.base self.new.list) }
         ensures reason { IfErr result (λ reason. reason ≡ Refusal.NotPublished) }
     {
         drop(stamp);
-        let Some(next) = self.known.accept(&self.word, &command) else {
+        let Some(next) = self.known.accept(&self.word, commands) else {
             return Err(Refusal::NotPublished);
         };
         let shown = Shown::new(version, next.again());

@@ -1,4 +1,4 @@
-//! The history of a front, in a logbook: what its tokens say, and the step that adds a command.
+//! The history of a front, in a logbook: what its tokens say, and the step that adds commands.
 
 use logbook::{Gain, Opening, Plain, Play, Rule, Word};
 use prt_version::{Command, Version};
@@ -10,6 +10,8 @@ pub enum Entry {
     Loaded(Version),
     /// A command that was accepted.
     Accepted(Command),
+    /// Commands that are to be accepted together. No history has such an entry: a step asks for it, and adds one for each.
+    Asked(Vec<Command>),
 }
 
 /// What holds of every history: it is a loaded state and commands that were accepted one after the other.
@@ -52,7 +54,7 @@ impl Opening<Version, Entry> for Load {
     ghost log = { λ count version. Loaded version ∷ [] };
 }
 
-/// The step that adds an accepted command.
+/// The step that adds accepted commands.
 pub struct Add;
 
 impl Play<Entry, u64> for Add {
@@ -61,13 +63,13 @@ impl Play<Entry, u64> for Add {
     ghost then = { Adds };
 }
 
-impl Plain<Snapshot<Command>, Entry, u64> for Add {
+impl Plain<Snapshot<Vec<Command>>, Entry, u64> for Add {
     ghost use Rattle.std.specs.Prelude.{None};
-    ghost use Rattle.prt_front.specs.declared.history.Entry.TheVariants.{Accepted};
+    ghost use Rattle.prt_front.specs.declared.history.Entry.TheVariants.{Asked};
 
-    ghost ask = { λ command. Accepted command.value };
+    ghost ask = { λ commands. Asked commands.value };
 
-    ghost state = { λ command. None };
+    ghost state = { λ commands. None };
 }
 
 /// The length of a history, which its writer has.

@@ -1,9 +1,8 @@
 //! Tokens of what is known of the published list.
-ghost use Rattle.std.specs.Prelude.{◌≡◌, ◌+◌, ◌<◌, ◌^◌, [], None, length, IfSome, MatchBool};
+ghost use Rattle.std.specs.Prelude.{◌≡◌, ◌+◌, ◌<◌, ◌^◌, [], length, IfSome, MatchBool};
 ghost use Rattle.prt_version.specs.Accepted.{IsAccepted};
-ghost use Rattle.prt_version.specs.Change.{refusal};
 ghost use Rattle.prt_front.specs.History.{length_of};
-ghost use Rattle.prt_front.specs.Line.{Begins, grown, line_state};
+ghost use Rattle.prt_front.specs.Line.{Begins, grown_by, line_state};
 
 use crate::history::{Add, Entry, HistoryRule, Length, Load, NoGain};
 use logbook::{Offer, Seen, Start};
@@ -74,32 +73,34 @@ impl Known {
         self.count <= other.count
     }
 
-    /// Adds a command to the history of which this is all. `None` where the history has another command there, and then it
+    /// Adds commands to the history of which this is all. `None` where the history has another command there, and then it
     /// stays as it was.
-    pub(crate) fn accept(&self, word: &Length, command: &Snapshot<Command>) -> Option<Known>
+    pub(crate) fn accept(&self, word: &Length, commands: &Vec<Command>) -> Option<Known>
         requires word { word.now ≡ length_of self.now.book }
-        requires accepted { refusal (line_state self.now) command.now.value ≡ None }
-        requires room { length self.now.list < 2 ^ 62 }
-        ensures { IfSome result (λ k. k ≡ grown self.now command.now.value) }
+        requires accepted { IsAccepted (line_state self.now) commands.now.items }
+        requires room { length self.now.list + length commands.now.items < 2 ^ 62 }
+        ensures { IfSome result (λ k. k ≡ grown_by self.now commands.now.items) }
     {
+        let asked = Snapshot::of(commands);
         let mut seen = self.seen.again();
         let mut offer: Offer<Entry, u64, HistoryRule, NoGain> = seen.plain::<
             NoGain,
-            Snapshot<Command>,
+            Snapshot<Vec<Command>>,
             Add,
-        >(command);
+        >(&asked);
         let mut pen = seen.no_pen();
         let count = self.count;
+        let count_after = count + commands.as_slice().len() as u64;
         let found = word.compare_exchange::<Add, NoGain>(
             count,
-            count + 1,
+            count_after,
             &mut seen,
             &mut offer,
             &mut pen,
         );
         if found == count {
             Some(Known {
-                count: count + 1,
+                count: count_after,
                 seen,
             })
         } else {

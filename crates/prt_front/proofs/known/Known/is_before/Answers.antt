@@ -1,9 +1,8 @@
-use Rattle.std.proofs.Common.{◌≡◌, ◌≤◌, ℕ, length, List, ap, sym, subst, ◌∙◌, arith, MatchBool, inl, inr}
+use Rattle.std.proofs.Common.{◌≡◌, List, ap, sym, subst, ◌∙◌, arith, inl, inr}
 use Rattle.std.proofs.lemmas.Bool.Decides.{leb_tells}
 use mathlib.Core.List.{IsPrefix}
 use Rattle.prt_front.specs.declared.history.Entry.{Entry}
-use Rattle.prt_front.specs.History.{base_of, commands_of, entries}
-use Rattle.prt_front.specs.Line.{Begins, Line}
+use Rattle.prt_front.specs.History.{base_of, commands_of}
 use Rattle.prt_front.proofs.Histories.{shorter_spelled}
 use Rattle.prt_front.proofs.known.Known.is_before.Goals as goal
 
