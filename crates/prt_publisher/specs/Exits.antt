@@ -1,5 +1,5 @@
 -- What the exits of a publisher's calls say.
-use Rattle.std.specs.Prelude.{◌≡◌, ◌⊎◌, ◌+◌, ◌≤◌, length, IsTrue, Option, Some, None, Ok}
+use Rattle.std.specs.Prelude.{◌≡◌, ◌⊎◌, ◌+◌, ◌≤◌, List, [], ◌∷◌, length, IsTrue, Some, None}
 use Rattle.sqlite.specs.Held.{Held, state}
 use Rattle.sqlite.specs.Store.{Ghosts}
 use Rattle.prt_addr.specs.declared.refusal.Refusal.{Refusal}
@@ -7,38 +7,27 @@ use Rattle.prt_addr.specs.declared.refusal.Refusal.TheVariants as reason
 use Rattle.prt_addr.specs.declared.refusal.StoreCall.{StoreCall}
 use Rattle.prt_addr.specs.declared.refusal.StoreCall.TheVariants.{Commit}
 use Rattle.prt_command.specs.declared.request.Command.{Command}
-use Rattle.prt_front.specs.Line.{Line, grown, line_state}
+use Rattle.prt_front.specs.Line.{line_state}
 use Rattle.prt_grace.specs.Registry.{RegistryState, reclaimed}
 use Rattle.prt_grace.specs.declared.limits.TheConstants.{MOST_RETIRED}
 use Rattle.prt_publisher.specs.Standing.{Standing}
 use Rattle.prt_publisher.specs.declared.phase.Phase.{Phase}
 use Rattle.prt_publisher.specs.declared.phase.Phase.TheVariants.{Ready, Closed}
 use Rattle.prt_store.specs.Exits.{IsKnown, MayLeave, SparesOthers}
-use Rattle.prt_store.specs.Made.{MakesChange}
+use Rattle.prt_store.specs.Made.{MakesChanges}
 use Rattle.prt_store.specs.Openings.{HasDone}
 use Rattle.prt_store.specs.Stored.{Stores}
-use Rattle.prt_version.specs.Change.{apply, check, refusal}
+use Rattle.prt_version.specs.Accepted.{IsAccepted, IsRefusedFor, changes_of}
+use Rattle.prt_version.specs.Change.{fold, refusal}
 use Rattle.prt_version.specs.State.{State}
-use Rattle.prt_version.specs.declared.change.Change.{Change}
 
--- the state after the command under way
-abbrev pub state_after : State → Option Command → Option State
-state_after published None = None
-state_after published (Some command) = Some (apply published command)
-
--- the list after the command under way
-abbrev pub line_after : Line → Option Command → Option Line
-line_after line None = None
-line_after line (Some command) = Some (grown line command)
-
--- the command under way is refused for nothing
-abbrev pub IsAllowed : State → Option Command → Type 0
-IsAllowed published None = ⊥
-IsAllowed published (Some command) = refusal published command ≡ None
+-- it is ready, and the commands are refused for nothing, each in the state after those before it
+abbrev pub TakesAll : {T : Type 0} → Standing T → List Command → Type 0
+TakesAll s commands = (s.phase ≡ Ready) × IsAccepted (line_state s.line) commands
 
 -- it is ready, and the command is refused for nothing
 abbrev pub Takes : {T : Type 0} → Standing T → Command → Type 0
-Takes s command = (s.phase ≡ Ready) × (refusal (line_state s.line) command ≡ None)
+Takes s command = TakesAll s (command ∷ [])
 
 -- why a command is not admitted, and what the registry is after it
 abbrev pub IsNotAdmitted : Phase → State → Command → RegistryState → RegistryState → Refusal → Type 0
@@ -52,29 +41,49 @@ abbrev pub IsNotPrepared : Phase → State → Command → Refusal → Type 0
 IsNotPrepared Closed published command why = why ≡ reason.Closed
 IsNotPrepared p published command why = (refusal published command ≡ Some why) ⊎ ((refusal published command ≡ None) × ((why ≡ reason.Busy) ⊎ (why ≡ reason.NoMemory)))
 
--- The commit failed: closed, with the old state in the tables while they can be seen. A crash leaves it too or, only where the commit call failed, possibly the one after the command.
-pub record IsNotStored {S : Type 0} (g : Ghosts S) (old : Standing (Held S)) (command : Command) (why : Refusal) (new : Standing (Held S)) : Type 0 where
-  pub takes : Takes old command
+-- why commands are not planned
+abbrev pub AreNotPlanned : Phase → State → List Command → Refusal → Type 0
+AreNotPlanned Closed published commands why = why ≡ reason.Closed
+AreNotPlanned p published commands why = IsRefusedFor published commands why
+
+-- why commands are not prepared
+abbrev pub AreNotPrepared : Phase → State → List Command → Refusal → Type 0
+AreNotPrepared Closed published commands why = why ≡ reason.Closed
+AreNotPrepared p published commands why = IsRefusedFor published commands why ⊎ (IsAccepted published commands × (why ≡ reason.Busy))
+
+-- The commit failed: closed, with the old state in the tables while they can be seen. A crash leaves it too or, only where the commit call failed, possibly the one after all of the commands.
+pub record AreNotStored {S : Type 0} (g : Ghosts S) (old : Standing (Held S)) (commands : List Command) (why : Refusal) (new : Standing (Held S)) : Type 0 where
+  pub takes : TakesAll old commands
   pub call : StoreCall
   pub why_is : why ≡ reason.StoreFailed call
-  pub left : new ≡ record old { phase = Closed; command = None; tables = new.tables }
+  pub left : new ≡ record old { phase = Closed; commands = []; tables = new.tables }
   pub now : IsKnown g new.ours_first new.tables → IsTrue (state g new.tables).is_open → Stores (state g new.tables).now (line_state old.line)
-  pub leaves : IsKnown g new.ours_first new.tables → (state : State) → MayLeave g new.tables state → (state ≡ line_state old.line) ⊎ ((why ≡ reason.StoreFailed Commit) × (state ≡ apply (line_state old.line) command))
+  pub leaves : IsKnown g new.ours_first new.tables → (state : State) → MayLeave g new.tables state → (state ≡ line_state old.line) ⊎ ((why ≡ reason.StoreFailed Commit) × (state ≡ fold (line_state old.line) commands))
 
--- The front refused the publication: closed, with the command stored.
-pub record IsNotPublished {S : Type 0} (g : Ghosts S) (old : Standing (Held S)) (command : Command) (why : Refusal) (new : Standing (Held S)) : Type 0 where
-  pub takes : Takes old command
+-- The front refused the publication: closed, with the commands stored.
+pub record AreNotPublished {S : Type 0} (g : Ghosts S) (old : Standing (Held S)) (commands : List Command) (why : Refusal) (new : Standing (Held S)) : Type 0 where
+  pub takes : TakesAll old commands
   pub why_is : why ≡ reason.NotPublished
-  pub left : new ≡ record old { phase = Closed; command = Some command; tables = new.tables }
+  pub left : new ≡ record old { phase = Closed; commands = commands; tables = new.tables }
 
 -- why a command is not acknowledged, and what that leaves
 abbrev pub IsNotAcknowledged : {S : Type 0} → Ghosts S → Standing (Held S) → Command → Refusal → Standing (Held S) → Type 0
-IsNotAcknowledged g old command why new = ((new ≡ old) × IsNotPrepared old.phase (line_state old.line) command why) ⊎ (IsNotStored g old command why new ⊎ IsNotPublished g old command why new)
+IsNotAcknowledged g old command why new =
+    ((new ≡ old) × IsNotPrepared old.phase (line_state old.line) command why) ⊎ (AreNotStored g old (command ∷ []) why new ⊎ AreNotPublished g old (command ∷ []) why new)
 
--- the change that the command makes of the published state ran in one transaction on the tables as they were, and what that left is committed, whatever the file
+-- why commands are not acknowledged, and what that leaves
+abbrev pub AreNotAcknowledged : {S : Type 0} → Ghosts S → Standing (Held S) → List Command → Refusal → Standing (Held S) → Type 0
+AreNotAcknowledged g old commands why new =
+    ((new ≡ old) × AreNotPrepared old.phase (line_state old.line) commands why) ⊎ (AreNotStored g old commands why new ⊎ AreNotPublished g old commands why new)
+
+-- the changes that the commands make of the published state ran in one transaction on the tables as they were, and what that left is committed, whatever the file
+abbrev pub HaveCommitted : {S : Type 0} → Ghosts S → Standing (Held S) → List Command → Held S → Type 0
+HaveCommitted g old commands new =
+    HasDone g (MakesChanges g (changes_of (line_state old.line) commands) ((line_state old.line).count + length commands)) old.tables (state g new).committed
+
+-- the same of one command
 abbrev pub HasCommitted : {S : Type 0} → Ghosts S → Standing (Held S) → Command → Held S → Type 0
-HasCommitted g old command new =
-    (made : Change) × (check (line_state old.line) command ≡ Ok made) × HasDone g (MakesChange g made ((line_state old.line).count + 1)) old.tables (state g new).committed
+HasCommitted g old command new = HaveCommitted g old (command ∷ []) new
 
 -- the other tables of the file stay, where that can be seen
 abbrev pub Spares : {S : Type 0} → Ghosts S → Standing (Held S) → Standing (Held S) → Type 0

@@ -1,9 +1,10 @@
--- What a publisher keeps of a command under way.
-use Rattle.std.specs.Prelude.{◌≡◌, ◌+◌, Option, Some, None, Ok}
+-- What a publisher keeps of the commands under way.
+use Rattle.std.specs.Prelude.{◌≡◌, ◌+◌, ◌≤◌, All, List, [], ◌∷◌, length, None, Some}
 use Rattle.std.specs.Arc.{arc_value}
 use Rattle.prt_command.specs.Storable.{IsStorable}
 use Rattle.prt_command.specs.declared.request.Command.{Command}
-use Rattle.prt_version.specs.Change.{IsChecked, check, put, refusal}
+use Rattle.prt_version.specs.Accepted.{IsAccepted, changes_of}
+use Rattle.prt_version.specs.Change.{fold, refusal}
 use Rattle.prt_version.specs.Sound.{IsSound}
 use Rattle.prt_version.specs.State.{State}
 use Rattle.prt_publisher.specs.declared.phase.Phase.{Phase}
@@ -14,35 +15,38 @@ use Rattle.prt_publisher.specs.declared.publisher.Step.TheVariants.{Ready, Admit
 
 abbrev pub phase_of : Step → Phase
 phase_of Ready = phase.Ready
-phase_of (Admitted command change) = phase.Admitted
+phase_of (Admitted command) = phase.Admitted
 phase_of (Prepared plan) = phase.Prepared
 phase_of (Committed plan stamp) = phase.Committed
-phase_of (Published command noted) = phase.Published
+phase_of (Published commands noted) = phase.Published
 phase_of (Closed unpublished) = phase.Closed
 
-abbrev pub command_of : Step → Option Command
-command_of Ready = None
-command_of (Admitted command change) = Some command
-command_of (Prepared plan) = Some plan.command
-command_of (Committed plan stamp) = Some plan.command
-command_of (Published command noted) = Some command
-command_of (Closed unpublished) = unpublished
+abbrev pub commands_of : Step → List Command
+commands_of Ready = []
+commands_of (Admitted command) = command ∷ []
+commands_of (Prepared plan) = plan.commands.items
+commands_of (Committed plan stamp) = plan.commands.items
+commands_of (Published commands noted) = commands.items
+commands_of (Closed None) = []
+commands_of (Closed (Some commands)) = commands.items
 
--- The change is the one that the storable command makes of the published state, and each of the three is the state after it.
+-- The changes are those that the storable commands make of the published state, one after the other, and each of the three is the state after them.
 pub record IsPlan (published : State) (plan : Plan) : Type 0 where
   pub sound : IsSound published
-  pub storable : IsStorable plan.command
-  pub makes : check published plan.command ≡ Ok plan.change
-  pub next : arc_value plan.next ≡ put published plan.change
-  pub shown : arc_value plan.shown ≡ put published plan.change
-  pub noted : arc_value plan.noted ≡ put published plan.change
+  pub some : 1 ≤ length plan.commands.items
+  pub storable : All IsStorable plan.commands.items
+  pub accepted : IsAccepted published plan.commands.items
+  pub changes : plan.changes.items ≡ changes_of published plan.commands.items
+  pub next : arc_value plan.next ≡ fold published plan.commands.items
+  pub shown : arc_value plan.shown ≡ fold published plan.commands.items
+  pub noted : arc_value plan.noted ≡ fold published plan.commands.items
 
--- what is kept of a command belongs to the published state
+-- what is kept of commands belongs to the published state
 abbrev pub IsStep : State → Step → Type 0
 IsStep published Ready = Unit {0}
-IsStep published (Admitted command change) = IsStorable command × (check published command ≡ Ok change) × IsChecked published change
+IsStep published (Admitted command) = IsStorable command × (refusal published command ≡ None)
 IsStep published (Prepared plan) = IsPlan published plan
-IsStep published (Committed plan stamp) = IsPlan published plan × (stamp.number ≡ published.count + 1)
-IsStep published (Published command noted) = arc_value noted ≡ published
+IsStep published (Committed plan stamp) = IsPlan published plan × (stamp.number ≡ published.count + length plan.commands.items)
+IsStep published (Published commands noted) = (1 ≤ length commands.items) × (arc_value noted ≡ published)
 IsStep published (Closed None) = Unit {0}
-IsStep published (Closed (Some command)) = refusal published command ≡ None
+IsStep published (Closed (Some commands)) = (1 ≤ length commands.items) × IsAccepted published commands.items

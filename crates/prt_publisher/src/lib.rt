@@ -1,4 +1,4 @@
-//! The publisher: a command is checked, committed, published and noted, and only then acknowledged.
+//! The publisher: commands are checked, committed, published and noted, and only then acknowledged.
 #![tactic(auto)]
 
 mod connected;
@@ -11,6 +11,7 @@ mod seats;
 
 pub use connected::publisher_over;
 pub use phase::Phase;
+pub use plan::Plan;
 pub use publisher::Publisher;
 pub use receipt::Receipt;
 pub use seats::Seats;

@@ -1,22 +1,21 @@
-//! What a command needs to be published, with its memory.
-ghost use Rattle.std.specs.Prelude.{◌≡◌, Ok, IfErr, IfOk};
+//! What commands need to be published, with its memory.
+ghost use Rattle.std.specs.Prelude.{◌≡◌, ◌≤◌, All, IfErr, IfOk, length};
 ghost use Rattle.std.specs.Arc.{arc_value};
-ghost use Rattle.prt_addr.specs.declared.refusal.Refusal.TheVariants.{NoMemory};
 ghost use Rattle.prt_command.specs.Storable.{IsStorable};
 ghost use Rattle.prt_publisher.specs.Step.{IsPlan};
-ghost use Rattle.prt_version.specs.Change.{IsChecked, check};
+ghost use Rattle.prt_version.specs.Accepted.{IsRefusedFor};
 
 use prt_command::{Command, Refusal};
 use prt_version::{Change, Version};
 use std::alloc::{AllocError, Global};
 use std::sync::Arc;
 
-/// A command, the change that it makes, and the version after it in the hands of three owners: the publisher, the front
-/// and the registry.
+/// Commands that are published together, the changes that they make, and the version after them in the hands of three
+/// owners: the publisher, the front and the registry.
 #[derive(Drop)]
-pub(crate) struct Plan {
-    pub(crate) command: Command,
-    pub(crate) change: Change,
+pub struct Plan {
+    pub(crate) commands: Vec<Command>,
+    pub(crate) changes: Vec<Change>,
     pub(crate) next: Arc<Version>,
     pub(crate) shown: Arc<Version>,
     pub(crate) noted: Arc<Version>,
@@ -35,30 +34,30 @@ pub(crate) fn owners(
     Ok((first, second, third))
 }
 
-/// Takes the memory that a command needs after its commit.
+/// Makes what commands need to be published, with all memory that they need after their commit.
 ///
 /// # Errors
 ///
-/// `NoMemory`.
-pub(crate) fn make_plan(
-    alloc: Global,
-    version: &Version,
-    command: &Command,
-    change: Change,
-) -> Result<Plan, Refusal>
-    requires storable { IsStorable command.now }
-    requires makes { Ok change ≡ check version.now command.now }
-    requires usable { IsChecked version.now change }
+/// As of `Version::after_all`.
+pub(crate) fn make_plan(version: &Version, commands: &[Command]) -> Result<Plan, Refusal>
+    requires some { 1 ≤ length commands.now }
+    requires storable { All IsStorable commands.now }
     ensures plan { IfOk result (IsPlan version.now) }
-    ensures command { IfOk result (λ plan. plan.command ≡ command.now) }
-    ensures reason { IfErr result (λ reason. reason ≡ NoMemory) }
+    ensures commands { IfOk result (λ plan. plan.commands.items ≡ commands.now) }
+    ensures reason { IfErr result (IsRefusedFor version.now commands.now) }
 {
     // Recalls that the version is sound.
     let _number = version.number();
-    let (next, shown, noted) = owners(alloc, version.next(&change)?)?;
+    let alloc = *version.shared_rules().allocator();
+    let (changes, after) = match version.after_all(commands) {
+        Ok(made) => made,
+        Err(reason) => return Err(reason),
+    };
+    let commands = Vec::from_slice(alloc, commands)?;
+    let (next, shown, noted) = owners(alloc, after)?;
     Ok(Plan {
-        command: *command,
-        change,
+        commands,
+        changes,
         next,
         shown,
         noted,

@@ -1,21 +1,24 @@
 //! The publisher of one database.
-ghost use Rattle.std.specs.Prelude.{◌≡◌, ◌⊎◌, ◌+◌, ◌<◌, ◌↔◌, [], length, None, Some, IfErr, IfOk, IsSomeAnd, IsTrue, OnErr, OnOk, true};
+ghost use Rattle.std.specs.Prelude.{◌≡◌, ◌⊎◌, ◌+◌, ◌<◌, ◌≤◌, ◌↔◌, [], ◌∷◌, All, length, IfErr, IfOk, IsTrue, OnErr, OnOk, true};
 ghost use Rattle.sqlite.specs.Held.{state};
 ghost use Rattle.sqlite.specs.State.{HasCleanDisk, Survives};
 ghost use Rattle.prt_addr.specs.Opening.{IsOpenRefusal};
-ghost use Rattle.prt_addr.specs.declared.refusal.Refusal.TheVariants.{Damaged, NoMemory, NotPublished, StoreFailed};
+ghost use Rattle.prt_addr.specs.declared.refusal.Refusal.TheVariants.{Busy, Damaged, NoMemory, NotPublished, StoreFailed};
 ghost use Rattle.prt_addr.specs.declared.refusal.StoreCall.{StoreCall};
 ghost use Rattle.prt_addr.specs.declared.refusal.StoreCall.TheVariants.{Commit};
 ghost use Rattle.prt_command.specs.Storable.{IsStorable};
-ghost use Rattle.prt_front.specs.Line.{grown, line_state};
+ghost use Rattle.prt_front.specs.Line.{grown, grown_by, line_state};
 ghost use Rattle.prt_grace.specs.Registry.{noted_by, reclaimed};
 ghost use Rattle.prt_grace.specs.declared.limits.TheConstants.{MOST_RETIRED};
-ghost use Rattle.prt_publisher.specs.Exits.{HasCommitted, IsAllowed, IsNotAcknowledged, IsNotAdmitted, IsNotPrepared, Spares, Takes, line_after, state_after};
+ghost use Rattle.prt_publisher.specs.Exits.{AreNotAcknowledged, AreNotPlanned, AreNotPrepared, HasCommitted, HaveCommitted, IsNotAcknowledged, IsNotAdmitted, IsNotPrepared, Spares, Takes, TakesAll};
 ghost use Rattle.prt_publisher.specs.Standing.{IsQuiet, Stands, unnoted};
+ghost use Rattle.prt_publisher.specs.Step.{IsPlan};
 ghost use Rattle.prt_rows.specs.Format.{BeginsFormat2};
 ghost use Rattle.prt_store.specs.Adopted.{Adopts, AdoptsPart, LeavesPart};
 ghost use Rattle.prt_store.specs.Exits.{IsKnown, IsStored, MayLeave, Opens, Spells};
 ghost use Rattle.prt_store.specs.Stored.{Stores};
+ghost use Rattle.prt_version.specs.Accepted.{IsAccepted};
+ghost use Rattle.prt_version.specs.Change.{fold};
 ghost use Rattle.prt_version.specs.Sound.{IsSound};
 ghost use Rattle.prt_version.specs.State.{State};
 
@@ -26,33 +29,32 @@ use prt_command::{Command, Refusal};
 use prt_front::Front;
 use prt_grace::{Domain, Keeper, Registry};
 use prt_store::{Stamp, Store};
-use prt_version::{Change, Version};
+use prt_version::Version;
 use sqlite::{Alter, Connection, Error};
 use std::alloc::Global;
 use std::marker::Model;
 use std::mem;
-use std::snapshot::Snapshot;
+use std::slice;
 use std::sync::{Arc, Wait};
 
-/// What is kept of a command under way.
+/// What is kept of the commands under way.
 #[derive(Drop)]
 enum Step {
     Ready,
-    /// With the change that the command makes.
-    Admitted(Command, Change),
+    Admitted(Command),
     Prepared(Plan),
     Committed(Plan, Stamp),
     /// With the version to be noted.
-    Published(Command, Arc<Version>),
-    /// With the command that is stored and not published, if there is one.
-    Closed(Option<Command>),
+    Published(Vec<Command>, Arc<Version>),
+    /// With the commands that are stored and not published, if there are some.
+    Closed(Option<Vec<Command>>),
 }
 
-/// Takes commands for one database, and publishes the version after each.
+/// Takes commands for one database, and publishes the version after each, or after those that are made together.
 ///
-/// A command is prepared, committed and published; `submit` does the three. The steps `admit` and `note` take the
-/// registry of the domain, which the caller has locked; `prepare` and `publish` lock it for that one step each. No lock
-/// is held while a version is made, across a store call, or while readers are waited for.
+/// Commands are prepared, committed and published; `submit` and `submit_all` do the three. The steps `admit`,
+/// `admit_all` and `note` take the registry of the domain, which the caller has locked; the others lock it for that one
+/// step each. No lock is held while a version is made, across a store call, or while readers are waited for.
 #[derive(Drop)]
 pub struct Publisher<S: Alter + Drop, R: Wait + Drop> {
     store: Store<S>,
@@ -72,7 +74,7 @@ impl<S: Alter + Drop, R: Wait + Drop> Model for Publisher<S, R> {
     ghost use Rattle.sqlite.specs.Held.{Held, held_code};
     ghost use Rattle.prt_front.specs.Line.{line_state};
     ghost use Rattle.prt_publisher.specs.Standing.{Agrees, Standing, standing_code, unnoted};
-    ghost use Rattle.prt_publisher.specs.Step.{IsStep, command_of, phase_of};
+    ghost use Rattle.prt_publisher.specs.Step.{IsStep, commands_of, phase_of};
     ghost use Rattle.prt_store.specs.Exits.{IsKnown};
     ghost use Rattle.prt_version.specs.Accepted.{IsAccepted};
 
@@ -80,11 +82,11 @@ impl<S: Alter + Drop, R: Wait + Drop> Model for Publisher<S, R> {
 
     ghost coded = { standing_code (held_code S.code) };
 
-    ghost view = { λ p. record { phase = phase_of p.step; line = p.front; command = command_of p.step; ours_first = p.ours_first; tables = p.store.conn } };
+    ghost view = { λ p. record { phase = phase_of p.step; line = p.front; commands = commands_of p.step; ours_first = p.ours_first; tables = p.store.conn } };
 
-    ghost invariant = { λ p. (arc_value p.version ≡ line_state p.front) × (p.keeper.noted + unnoted (phase_of p.step) ≡ (arc_value p.version).count) × IsAccepted p.front.base p.front.list
+    ghost invariant = { λ p. (arc_value p.version ≡ line_state p.front) × (p.keeper.noted + unnoted (phase_of p.step) (commands_of p.step) ≡ (arc_value p.version).count) × IsAccepted p.front.base p.front.list
         × IsStep (line_state p.front) p.step
-        × (IsKnown S.Store p.ours_first p.store.conn → Agrees S.Store (phase_of p.step) (command_of p.step) (line_state p.front) p.store.conn)
+        × (IsKnown S.Store p.ours_first p.store.conn → Agrees S.Store (phase_of p.step) (commands_of p.step) (line_state p.front) p.store.conn)
         × (p.seats.book ≡ p.front.book) × (p.seats.base ≡ p.front.base) };
 }
 
@@ -104,7 +106,7 @@ impl<S: Alter + Drop, R: Wait + Drop> Publisher<S, R> {
         alloc: Global,
         conn: Connection<S>,
     ) -> Result<(Publisher<S, R>, Domain), (Refusal, Connection<S>)>
-        ensures ready { IfOk result (λ made. (made.0.phase ≡ Phase.Ready) × (made.0.command ≡ None) × (made.0.line.list ≡ [])) }
+        ensures ready { IfOk result (λ made. (made.0.phase ≡ Phase.Ready) × (made.0.commands ≡ []) × (made.0.line.list ≡ [])) }
         ensures sound { IfOk result (λ made. IsSound (line_state made.0.line)) }
         ensures reason { IfErr result (λ refused. IsOpenRefusal refused.0) }
         ensures damaged { IfErr result (λ refused. refused.0 ≡ Damaged → HasCleanDisk (state S.Store refused.1) → IsTrue (state S.Store conn).is_open → (stored : State) →
@@ -141,14 +143,14 @@ impl<S: Alter + Drop, R: Wait + Drop> Publisher<S, R> {
         ))
     }
 
-    /// Tells how far it is with a command.
+    /// Tells how far it is with the commands under way.
     pub fn phase(&self) -> Phase
         ensures value { result ≡ self.now.phase }
         ensures stands { Stands S.Store self.now }
     {
         match self.step {
             Step::Ready => Phase::Ready,
-            Step::Admitted(_, _) => Phase::Admitted,
+            Step::Admitted(_) => Phase::Admitted,
             Step::Prepared(_) => Phase::Prepared,
             Step::Committed(_, _) => Phase::Committed,
             Step::Published(_, _) => Phase::Published,
@@ -165,7 +167,7 @@ impl<S: Alter + Drop, R: Wait + Drop> Publisher<S, R> {
 
     /// Gives the number of the version that was noted last: the published one but for the moment before it is noted.
     pub fn noted(&self) -> u64
-        ensures { result + unnoted self.now.phase ≡ (line_state self.now.line).count }
+        ensures { result + unnoted self.now.phase self.now.commands ≡ (line_state self.now.line).count }
     {
         self.keeper.noted()
     }
@@ -202,8 +204,8 @@ impl<S: Alter + Drop, R: Wait + Drop> Publisher<S, R> {
     pub fn admit(&mut self, registry: &mut Registry, command: &Command) -> Result<(), Refusal>
         requires quiet { IsQuiet self.old.phase }
         requires storable { IsStorable command.now }
-        ensures ok { OnOk result ((self.new ≡ record self.old { phase = Phase.Admitted; command = Some command.now }) × Takes self.old command.now) }
-        ensures idle { OnOk result (self.old.command ≡ None) }
+        ensures ok { OnOk result ((self.new ≡ record self.old { phase = Phase.Admitted; commands = command.now ∷ [] }) × Takes self.old command.now) }
+        ensures idle { OnOk result (self.old.commands ≡ []) }
         ensures room { OnOk result ((registry.new ≡ reclaimed registry.old) × (length registry.new.retired < MOST_RETIRED)) }
         ensures err { IfErr result (λ reason. (self.new ≡ self.old) × IsNotAdmitted self.old.phase (line_state self.old.line) command.now registry.old registry.new reason) }
         ensures stands { Stands S.Store self.new }
@@ -211,19 +213,18 @@ impl<S: Alter + Drop, R: Wait + Drop> Publisher<S, R> {
         match self.step {
             Step::Ready => {}
             Step::Closed(_) => return Err(Refusal::Closed),
-            Step::Admitted(_, _)
+            Step::Admitted(_)
             | Step::Prepared(_)
             | Step::Committed(_, _)
             | Step::Published(_, _) => unreachable!(),
         }
-        let change = match self.version.check(command) {
-            Ok(change) => change,
-            Err(reason) => return Err(reason),
-        };
+        if let Err(reason) = self.version.check(command) {
+            return Err(reason);
+        }
         if !registry.make_room() {
             return Err(Refusal::Busy);
         }
-        self.step = Step::Admitted(*command, change);
+        self.step = Step::Admitted(*command);
         Ok(())
     }
 
@@ -235,15 +236,14 @@ impl<S: Alter + Drop, R: Wait + Drop> Publisher<S, R> {
     pub fn plan(&mut self) -> Result<(), Refusal>
         requires { self.old.phase ≡ Phase.Admitted }
         ensures ok { OnOk result (self.new ≡ record self.old { phase = Phase.Prepared }) }
-        ensures allowed { IsAllowed (line_state self.old.line) self.old.command }
-        ensures err { OnErr result (self.new ≡ record self.old { phase = Phase.Ready; command = None }) }
+        ensures allowed { IsAccepted (line_state self.old.line) self.old.commands }
+        ensures err { OnErr result (self.new ≡ record self.old { phase = Phase.Ready; commands = [] }) }
         ensures reason { IfErr result (λ reason. reason ≡ NoMemory) }
         ensures stands { Stands S.Store self.new }
     {
         match mem::replace(&mut self.step, Step::Ready) {
-            Step::Admitted(command, change) => {
-                let alloc = *self.version.shared_rules().allocator();
-                match make_plan(alloc, &self.version, &command, change) {
+            Step::Admitted(command) => {
+                match make_plan(&self.version, slice::from_ref(&command)) {
                     Ok(plan) => {
                         self.step = Step::Prepared(plan);
                         Ok(())
@@ -255,68 +255,115 @@ impl<S: Alter + Drop, R: Wait + Drop> Publisher<S, R> {
         }
     }
 
-    /// Commits the prepared command in one transaction. The state before it is still published.
+    /// Checks commands one after the other, and takes the memory of the version after them. Needs no lock.
+    ///
+    /// # Errors
+    ///
+    /// `Closed` exactly where it is closed; otherwise what the first command is refused for that is refused in the state
+    /// after those before it. `NoMemory` may come at any command up to that.
+    pub fn plan_all(&self, commands: &Vec<Command>) -> Result<Plan, Refusal>
+        requires quiet { IsQuiet self.now.phase }
+        requires some { 1 ≤ length commands.now.items }
+        requires storable { All IsStorable commands.now.items }
+        ensures ok { IfOk result (λ plan. IsPlan (line_state self.now.line) plan × (plan.commands.items ≡ commands.now.items)) }
+        ensures took { OnOk result (TakesAll self.now commands.now.items × (self.now.commands ≡ [])) }
+        ensures err { IfErr result (AreNotPlanned self.now.phase (line_state self.now.line) commands.now.items) }
+    {
+        match self.step {
+            Step::Ready => {}
+            Step::Closed(_) => return Err(Refusal::Closed),
+            Step::Admitted(_)
+            | Step::Prepared(_)
+            | Step::Committed(_, _)
+            | Step::Published(_, _) => unreachable!(),
+        }
+        make_plan(&self.version, commands.as_slice())
+    }
+
+    /// Has the registry give up the versions that nobody can hold, and sees that it has room for one more: then the
+    /// planned commands are prepared.
+    ///
+    /// # Errors
+    ///
+    /// `Busy` exactly where the registry has no room. The publisher is then as it was, and the registry too but for what
+    /// it gave up.
+    pub fn admit_all(&mut self, registry: &mut Registry, plan: Plan) -> Result<(), Refusal>
+        requires ready { self.old.phase ≡ Phase.Ready }
+        requires plan { IsPlan (line_state self.old.line) plan }
+        ensures ok { OnOk result (self.new ≡ record self.old { phase = Phase.Prepared; commands = plan.commands.items }) }
+        ensures idle { OnOk result (self.old.commands ≡ []) }
+        ensures room { OnOk result (length registry.new.retired < MOST_RETIRED) }
+        ensures err { IfErr result (λ reason. (reason ≡ Busy) × (self.new ≡ self.old) × (MOST_RETIRED ≤ length registry.new.retired)) }
+        ensures registry { registry.new ≡ reclaimed registry.old }
+        ensures stands { Stands S.Store self.new }
+    {
+        if !registry.make_room() {
+            return Err(Refusal::Busy);
+        }
+        self.step = Step::Prepared(plan);
+        Ok(())
+    }
+
+    /// Commits the prepared commands in one transaction. The state before them is still published.
     ///
     /// # Errors
     ///
     /// `StoreFailed`, with the store call: it is closed. The tables spell the state before, while their connection is
-    /// open; a crash leaves that state or, only where the call was the commit, possibly the one after the command.
+    /// open; a crash leaves that state or, only where the call was the commit, possibly the one after all of the commands.
     pub fn commit(&mut self) -> Result<(), Refusal>
         requires { self.old.phase ≡ Phase.Prepared }
         ensures ok { OnOk result (self.new ≡ record self.old { phase = Phase.Committed; tables = self.new.tables }) }
-        ensures err { OnErr result (self.new ≡ record self.old { phase = Phase.Closed; command = None; tables = self.new.tables }) }
+        ensures err { OnErr result (self.new ≡ record self.old { phase = Phase.Closed; commands = []; tables = self.new.tables }) }
         ensures reason { IfErr result (λ reason. (call : StoreCall) × (reason ≡ StoreFailed call)) }
         ensures clean { HasCleanDisk (state S.Store self.new.tables) → HasCleanDisk (state S.Store self.old.tables) }
         ensures stands { Stands S.Store self.new }
         ensures others { Spares S.Store self.old self.new }
         ensures left { IsKnown S.Store self.new.ours_first self.new.tables → IfErr result (λ reason. (left : State) → MayLeave S.Store self.new.tables left →
-            (left ≡ line_state self.old.line) ⊎ ((reason ≡ StoreFailed Commit) × (Some left ≡ state_after (line_state self.old.line) self.old.command))) }
+            (left ≡ line_state self.old.line) ⊎ ((reason ≡ StoreFailed Commit) × (left ≡ fold (line_state self.old.line) self.old.commands))) }
         ensures now { IsKnown S.Store self.new.ours_first self.new.tables → IsTrue (state S.Store self.new.tables).is_open →
             OnErr result (Stores (state S.Store self.new.tables).now (line_state self.old.line)) }
         ensures ran { HasCleanDisk (state S.Store self.new.tables) →
-            OnOk result (IsSomeAnd self.old.command (λ command. HasCommitted S.Store self.old command self.new.tables)) }
+            OnOk result (HaveCommitted S.Store self.old self.old.commands self.new.tables) }
     {
-        let number = self.version.number() + 1;
         match mem::replace(&mut self.step, Step::Closed(None)) {
-            Step::Prepared(plan) => match self.store.commit(&plan.change, number) {
-                Ok(stamp) => {
-                    self.step = Step::Committed(plan, stamp);
-                    Ok(())
+            Step::Prepared(plan) => {
+                let number = plan.next.number();
+                match self.store.commit_all(plan.changes.as_slice(), number) {
+                    Ok(stamp) => {
+                        self.step = Step::Committed(plan, stamp);
+                        Ok(())
+                    }
+                    Err(reason) => Err(reason),
                 }
-                Err(reason) => Err(reason),
-            },
+            }
             _ => unreachable!(),
         }
     }
 
-    /// Shows readers the version after the committed command, in one swap.
+    /// Shows readers the version after the committed commands, in one swap.
     ///
     /// # Errors
     ///
-    /// `NotPublished`, where the front refuses it: it is closed, with the old version published and the command stored.
+    /// `NotPublished`, where the front refuses it: it is closed, with the old version published and the commands stored.
     pub fn show(&mut self) -> Result<(), Refusal>
         requires { self.old.phase ≡ Phase.Committed }
-        ensures ok { OnOk result ((self.new ≡ record self.old { phase = Phase.Published; line = self.new.line }) × (Some self.new.line ≡ line_after self.old.line self.old.command)) }
+        ensures ok { OnOk result ((self.new ≡ record self.old { phase = Phase.Published; line = self.new.line }) × (self.new.line ≡ grown_by self.old.line self.old.commands)) }
         ensures err { OnErr result (self.new ≡ record self.old { phase = Phase.Closed }) }
         ensures reason { IfErr result (λ reason. reason ≡ NotPublished) }
         ensures stands { Stands S.Store self.new }
     {
-        // Recalls how many commands there can be.
-        let _most = self.version.number();
         match mem::replace(&mut self.step, Step::Closed(None)) {
             Step::Committed(plan, stamp) => {
-                let command = plan.command;
-                match self
-                    .front
-                    .publish(stamp, Snapshot::of(&command), plan.shown)
-                {
+                // Recalls how many commands there can be.
+                let _most = plan.next.number();
+                match self.front.publish_all(stamp, &plan.commands, plan.shown) {
                     Ok(_told) => {
                         self.version = plan.next;
-                        self.step = Step::Published(command, plan.noted);
+                        self.step = Step::Published(plan.commands, plan.noted);
                         Ok(())
                     }
                     Err(reason) => {
-                        self.step = Step::Closed(Some(command));
+                        self.step = Step::Closed(Some(plan.commands));
                         Err(reason)
                     }
                 }
@@ -325,10 +372,10 @@ impl<S: Alter + Drop, R: Wait + Drop> Publisher<S, R> {
         }
     }
 
-    /// Notes the published version in the registry, and acknowledges the command.
+    /// Notes the published version in the registry, and acknowledges the commands.
     pub fn note(&mut self, registry: &mut Registry) -> Receipt
         requires { self.old.phase ≡ Phase.Published }
-        ensures same { self.new ≡ record self.old { phase = Phase.Ready; command = None } }
+        ensures same { self.new ≡ record self.old { phase = Phase.Ready; commands = [] } }
         ensures receipt { result ≡ self.old.line }
         ensures registry { registry.new ≡ noted_by registry.old (line_state self.old.line) }
         ensures stands { Stands S.Store self.new }
@@ -358,7 +405,7 @@ impl<S: Alter + Drop, R: Wait + Drop> Publisher<S, R> {
     ) -> Result<(), Refusal>
         requires quiet { IsQuiet self.old.phase }
         requires storable { IsStorable command.now }
-        ensures ok { OnOk result ((self.new ≡ record self.old { phase = Phase.Prepared; command = Some command.now }) × Takes self.old command.now) }
+        ensures ok { OnOk result ((self.new ≡ record self.old { phase = Phase.Prepared; commands = command.now ∷ [] }) × Takes self.old command.now) }
         ensures err { IfErr result (λ reason. (self.new ≡ self.old) × IsNotPrepared self.old.phase (line_state self.old.line) command.now reason) }
         ensures stands { Stands S.Store self.new }
     {
@@ -372,15 +419,42 @@ impl<S: Alter + Drop, R: Wait + Drop> Publisher<S, R> {
         Ok(())
     }
 
-    /// Publishes the version after the committed command in one swap, notes it, and acknowledges the command. The
+    /// Checks commands one after the other, takes the memory of the version after them, and sees that the domain has room
+    /// for one more version. The domain's lock is held for the room alone.
+    ///
+    /// # Errors
+    ///
+    /// Those of `plan_all`, and `Busy` (64 versions that readers may hold) where it has none. It is then as it was, and
+    /// the call may be made again.
+    pub fn prepare_all<W: Wait>(
+        &mut self,
+        rt: &W,
+        domain: &Domain,
+        commands: &Vec<Command>,
+    ) -> Result<(), Refusal>
+        requires quiet { IsQuiet self.old.phase }
+        requires some { 1 ≤ length commands.now.items }
+        requires storable { All IsStorable commands.now.items }
+        ensures ok { OnOk result ((self.new ≡ record self.old { phase = Phase.Prepared; commands = commands.now.items }) × TakesAll self.old commands.now.items) }
+        ensures err { IfErr result (λ reason. (self.new ≡ self.old) × AreNotPrepared self.old.phase (line_state self.old.line) commands.now.items reason) }
+        ensures stands { Stands S.Store self.new }
+    {
+        let plan = match self.plan_all(commands) {
+            Ok(plan) => plan,
+            Err(reason) => return Err(reason),
+        };
+        self.admit_all(&mut domain.lock(rt), plan)
+    }
+
+    /// Publishes the version after the committed commands in one swap, notes it, and acknowledges the commands. The
     /// domain's lock is held for the note alone.
     ///
     /// # Errors
     ///
-    /// `NotPublished`, where the front refuses it: it is closed, with the old version published and the command stored.
+    /// `NotPublished`, where the front refuses it: it is closed, with the old version published and the commands stored.
     pub fn publish<W: Wait>(&mut self, rt: &W, domain: &Domain) -> Result<Receipt, Refusal>
         requires { self.old.phase ≡ Phase.Committed }
-        ensures ok { OnOk result ((self.new ≡ record self.old { phase = Phase.Ready; line = self.new.line; command = None }) × (Some self.new.line ≡ line_after self.old.line self.old.command)) }
+        ensures ok { OnOk result ((self.new ≡ record self.old { phase = Phase.Ready; line = self.new.line; commands = [] }) × (self.new.line ≡ grown_by self.old.line self.old.commands)) }
         ensures receipt { IfOk result (λ receipt. receipt ≡ self.new.line) }
         ensures err { OnErr result (self.new ≡ record self.old { phase = Phase.Closed }) }
         ensures reason { IfErr result (λ reason. reason ≡ NotPublished) }
@@ -407,7 +481,7 @@ impl<S: Alter + Drop, R: Wait + Drop> Publisher<S, R> {
         requires quiet { IsQuiet self.old.phase }
         requires storable { IsStorable command.now }
         ensures quiet { IsQuiet self.new.phase }
-        ensures ok { IfOk result (λ receipt. (receipt ≡ grown self.old.line command.now) × (self.new ≡ record self.old { phase = Phase.Ready; line = grown self.old.line command.now; command = None; tables = self.new.tables })) }
+        ensures ok { IfOk result (λ receipt. (receipt ≡ grown self.old.line command.now) × (self.new ≡ record self.old { phase = Phase.Ready; line = grown self.old.line command.now; commands = []; tables = self.new.tables })) }
         ensures took { OnOk result (Takes self.old command.now) }
         ensures err { IfErr result (λ reason. IsNotAcknowledged S.Store self.old command.now reason self.new) }
         ensures clean { HasCleanDisk (state S.Store self.new.tables) → HasCleanDisk (state S.Store self.old.tables) }
@@ -418,6 +492,43 @@ impl<S: Alter + Drop, R: Wait + Drop> Publisher<S, R> {
         // Recalls what is stored.
         let _phase = self.phase();
         if let Err(reason) = self.prepare(rt, domain, command) {
+            return Err(reason);
+        }
+        if let Err(reason) = self.commit() {
+            return Err(reason);
+        }
+        match self.publish(rt, domain) {
+            Ok(receipt) => Ok(receipt),
+            Err(reason) => Err(reason),
+        }
+    }
+
+    /// Prepares, commits and publishes commands together: all of them or none. After it the publisher is ready or closed.
+    ///
+    /// # Errors
+    ///
+    /// Those of `prepare_all`, `commit` and `publish`, with what each leaves.
+    pub fn submit_all<W: Wait>(
+        &mut self,
+        rt: &W,
+        domain: &Domain,
+        commands: &Vec<Command>,
+    ) -> Result<Receipt, Refusal>
+        requires quiet { IsQuiet self.old.phase }
+        requires some { 1 ≤ length commands.now.items }
+        requires storable { All IsStorable commands.now.items }
+        ensures quiet { IsQuiet self.new.phase }
+        ensures ok { IfOk result (λ receipt. (receipt ≡ grown_by self.old.line commands.now.items) × (self.new ≡ record self.old { phase = Phase.Ready; line = grown_by self.old.line commands.now.items; commands = []; tables = self.new.tables })) }
+        ensures took { OnOk result (TakesAll self.old commands.now.items) }
+        ensures err { IfErr result (λ reason. AreNotAcknowledged S.Store self.old commands.now.items reason self.new) }
+        ensures clean { HasCleanDisk (state S.Store self.new.tables) → HasCleanDisk (state S.Store self.old.tables) }
+        ensures others { Spares S.Store self.old self.new }
+        ensures stands { Stands S.Store self.new }
+        ensures ran { HasCleanDisk (state S.Store self.new.tables) → OnOk result (HaveCommitted S.Store self.old commands.now.items self.new.tables) }
+    {
+        // Recalls what is stored.
+        let _phase = self.phase();
+        if let Err(reason) = self.prepare_all(rt, domain, commands) {
             return Err(reason);
         }
         if let Err(reason) = self.commit() {

@@ -5,8 +5,8 @@ ghost use Rattle.prt_front.specs.Line.{line_state};
 use prt_front::Known;
 use std::marker::Model;
 
-/// Says that a command was committed, published and noted. A publisher alone makes one. Contracts see it as the
-/// published list that ends with the command.
+/// Says that a command, or commands together, were committed, published and noted. A publisher alone makes one.
+/// Contracts see it as the published list that ends with them.
 #[derive(Drop)]
 pub struct Receipt {
     number: u64,
