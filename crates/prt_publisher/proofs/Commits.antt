@@ -1,6 +1,6 @@
 -- What a commit leaves.
-use Rattle.std.proofs.Common.{◌≡◌, ◌⊎◌, inl, inr, ℕ, ◌+◌, Bool, None, Some, Ok, sym, ap, subst}
-use Rattle.std.specs.Prelude.{IsSomeAnd, IsTrue}
+use Rattle.std.proofs.Common.{◌≡◌, ◌⊎◌, inl, inr, ℕ, suc, ◌+◌, ◌≤◌, Bool, List, [], ◌∷◌, length, None, Result, Ok, Err, refl, sym, ap, subst, ◌∙◌, arith}
+use Rattle.std.specs.Prelude.{All, IsTrue}
 use Rattle.std.specs.Result.{result_err}
 use Rattle.sqlite.specs.Effect.{Database}
 use Rattle.sqlite.specs.Held.{Held, state}
@@ -9,77 +9,112 @@ use Rattle.sqlite.specs.Tree.{Trees}
 use Rattle.prt_addr.specs.declared.refusal.Refusal.{Refusal}
 use Rattle.prt_addr.specs.declared.refusal.Refusal.TheVariants.{StoreFailed}
 use Rattle.prt_addr.specs.declared.refusal.StoreCall.TheVariants.{Commit}
+use Rattle.prt_command.specs.Storable.{IsStorable}
 use Rattle.prt_command.specs.declared.request.Command.{Command}
-use Rattle.prt_store.proofs.Nexts.{next_of}
 use Rattle.prt_store.specs.Exits.{IsKnown, IsStored, MayLeave, Spells}
-use Rattle.prt_store.specs.Made.{MakesChange}
-use Rattle.prt_store.specs.Next.{IsNext}
+use Rattle.prt_store.specs.Made.{MakesChanges}
+use Rattle.prt_store.specs.Next.{AreMade, AreNext, put_all}
 use Rattle.prt_store.specs.Openings.{HasDone}
 use Rattle.prt_store.specs.Stored.{Stores}
-use Rattle.prt_version.specs.Change.{apply, check, put, put_if, refusal}
+use Rattle.prt_version.proofs.Folds.{count_fold}
+use Rattle.prt_version.specs.Accepted.{IsAccepted, changes_of, with_made}
+use Rattle.prt_version.specs.Change.{apply, check, fold, put, put_if, refusal}
+use Rattle.prt_version.specs.Sound.{IsSound}
 use Rattle.prt_version.specs.State.{State}
 use Rattle.prt_version.specs.declared.change.Change.{Change}
 use Rattle.prt_front.specs.Line.{line_state}
-use Rattle.prt_publisher.specs.Exits.{HasCommitted}
-use Rattle.prt_publisher.specs.Standing.{Agrees, IsLeft, IsOneMore, Standing}
-use Rattle.prt_publisher.specs.Step.{IsPlan, IsStep, command_of, phase_of}
+use Rattle.prt_publisher.specs.Exits.{HaveCommitted}
+use Rattle.prt_publisher.specs.Standing.{Agrees, IsLeft, IsMore, Standing}
+use Rattle.prt_publisher.specs.Step.{IsPlan, IsStep, commands_of, phase_of}
+use Rattle.prt_publisher.specs.declared.phase.Phase.TheVariants.{Closed}
 use Rattle.prt_publisher.specs.declared.plan.Plan.{Plan}
 use Rattle.prt_publisher.specs.declared.publisher.Step.{Step}
 use Rattle.prt_publisher.specs.declared.publisher.Step.TheVariants as step
 
-pub applied : (published : State) (command : Command) (made : Change) → check published command ≡ Ok made → put published made ≡ apply published command
-applied published command made makes = sym (ap (put_if published) makes)
+-- ---- the changes of commands
 
-pub allowed : (published : State) (command : Command) (made : Change) → check published command ≡ Ok made → refusal published command ≡ None
-allowed published command made makes = ap result_err makes
+-- the first change, then those after it
+made_first : (state : State) (command : Command) (r : Result Change Refusal) (rest : List Change) → result_err r ≡ None → (made : Change) × (r ≡ Ok made) × (with_made r rest ≡ made ∷ rest)
+made_first state command (Ok made) rest allowed = (made, refl, refl)
+made_first state command (Err reason) rest allowed = absurd (cc allowed)
 
--- What is known of a prepared command when it is committed under the number after this one.
-pub record CanCommit {S : Type 0} (g : Ghosts S) (ours_first : Bool) (tables : Held S) (published : State) (plan : Plan) (number : ℕ) : Type 0 where
+-- changes of accepted commands are those that a store takes, and lead to the state after the commands
+pub are_made : (published : State) (commands : List Command) → All IsStorable commands → IsAccepted published commands → AreMade published (changes_of published commands) × (put_all published (changes_of published commands) ≡ fold published commands)
+are_made published [] storable accepted = (tt, refl)
+are_made published (command ∷ commands) storable accepted =
+    let first = made_first published command (check published command) (changes_of (apply published command) commands) accepted.0 in
+    let after : put published first.0 ≡ apply published command = sym (ap (put_if published) first.1) in
+    let rest = are_made (apply published command) commands storable.1 accepted.1 in
+    subst (λ (changes : List Change). AreMade published changes × (put_all published changes ≡ fold (apply published command) commands)) (sym first.2)
+    (subst (λ (state : State). (((c : Command) × IsStorable c × (check published c ≡ Ok first.0)) × AreMade state (changes_of (apply published command) commands)) × (put_all state (changes_of (apply published command) commands) ≡ fold (apply published command) commands)) (sym after)
+    (((command, storable.0, first.1), rest.0), rest.1))
+
+pub as_many : (published : State) (commands : List Command) → IsAccepted published commands → length (changes_of published commands) ≡ length commands
+as_many published [] accepted = refl
+as_many published (command ∷ commands) accepted =
+    let first = made_first published command (check published command) (changes_of (apply published command) commands) accepted.0 in
+    ap length first.2 ∙ ap suc (as_many (apply published command) commands accepted.1)
+
+-- What is known of prepared commands when they are committed under the number of the state after them.
+pub record CanCommit {S : Type 0} (g : Ghosts S) (ours_first : Bool) (tables : Held S) (published : State) (plan : Plan) (changes : List Change) (number : ℕ) : Type 0 where
   pub planned : IsPlan published plan
-  pub next : IsNext published plan.change (number + 1)
+  pub counted : number ≡ published.count + length plan.commands.items
+  pub are : changes ≡ changes_of published plan.commands.items
+  pub next : AreNext published changes number
+  pub after : put_all published changes ≡ fold published plan.commands.items
   pub kept : IsKnown g ours_first tables → IsStored g tables published
 
-pub can_commit : {S : Type 0} (g : Ghosts S) (ours_first : Bool) (tables : Held S) (published : State) (at : Step) (plan : Plan) (number : ℕ) → at ≡ step.Prepared plan → number ≡ published.count → IsStep published at
-    → (IsKnown g ours_first tables → Agrees g (phase_of at) (command_of at) published tables) → CanCommit g ours_first tables published plan number
-can_commit g ours_first tables published at plan number is counted kept agrees =
+pub can_commit : {S : Type 0} (g : Ghosts S) (ours_first : Bool) (tables : Held S) (published : State) (at : Step) (plan : Plan) (changes : List Change) (number : ℕ) → changes ≡ plan.changes.items → at ≡ step.Prepared plan → number ≡ (fold published plan.commands.items).count → IsStep published at
+    → (IsKnown g ours_first tables → Agrees g (phase_of at) (commands_of at) published tables) → CanCommit g ours_first tables published plan changes number
+can_commit g ours_first tables published at plan changes number same is numbered kept agrees =
     let planned : IsPlan published plan = subst (IsStep published) is kept in
+    let commands = plan.commands.items in
+    let are : changes ≡ changes_of published commands = same ∙ planned.changes in
+    let made = are_made published commands planned.storable planned.accepted in
+    let many = as_many published commands planned.accepted in
+    let counted : number ≡ published.count + length commands = numbered ∙ count_fold published commands planned.accepted in
     record {
       planned = planned;
-      next = next_of published plan.command plan.change number counted planned.sound planned.storable (sym planned.makes);
-      kept = λ known. subst (λ (x : Step). Agrees g (phase_of x) (command_of x) published tables) is (agrees known);
+      counted = counted;
+      are = are;
+      next = subst (λ (list : List Change). AreNext published list number) (sym are) (record { sound = planned.sound; made = made.0; counts = omega (arith, counted, many) });
+      after = subst (λ (list : List Change). put_all published list ≡ fold published commands) (sym are) made.1;
+      kept = λ known. subst (λ (x : Step). Agrees g (phase_of x) (commands_of x) published tables) is (agrees known);
     }
 
-module _ {S : Type 0} (g : Ghosts S) (old new : Held S) (published : State) (command : Command) (made : Change) (reason : Refusal) (makes : check published command ≡ Ok made) (held : Stores (state g old).now published)
+module _ {S : Type 0} (g : Ghosts S) (old new : Held S) (published after : State) (commands : List Command) (reason : Refusal) (is_after : after ≡ fold published commands) (accepted : IsAccepted published commands) (held : Stores (state g old).now published)
     (same : IsTrue (state g new).is_open → (state g new).now ≡ (state g old).now) where
   pub still_stored : IsTrue (state g new).is_open → Stores (state g new).now published
   still_stored is_open = subst (λ (db : Database). Stores db published) (sym (same is_open)) held
 
-  module _ (either : (left : State) → MayLeave g new left → (left ≡ published) ⊎ ((reason ≡ StoreFailed Commit) × (left ≡ put published made))) where
-    pub either_left : (left : State) → MayLeave g new left → (left ≡ published) ⊎ ((reason ≡ StoreFailed Commit) × (left ≡ apply published command))
+  module _ (either : (left : State) → MayLeave g new left → (left ≡ published) ⊎ ((reason ≡ StoreFailed Commit) × (left ≡ after))) where
+    pub either_left : (left : State) → MayLeave g new left → (left ≡ published) ⊎ ((reason ≡ StoreFailed Commit) × (left ≡ fold published commands))
     either_left left may = elim (either left may) [
       | inl is ↦ inl is
-      | inr more ↦ inr (more.0, subst (λ (state : State). left ≡ state) (applied published command made makes) more.1)
+      | inr more ↦ inr (more.0, more.1 ∙ is_after)
     ]
 
-    one_more : (stored : State) → MayLeave g new stored → IsOneMore published stored
-    one_more stored may = elim (either_left stored may) [
-      | inl is ↦ inl is
-      | inr more ↦ inr (command, allowed published command made makes, more.1)
+    some_more : (stored : State) → MayLeave g new stored → IsMore published stored
+    some_more stored may = elim (either_left stored may) [
+      | inl is ↦ ([], tt, is)
+      | inr more ↦ (commands, accepted, more.1)
     ]
 
     pub left_after : ((trees : Trees) → (state g new).may_leave trees → (left : State) × Spells trees left) → IsLeft g new published
     left_after spells = record {
       now = still_stored;
-      durable = λ trees may. let left = spells trees may in (left.0, left.1, one_more left.0 (trees, may, left.1));
+      durable = λ trees may. let left = spells trees may in (left.0, left.1, some_more left.0 (trees, may, left.1));
     }
 
--- a state that is said to be the one after the command
-pub without_some : {s t left : State} {P : Type 0} → (left ≡ s) ⊎ (P × (Some left ≡ Some t)) → (left ≡ s) ⊎ (P × (left ≡ t))
-without_some (inl is) = inl is
-without_some (inr more) = inr (more.0, cc more.1)
+-- what ran were the changes of the commands under way
+pub have_committed : {S : Type 0} (g : Ghosts S) (old : Standing (Held S)) (published : State) (conn new : Held S) (commands : List Command) (changes : List Change) (number : ℕ) → line_state old.line ≡ published → old.commands ≡ commands → old.tables ≡ conn
+    → changes ≡ changes_of published commands → number ≡ published.count + length commands → HasDone g (MakesChanges g changes number) conn (state g new).committed → HaveCommitted g old old.commands new
+have_committed g old published conn new commands changes number shown under held are counted done =
+    rw (shown, under, held)
+    (subst (λ (list : List Change). HasDone g (MakesChanges g list (published.count + length commands)) conn (state g new).committed) are
+    (subst (λ (n : ℕ). HasDone g (MakesChanges g changes n) conn (state g new).committed) counted done))
 
--- what ran was the change of the command under way
-pub has_committed : {S : Type 0} (g : Ghosts S) (old : Standing (Held S)) (published : State) (conn new : Held S) (plan : Plan) (number : ℕ) → line_state old.line ≡ published → old.command ≡ Some plan.command → old.tables ≡ conn
-    → check published plan.command ≡ Ok plan.change → number ≡ published.count → HasDone g (MakesChange g plan.change (number + 1)) conn (state g new).committed → IsSomeAnd old.command (λ command. HasCommitted g old command new)
-has_committed g old published conn new plan number shown under held makes counted done =
-    rw (shown, under, held) (plan.change, makes, subst (λ (n : ℕ). HasDone g (MakesChange g plan.change (n + 1)) conn (state g new).committed) counted done)
+-- commands that are stored and not published
+pub closed_agrees : {S : Type 0} (g : Ghosts S) (commands : List Command) (published : State) (tables : Held S) → 1 ≤ length commands → IsStored g tables (fold published commands) → Agrees g Closed commands published tables
+closed_agrees g [] published tables some stored = absurd (omega (arith, some))
+closed_agrees g (command ∷ commands) published tables some stored = stored

@@ -1,14 +1,13 @@
--- The published list after one more command.
-use Rattle.std.proofs.Common.{◌≡◌, ℕ, ◌+◌, [], ◌∷◌, length, ap, ◌∙◌, arith, length-append}
+-- The published list after commands more.
+use Rattle.std.proofs.Common.{◌≡◌, ℕ, ◌+◌, List, length, ap, ◌∙◌, arith}
 use Rattle.prt_command.specs.declared.request.Command.{Command}
-use Rattle.prt_front.specs.Line.{Line, grown, line_state}
-use Rattle.prt_version.proofs.Folds.{count_fold, fold_push}
+use Rattle.prt_front.specs.Line.{Line, grown_by, line_state}
+use Rattle.prt_version.proofs.Folds.{count_fold, fold_append}
 use Rattle.prt_version.specs.Accepted.{IsAccepted}
-use Rattle.prt_version.specs.Change.{apply}
-use Rattle.prt_version.specs.State.{State}
+use Rattle.prt_version.specs.Change.{fold}
 
-pub state_grown : (line next : Line) (command : Command) → next ≡ grown line command → line_state next ≡ apply (line_state line) command
-state_grown line next command is = ap line_state is ∙ fold_push line.base line.list command
+pub state_grown : (line next : Line) (commands : List Command) → next ≡ grown_by line commands → line_state next ≡ fold (line_state line) commands
+state_grown line next commands is = ap line_state is ∙ fold_append line.base line.list commands
 
-pub number_next : (line : Line) (n : ℕ) → IsAccepted line.base line.list → n ≡ (line_state line).count + 1 → n ≡ line.base.count + length line.list + 1
-number_next line n all is = omega (arith, is, count_fold line.base line.list all)
+pub number_next : (line : Line) (n more : ℕ) → IsAccepted line.base line.list → n ≡ (line_state line).count + more → n ≡ line.base.count + length line.list + more
+number_next line n more all is = omega (arith, is, count_fold line.base line.list all)

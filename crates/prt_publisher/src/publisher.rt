@@ -297,6 +297,8 @@ impl<S: Alter + Drop, R: Wait + Drop> Publisher<S, R> {
         ensures registry { registry.new ≡ reclaimed registry.old }
         ensures stands { Stands S.Store self.new }
     {
+        // Recalls what is stored.
+        let _phase = self.phase();
         if !registry.make_room() {
             return Err(Refusal::Busy);
         }
@@ -356,7 +358,8 @@ impl<S: Alter + Drop, R: Wait + Drop> Publisher<S, R> {
             Step::Committed(plan, stamp) => {
                 // Recalls how many commands there can be.
                 let _most = plan.next.number();
-                match self.front.publish_all(stamp, &plan.commands, plan.shown) {
+                let shown = plan.shown;
+                match self.front.publish_all(stamp, &plan.commands, shown) {
                     Ok(_told) => {
                         self.version = plan.next;
                         self.step = Step::Published(plan.commands, plan.noted);
@@ -439,6 +442,8 @@ impl<S: Alter + Drop, R: Wait + Drop> Publisher<S, R> {
         ensures err { IfErr result (λ reason. (self.new ≡ self.old) × AreNotPrepared self.old.phase (line_state self.old.line) commands.now.items reason) }
         ensures stands { Stands S.Store self.new }
     {
+        // Recalls what is stored.
+        let _phase = self.phase();
         let plan = match self.plan_all(commands) {
             Ok(plan) => plan,
             Err(reason) => return Err(reason),

@@ -1,5 +1,5 @@
 -- What the exits of an opening, a load and a commit say together.
-use Rattle.std.proofs.Common.{◌≡◌, ◌⊎◌, inl, inr, ℕ, Bool, true, sym, subst, arith}
+use Rattle.std.proofs.Common.{◌≡◌, ◌⊎◌, inl, inr, ℕ, Bool, List, true, sym, subst, arith}
 use Rattle.std.specs.Prelude.{IsTrue}
 use Rattle.sqlite.proofs.StateLemmas.{survives_then}
 use Rattle.sqlite.specs.Effect.{Database, IsDatabase}
@@ -12,7 +12,6 @@ use Rattle.prt_addr.specs.declared.refusal.Refusal.{Refusal}
 use Rattle.prt_addr.specs.declared.refusal.Refusal.TheVariants.{StoreFailed}
 use Rattle.prt_addr.specs.declared.refusal.StoreCall.TheVariants.{Commit}
 use Rattle.prt_rows.specs.Format.{BeginsFormat2, IsFormat2}
-use Rattle.prt_version.specs.Change.{put}
 use Rattle.prt_version.specs.State.{State}
 use Rattle.prt_version.specs.declared.change.Change.{Change}
 use Rattle.prt_store.proofs.Adoptions.{stored_still}
@@ -21,7 +20,7 @@ use Rattle.prt_store.proofs.Spelled.{database, spelled_once, stored_once, stored
 use Rattle.prt_store.specs.Adopted.{Adopts, AdoptsPart, IsSettled, LeavesPart}
 use Rattle.prt_store.specs.Exits.{IsKnown, IsStored, MayLeave, Opens, SparesOthers, Spells}
 use Rattle.prt_store.specs.Loaded.{StaysSettled}
-use Rattle.prt_store.specs.Next.{IsNext, MakesNext}
+use Rattle.prt_store.specs.Next.{AreNext, MakesNext, put_all}
 use Rattle.prt_store.specs.Stored.{Stores}
 
 -- ---- adopted, and then loaded
@@ -128,22 +127,22 @@ module _ {S : Type 0} (g : Ghosts S) (old new : Held S) (next : State) where
         | inr more ↦ inr (more.0, spelled_once trees left next may.2 (next_spelled (state g old).now next (state g old).now.schema trees more.1))
       ]
 
-module _ {S : Type 0} (g : Ghosts S) (ours_first : Bool) (old new : Held S) (published : State) (made : Change) (number : ℕ) (next : IsNext published made number)
+module _ {S : Type 0} (g : Ghosts S) (ours_first : Bool) (old new : Held S) (published : State) (changes : List Change) (number : ℕ) (next : AreNext published changes number)
     (clean : HasCleanDisk (state g new) → HasCleanDisk (state g old)) (kept : IsKnown g ours_first old → IsStored g old published) where
   held : IsKnown g ours_first new → IsStored g old published
   held known = kept (known.0, clean known.1)
 
   -- and the other tables stay
-  pub spares_after : (HasCleanDisk (state g new) → (before : State) → IsNext before made number → Stores (state g old).now before → MakesNext (state g old).now (put before made) (state g new).now)
+  pub spares_after : (HasCleanDisk (state g new) → (before : State) → AreNext before changes number → Stores (state g old).now before → MakesNext (state g old).now (put_all before changes) (state g new).now)
       → IsKnown g ours_first new → SparesOthers (state g old).now (state g new).now
   spares_after makes known = let after = makes known.1 published next (held known).now in record { schema = after.schema; rows = after.others }
 
   module _ (reason : Refusal)
-      (leaves : HasCleanDisk (state g new) → (before : State) → IsNext before made number → Stores (state g old).now before → (trees : Trees) → (state g new).may_leave trees
-      → (state g old).may_leave trees ⊎ ((reason ≡ StoreFailed Commit) × MakesNext (state g old).now (put before made) (database (state g old).now.schema trees))) where
+      (leaves : HasCleanDisk (state g new) → (before : State) → AreNext before changes number → Stores (state g old).now before → (trees : Trees) → (state g new).may_leave trees
+      → (state g old).may_leave trees ⊎ ((reason ≡ StoreFailed Commit) × MakesNext (state g old).now (put_all before changes) (database (state g old).now.schema trees))) where
     -- whatever a crash leaves spells the state before or after
     pub keeps_after : IsKnown g ours_first new → (trees : Trees) → (state g new).may_leave trees → (left : State) × Spells trees left
     keeps_after known trees may = elim (leaves known.1 published next (held known).now trees may) [
       | inl was ↦ (published, (held known).durable trees was)
-      | inr more ↦ (put published made, next_spelled (state g old).now (put published made) (state g old).now.schema trees more.1)
+      | inr more ↦ (put_all published changes, next_spelled (state g old).now (put_all published changes) (state g old).now.schema trees more.1)
     ]
