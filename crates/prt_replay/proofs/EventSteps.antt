@@ -75,6 +75,16 @@ pub no_lines_left : (read : List Event) (left : ℕ) → with_lines read left []
 unfolding events_of_lines
 no_lines_left read left = ap (λ xs. ok_result xs) (append-nil read)
 
+-- an event that was read, where memory may be refused
+pub read_event : (r s : Result (Option Event) Refusal) (event : Option Event) → (r ≡ s) ⊎ (r ≡ Err NoMemory) → r ≡ Ok event → s ≡ Ok event
+read_event r s event (inl same) is = sym same ∙ is
+read_event r s event (inr memory) is = absurd cc
+
+-- a line that is refused, or for which memory was
+pub refused_by : (read : List Event) (line : List ℕ) (r : Result (Option Event) Refusal) (e : Refusal) → r ≡ Err e → (r ≡ line_event line) ⊎ (r ≡ Err NoMemory) → ((left : ℕ) (others : List (List ℕ)) → with_lines read (left + 1) (line ∷ others) ≡ Err e) ⊎ (e ≡ NoMemory)
+refused_by read line r e is (inl same) = inl (λ left others. refused_line read left line others e (sym same ∙ is))
+refused_by read line r e is (inr memory) = inr cc
+
 -- why an event is not added: there is no room, or no memory
 not_added : (read : List Event) (line : List ℕ) (event : Event) (e : Refusal) → line_event line ≡ Ok (Some event) → ((e ≡ TooManyLines) × (most_events ≤ length read)) ⊎ (e ≡ NoMemory) → ((left : ℕ) (others : List (List ℕ)) → with_lines read (left + 1) (line ∷ others) ≡ Err e) ⊎ (e ≡ NoMemory)
 not_added read line event e h (inl full) = inl (λ left others. event_too_many read left line others event h full.1 ∙ ap (λ r. err_result r) (sym full.0))

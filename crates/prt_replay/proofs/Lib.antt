@@ -1,9 +1,11 @@
 pub mod Seats
 pub mod Joins
+pub mod Submits
 pub mod Simulation
 pub mod LookerSteps
 pub mod WholeReplays
 pub mod FileLines
+pub mod CommandWords
 pub mod EventSteps
 pub mod LookerNumbers
 pub mod ReplayFile

@@ -1,5 +1,5 @@
 -- Publications, lookers and reclaims of a replay, and whole replays.
-use Rattle.std.proofs.Common.{◌≡◌, ℕ, zero, suc, ◌+◌, ◌<◌, ◌≤◌, true, false, List, [], ◌∷◌, ◌++◌, Option, Some, None, map, set, replicate, refl, sym, ap, ◌∙◌, subst, arith}
+use Rattle.std.proofs.Common.{◌≡◌, ℕ, zero, suc, ◌+◌, ◌<◌, ◌≤◌, true, false, List, [], ◌∷◌, ◌++◌, Option, Some, None, length, map, set, replicate, refl, sym, ap, ◌∙◌, subst, arith}
 use Rattle.std.specs.Prelude.{nat_lt, if◌then◌else◌}
 use Rattle.std.specs.List.{AllZip}
 use Rattle.std.proofs.lemmas.Bool.Decides.{nat_tests}
@@ -10,21 +10,20 @@ use Rattle.prt_grace.specs.Registry.{announced, announcing}
 use Rattle.prt_grace.specs.declared.limits.TheConstants.{PLACES}
 use Rattle.prt_grace.specs.declared.place.PlaceState.TheVariants as places
 use Rattle.prt_rule.specs.declared.packet.Packet.{Packet}
-use Rattle.prt_version.specs.Change.{apply}
+use Rattle.prt_version.specs.Change.{fold}
 use Rattle.prt_version.specs.State.{State}
 use Rattle.prt_world.specs.Durability.{state_after}
 use Rattle.prt_replay.specs.Machine as machine
 use Rattle.prt_replay.specs.Machine.{MachineState, MachineStep, SeatState, empty_seat, machine_outcomes, machine_step, opened, seat_of, seats_below}
+use Rattle.prt_replay.specs.declared.stage.Stage.TheVariants as stages
 use Rattle.prt_world.specs.World as world
-use Rattle.prt_world.specs.World.{LookerState, Step, World, announced_by, kept, looker_state, offline, online, outcomes_from, published_version, start, step, version}
+use Rattle.prt_world.specs.World.{LookerState, Phase, Committed, Published, Noted, Closed, Stopped, Step, World, announced_by, kept, looker_state, offline, online, outcomes_from, published_version, start, step, version}
 use Rattle.prt_world.specs.declared.outcome.Outcome.TheVariants as outcomes
-use Rattle.prt_world.specs.declared.phase.Phase.{Phase}
-use Rattle.prt_world.specs.declared.phase.Phase.TheVariants.{Committed, Published, Noted, Closed, Stopped}
 use Rattle.prt_world.proofs.History.{IsServed}
 use Rattle.prt_world.proofs.KeptVersions.{kept_count, other_number, same_number}
 use Rattle.prt_world.proofs.Phases.{Holds, Phased, shown_version, version_kept}
 use Rattle.prt_world.proofs.SideBySide.{map_set_same, zip_get, zip_set}
-use Rattle.prt_replay.proofs.Simulation.{AreLookers, SimulatesStep, IsSeatOf, IsUnderWay, Simulates, moved, shown_count, stays_put, unnoted}
+use Rattle.prt_replay.proofs.Simulation.{AreLookers, SimulatesStep, IsSeatOf, IsUnderWay, Simulates, moved, shown_count, stage_of, stays_put, unnoted}
 
 -- ---- opened again
 
@@ -50,7 +49,7 @@ pub reopened_simulates : (m : MachineState) (w : World) → Holds (world.reopene
 reopened_simulates m w h s = record {
   shows = ap (λ state. outcomes.Reopened state.count) s.disk;
   simulates = record {
-    phase = refl;
+    stage = refl;
     disk = s.disk;
     versions = record {
       published = s.disk ∙ h.counts.prefix;
@@ -63,30 +62,31 @@ reopened_simulates m w h s = record {
   };
 }
 
-pub reopen_simulates : (m : MachineState) (w : World) (phase : Phase) → Holds (world.reopened w) → Simulates m w → SimulatesStep (machine.reopen_by m phase) (world.reopen w phase)
+pub reopen_simulates : (m : MachineState) (w : World) (phase : Phase) → Holds (world.reopened w) → Simulates m w → SimulatesStep (machine.reopen_by m (stage_of phase)) (world.reopen w phase)
 reopen_simulates m w Closed h s = reopened_simulates m w h s
 reopen_simulates m w Stopped h s = reopened_simulates m w h s
 reopen_simulates m w phase h s = stays_put m w s
 
 -- ---- publication
 
-pub publish_simulates : (m : MachineState) (w : World) (phase : Phase) → Holds w → Phased w phase → IsUnderWay m.next m.lookers.registry.retired w.disk phase → Simulates m w → SimulatesStep (machine.publish_by m phase) (world.publish w phase)
-publish_simulates m w (Committed command) h phased under_way s =
+pub publish_simulates : (m : MachineState) (w : World) (phase : Phase) → Holds w → Phased w phase → IsUnderWay m.next m.lookers.registry.retired w.disk phase → Simulates m w → SimulatesStep (machine.publish_by m (stage_of phase)) (world.publish w phase)
+publish_simulates m w (Committed commands) h phased under_way s =
     let known : w.noted ≡ w.published = phased.known in
-    let next : w.disk.count ≡ w.published + 1 = phased.next in
-    let made : apply (published_version w) command ≡ m.disk = ap (λ state. apply state command) (shown_version w h) ∙ sym phased.after ∙ sym s.disk in
+    let next : w.disk.count ≡ w.published + length commands = phased.next in
+    let some : 1 ≤ length commands = phased.some in
+    let made : fold (published_version w) commands ≡ m.disk = ap (λ state. fold state commands) (shown_version w h) ∙ sym phased.after ∙ sym s.disk in
     let settled : w.versions ≡ m.lookers.registry.retired ++ m.lookers.registry.noted ∷ [] = s.versions.all ∙ ap (λ b. m.lookers.registry.retired ++ m.lookers.registry.noted ∷ unnoted b m.published) (same_number w.noted w.published known) in
     record {
       shows = ap (λ state. outcomes.Published state.count) s.disk;
       simulates = record {
-        phase = refl;
+        stage = refl;
         disk = s.disk;
         versions = record {
           published = s.disk ∙ h.counts.prefix;
           noted = s.versions.noted;
           below = s.versions.below;
           all =
-              ap (λ xs. xs ++ apply (published_version w) command ∷ []) settled
+              ap (λ xs. xs ++ fold (published_version w) commands ∷ []) settled
               ∙ ap (λ state. (m.lookers.registry.retired ++ m.lookers.registry.noted ∷ []) ++ state ∷ []) made
               ∙ append_assoc m.lookers.registry.retired (m.lookers.registry.noted ∷ []) (m.disk ∷ [])
               ∙ ap (λ b. m.lookers.registry.retired ++ m.lookers.registry.noted ∷ unnoted b m.disk) (sym (other_number w.noted w.noted w.disk.count (omega arith) (omega arith)));
@@ -97,21 +97,22 @@ publish_simulates m w (Committed command) h phased under_way s =
     }
 publish_simulates m w phase h phased under_way s = stays_put m w s
 
-pub fail_publication_simulates : (m : MachineState) (w : World) (phase : Phase) → Simulates m w → SimulatesStep (machine.fail_publication_by m phase) (world.fail_publication w phase)
-fail_publication_simulates m w (Committed command) s = record { shows = refl; simulates = moved m w w.disk w.pending m.next m.disk Closed s.disk tt s }
+pub fail_publication_simulates : (m : MachineState) (w : World) (phase : Phase) → Simulates m w → SimulatesStep (machine.fail_publication_by m (stage_of phase)) (world.fail_publication w phase)
+fail_publication_simulates m w (Committed commands) s = record { shows = refl; simulates = moved m w w.disk w.pending m.next m.disk stages.Closed Closed refl s.disk tt s }
 fail_publication_simulates m w phase s = stays_put m w s
 
-pub note_simulates : (m : MachineState) (w : World) (phase : Phase) → Holds w → Phased w phase → IsUnderWay m.next m.lookers.registry.retired w.disk phase → Simulates m w → SimulatesStep (machine.note_by m phase) (world.note w phase)
-note_simulates m w (Published command) h phased under_way s =
+pub note_simulates : (m : MachineState) (w : World) (phase : Phase) → Holds w → Phased w phase → IsUnderWay m.next m.lookers.registry.retired w.disk phase → Simulates m w → SimulatesStep (machine.note_by m (stage_of phase)) (world.note w phase)
+note_simulates m w (Published commands) h phased under_way s =
     let shown : m.published.count ≡ w.published = shown_count m w h s in
     let noted : m.lookers.registry.noted.count ≡ w.noted = s.versions.noted in
-    let next : w.published ≡ w.noted + 1 = phased.1 in
+    let next : w.published ≡ w.noted + length commands = phased.1 in
+    let some : 1 ≤ length commands = phased.0.some in
     let can : machine.can_note m ≡ true = grind (arith, nat_tests) in
     let one : w.versions ≡ m.lookers.registry.retired ++ m.lookers.registry.noted ∷ (m.published ∷ []) = s.versions.all ∙ ap (λ b. m.lookers.registry.retired ++ m.lookers.registry.noted ∷ unnoted b m.published) (other_number w.noted w.noted w.published (omega arith) (omega arith)) in
-    let simulated : SimulatesStep (machine.note_if m command true) (world.note w (Published command)) = record {
+    let simulated : SimulatesStep (machine.note_if m true) (world.note w (Published commands)) = record {
       shows = ap outcomes.Noted shown;
       simulates = record {
-        phase = refl;
+        stage = refl;
         disk = s.disk;
         versions = record {
           published = s.versions.published;
@@ -123,11 +124,11 @@ note_simulates m w (Published command) h phased under_way s =
         under_way = tt;
       };
     } in
-    subst (λ b. SimulatesStep (machine.note_if m command b) (world.note w (Published command))) (sym can) simulated
+    subst (λ b. SimulatesStep (machine.note_if m b) (world.note w (Published commands))) (sym can) simulated
 note_simulates m w phase h phased under_way s = stays_put m w s
 
-pub acknowledge_simulates : (m : MachineState) (w : World) (phase : Phase) → Holds w → Simulates m w → SimulatesStep (machine.acknowledge_by m phase) (world.acknowledge w phase)
-acknowledge_simulates m w (Noted command) h s = record { shows = ap outcomes.Acknowledged (shown_count m w h s); simulates = record { phase = refl; disk = s.disk; versions = s.versions; lookers = s.lookers; under_way = tt } }
+pub acknowledge_simulates : (m : MachineState) (w : World) (phase : Phase) → Holds w → Simulates m w → SimulatesStep (machine.acknowledge_by m (stage_of phase)) (world.acknowledge w phase)
+acknowledge_simulates m w (Noted commands) h s = record { shows = ap outcomes.Acknowledged (shown_count m w h s); simulates = record { stage = refl; disk = s.disk; versions = s.versions; lookers = s.lookers; under_way = tt } }
 acknowledge_simulates m w phase h s = stays_put m w s
 
 -- ---- lookers
@@ -139,7 +140,7 @@ told_back (Some number) = refl
 -- a looker changes its place
 sit_simulated : (m : MachineState) (w : World) (looker : ℕ) (number : Option ℕ) (held : Option State) (state : LookerState) → announced_by state ≡ number → IsSeatOf w.accepted (record { place = record (seat_of m.lookers looker).place { announced = number }; held = held }) state → Simulates m w → Simulates (record m { lookers = machine.sit m.lookers looker number held }) (world.with_looker w looker state)
 sit_simulated m w looker number held state same seated s = record {
-  phase = s.phase;
+  stage = s.stage;
   disk = s.disk;
   versions = s.versions;
   lookers = record {
@@ -156,7 +157,7 @@ sit_simulated m w looker number held state same seated s = record {
 -- a looker holds another version
 hold_simulated : (m : MachineState) (w : World) (looker : ℕ) (held : Option State) (state : LookerState) → announced_by state ≡ announced_by (looker_state w looker) → IsSeatOf w.accepted (record { place = (seat_of m.lookers looker).place; held = held }) state → Simulates m w → Simulates (record m { lookers = machine.hold m.lookers looker held }) (world.with_looker w looker state)
 hold_simulated m w looker held state same seated s = record {
-  phase = s.phase;
+  stage = s.stage;
   disk = s.disk;
   versions = s.versions;
   lookers = record {
@@ -214,5 +215,5 @@ look_simulates m w packet (online number (Some held)) holds seat is seated serve
     subst (λ o. SimulatesStep (machine.look_by m packet o) (world.look w packet (online number (Some held)))) (sym seated.1 ∙ is)
     (record {
       shows = ap (λ state. outcomes.Answered (world.answer_by state packet)) (sym (version_kept w held (state_after w.accepted held) served.is_kept));
-      simulates = record { phase = s.phase; disk = s.disk; versions = s.versions; lookers = s.lookers; under_way = s.under_way };
+      simulates = record { stage = s.stage; disk = s.disk; versions = s.versions; lookers = s.lookers; under_way = s.under_way };
     })

@@ -12,28 +12,26 @@ use Rattle.prt_version.specs.State.{State, opening_state}
 use Rattle.prt_replay.specs.Machine as machine
 use Rattle.prt_replay.specs.Machine.{MachineState, MachineStep, machine_outcomes, machine_step, opened, seat_of}
 use Rattle.prt_world.specs.World as world
-use Rattle.prt_world.specs.World.{Step, World, announced_by, looker_state, outcomes_from, start, step}
+use Rattle.prt_world.specs.World.{Phase, Ready, Prepared, Committed, Published, Noted, Closed, Stopped, Step, World, announced_by, looker_state, outcomes_from, start, step}
 use Rattle.prt_world.specs.declared.event.Event.{Event}
 use Rattle.prt_world.specs.declared.event.Event.TheVariants as events
 use Rattle.prt_world.specs.declared.outcome.Outcome.{Outcome}
 use Rattle.prt_world.specs.declared.outcome.Outcome.TheVariants as outcomes
-use Rattle.prt_world.specs.declared.phase.Phase.{Phase}
-use Rattle.prt_world.specs.declared.phase.Phase.TheVariants.{Ready, Prepared, Committed, Published, Noted, Closed, Stopped}
 use Rattle.prt_world.proofs.History.{not_retired, stays}
 use Rattle.prt_replay.proofs.LookerSteps.{acknowledge_simulates, all_offline, announce_simulates, fail_publication_simulates, fetch_simulates, look_simulates, note_simulates, offline_simulates, online_simulates, publish_simulates, reopen_simulates, seat_here, tells}
 use Rattle.prt_world.proofs.Phases.{Holds, looker_served, reopened_holds, start_holds, step_holds}
 use Rattle.prt_world.proofs.SideBySide.{all_pass}
-use Rattle.prt_replay.proofs.Simulation.{SimulatesStep, IsUnderWay, Simulates, call_simulates, fail_simulates, stays_put, stop_simulates, submit_simulates, tops, tops_high}
+use Rattle.prt_replay.proofs.Simulation.{SimulatesStep, IsUnderWay, Simulates, call_simulates, fail_simulates, stage_of, stays_put, stop_simulates, submit_all_simulates, tops, tops_high}
 
 -- ---- reclaiming
 
 -- fewer versions are retired
 fewer_retired : (next disk : State) (more fewer : List State) (phase : Phase) → length fewer ≤ length more → IsUnderWay next more disk phase → IsUnderWay next fewer disk phase
 fewer_retired next disk more fewer Ready less h = tt
-fewer_retired next disk more fewer (Prepared command call) less h = (h.0, let room : length more < MOST_RETIRED = h.1 in omega arith)
-fewer_retired next disk more fewer (Committed command) less h = omega arith
-fewer_retired next disk more fewer (Published command) less h = omega arith
-fewer_retired next disk more fewer (Noted command) less h = tt
+fewer_retired next disk more fewer (Prepared commands done call) less h = (h.0, let room : length more < MOST_RETIRED = h.1 in omega arith)
+fewer_retired next disk more fewer (Committed commands) less h = omega arith
+fewer_retired next disk more fewer (Published commands) less h = omega arith
+fewer_retired next disk more fewer (Noted commands) less h = tt
 fewer_retired next disk more fewer Closed less h = tt
 fewer_retired next disk more fewer Stopped less h = tt
 
@@ -55,7 +53,7 @@ reclaim_simulates m w h s =
     record {
       shows = ap (λ xs. outcomes.Reclaimed (length retired - length xs)) same ∙ ap outcomes.Reclaimed number;
       simulates = record {
-        phase = s.phase;
+        stage = s.stage;
         disk = s.disk;
         versions = record {
           published = s.versions.published;
@@ -74,21 +72,26 @@ unless_simulates : (m : MachineState) (w : World) (ms : MachineStep) (ws : Step)
 unless_simulates m w ms ws true s simulated = stays_put m w s
 unless_simulates m w ms ws false s simulated = simulated
 
+same_stopped : (phase : Phase) → machine.is_stopped_at (stage_of phase) ≡ world.is_stopped phase
+same_stopped Stopped = refl
+same_stopped phase = refl
+
 while_simulates : (m : MachineState) (w : World) (ms : MachineStep) (ws : Step) → Simulates m w → SimulatesStep ms ws → SimulatesStep (machine.while_running m ms) (world.unless_stopped w ws)
-while_simulates m w ms ws s simulated = subst (λ p. SimulatesStep (cond (world.is_stopped p) (machine.idle m) ms) (world.unless_stopped w ws)) (sym s.phase) (unless_simulates m w ms ws (world.is_stopped w.phase) s simulated)
+while_simulates m w ms ws s simulated = subst (λ b. SimulatesStep (cond b (machine.idle m) ms) (world.unless_stopped w ws)) (sym (ap machine.is_stopped_at s.stage ∙ same_stopped w.phase)) (unless_simulates m w ms ws (world.is_stopped w.phase) s simulated)
 
 told_at : (m : MachineState) (w : World) (looker : ℕ) → Simulates m w → machine.announced_at m.lookers looker ≡ announced_by (looker_state w looker)
 told_at m w looker s = tells w.accepted (seat_of m.lookers looker) (looker_state w looker) (seat_here m w looker s)
 
 step_simulates : (m : MachineState) (w : World) (event : Event) → Holds w → Simulates m w → SimulatesStep (machine_step m event) (step w event)
-step_simulates m w (events.Submit command) h s = subst (λ p. SimulatesStep (machine.submit_by m command p) (step w (events.Submit command))) (sym s.phase) (submit_simulates m w command w.phase h h.phased s)
-step_simulates m w events.Call h s = subst (λ p. SimulatesStep (machine.call_by m p) (step w events.Call)) (sym s.phase) (call_simulates m w w.phase h h.phased s.under_way s)
-step_simulates m w (events.Fail fate) h s = subst (λ p. SimulatesStep (machine.fail_by m fate p) (step w (events.Fail fate))) (sym s.phase) (fail_simulates m w fate w.phase h.phased s.under_way s)
-step_simulates m w events.Publish h s = subst (λ p. SimulatesStep (machine.publish_by m p) (step w events.Publish)) (sym s.phase) (publish_simulates m w w.phase h h.phased s.under_way s)
-step_simulates m w events.PublishFail h s = subst (λ p. SimulatesStep (machine.fail_publication_by m p) (step w events.PublishFail)) (sym s.phase) (fail_publication_simulates m w w.phase s)
-step_simulates m w events.Note h s = subst (λ p. SimulatesStep (machine.note_by m p) (step w events.Note)) (sym s.phase) (note_simulates m w w.phase h h.phased s.under_way s)
-step_simulates m w events.Ack h s = subst (λ p. SimulatesStep (machine.acknowledge_by m p) (step w events.Ack)) (sym s.phase) (acknowledge_simulates m w w.phase h s)
-step_simulates m w events.Reopen h s = subst (λ p. SimulatesStep (machine.reopen_by m p) (step w events.Reopen)) (sym s.phase) (reopen_simulates m w w.phase (reopened_holds w h) s)
+step_simulates m w (events.Submit command) h s = submit_all_simulates m w (command ∷ []) h s
+step_simulates m w (events.SubmitAll commands) h s = submit_all_simulates m w commands h s
+step_simulates m w events.Call h s = subst (λ p. SimulatesStep (machine.call_by m p) (step w events.Call)) (sym s.stage) (call_simulates m w w.phase h h.phased s.under_way s)
+step_simulates m w (events.Fail fate) h s = subst (λ p. SimulatesStep (machine.fail_by m fate p) (step w (events.Fail fate))) (sym s.stage) (fail_simulates m w fate w.phase h.phased s.under_way s)
+step_simulates m w events.Publish h s = subst (λ p. SimulatesStep (machine.publish_by m p) (step w events.Publish)) (sym s.stage) (publish_simulates m w w.phase h h.phased s.under_way s)
+step_simulates m w events.PublishFail h s = subst (λ p. SimulatesStep (machine.fail_publication_by m p) (step w events.PublishFail)) (sym s.stage) (fail_publication_simulates m w w.phase s)
+step_simulates m w events.Note h s = subst (λ p. SimulatesStep (machine.note_by m p) (step w events.Note)) (sym s.stage) (note_simulates m w w.phase h h.phased s.under_way s)
+step_simulates m w events.Ack h s = subst (λ p. SimulatesStep (machine.acknowledge_by m p) (step w events.Ack)) (sym s.stage) (acknowledge_simulates m w w.phase h s)
+step_simulates m w events.Reopen h s = subst (λ p. SimulatesStep (machine.reopen_by m p) (step w events.Reopen)) (sym s.stage) (reopen_simulates m w w.phase (reopened_holds w h) s)
 step_simulates m w (events.Online looker) h s =
     while_simulates m w (machine.online_by m looker (machine.announced_at m.lookers looker)) (world.go_online w looker (looker_state w looker)) s
     (subst (λ o. SimulatesStep (machine.online_by m looker o) (world.go_online w looker (looker_state w looker))) (sym (told_at m w looker s)) (online_simulates m w looker (looker_state w looker) s))
@@ -111,7 +114,7 @@ step_simulates m w (events.Stop fate) h s = while_simulates m w (machine.stop_by
 
 start_simulated : Simulates (opened opening_state) start
 start_simulated = record {
-  phase = refl;
+  stage = refl;
   disk = refl;
   versions = record { published = refl; noted = refl; below = tt; all = refl };
   lookers = all_offline [];

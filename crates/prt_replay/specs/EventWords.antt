@@ -2,11 +2,12 @@
 use Rattle.std.specs.Prelude.{if◌then◌else◌, List, [], ◌∷◌, Option, Some, None, bytes_eq, codes}
 use Rattle.prt_addr.specs.Word.{Word}
 use Rattle.prt_replay.specs.declared.words.EventWord.{EventWord}
-use Rattle.prt_replay.specs.declared.words.EventWord.TheVariants.{Submit, Call, Fail, Publish, PublishFail, Note, Ack, Online, Fetch, Announce, Offline, Look, Reclaim, Stop, Reopen}
+use Rattle.prt_replay.specs.declared.words.EventWord.TheVariants.{Submit, SubmitAll, Call, Fail, Publish, PublishFail, Note, Ack, Online, Fetch, Announce, Offline, Look, Reclaim, Stop, Reopen}
 
 abbrev pub event_words : List (Word × EventWord)
 event_words =
     (codes "submit", Submit)
+    ∷ (codes "submitall", SubmitAll)
     ∷ (codes "call", Call)
     ∷ (codes "fail", Fail)
     ∷ (codes "publish", Publish)

@@ -1,5 +1,5 @@
 -- What a replay keeps, and what it computes: the registry and the lookers' places in it, and versions.
-use Rattle.std.specs.Prelude.{◌≡◌, ℕ, zero, suc, ◌-◌, ◌<◌, ◌&&◌, ◌++◌, nat_lt, Bool, true, false, if◌then◌else◌, List, [], ◌∷◌, length, map, replicate, slice_index_or, slice_set, Option, Some, None, Result, Ok, Err}
+use Rattle.std.specs.Prelude.{◌≡◌, ℕ, zero, suc, ◌-◌, ◌<◌, ◌&&◌, ◌++◌, nat_lt, Bool, true, false, if◌then◌else◌, List, [], ◌∷◌, length, map, replicate, slice_index_or, slice_set, Option, Some, None}
 use Rattle.prt_addr.specs.declared.refusal.Refusal.{Refusal}
 use Rattle.prt_addr.specs.declared.refusal.Refusal.TheVariants as refusals
 use Rattle.prt_addr.specs.declared.refusal.StoreCall.TheVariants as calls
@@ -9,18 +9,18 @@ use Rattle.prt_grace.specs.declared.limits.TheConstants.{MOST_RETIRED, PLACES}
 use Rattle.prt_grace.specs.declared.place.Place.{Place}
 use Rattle.prt_grace.specs.declared.place.PlaceState.TheVariants as places
 use Rattle.prt_rule.specs.declared.packet.Packet.{Packet}
-use Rattle.prt_version.specs.Change.{check, put}
+use Rattle.prt_version.specs.Accepted.{refusal_all}
+use Rattle.prt_version.specs.Change.{fold}
 use Rattle.prt_version.specs.State.{State}
-use Rattle.prt_version.specs.declared.change.Change.{Change}
-use Rattle.prt_world.specs.World.{answer_by, is_stopped}
+use Rattle.prt_replay.specs.declared.stage.Stage.{Stage}
+use Rattle.prt_replay.specs.declared.stage.Stage.TheVariants.{Ready, Prepared, Committed, Published, Noted, Closed, Stopped}
+use Rattle.prt_world.specs.World.{answer_by}
 use Rattle.prt_world.specs.declared.event.Event.{Event}
 use Rattle.prt_world.specs.declared.event.Event.TheVariants as events
 use Rattle.prt_world.specs.declared.event.Fate.{Fate}
 use Rattle.prt_world.specs.declared.event.Fate.TheVariants.{Kept}
 use Rattle.prt_world.specs.declared.outcome.Outcome.{Outcome}
 use Rattle.prt_world.specs.declared.outcome.Outcome.TheVariants as outcomes
-use Rattle.prt_world.specs.declared.phase.Phase.{Phase}
-use Rattle.prt_world.specs.declared.phase.Phase.TheVariants.{Ready, Prepared, Committed, Published, Noted, Closed, Stopped}
 
 -- ---- lookers
 
@@ -93,80 +93,93 @@ pub record MachineState : Type 0 where
   pub lookers : LookersState
   pub published : State
   pub disk : State
-  -- the version after the command that is under way
+  -- the version after the commands that are under way
   pub next : State
-  pub phase : Phase
+  pub stage : Stage
 
 pub record MachineStep : Type 0 where
   pub machine : MachineState
   pub outcome : Outcome
 
 abbrev pub opened : State → MachineState
-opened state = record { lookers = new_lookers state; published = state; disk = state; next = state; phase = Ready }
+opened state = record { lookers = new_lookers state; published = state; disk = state; next = state; stage = Ready }
 
 abbrev pub idle : MachineState → MachineStep
 idle machine = record { machine = machine; outcome = outcomes.Nothing }
 
-abbrev pub prepare_next : MachineState → Command → Result Change Refusal → Bool → MachineStep
-prepare_next machine command (Err reason) room = record { machine = machine; outcome = outcomes.Refused reason }
-prepare_next machine command (Ok made) false = record { machine = machine; outcome = outcomes.Refused refusals.Busy }
-prepare_next machine command (Ok made) true = record { machine = record machine { next = put machine.published made; phase = Prepared command calls.Begin }; outcome = outcomes.Prepared (put machine.published made).count }
+abbrev pub prepare_all : MachineState → List Command → Option Refusal → Bool → MachineStep
+prepare_all machine commands (Some reason) room = record { machine = machine; outcome = outcomes.Refused reason }
+prepare_all machine commands None false = record { machine = machine; outcome = outcomes.Refused refusals.Busy }
+prepare_all machine commands None true = record { machine = record machine { next = fold machine.published commands; stage = Prepared (length commands) calls.Begin }; outcome = outcomes.Prepared (fold machine.published commands).count }
 
-abbrev pub submit_by : MachineState → Command → Phase → MachineStep
-submit_by machine command Ready = prepare_next machine command (check machine.published command) (nat_lt (length machine.lookers.registry.retired) MOST_RETIRED)
-submit_by machine command Closed = record { machine = machine; outcome = outcomes.Refused refusals.Closed }
-submit_by machine command phase = idle machine
+abbrev pub submit_by : MachineState → List Command → Stage → MachineStep
+submit_by machine commands Ready = prepare_all machine commands (refusal_all machine.published commands) (nat_lt (length machine.lookers.registry.retired) MOST_RETIRED)
+submit_by machine commands Closed = record { machine = machine; outcome = outcomes.Refused refusals.Closed }
+submit_by machine commands stage = idle machine
 
-abbrev pub in_phase : MachineState → Phase → Outcome → MachineStep
-in_phase machine phase outcome = record { machine = record machine { phase = phase }; outcome = outcome }
+-- no commands are nothing to submit
+abbrev pub submit_some : MachineState → List Command → MachineStep
+submit_some machine [] = idle machine
+submit_some machine (first ∷ more) = submit_by machine (first ∷ more) machine.stage
 
-abbrev pub call_by : MachineState → Phase → MachineStep
-call_by machine (Prepared command calls.Begin) = in_phase machine (Prepared command calls.Write) (outcomes.Called calls.Begin)
-call_by machine (Prepared command calls.Write) = in_phase machine (Prepared command calls.Count) (outcomes.Called calls.Write)
-call_by machine (Prepared command calls.Count) = in_phase machine (Prepared command calls.Commit) (outcomes.Called calls.Count)
-call_by machine (Prepared command calls.Commit) = record { machine = record machine { disk = machine.next; phase = Committed command }; outcome = outcomes.Called calls.Commit }
-call_by machine phase = idle machine
+abbrev pub at_stage : MachineState → Stage → Outcome → MachineStep
+at_stage machine stage outcome = record { machine = record machine { stage = stage }; outcome = outcome }
+
+-- the rows of a command are written, where those of so many were still to be
+abbrev pub after_write : ℕ → Stage
+after_write left = if nat_lt 1 left then Prepared (left - 1) calls.Write else Prepared 0 calls.Count
+
+-- the version after the commands is durable
+abbrev pub commit_by : MachineState → MachineStep
+commit_by machine = record { machine = record machine { disk = machine.next; stage = Committed }; outcome = outcomes.Called calls.Commit }
+
+abbrev pub call_by : MachineState → Stage → MachineStep
+call_by machine (Prepared left calls.Begin) = at_stage machine (Prepared left calls.Write) (outcomes.Called calls.Begin)
+call_by machine (Prepared left calls.Write) = at_stage machine (after_write left) (outcomes.Called calls.Write)
+call_by machine (Prepared left calls.Count) = at_stage machine (Prepared left calls.Commit) (outcomes.Called calls.Count)
+call_by machine (Prepared left calls.Commit) = commit_by machine
+call_by machine stage = idle machine
 
 -- what a stop leaves on the disk
-abbrev pub left_by : MachineState → Fate → Phase → State
-left_by machine Kept (Prepared command calls.Commit) = machine.next
-left_by machine fate phase = machine.disk
+abbrev pub left_by : MachineState → Fate → Stage → State
+left_by machine Kept (Prepared left calls.Commit) = machine.next
+left_by machine fate stage = machine.disk
 
-abbrev pub fail_by : MachineState → Fate → Phase → MachineStep
-fail_by machine fate (Prepared command next) = record { machine = record machine { disk = left_by machine fate (Prepared command next); phase = Closed }; outcome = outcomes.Refused (refusals.StoreFailed next) }
-fail_by machine fate phase = idle machine
+abbrev pub fail_by : MachineState → Fate → Stage → MachineStep
+fail_by machine fate (Prepared left next) = record { machine = record machine { disk = left_by machine fate (Prepared left next); stage = Closed }; outcome = outcomes.Refused (refusals.StoreFailed next) }
+fail_by machine fate stage = idle machine
 
 abbrev pub stop_by : MachineState → Fate → MachineStep
-stop_by machine fate = record { machine = record machine { disk = left_by machine fate machine.phase; phase = Stopped }; outcome = outcomes.Stopped }
+stop_by machine fate = record { machine = record machine { disk = left_by machine fate machine.stage; stage = Stopped }; outcome = outcomes.Stopped }
 
-abbrev pub reopen_by : MachineState → Phase → MachineStep
+abbrev pub reopen_by : MachineState → Stage → MachineStep
 reopen_by machine Closed = record { machine = opened machine.disk; outcome = outcomes.Reopened machine.disk.count }
 reopen_by machine Stopped = record { machine = opened machine.disk; outcome = outcomes.Reopened machine.disk.count }
-reopen_by machine phase = idle machine
+reopen_by machine stage = idle machine
 
-abbrev pub publish_by : MachineState → Phase → MachineStep
-publish_by machine (Committed command) = record { machine = record machine { published = machine.disk; phase = Published command }; outcome = outcomes.Published machine.disk.count }
-publish_by machine phase = idle machine
+abbrev pub publish_by : MachineState → Stage → MachineStep
+publish_by machine Committed = record { machine = record machine { published = machine.disk; stage = Published }; outcome = outcomes.Published machine.disk.count }
+publish_by machine stage = idle machine
 
-abbrev pub fail_publication_by : MachineState → Phase → MachineStep
-fail_publication_by machine (Committed command) = in_phase machine Closed (outcomes.Refused refusals.NotPublished)
-fail_publication_by machine phase = idle machine
+abbrev pub fail_publication_by : MachineState → Stage → MachineStep
+fail_publication_by machine Committed = at_stage machine Closed (outcomes.Refused refusals.NotPublished)
+fail_publication_by machine stage = idle machine
 
 -- there is room for one more retired version, and the published version is later than the noted one
 abbrev pub can_note : MachineState → Bool
 can_note machine = nat_lt (length machine.lookers.registry.retired) MOST_RETIRED && nat_lt machine.lookers.registry.noted.count machine.published.count
 
-abbrev pub note_if : MachineState → Command → Bool → MachineStep
-note_if machine command true = record { machine = record machine { lookers = with_registry machine.lookers (with_noted machine.lookers.registry machine.published); phase = Noted command }; outcome = outcomes.Noted machine.published.count }
-note_if machine command false = idle machine
+abbrev pub note_if : MachineState → Bool → MachineStep
+note_if machine true = record { machine = record machine { lookers = with_registry machine.lookers (with_noted machine.lookers.registry machine.published); stage = Noted }; outcome = outcomes.Noted machine.published.count }
+note_if machine false = idle machine
 
-abbrev pub note_by : MachineState → Phase → MachineStep
-note_by machine (Published command) = note_if machine command (can_note machine)
-note_by machine phase = idle machine
+abbrev pub note_by : MachineState → Stage → MachineStep
+note_by machine Published = note_if machine (can_note machine)
+note_by machine stage = idle machine
 
-abbrev pub acknowledge_by : MachineState → Phase → MachineStep
-acknowledge_by machine (Noted command) = in_phase machine Ready (outcomes.Acknowledged machine.published.count)
-acknowledge_by machine phase = idle machine
+abbrev pub acknowledge_by : MachineState → Stage → MachineStep
+acknowledge_by machine Noted = at_stage machine Ready (outcomes.Acknowledged machine.published.count)
+acknowledge_by machine stage = idle machine
 
 abbrev pub with_lookers : MachineState → LookersState → Outcome → MachineStep
 with_lookers machine lookers outcome = record { machine = record machine { lookers = lookers }; outcome = outcome }
@@ -194,8 +207,12 @@ look_by machine packet (Some state) = record { machine = machine; outcome = outc
 abbrev pub reclaim_by : MachineState → MachineStep
 reclaim_by machine = with_lookers machine (with_registry machine.lookers (reclaimed machine.lookers.registry)) (outcomes.Reclaimed (length machine.lookers.registry.retired - length (reclaimed machine.lookers.registry).retired))
 
+abbrev pub is_stopped_at : Stage → Bool
+is_stopped_at Stopped = true
+is_stopped_at stage = false
+
 abbrev pub while_running : MachineState → MachineStep → MachineStep
-while_running machine step = if is_stopped machine.phase then idle machine else step
+while_running machine step = if is_stopped_at machine.stage then idle machine else step
 
 -- an event of a looker, a reclaim or a stop
 abbrev pub running_step : MachineState → Event → MachineStep
@@ -209,14 +226,15 @@ running_step machine (events.Stop fate) = stop_by machine fate
 running_step machine event = idle machine
 
 abbrev pub machine_step : MachineState → Event → MachineStep
-machine_step machine (events.Submit command) = submit_by machine command machine.phase
-machine_step machine events.Call = call_by machine machine.phase
-machine_step machine (events.Fail fate) = fail_by machine fate machine.phase
-machine_step machine events.Publish = publish_by machine machine.phase
-machine_step machine events.PublishFail = fail_publication_by machine machine.phase
-machine_step machine events.Note = note_by machine machine.phase
-machine_step machine events.Ack = acknowledge_by machine machine.phase
-machine_step machine events.Reopen = reopen_by machine machine.phase
+machine_step machine (events.Submit command) = submit_some machine (command ∷ [])
+machine_step machine (events.SubmitAll commands) = submit_some machine commands
+machine_step machine events.Call = call_by machine machine.stage
+machine_step machine (events.Fail fate) = fail_by machine fate machine.stage
+machine_step machine events.Publish = publish_by machine machine.stage
+machine_step machine events.PublishFail = fail_publication_by machine machine.stage
+machine_step machine events.Note = note_by machine machine.stage
+machine_step machine events.Ack = acknowledge_by machine machine.stage
+machine_step machine events.Reopen = reopen_by machine machine.stage
 machine_step machine event = while_running machine (running_step machine event)
 
 -- what each event shows

@@ -1,5 +1,6 @@
 -- The events of a replay file, or the refusal of its first refused line.
-use Rattle.std.specs.Prelude.{ℕ, ◌+◌, ◌-◌, ◌==◌, nat_lt, if◌then◌else◌, List, [], ◌∷◌, length, map, Option, Some, None, Result, Ok, Err, bytes_eq, codes}
+use Rattle.std.specs.Prelude.{ℕ, ◌+◌, ◌-◌, ◌==◌, nat_lt, Bool, if◌then◌else◌, List, [], ◌∷◌, length, map, Option, Some, None, Result, Ok, Err, bytes_eq, codes}
+use Rattle.std.specs.List.{slice_split}
 use Rattle.std.specs.Option.{ok_or}
 use Rattle.prt_addr.specs.Decimal.{at_most}
 use Rattle.prt_addr.specs.Number.{number}
@@ -21,7 +22,7 @@ use Rattle.prt_world.specs.declared.event.Event.TheVariants as events
 use Rattle.prt_world.specs.declared.event.Fate.{Fate}
 use Rattle.prt_world.specs.declared.event.Fate.TheVariants.{Kept, Lost}
 use Rattle.prt_replay.specs.declared.words.EventWord.{EventWord}
-use Rattle.prt_replay.specs.declared.words.EventWord.TheVariants.{Submit, Call, Fail, Publish, PublishFail, Note, Ack, Online, Fetch, Announce, Offline, Look, Reclaim, Stop, Reopen}
+use Rattle.prt_replay.specs.declared.words.EventWord.TheVariants.{Submit, SubmitAll, Call, Fail, Publish, PublishFail, Note, Ack, Online, Fetch, Announce, Offline, Look, Reclaim, Stop, Reopen}
 
 -- ---- the values of an event
 
@@ -63,6 +64,19 @@ command_of (requests.Query query) = Err UnknownVerb
 abbrev pub command : List Word → Result Command Refusal
 command ws = line_request ws >>= command_of
 
+-- the word that stands between two commands
+abbrev pub is_between : Word → Bool
+is_between w = bytes_eq (codes ";") w
+
+-- a command of each of these lists of words
+abbrev pub each_command : List (List Word) → Result (List Command) Refusal
+each_command [] = Ok []
+each_command (ws ∷ others) = command ws >>= λ first. map_ok (λ more. first ∷ more) (each_command others)
+
+-- commands, with a word `;` between each and the next
+abbrev pub commands : List Word → Result (List Command) Refusal
+commands ws = each_command (slice_split is_between ws)
+
 abbrev pub packet_of : Request → Result Packet Refusal
 packet_of (requests.Query (Get packet)) = Ok packet
 packet_of other = Err UnknownVerb
@@ -80,6 +94,7 @@ look ws = value_word ws >>= λ t. looker t.0 >>= λ n. map_ok (λ packet. (n, pa
 -- the event of an event word and the words after it
 abbrev pub event_of : EventWord → List Word → Result Event Refusal
 event_of Submit ws = map_ok events.Submit (command ws)
+event_of SubmitAll ws = map_ok events.SubmitAll (commands ws)
 event_of Call ws = at_end events.Call ws
 event_of Fail ws = map_ok events.Fail (lone_fate ws)
 event_of Publish ws = at_end events.Publish ws

@@ -14,6 +14,8 @@ ghost use Rattle.prt_world.specs.declared.outcome.Outcome.TheVariants as outcome
 pub fn event_lines()
     ensures submit { line_event (codes "submit route add default dev eth0") ≡ Ok (Some (events.Submit (RouteAdd default_route))) }
     ensures submit_after_ip { line_event (codes "\tsubmit ip -4 rule flush # all of them") ≡ Ok (Some (events.Submit RuleFlush)) }
+    ensures submit_all { line_event (codes "submitall route add default dev eth0 ; rule flush") ≡ Ok (Some (events.SubmitAll (RouteAdd default_route ∷ RuleFlush ∷ []))) }
+    ensures submit_all_of_one { line_event (codes "submitall ip rule flush # alone") ≡ Ok (Some (events.SubmitAll (RuleFlush ∷ []))) }
     ensures call { line_event (codes "call") ≡ Ok (Some events.Call) }
     ensures fail_kept { line_event (codes "fail kept") ≡ Ok (Some (events.Fail Kept)) }
     ensures fail_lost { line_event (codes "fail lost") ≡ Ok (Some (events.Fail Lost)) }
@@ -63,6 +65,14 @@ pub fn refused_lines()
     ensures no_object_submitted { line_event (codes "submit ip") ≡ Err UnknownObject }
     ensures bad_line_submitted { line_event (codes "submit route add 10/33") ≡ Err BadPrefix }
     ensures no_next_hop_submitted { line_event (codes "submit route add 10/8") ≡ Err NoNextHop }
+    ensures none_of_all { line_event (codes "submitall") ≡ Err MissingDestination }
+    ensures blank_before_the_first { line_event (codes "submitall ; rule flush") ≡ Err MissingDestination }
+    ensures blank_between { line_event (codes "submitall rule flush ; ; rule flush") ≡ Err MissingDestination }
+    ensures blank_after_the_last { line_event (codes "submitall rule flush ; # rule flush") ≡ Err MissingDestination }
+    ensures query_among_all { line_event (codes "submitall rule flush ; rule") ≡ Err UnknownVerb }
+    ensures first_fault_of_all { line_event (codes "submitall route add 10/8 ; rule") ≡ Err NoNextHop }
+    ensures semicolon_in_a_word { line_event (codes "submitall rule flush; rule flush") ≡ Err UnknownVerb }
+    ensures two_to_submit { line_event (codes "submit rule flush ; rule flush") ≡ Err UnknownWord }
     ensures not_ascii { line_event (codes "call" ++ 195 ∷ []) ≡ Err NotAscii }
     ensures too_long { line_event (codes "call" ++ replicate 1021 32) ≡ Err LineTooLong }
     ensures first_of_two_lines { events_of (codes "call\n\nfail\nonline 64\n") ≡ Err MissingValue }

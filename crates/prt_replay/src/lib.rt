@@ -9,6 +9,7 @@ mod read;
 mod replay;
 mod replay_file;
 pub mod replays;
+mod stage;
 mod text;
 mod trace;
 mod words;

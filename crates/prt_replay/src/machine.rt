@@ -1,31 +1,21 @@
 //! A replay: real versions and the real registry, with a version in memory as the disk.
-ghost use Rattle.std.specs.Prelude.{◌≡◌, IfOk, Ok, true};
+ghost use Rattle.std.specs.Prelude.{◌≡◌, IfOk, None, true};
 ghost use Rattle.std.specs.Arc.{arc_value};
-ghost use Rattle.prt_version.specs.Change.{IsChecked, put};
+ghost use Rattle.prt_version.specs.Change.{fold};
 ghost use Rattle.prt_version.specs.State.{opening_state};
-ghost use Rattle.prt_addr.specs.declared.refusal.StoreCall.TheVariants.{Commit};
-ghost use Rattle.prt_world.specs.World.{is_stopped};
+ghost use Rattle.prt_addr.specs.declared.refusal.StoreCall.TheVariants.{Write};
 ghost use Rattle.prt_world.specs.declared.outcome.Outcome.TheVariants as outcomes;
-ghost use Rattle.prt_world.specs.declared.phase.Phase.TheVariants.{Prepared, Ready, Stopped};
-ghost use Rattle.prt_replay.specs.Machine.{acknowledge_by, announce_by, announced_at, call_by, can_announce, fail_by, fail_publication_by, fetch_by, in_phase, left_by, look_by, machine_step, note_by, offline_by, online_by, opened, prepare_next, publish_by, reclaim_by, reopen_by, running_step, seat_of, stop_by, submit_by};
+ghost use Rattle.prt_replay.specs.declared.stage.Stage.TheVariants.{Prepared, Ready, Stopped};
+ghost use Rattle.prt_replay.specs.Machine.{acknowledge_by, announce_by, announced_at, at_stage, call_by, can_announce, commit_by, fail_by, fail_publication_by, fetch_by, is_stopped_at, left_by, look_by, machine_step, note_by, offline_by, online_by, opened, prepare_all, publish_by, reclaim_by, reopen_by, running_step, seat_of, stop_by, submit_by, submit_some};
 
 use crate::lookers::Lookers;
-use prt_version::{Change, Version};
-use prt_world::{Command, Event, Fate, LookerNumber, Outcome, Packet, Phase, Refusal, StoreCall};
+use crate::stage::Stage;
+use prt_version::Version;
+use prt_world::{Command, Event, Fate, LookerNumber, Outcome, Packet, Refusal, StoreCall};
 use std::alloc::{AllocError, Global};
 use std::marker::Model;
+use std::slice;
 use std::sync::Arc;
-
-/// Makes the first owner of the version after a change.
-fn next_owner(alloc: Global, version: &Version, change: &Change) -> Result<Arc<Version>, AllocError>
-    requires { IsChecked version.now change.now }
-    ensures { IfOk result (λ next. arc_value next ≡ put version.now change.now) }
-{
-    let Ok(next) = version.next(change) else {
-        return Err(AllocError);
-    };
-    Ok(Arc::new(alloc, next)?)
-}
 
 /// What the service, its disk and its lookers hold.
 #[derive(Drop)]
@@ -33,9 +23,9 @@ pub(crate) struct Machine {
     lookers: Lookers,
     published: Arc<Version>,
     disk: Arc<Version>,
-    /// The version after the command that is under way.
+    /// The version after the commands that are under way.
     next: Arc<Version>,
-    phase: Phase,
+    stage: Stage,
 }
 
 impl Model for Machine {
@@ -44,7 +34,7 @@ impl Model for Machine {
 
     ghost Value = { MachineState };
 
-    ghost view = { λ m. record { lookers = m.lookers; published = arc_value m.published; disk = arc_value m.disk; next = arc_value m.next; phase = m.phase } };
+    ghost view = { λ m. record { lookers = m.lookers; published = arc_value m.published; disk = arc_value m.disk; next = arc_value m.next; stage = m.stage } };
 }
 
 impl Machine {
@@ -60,7 +50,7 @@ impl Machine {
             published,
             disk,
             next,
-            phase: Phase::Ready,
+            stage: Stage::Ready,
         })
     }
 
@@ -74,99 +64,111 @@ impl Machine {
         Machine::opened(alloc, Arc::new(alloc, version)?)
     }
 
-    /// Checks a command where none is under way.
-    fn submit(&mut self, alloc: Global, command: &Command) -> Result<Outcome, AllocError>
-        ensures { IfOk result (λ outcome. record { machine = self.new; outcome = outcome } ≡ submit_by self.old command.now self.old.phase) }
+    /// Checks commands together where none is under way.
+    fn submit(&mut self, alloc: Global, commands: &[Command]) -> Result<Outcome, AllocError>
+        ensures { IfOk result (λ outcome. record { machine = self.new; outcome = outcome } ≡ submit_some self.old commands.now) }
     {
-        match self.phase {
-            Phase::Ready => self.prepare(alloc, command),
-            Phase::Closed => Ok(Outcome::Refused(Refusal::Closed)),
+        if commands.is_empty() {
+            return Ok(Outcome::Nothing);
+        }
+        match self.stage {
+            Stage::Ready => self.prepare(alloc, commands),
+            Stage::Closed => Ok(Outcome::Refused(Refusal::Closed)),
             _ => Ok(Outcome::Nothing),
         }
     }
 
-    /// Makes the version after a command, unless that is refused or there is no room.
-    fn prepare(&mut self, alloc: Global, command: &Command) -> Result<Outcome, AllocError>
-        requires { self.old.phase ≡ Ready }
-        ensures { IfOk result (λ outcome. record { machine = self.new; outcome = outcome } ≡ submit_by self.old command.now Ready) }
+    /// Makes the version after commands, unless one is refused or there is no room.
+    fn prepare(&mut self, alloc: Global, commands: &[Command]) -> Result<Outcome, AllocError>
+        ensures { IfOk result (λ outcome. record { machine = self.new; outcome = outcome } ≡ submit_by self.old commands.now Ready) }
     {
-        match self.published.check(command) {
-            Ok(change) if self.lookers.has_room() => self.prepare_next(alloc, command, &change),
+        match self.published.after_all(commands) {
+            Ok((_, next)) if self.lookers.has_room() => self.prepare_next(alloc, next, commands),
             Ok(_) => Ok(Outcome::Refused(Refusal::Busy)),
+            Err(Refusal::NoMemory) => Err(AllocError),
             Err(reason) => Ok(Outcome::Refused(reason)),
         }
     }
 
-    /// Makes the version after the change that a command makes.
+    /// Goes on with the version after commands.
     fn prepare_next(
         &mut self,
         alloc: Global,
-        command: &Command,
-        change: &Change,
+        next: Version,
+        commands: &[Command],
     ) -> Result<Outcome, AllocError>
-        requires { IsChecked self.old.published change.now }
-        ensures { IfOk result (λ outcome. record { machine = self.new; outcome = outcome } ≡ prepare_next self.old command.now (Ok change.now) true) }
+        requires { next ≡ fold self.old.published commands.now }
+        ensures { IfOk result (λ outcome. record { machine = self.new; outcome = outcome } ≡ prepare_all self.old commands.now None true) }
     {
-        self.next = next_owner(alloc, &self.published, change)?;
-        self.phase = Phase::Prepared(*command, StoreCall::Begin);
+        self.next = Arc::new(alloc, next)?;
+        self.stage = Stage::Prepared(commands.len(), StoreCall::Begin);
         Ok(Outcome::Prepared(self.next.number()))
     }
 
-    /// Lets a store call succeed, after which this one is the next.
-    fn go_on(&mut self, command: Command, call: StoreCall, next: StoreCall) -> Outcome
-        ensures { record { machine = self.new; outcome = result } ≡ in_phase self.old (Prepared command next) (outcomes.Called call) }
+    /// Lets a store call succeed, after which so many commands are to be written, and this one is the next.
+    fn go_on(&mut self, call: StoreCall, left: usize, next: StoreCall) -> Outcome
+        ensures { record { machine = self.new; outcome = result } ≡ at_stage self.old (Prepared left next) (outcomes.Called call) }
     {
-        self.phase = Phase::Prepared(command, next);
+        self.stage = Stage::Prepared(left, next);
         Outcome::Called(call)
     }
 
+    /// Lets the write call of one command succeed, where so many are to be written.
+    fn write(&mut self, left: usize) -> Outcome
+        ensures { record { machine = self.new; outcome = result } ≡ call_by self.old (Prepared left Write) }
+    {
+        if left > 1 {
+            self.go_on(StoreCall::Write, left - 1, StoreCall::Write)
+        } else {
+            self.go_on(StoreCall::Write, 0, StoreCall::Count)
+        }
+    }
+
     /// Lets the commit call succeed.
-    fn commit(&mut self, command: Command) -> Result<Outcome, AllocError>
-        ensures { IfOk result (λ outcome. record { machine = self.new; outcome = outcome } ≡ call_by self.old (Prepared command Commit)) }
+    fn commit(&mut self) -> Result<Outcome, AllocError>
+        ensures { IfOk result (λ outcome. record { machine = self.new; outcome = outcome } ≡ commit_by self.old) }
     {
         self.disk = Arc::try_clone(&self.next)?;
-        self.phase = Phase::Committed(command);
+        self.stage = Stage::Committed;
         Ok(Outcome::Called(StoreCall::Commit))
     }
 
     /// Lets the next store call succeed.
     fn call(&mut self) -> Result<Outcome, AllocError>
-        ensures { IfOk result (λ outcome. record { machine = self.new; outcome = outcome } ≡ call_by self.old self.old.phase) }
+        ensures { IfOk result (λ outcome. record { machine = self.new; outcome = outcome } ≡ call_by self.old self.old.stage) }
     {
-        match self.phase {
-            Phase::Prepared(command, StoreCall::Begin) => {
-                Ok(self.go_on(command, StoreCall::Begin, StoreCall::Write))
+        match self.stage {
+            Stage::Prepared(left, StoreCall::Begin) => {
+                Ok(self.go_on(StoreCall::Begin, left, StoreCall::Write))
             }
-            Phase::Prepared(command, StoreCall::Write) => {
-                Ok(self.go_on(command, StoreCall::Write, StoreCall::Count))
+            Stage::Prepared(left, StoreCall::Write) => Ok(self.write(left)),
+            Stage::Prepared(left, StoreCall::Count) => {
+                Ok(self.go_on(StoreCall::Count, left, StoreCall::Commit))
             }
-            Phase::Prepared(command, StoreCall::Count) => {
-                Ok(self.go_on(command, StoreCall::Count, StoreCall::Commit))
-            }
-            Phase::Prepared(command, StoreCall::Commit) => self.commit(command),
+            Stage::Prepared(_, StoreCall::Commit) => self.commit(),
             _ => Ok(Outcome::Nothing),
         }
     }
 
     /// Gives what a failure or a stop leaves on the disk.
     fn left(&self, fate: Fate) -> Result<Arc<Version>, AllocError>
-        ensures { IfOk result (λ disk. arc_value disk ≡ left_by self.now fate self.now.phase) }
+        ensures { IfOk result (λ disk. arc_value disk ≡ left_by self.now fate self.now.stage) }
     {
-        match (fate, self.phase) {
-            (Fate::Kept, Phase::Prepared(_, StoreCall::Commit)) => Arc::try_clone(&self.next),
+        match (fate, self.stage) {
+            (Fate::Kept, Stage::Prepared(_, StoreCall::Commit)) => Arc::try_clone(&self.next),
             _ => Arc::try_clone(&self.disk),
         }
     }
 
     /// Lets the next store call fail.
     fn fail(&mut self, fate: Fate) -> Result<Outcome, AllocError>
-        ensures { IfOk result (λ outcome. record { machine = self.new; outcome = outcome } ≡ fail_by self.old fate self.old.phase) }
+        ensures { IfOk result (λ outcome. record { machine = self.new; outcome = outcome } ≡ fail_by self.old fate self.old.stage) }
     {
-        let Phase::Prepared(_, call) = self.phase else {
+        let Stage::Prepared(_, call) = self.stage else {
             return Ok(Outcome::Nothing);
         };
         self.disk = self.left(fate)?;
-        self.phase = Phase::Closed;
+        self.stage = Stage::Closed;
         Ok(Outcome::Refused(Refusal::StoreFailed(call)))
     }
 
@@ -175,16 +177,16 @@ impl Machine {
         ensures { IfOk result (λ outcome. record { machine = self.new; outcome = outcome } ≡ stop_by self.old fate) }
     {
         self.disk = self.left(fate)?;
-        self.phase = Phase::Stopped;
+        self.stage = Stage::Stopped;
         Ok(Outcome::Stopped)
     }
 
     /// Opens the database again after a stop or a failure.
     fn reopen(&mut self, alloc: Global) -> Result<Outcome, AllocError>
-        ensures { IfOk result (λ outcome. record { machine = self.new; outcome = outcome } ≡ reopen_by self.old self.old.phase) }
+        ensures { IfOk result (λ outcome. record { machine = self.new; outcome = outcome } ≡ reopen_by self.old self.old.stage) }
     {
-        match self.phase {
-            Phase::Closed | Phase::Stopped => self.open_again(alloc),
+        match self.stage {
+            Stage::Closed | Stage::Stopped => self.open_again(alloc),
             _ => Ok(Outcome::Nothing),
         }
     }
@@ -197,34 +199,34 @@ impl Machine {
         Ok(Outcome::Reopened(self.disk.number()))
     }
 
-    /// Publishes the version of the committed command.
+    /// Publishes the version of the committed commands.
     fn publish(&mut self) -> Result<Outcome, AllocError>
-        ensures { IfOk result (λ outcome. record { machine = self.new; outcome = outcome } ≡ publish_by self.old self.old.phase) }
+        ensures { IfOk result (λ outcome. record { machine = self.new; outcome = outcome } ≡ publish_by self.old self.old.stage) }
     {
-        let Phase::Committed(command) = self.phase else {
+        let Stage::Committed = self.stage else {
             return Ok(Outcome::Nothing);
         };
         self.published = Arc::try_clone(&self.disk)?;
-        self.phase = Phase::Published(command);
+        self.stage = Stage::Published;
         Ok(Outcome::Published(self.published.number()))
     }
 
-    /// Refuses the publication of the committed command.
+    /// Refuses the publication of the committed commands.
     fn fail_publication(&mut self) -> Outcome
-        ensures { record { machine = self.new; outcome = result } ≡ fail_publication_by self.old self.old.phase }
+        ensures { record { machine = self.new; outcome = result } ≡ fail_publication_by self.old self.old.stage }
     {
-        let Phase::Committed(_) = self.phase else {
+        let Stage::Committed = self.stage else {
             return Outcome::Nothing;
         };
-        self.phase = Phase::Closed;
+        self.stage = Stage::Closed;
         Outcome::Refused(Refusal::NotPublished)
     }
 
     /// Notes the published version, for which its submission left room.
     fn note(&mut self) -> Result<Outcome, AllocError>
-        ensures { IfOk result (λ outcome. record { machine = self.new; outcome = outcome } ≡ note_by self.old self.old.phase) }
+        ensures { IfOk result (λ outcome. record { machine = self.new; outcome = outcome } ≡ note_by self.old self.old.stage) }
     {
-        let Phase::Published(command) = self.phase else {
+        let Stage::Published = self.stage else {
             return Ok(Outcome::Nothing);
         };
         let number = self.published.number();
@@ -232,18 +234,18 @@ impl Machine {
             return Ok(Outcome::Nothing);
         }
         self.lookers.note(Arc::try_clone(&self.published)?);
-        self.phase = Phase::Noted(command);
+        self.stage = Stage::Noted;
         Ok(Outcome::Noted(number))
     }
 
-    /// Acknowledges the noted command.
+    /// Acknowledges the noted commands.
     fn acknowledge(&mut self) -> Outcome
-        ensures { record { machine = self.new; outcome = result } ≡ acknowledge_by self.old self.old.phase }
+        ensures { record { machine = self.new; outcome = result } ≡ acknowledge_by self.old self.old.stage }
     {
-        let Phase::Noted(_) = self.phase else {
+        let Stage::Noted = self.stage else {
             return Outcome::Nothing;
         };
-        self.phase = Phase::Ready;
+        self.stage = Stage::Ready;
         Outcome::Acknowledged(self.published.number())
     }
 
@@ -332,7 +334,8 @@ impl Machine {
         ensures { IfOk result (λ outcome. record { machine = self.new; outcome = outcome } ≡ machine_step self.old event.now) }
     {
         match event {
-            Event::Submit(command) => self.submit(alloc, command),
+            Event::Submit(command) => self.submit(alloc, slice::from_ref(command)),
+            Event::SubmitAll(commands) => self.submit(alloc, commands.as_slice()),
             Event::Call => self.call(),
             Event::Fail(fate) => self.fail(*fate),
             Event::Publish => self.publish(),
@@ -347,8 +350,8 @@ impl Machine {
 
     /// Tells whether everything is stopped.
     fn is_stopped(&self) -> bool
-        ensures { result ≡ is_stopped self.now.phase }
+        ensures { result ≡ is_stopped_at self.now.stage }
     {
-        matches!(self.phase, Phase::Stopped)
+        matches!(self.stage, Stage::Stopped)
     }
 }

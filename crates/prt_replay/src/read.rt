@@ -1,12 +1,15 @@
 //! The event of a line.
-ghost use Rattle.std.specs.Prelude.{◌≡◌, Err, MatchResult, Ok};
+ghost use Rattle.std.specs.Prelude.{◌≡◌, ◌⊎◌, ◌++◌, Err, IfErr, MatchResult, Ok, OnOk, codes};
+ghost use Rattle.prt_addr.specs.declared.refusal.Refusal.TheVariants.{NoMemory};
 ghost use Rattle.prt_command.specs.Reading.{words};
-ghost use Rattle.prt_replay.specs.ReadEvents.{at_end, command, event_of, fate, line_event, line_request, lone_fate, lone_looker, look, looker, packet, value_word};
+ghost use Rattle.prt_replay.specs.ReadSteps.{IsAdded};
+ghost use Rattle.prt_replay.specs.ReadEvents.{at_end, command, commands, event_of, fate, line_event, line_request, lone_fate, lone_looker, look, looker, packet, value_word};
 
 use crate::words::{EventWord, event_word};
 use prt_addr::{Refusal, read_number};
 use prt_command::{Command, Packet, Query, Request, is, line_text, next_word, read_text};
-use prt_world::{Event, Fate, LookerNumber};
+use prt_world::{Commands, Event, Fate, LookerNumber};
+use std::alloc::Global;
 
 /// Takes a value, which has to be there: its word, and the text after it.
 fn value_word(text: &[u8]) -> Result<(&[u8], &[u8]), Refusal>
@@ -18,7 +21,7 @@ fn value_word(text: &[u8]) -> Result<(&[u8], &[u8]), Refusal>
 }
 
 /// Gives this back where no word stands after it.
-fn at_end<T: Copy>(value: T, text: &[u8]) -> Result<T, Refusal>
+fn at_end<T: Drop>(value: T, text: &[u8]) -> Result<T, Refusal>
     ensures { result ≡ at_end value (words text.now) }
 {
     match next_word(text) {
@@ -117,12 +120,73 @@ fn read_submit(text: &[u8]) -> Result<Event, Refusal>
     }
 }
 
+/// Adds the command of a line to others.
+fn add_command(them: &mut Vec<Command>, line: &[u8]) -> Result<(), Refusal>
+    ensures { MatchResult result
+        (λ _. IsAdded them.old.items (words line.now) them.new.items)
+        (λ e. (command (words line.now) ≡ Err e) ⊎ (e ≡ NoMemory)) }
+{
+    match read_command(line) {
+        Ok(command) => them.extend_from_slice(&[command])?,
+        Err(refusal) => return Err(refusal),
+    }
+    Ok(())
+}
+
+/// Adds a word to a line, and a space.
+fn add_word(line: &mut Vec<u8>, word: &[u8]) -> Result<(), Refusal>
+    ensures line { OnOk result (line.new.items ≡ line.old.items ++ (word.now ++ codes " ")) }
+    ensures reason { IfErr result (λ e. e ≡ NoMemory) }
+{
+    line.extend_from_slice(word)?;
+    line.extend_from_slice(b" ")?;
+    Ok(())
+}
+
+/// Reads commands that stand in one line, with a word `;` between each and the next.
+fn read_commands(alloc: Global, text: &[u8]) -> Result<Vec<Command>, Refusal>
+    ensures { MatchResult result
+        (λ them. commands (words text.now) ≡ Ok them.items)
+        (λ e. (commands (words text.now) ≡ Err e) ⊎ (e ≡ NoMemory)) }
+{
+    let mut them = Vec::new(alloc);
+    // The words of the command at hand, by themselves.
+    let mut line = Vec::new(alloc);
+    let mut rest = text;
+    'words: while let Some((word, after)) = next_word(rest) {
+        if is(word, b";") {
+            if let Err(refusal) = add_command(&mut them, line.as_slice()) {
+                return Err(refusal);
+            }
+            line.clear();
+        } else {
+            add_word(&mut line, word)?;
+        }
+        rest = after;
+    }
+    match add_command(&mut them, line.as_slice()) {
+        Ok(()) => Ok(them),
+        Err(refusal) => Err(refusal),
+    }
+}
+
+/// Reads commands as the event that submits them together.
+fn read_submit_all(alloc: Global, text: &[u8]) -> Result<Event, Refusal>
+    ensures { (result ≡ event_of EventWord.SubmitAll (words text.now)) ⊎ (result ≡ Err NoMemory) }
+{
+    match read_commands(alloc, text) {
+        Ok(commands) => Ok(Event::SubmitAll(Commands::new(commands))),
+        Err(refusal) => Err(refusal),
+    }
+}
+
 /// Reads the event that this word begins.
-fn read_event(first: EventWord, text: &[u8]) -> Result<Event, Refusal>
-    ensures { result ≡ event_of first (words text.now) }
+fn read_event(alloc: Global, first: EventWord, text: &[u8]) -> Result<Event, Refusal>
+    ensures { (result ≡ event_of first (words text.now)) ⊎ (result ≡ Err NoMemory) }
 {
     match first {
         EventWord::Submit => read_submit(text),
+        EventWord::SubmitAll => read_submit_all(alloc, text),
         EventWord::Call => at_end(Event::Call, text),
         EventWord::Fail => read_lone_fate(text).map(Event::Fail),
         EventWord::Publish => at_end(Event::Publish, text),
@@ -147,17 +211,17 @@ fn read_event(first: EventWord, text: &[u8]) -> Result<Event, Refusal>
 ///
 /// # Errors
 ///
-/// The first fault of the line.
+/// The first fault of the line, or `NoMemory`.
 #[tactic(auto, unfolding(crate::specs::ReadEvents::line_event))]
-pub(crate) fn read_event_line(line: &[u8]) -> Result<Option<Event>, Refusal>
-    ensures { result ≡ line_event line.now }
+pub(crate) fn read_event_line(alloc: Global, line: &[u8]) -> Result<Option<Event>, Refusal>
+    ensures { (result ≡ line_event line.now) ⊎ (result ≡ Err NoMemory) }
 {
     let text = line_text(line)?;
     match next_word(text) {
         None => Ok(None),
         Some((word, rest)) => {
             let first = event_word(word).ok_or(Refusal::UnknownWord)?;
-            match read_event(first, rest) {
+            match read_event(alloc, first, rest) {
                 Ok(event) => Ok(Some(event)),
                 Err(refusal) => Err(refusal),
             }

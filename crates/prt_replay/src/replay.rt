@@ -40,11 +40,11 @@ fn read_file<R: Read>(alloc: Global, reader: &mut R) -> Result<Vec<u8>, Refusal>
 /// Tells an observer of the line for which a file was refused.
 ///
 /// Where there are too many lines or events, or memory was refused, it is no line's own fault, and none is told.
-fn tell_refused<O: Observer>(bytes: &[u8], refusal: Refusal, observer: &mut O) {
+fn tell_refused<O: Observer>(alloc: Global, bytes: &[u8], refusal: Refusal, observer: &mut O) {
     if let Refusal::TooManyLines | Refusal::NoMemory = refusal {
         return;
     }
-    if let Some((number, line)) = first_refused(bytes) {
+    if let Some((number, line)) = first_refused(alloc, bytes) {
         let text = &line[..line.len().min(LONGEST_LINE)];
         observer.after(number, text, &Reply::Refused(refusal));
     }
@@ -69,7 +69,7 @@ fn trace_of<R: Read, O: Observer>(
     let events = match read_events(alloc, bytes.as_slice()) {
         Ok(events) => events,
         Err(refusal) => {
-            tell_refused(bytes.as_slice(), refusal, observer);
+            tell_refused(alloc, bytes.as_slice(), refusal, observer);
             return Err(refusal);
         }
     };

@@ -44,17 +44,17 @@ fn add_event(events: &mut Vec<Event>, event: Event) -> Result<(), Refusal>
     if events.len() >= MOST_EVENTS {
         return Err(Refusal::TooManyLines);
     }
-    events.extend_from_slice(&[event])?;
+    events.push(event)?;
     Ok(())
 }
 
 /// Adds the event of a line, if it has one.
-fn add_line(events: &mut Vec<Event>, line: &[u8]) -> Result<(), Refusal>
+fn add_line(alloc: Global, events: &mut Vec<Event>, line: &[u8]) -> Result<(), Refusal>
     ensures { MatchResult result
         (λ _. (left : ℕ) (others : List (List ℕ)) → with_lines events.old.items (left + 1) (line.now ∷ others) ≡ with_lines events.new.items left others)
         (λ e. ((left : ℕ) (others : List (List ℕ)) → with_lines events.old.items (left + 1) (line.now ∷ others) ≡ Err e) ⊎ (e ≡ NoMemory)) }
 {
-    match read_event_line(line) {
+    match read_event_line(alloc, line) {
         Ok(Some(event)) => add_event(events, event),
         Ok(None) => Ok(()),
         Err(refusal) => Err(refusal),
@@ -63,18 +63,19 @@ fn add_line(events: &mut Vec<Event>, line: &[u8]) -> Result<(), Refusal>
 
 /// Finds the first line of a replay file that is refused by itself: its number, from 1, and the line.
 ///
-/// None where none of the first `MOST_LINES` lines is.
-pub(crate) fn first_refused(bytes: &[u8]) -> Option<(u64, &[u8])>
+/// None where none of the first `MOST_LINES` lines is, or memory was refused.
+pub(crate) fn first_refused(alloc: Global, bytes: &[u8]) -> Option<(u64, &[u8])>
     ensures { IfSome result (λ found. refused_from 1 (contents bytes.now) ≡ Some (found.0, found.1.now)) }
 {
     let mut rest = bytes;
     for number in 1..=MOST_LINES as u64 {
         match next_line(rest) {
             Some((line, after)) => {
-                if read_event_line(line).is_err() {
-                    return Some((number, line));
+                match read_event_line(alloc, line) {
+                    Ok(_) => rest = after,
+                    Err(Refusal::NoMemory) => return None,
+                    Err(_) => return Some((number, line)),
                 }
-                rest = after;
             }
             None => return None,
         }
@@ -105,7 +106,7 @@ pub fn read_events(alloc: Global, bytes: &[u8]) -> Result<Vec<Event>, Refusal>
         if left == 0 {
             return Err(Refusal::TooManyLines);
         }
-        if let Err(refusal) = add_line(&mut events, line) {
+        if let Err(refusal) = add_line(alloc, &mut events, line) {
             return Err(refusal);
         }
         left -= 1;

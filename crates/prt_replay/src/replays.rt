@@ -12,6 +12,26 @@ pub fn stop_round_commit()
         ≡ codes "prepared 1\nbegin\nwrite\ncount\nstop\nreopen 0\n" }
 {}
 
+/// Stops the transaction of two commands: before its last call, within it, and after it.
+pub fn stop_round_atomic_commit()
+    ensures after { replay_text (codes "submitall route add default dev eth0 ; rule add table 7\ncall\ncall\ncall\ncall\ncall\nstop lost\nreopen\n")
+        ≡ codes "prepared 2\nbegin\nwrite\nwrite\ncount\ncommit\nstop\nreopen 2\n" }
+    ensures kept { replay_text (codes "submitall route add default dev eth0 ; rule add table 7\ncall\ncall\ncall\ncall\nstop kept\nreopen\n")
+        ≡ codes "prepared 2\nbegin\nwrite\nwrite\ncount\nstop\nreopen 2\n" }
+    ensures lost { replay_text (codes "submitall route add default dev eth0 ; rule add table 7\ncall\ncall\ncall\ncall\nstop lost\nreopen\n")
+        ≡ codes "prepared 2\nbegin\nwrite\nwrite\ncount\nstop\nreopen 0\n" }
+    ensures before { replay_text (codes "submitall route add default dev eth0 ; rule add table 7\ncall\ncall\ncall\nstop kept\nreopen\n")
+        ≡ codes "prepared 2\nbegin\nwrite\nwrite\nstop\nreopen 0\n" }
+{}
+
+/// Refuses commands together for the first refused one, and acknowledges others with the last number.
+pub fn atomic_commands()
+    ensures refused { replay_text (codes "submitall route add default dev eth0 ; route add default dev eth1\ncall\n")
+        ≡ codes "error 21 Exists\nnone\n" }
+    ensures acknowledged { replay_text (codes "submitall route add default dev eth0 ; rule add table 7\ncall\ncall\ncall\ncall\ncall\npublish\nnote\nack\nreclaim\n")
+        ≡ codes "prepared 2\nbegin\nwrite\nwrite\ncount\ncommit\npublished 2\nnoted 2\nok 2\nreclaim 1\n" }
+{}
+
 /// Lets a looker hold back the version that it may hold, until it announces a later one.
 pub fn grace_period()
     ensures { replay_text (codes "online 0\nsubmit route add default dev eth0\ncall\ncall\ncall\ncall\npublish\nnote\nack\nfetch 0\nreclaim\nlook 0 route get 10.0.0.1\nannounce 0\nreclaim\n")

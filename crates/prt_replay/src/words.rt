@@ -8,6 +8,7 @@ use prt_command::is;
 #[derive(Clone, Copy)]
 pub enum EventWord {
     Submit,
+    SubmitAll,
     Call,
     Fail,
     Publish,
@@ -24,8 +25,9 @@ pub enum EventWord {
     Reopen,
 }
 
-const EVENT_WORDS: [(&str, EventWord); 15] = [
+const EVENT_WORDS: [(&str, EventWord); 16] = [
     ("submit", EventWord::Submit),
+    ("submitall", EventWord::SubmitAll),
     ("call", EventWord::Call),
     ("fail", EventWord::Fail),
     ("publish", EventWord::Publish),

@@ -11,3 +11,6 @@ pub mod Turns
 pub mod ListReplies
 pub mod ListRefusals
 pub mod ClosedReplies
+pub mod Collected
+pub mod AtomicRuns
+pub mod Submitted

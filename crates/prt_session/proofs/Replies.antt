@@ -20,7 +20,7 @@ after_exchanges {D} {M} xs session = record { exchanges = xs ++ session.exchange
 pub replies_after : {D M : Type 0} (xs : List (Exchange M)) (session : Session D M) → replies (after_exchanges xs session) ≡ replies_of xs ++ replies session
 replies_after {D} {M} xs session = ap (λ rs. rs ++ session.last) (map-append (λ (x : Exchange M). x.reply) xs session.exchanges) ∙ append_assoc (replies_of xs) (replies_of session.exchanges) session.last
 
-text_append : (a b : List Reply) → replies_text (a ++ b) ≡ replies_text a ++ replies_text b
+pub text_append : (a b : List Reply) → replies_text (a ++ b) ≡ replies_text a ++ replies_text b
 unfolding replies_text
 text_append a b = flat_map-append reply_text a b
 
@@ -32,7 +32,7 @@ pub fault_append : (a b : List Reply) (last : Option Refusal) → fault_in last 
 unfolding fault_in
 fault_append a b last = fold-append fault_after last a b
 
-one_text : (reply : Reply) → replies_text (reply ∷ []) ≡ reply_text reply
+pub one_text : (reply : Reply) → replies_text (reply ∷ []) ≡ reply_text reply
 unfolding replies_text
 one_text reply = append_none (reply_text reply)
 

@@ -1,5 +1,5 @@
 -- What a request does at a desk.
-use Rattle.std.specs.Prelude.{◌≡◌, Bool, true, false, Option, Some, None, IfSome}
+use Rattle.std.specs.Prelude.{◌≡◌, ℕ, Bool, true, false, List, Option, Some, None, IfSome, Result, Ok, Err}
 use Rattle.prt_addr.specs.declared.refusal.Refusal.{Refusal}
 use Rattle.prt_addr.specs.declared.refusal.Refusal.TheVariants.{Closed, Busy, NoMemory, StoreFailed, NotPublished}
 use Rattle.prt_addr.specs.declared.refusal.StoreCall.{StoreCall}
@@ -11,7 +11,8 @@ use Rattle.prt_command.specs.declared.request.Request.TheVariants as requests
 use Rattle.prt_listing.specs.QueryText.{query_text}
 use Rattle.prt_session.specs.Session.{Turn}
 use Rattle.prt_session.specs.declared.reply.Reply.TheVariants.{Accepted, Answered, Refused}
-use Rattle.prt_version.specs.Change.{refusal, apply}
+use Rattle.prt_version.specs.Accepted.{refusal_all}
+use Rattle.prt_version.specs.Change.{refusal, apply, fold}
 use Rattle.prt_version.specs.State.{State}
 
 -- What a desk stands for: the state that its queries are answered from, the state that is stored, which is the same while the desk is open, and whether it is closed.
@@ -58,6 +59,35 @@ command_or_refusal desk command false None mishap = submit desk command mishap
 
 abbrev pub command_turn : DeskState → Command → Option Mishap → Turn DeskState
 command_turn desk command mishap = command_or_refusal desk command desk.closed (refusal desk.published command) mishap
+
+-- How a list of commands ends that are made together or not at all: the number of the last, or why none is made; and the desk after it.
+pub record ListTurn : Type 0 where
+  pub result : Result ℕ Refusal
+  pub desk : DeskState
+
+-- a list without a refused command, with its one mishap: the whole list is stored, or nothing of it
+abbrev pub submit_all : DeskState → List Command → Option Mishap → ListTurn
+submit_all desk commands None = record { result = Ok (fold desk.published commands).count; desk = settled (fold desk.published commands) }
+submit_all desk commands (Some no_room) = record { result = Err Busy; desk = desk }
+submit_all desk commands (Some no_memory) = record { result = Err NoMemory; desk = desk }
+submit_all desk commands (Some (store_fails call)) = record { result = Err (StoreFailed call); desk = shut desk desk.stored }
+submit_all desk commands (Some commit_kept) = record { result = Err (StoreFailed Commit); desk = shut desk (fold desk.published commands) }
+submit_all desk commands (Some publication_fails) = record { result = Err NotPublished; desk = shut desk (fold desk.published commands) }
+
+-- A list with a refused command. Memory may be refused at that command or at one before it, and then the list is not read as far as that.
+abbrev pub refuse_all : DeskState → Refusal → Option Mishap → ListTurn
+refuse_all desk reason (Some no_memory) = record { result = Err NoMemory; desk = desk }
+refuse_all desk reason mishap = record { result = Err reason; desk = desk }
+
+-- whether the desk is closed, then the first refusal among the commands, then the mishap
+abbrev pub commands_or_refusal : DeskState → List Command → Bool → Option Refusal → Option Mishap → ListTurn
+commands_or_refusal desk commands true reason mishap = record { result = Err Closed; desk = desk }
+commands_or_refusal desk commands false (Some reason) mishap = refuse_all desk reason mishap
+commands_or_refusal desk commands false None mishap = submit_all desk commands mishap
+
+-- commands that are made together or not at all, each refused or not in the state after those before it
+abbrev pub commands_turn : DeskState → List Command → Option Mishap → ListTurn
+commands_turn desk commands mishap = commands_or_refusal desk commands desk.closed (refusal_all desk.published commands) mishap
 
 -- a query is answered from the published state, also where the desk is closed
 abbrev pub query_turn : DeskState → Query → Option Mishap → Turn DeskState

@@ -7,6 +7,7 @@ pub mod Open
 pub mod Stands
 pub mod Preorder
 pub mod Run
+pub mod Atomic
 pub mod Refusals
 pub mod Steps
 pub mod Example

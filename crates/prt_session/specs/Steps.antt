@@ -1,12 +1,14 @@
 -- What the parts of a run do: one read, one line, one reply.
 use Rattle.std.specs.Prelude.{◌≡◌, ℕ, ◌+◌, ◌≤◌, ◌==◌, ◌≢◌, Bool, true, false, List, [], ◌∷◌, ◌++◌, length, Option, Some, IfSome, Result, Ok, Err, if◌then◌else◌, ⊤}
+use Rattle.std.specs.List.{All}
 use Rattle.std.specs.Io.KnownBytes.{Consumes, Appends, IsAtEnd}
 use Rattle.prt_addr.specs.declared.refusal.Refusal.{Refusal}
 use Rattle.prt_addr.specs.declared.refusal.Refusal.TheVariants.{LineTooLong, ReadFault, TooManyLines, WriteFault}
 use Rattle.prt_command.specs.Lines.{limits}
+use Rattle.prt_command.specs.Storable.{IsStorable}
 use Rattle.prt_command.specs.declared.request.Command.{Command}
 use Rattle.prt_command.specs.declared.request.Request.{Request}
-use Rattle.prt_session.specs.Desk.{DeskState, Mishap, command_turn}
+use Rattle.prt_session.specs.Desk.{DeskState, Mishap, command_turn, commands_turn}
 use Rattle.prt_session.specs.Form.{reply_in}
 use Rattle.prt_session.specs.Run.{fault_after, refused_after}
 use Rattle.prt_session.specs.Session.{Turn, TurnsOf, Mishaps, LineMay, line_turn, stops_after}
@@ -16,6 +18,7 @@ use Rattle.prt_session.specs.declared.input.ByteRead.TheVariants as bytes
 use Rattle.prt_session.specs.declared.input.LineRead.{LineRead}
 use Rattle.prt_session.specs.declared.input.Stop.{Stop}
 use Rattle.prt_session.specs.declared.input.Stop.TheVariants as stops
+use Rattle.prt_session.specs.declared.limits.TheConstants.{MOST_TOGETHER}
 use Rattle.prt_session.specs.declared.reply.Reply.{Reply}
 use Rattle.prt_session.specs.declared.reply.Reply.TheVariants.{Accepted, Refused}
 use Rattle.prt_addr.specs.declared.on_refusal.OnRefusal.{OnRefusal}
@@ -73,6 +76,14 @@ reply_of (Err reason) = Refused reason
 -- the turn of a command
 abbrev pub CommandGives : (Mishap → Type 0) → DeskState → Command → Result ℕ Refusal → DeskState → Type 0
 CommandGives may desk0 command result desk = TurnGives (λ mishap. IfSome mishap may) (command_turn desk0 command) (reply_of result) desk
+
+-- as many commands as are made together, or fewer, whose routes and rules may be stored
+abbrev pub AreSubmittable : List Command → Type 0
+AreSubmittable commands = (length commands ≤ MOST_TOGETHER) × All IsStorable commands
+
+-- the turn of commands that are made together or not at all
+abbrev pub CommandsGive : (Mishap → Type 0) → DeskState → List Command → Result ℕ Refusal → DeskState → Type 0
+CommandsGive may desk0 commands result desk = (mishap : Option Mishap) × IfSome mishap may × (result ≡ (commands_turn desk0 commands mishap).result) × (desk ≡ (commands_turn desk0 commands mishap).desk)
 
 -- the reply to a line that was read to there
 abbrev pub AnswerIs : {D M : Type 0} → TurnsOf D M → Mishaps D M → D → Stop → List ℕ → Reply → D → Type 0

@@ -1,6 +1,6 @@
 //! Scripts with their replies, computed with the definitions alone.
 ghost use Rattle.std.specs.Prelude.{◌≡◌, ◌∷◌, [], ◌++◌, None, Some, codes, length, replicate, true};
-ghost use Rattle.prt_session.specs.Example.{refusals_of, replies_to, session_on};
+ghost use Rattle.prt_session.specs.Example.{atomic_on, atomic_replies_to, refusals_of, replies_to, session_on};
 ghost use Rattle.prt_session.specs.Desk.{commit_kept, no_memory, publication_fails};
 ghost use Rattle.prt_session.specs.Session.{end_of_input, read_fault};
 ghost use Rattle.prt_addr.specs.declared.on_refusal.OnRefusal.TheVariants.{GoOn, Stop};
@@ -34,4 +34,13 @@ pub fn line_limits()
     ensures too_long { replies_to GoOn (codes "rule show" ++ replicate 1016 32 ++ codes "\nroute get 1") end_of_input [] ≡ codes "error 1 LineTooLong\nanswer 0 none\n" }
     ensures endless { replies_to GoOn (replicate 65537 32 ++ codes "\nroute get 1\n") end_of_input [] ≡ codes "error 1 LineTooLong\n" }
     ensures unread { (session_on GoOn (replicate 65537 32 ++ codes "\nroute get 1\n") end_of_input []).unread ≡ codes "\nroute get 1\n" }
+{}
+
+/// Atomic files: one that is made, one that the tables refuse, and two that are refused as they are read.
+pub fn atomic_files()
+    ensures atomic_ok { atomic_replies_to (codes "route add 10/8 dev a1\n# x\nrule add table 7\n") ≡ codes "ok 1\nok 2\n" }
+    ensures atomic_refused { atomic_replies_to (codes "route add 10/8 dev a1\nroute add 10/8 dev a2\n") ≡ codes "error 21 Exists\n" }
+    ensures none_made { (atomic_on (codes "route add 10/8 dev a1\nroute add 10/8 dev a2\n")).desk.published.count ≡ 0 }
+    ensures atomic_first_fault { atomic_replies_to (codes "route add 10/8 dev a1\nroute add 10/8 dev a2\nroute add x\n") ≡ codes "error 9 BadPrefix\n" }
+    ensures atomic_query { atomic_replies_to (codes "route add 10/8 dev a1\nrule show\n") ≡ codes "error 4 UnknownVerb\n" }
 {}

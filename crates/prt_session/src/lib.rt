@@ -1,13 +1,16 @@
 //! Sessions: the replies to a script, and the desk that executes its commands. Checks, which execute nothing.
 #![tactic(auto)]
 
+mod atomic;
 mod check;
+mod collector;
 mod desk;
 pub mod examples;
 mod executor;
 mod form;
 mod input;
 mod laws;
+mod limits;
 mod list_desk;
 mod observer;
 mod reply;
@@ -16,10 +19,12 @@ mod script_end;
 pub mod scripts;
 mod session;
 
+pub use atomic::run_atomic;
 pub use check::check_lines;
 pub use desk::Desk;
 pub use executor::Executor;
 pub use laws::{closed_replies, list_replies, session_ends};
+pub use limits::MOST_TOGETHER;
 pub use list_desk::ListDesk;
 pub use observer::{Observer, Unobserved};
 pub use prt_addr::OnRefusal;

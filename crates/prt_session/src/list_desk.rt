@@ -2,7 +2,7 @@ ghost use Rattle.std.specs.Prelude.{◌≡◌, ◌⊎◌, None, Some, IfErr, IfO
 ghost use Rattle.prt_addr.specs.declared.refusal.Refusal.TheVariants.{NoMemory};
 ghost use Rattle.prt_session.specs.Desk.{Befalls, IsNoMemory, request_turn, settled};
 ghost use Rattle.prt_session.specs.Run.{RunIs};
-ghost use Rattle.prt_session.specs.Steps.{CommandGives};
+ghost use Rattle.prt_session.specs.Steps.{CommandGives, CommandsGive};
 ghost use Rattle.prt_version.specs.Change.{refusal};
 ghost use Rattle.prt_version.specs.State.{opening_state};
 
@@ -85,6 +85,16 @@ impl Desk for ListDesk {
             Err(reason) => return Err(reason),
         };
         self.version = self.version.next(&change)?;
+        Ok(self.version.number())
+    }
+
+    /// As of `command`: an `Err` is what the first command is refused for that is refused, or want of memory, and it
+    /// leaves the desk as it was.
+    fn commands(&mut self, commands: &Vec<Command>) -> Result<u64, Refusal>
+        ensures turn { CommandsGive IsNoMemory (settled self.old) commands.now.items result (settled self.new) }
+    {
+        let (_, version) = self.version.after_all(commands.as_slice())?;
+        self.version = version;
         Ok(self.version.number())
     }
 

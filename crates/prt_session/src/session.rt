@@ -102,7 +102,7 @@ fn is_last(mode: OnRefusal, read: LineRead, reply: &Reply) -> bool
 }
 
 /// Writes the last reply of a session, in place of one to the line of this number, and takes it in.
-fn write_last<W: Write>(
+pub(crate) fn write_last<W: Write>(
     writer: &mut W,
     form: Form,
     line: u64,

@@ -14,9 +14,9 @@ pub durable_of : (w : World) → Holds w → IsDurable w
 durable_of w h = record {
   published_is_durable = h.counts.published_low;
   durable_is_accepted = h.counts.durable_low;
-  one_is_not_durable = h.counts.accepted_low;
+  all_or_none = h.counts.all_or_none;
   noted_is_published = h.counts.noted_low;
-  one_is_not_noted = h.counts.one_more;
+  all_are_noted = h.counts.all_noted;
   disk_is_prefix = h.counts.prefix;
   published_is_prefix = shown_version w h;
 }

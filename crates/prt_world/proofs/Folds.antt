@@ -1,23 +1,28 @@
 -- States after commands.
-use Rattle.std.proofs.Common.{◌≡◌, ◌+◌, List, [], ◌∷◌, ◌++◌, None, length, take, sym, ap, ◌∙◌, arith}
+use Rattle.std.proofs.Common.{◌≡◌, ◌+◌, List, [], ◌∷◌, ◌++◌, length, take, refl, sym, ap, ◌∙◌, arith}
 use Rattle.std.proofs.lemmas.List.{take_all}
 use Rattle.prt_command.specs.declared.request.Command.{Command}
-use Rattle.prt_version.specs.Change.{apply, fold, refusal}
+use Rattle.prt_version.specs.Accepted.{IsAccepted}
+use Rattle.prt_version.specs.Change.{fold}
 use Rattle.prt_version.specs.State.{State, opening_state}
-use Rattle.prt_version.proofs.Folds.{apply_count, fold_push}
+use Rattle.prt_version.proofs.Folds.{count_fold, fold_append}
 use Rattle.prt_world.specs.Durability.{state_after}
 use Rattle.prt_world.specs.World.{with_count}
 
--- the rows of a command, and then its count
-pub written_twice : (state : State) (command : Command) → refusal state command ≡ None → with_count (state.count + 1) (with_count state.count (apply state command)) ≡ apply state command
-written_twice state command allowed = ap (λ n. with_count n (apply state command)) (sym (apply_count state command allowed))
+-- the rows of commands, and then their count
+pub written_whole : (state : State) (commands : List Command) → IsAccepted state commands → with_count (state.count + length commands) (with_count state.count (fold state commands)) ≡ fold state commands
+written_whole state commands allowed = ap (λ n. with_count n (fold state commands)) (sym (count_fold state commands allowed))
 
--- the state after one command more
-pub state_after_more : (state : State) (commands : List Command) (command : Command) → state ≡ state_after commands state.count → commands ≡ take state.count commands ++ command ∷ [] → length commands ≡ state.count + 1 → refusal state command ≡ None → apply state command ≡ state_after commands (apply state command).count
-state_after_more state commands command is ends long allowed =
-    let counted : (apply state command).count ≡ state.count + 1 = apply_count state command allowed in
-    let whole : take (apply state command).count commands ≡ commands = take_all (apply state command).count commands (omega arith) in
-    ap (λ s. apply s command) is
-    ∙ sym (fold_push opening_state (take state.count commands) command)
+-- the state after more commands
+pub state_after_more : (state : State) (commands more : List Command) → state ≡ state_after commands state.count → commands ≡ take state.count commands ++ more → length commands ≡ state.count + length more → IsAccepted state more → fold state more ≡ state_after commands (fold state more).count
+state_after_more state commands more is ends long allowed =
+    let counted : (fold state more).count ≡ state.count + length more = count_fold state more allowed in
+    let whole : take (fold state more).count commands ≡ commands = take_all (fold state more).count commands (omega arith) in
+    ap (λ s. fold s more) is
+    ∙ sym (fold_append opening_state (take state.count commands) more)
     ∙ ap (fold opening_state) (sym ends)
     ∙ ap (fold opening_state) (sym whole)
+
+pub taken_before : {X : Type 0} (xs more : List X) → take (length xs) (xs ++ more) ≡ xs
+taken_before [] more = refl
+taken_before (first ∷ rest) more = ap (λ xs. first ∷ xs) (taken_before rest more)

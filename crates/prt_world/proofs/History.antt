@@ -1,9 +1,9 @@
 -- What was published, acknowledged and answered, and what lookers hold.
-use Rattle.std.proofs.Common.{◌≡◌, ℕ, ◌-◌, ◌<◌, ◌≤◌, Bool, true, false, not, ◌&&◌, ◌||◌, List, [], ◌∷◌, ◌++◌, Option, Some, None, take, replicate, refl, sym, ap, ◌∙◌, arith}
+use Rattle.std.proofs.Common.{◌≡◌, ℕ, ◌+◌, ◌-◌, ◌<◌, ◌≤◌, Bool, true, false, not, ◌&&◌, ◌||◌, List, [], ◌∷◌, ◌++◌, Option, Some, None, length, take, replicate, refl, sym, ap, ◌∙◌, arith}
 use Rattle.std.specs.Prelude.{map, nat_le, nat_lt, slice_get}
 use Rattle.std.specs.List.{list_any, AllByRecursion as Each}
 use Rattle.std.proofs.lemmas.Bool.Decides.{nat_tests}
-use Rattle.std.proofs.lemmas.List.{take-take}
+use Rattle.std.proofs.lemmas.List.{append_assoc, length-append, take-take}
 use Rattle.prt_addr.proofs.Each.{each_append, each_filtered, each_implies}
 use Rattle.prt_command.specs.declared.request.Command.{Command}
 use Rattle.prt_grace.specs.GracePeriod.{after_reclaim, is_reclaimable, may_hold}
@@ -12,8 +12,8 @@ use Rattle.prt_version.specs.Change.{fold}
 use Rattle.prt_version.specs.Select.{select}
 use Rattle.prt_version.specs.State.{State, opening_state}
 use Rattle.prt_world.specs.Durability.{state_after}
-use Rattle.prt_world.specs.World.{Ack, Lookup, LookerState, announced_by, kept, offline, online}
-use Rattle.prt_world.proofs.KeptVersions.{each_replicate, kept_alone, kept_before, kept_filtered, kept_new, slice_get-take}
+use Rattle.prt_world.specs.World.{Ack, Lookup, LookerState, acks_after, announced_by, kept, offline, online}
+use Rattle.prt_world.proofs.KeptVersions.{each_replicate, kept_alone, kept_before, kept_filtered, kept_new, slice_get-middle, slice_get-take}
 
 -- The command was accepted under the number, and is published.
 pub record IsAcked (accepted : List Command) (top : ℕ) (ack : Ack) : Type 0 where
@@ -44,6 +44,19 @@ pub record IsHistory (accepted : List Command) (top : ℕ) (versions : List Stat
   pub served : Each (IsServed accepted top versions) lookers
   pub acked : Each (IsAcked accepted top) acks
   pub answered : Each (IsAnswer accepted top) answers
+
+-- ---- commands that are acknowledged together
+
+-- each is acknowledged under its number, where these commands come after those before
+pub acks_acked : (accepted before commands : List Command) (top n : ℕ) → n ≡ length before → accepted ≡ before ++ commands → length accepted ≡ top → Each (IsAcked accepted top) (acks_after n commands)
+acks_acked accepted before [] top n after is all = tt
+acks_acked accepted before (command ∷ commands) top n after is all =
+    let long : length accepted ≡ length before + length (command ∷ commands) = ap length is ∙ length-append before (command ∷ commands) in
+    let longer : length (before ++ command ∷ []) ≡ length before + 1 = length-append before (command ∷ []) in
+    let here : slice_get accepted n ≡ Some command = ap (λ xs. slice_get xs n) is ∙ ap (slice_get (before ++ command ∷ commands)) after ∙ slice_get-middle before command commands in (
+      record { counted = omega arith; within = omega arith; command = ap (slice_get accepted) (omega arith) ∙ here },
+      acks_acked accepted (before ++ command ∷ []) commands top (n + 1) (omega arith) (is ∙ sym (append_assoc before (command ∷ []) commands)) all,
+    )
 
 -- ---- other commands after that number
 

@@ -31,9 +31,10 @@ slice_get-take (suc n) [] i h = refl
 slice_get-take (suc n) (x ∷ xs) zero h = refl
 slice_get-take (suc n) (x ∷ xs) (suc i) h = slice_get-take n xs i (omega arith)
 
-pub slice_get-push : {X : Type 0} (xs : List X) (x : X) → slice_get (xs ++ x ∷ []) (length xs) ≡ Some x
-slice_get-push [] x = refl
-slice_get-push (y ∷ xs) x = slice_get-push xs x
+-- the first element after others
+pub slice_get-middle : {X : Type 0} (xs : List X) (x : X) (ys : List X) → slice_get (xs ++ x ∷ ys) (length xs) ≡ Some x
+slice_get-middle [] x ys = refl
+slice_get-middle (y ∷ xs) x ys = slice_get-middle xs x ys
 
 -- ---- the version of a number
 

@@ -4,4 +4,5 @@ pub mod History
 pub mod Phases
 pub mod Claims
 pub mod Told
+pub mod Growth
 pub mod SideBySide

@@ -1,39 +1,40 @@
 -- What every event keeps.
-use Rattle.std.proofs.Common.{◌≡◌, ℕ, ◌+◌, ◌-◌, ◌≤◌, Bool, true, false, List, [], ◌∷◌, ◌++◌, Option, Some, None, length, take, refl, sym, ap, ◌∙◌, subst, arith, cond}
-use Rattle.std.specs.Prelude.{slice_get, unwrap_or}
-use Rattle.std.proofs.lemmas.List.{length-append, length-take-le, take-append-le}
+use Rattle.std.proofs.Common.{◌≡◌, ◌⊎◌, inl, inr, ℕ, ◌+◌, ◌-◌, ◌<◌, ◌≤◌, Bool, true, false, List, [], ◌∷◌, ◌++◌, Option, Some, None, length, take, refl, sym, ap, ◌∙◌, subst, arith, cond}
+use Rattle.std.specs.Prelude.{nat_lt, unwrap_or}
+use Rattle.std.specs.List.{AllByRecursion as Each}
+use Rattle.std.proofs.lemmas.Bool.Decides.{nat_tests}
+use Rattle.std.proofs.lemmas.List.{length-append, length-take-le, take-append-le, take_all}
 use Rattle.prt_addr.specs.declared.refusal.Refusal.{Refusal}
 use Rattle.prt_addr.specs.declared.refusal.StoreCall.TheVariants.{Begin, Write, Count, Commit}
 use Rattle.prt_addr.proofs.Each.{each_append}
 use Rattle.prt_command.specs.declared.request.Command.{Command}
 use Rattle.prt_rule.specs.declared.packet.Packet.{Packet}
-use Rattle.prt_version.specs.Change.{apply, refusal}
+use Rattle.prt_version.specs.Accepted.{IsAccepted, refusal_all}
+use Rattle.prt_version.specs.Change.{fold}
 use Rattle.prt_version.specs.Select.{select}
 use Rattle.prt_version.specs.State.{State, opening_state}
-use Rattle.prt_version.proofs.Folds.{apply_count}
+use Rattle.prt_version.proofs.Folds.{accepted_all, count_fold}
 use Rattle.prt_world.specs.Durability.{state_after}
 use Rattle.prt_world.specs.World as world
-use Rattle.prt_world.specs.World.{Ack, Lookup, LookerState, World, announced_by, kept, offline, online, published_version, start, step, stopped, run_from, version, with_count}
+use Rattle.prt_world.specs.World.{Ack, Lookup, LookerState, World, Phase, Ready, Prepared, Committed, Published, Noted, Closed, Stopped, acks_after, announced_by, kept, offline, online, published_version, start, step, stopped, run_from, version, with_count}
 use Rattle.prt_world.specs.declared.event.Event.{Event}
 use Rattle.prt_world.specs.declared.event.Event.TheVariants as events
 use Rattle.prt_world.specs.declared.event.Fate.{Fate}
 use Rattle.prt_world.specs.declared.event.Fate.TheVariants.{Kept}
-use Rattle.prt_world.specs.declared.phase.Phase.{Phase}
-use Rattle.prt_world.specs.declared.phase.Phase.TheVariants.{Ready, Prepared, Committed, Published, Noted, Closed, Stopped}
-use Rattle.prt_world.proofs.Folds.{state_after_more, written_twice}
-use Rattle.prt_world.proofs.History.{Agree, IsAcked, IsAnswer, IsHistory, IsServed, history_on, history_published, history_reclaimed, history_reopened, same_state}
+use Rattle.prt_world.proofs.Folds.{state_after_more, taken_before, written_whole}
+use Rattle.prt_world.proofs.History.{Agree, IsAcked, IsAnswer, IsHistory, IsServed, acks_acked, history_on, history_published, history_reclaimed, history_reopened, same_state}
 use Rattle.prt_grace.specs.declared.limits.TheConstants.{PLACES}
-use Rattle.prt_world.proofs.KeptVersions.{each_get, each_replicate, each_set, kept_alone, kept_count, slice_get-push}
+use Rattle.prt_world.proofs.KeptVersions.{each_get, each_replicate, each_set, kept_alone, kept_count}
 
 -- ---- the invariant
 
 -- How many commands were accepted, are durable, published and noted.
-pub record IsCounted (accepted : List Command) (disk : State) (published noted : ℕ) : Type 0 where
+pub record IsCounted (accepted last : List Command) (disk : State) (published noted : ℕ) : Type 0 where
   pub published_low : published ≤ disk.count
   pub durable_low : disk.count ≤ length accepted
-  pub accepted_low : length accepted ≤ disk.count + 1
+  pub all_or_none : (disk.count ≡ length accepted) ⊎ (accepted ≡ take disk.count accepted ++ last)
   pub noted_low : noted ≤ published
-  pub one_more : published ≤ noted + 1
+  pub all_noted : (published ≡ noted) ⊎ (published ≡ noted + length last)
   pub prefix : disk ≡ state_after accepted disk.count
 
 -- all accepted commands are durable, published and noted
@@ -42,50 +43,56 @@ pub record IsSettled (accepted : List Command) (disk : State) (published noted :
   pub shown : published ≡ disk.count
   pub known : noted ≡ published
 
--- the transaction of the last accepted command is open
-pub record IsOpen (accepted : List Command) (disk : State) (published noted : ℕ) (command : Command) : Type 0 where
-  pub ends : accepted ≡ take disk.count accepted ++ command ∷ []
-  pub one : length accepted ≡ disk.count + 1
+-- the transaction of the commands that were accepted last is open
+pub record IsOpen (accepted last : List Command) (disk : State) (published noted : ℕ) (commands : List Command) : Type 0 where
+  pub ends : accepted ≡ take disk.count accepted ++ commands
+  pub more : length accepted ≡ disk.count + length commands
   pub shown : published ≡ disk.count
   pub known : noted ≡ published
-  pub allowed : refusal disk command ≡ None
+  pub allowed : IsAccepted disk commands
+  pub some : 1 ≤ length commands
+  pub together : last ≡ commands
 
--- the last accepted command is durable, and not published
-pub record IsStored (accepted : List Command) (disk : State) (published noted : ℕ) (command : Command) : Type 0 where
+-- the commands that were accepted last are durable, and not published
+pub record IsStored (accepted last : List Command) (disk : State) (published noted : ℕ) (commands : List Command) : Type 0 where
   pub all : length accepted ≡ disk.count
-  pub next : disk.count ≡ published + 1
+  pub next : disk.count ≡ published + length commands
   pub known : noted ≡ published
-  pub after : disk ≡ apply (state_after accepted published) command
-  pub last : slice_get accepted published ≡ Some command
+  pub after : disk ≡ fold (state_after accepted published) commands
+  pub ends : accepted ≡ take published accepted ++ commands
+  pub some : 1 ≤ length commands
+  pub together : last ≡ commands
 
--- the last accepted command is published
-pub record IsShown (accepted : List Command) (disk : State) (published : ℕ) (command : Command) : Type 0 where
+-- the commands that were accepted last are published
+pub record IsShown (accepted last : List Command) (disk : State) (published : ℕ) (commands : List Command) : Type 0 where
   pub all : length accepted ≡ disk.count
   pub shown : published ≡ disk.count
-  pub positive : 1 ≤ published
-  pub last : slice_get accepted (published - 1) ≡ Some command
+  pub within : length commands ≤ published
+  pub ends : accepted ≡ take (published - length commands) accepted ++ commands
+  pub some : 1 ≤ length commands
+  pub together : last ≡ commands
 
-abbrev pub IsInPhase : List Command → State → State → ℕ → ℕ → Phase → Type 0
-IsInPhase accepted disk pending published noted Ready = IsSettled accepted disk published noted
-IsInPhase accepted disk pending published noted (Prepared command Begin) = IsSettled accepted disk published noted × (refusal disk command ≡ None)
-IsInPhase accepted disk pending published noted (Prepared command Write) = IsOpen accepted disk published noted command
-IsInPhase accepted disk pending published noted (Prepared command Count) = IsOpen accepted disk published noted command × (pending ≡ with_count disk.count (apply disk command))
-IsInPhase accepted disk pending published noted (Prepared command Commit) = IsOpen accepted disk published noted command × (pending ≡ apply disk command)
-IsInPhase accepted disk pending published noted (Committed command) = IsStored accepted disk published noted command
-IsInPhase accepted disk pending published noted (Published command) = IsShown accepted disk published command × (published ≡ noted + 1)
-IsInPhase accepted disk pending published noted (Noted command) = IsShown accepted disk published command × (published ≡ noted)
-IsInPhase accepted disk pending published noted Closed = Unit {0}
-IsInPhase accepted disk pending published noted Stopped = Unit {0}
+abbrev pub IsInPhase : List Command → List Command → State → State → ℕ → ℕ → Phase → Type 0
+IsInPhase accepted last disk pending published noted Ready = IsSettled accepted disk published noted
+IsInPhase accepted last disk pending published noted (Prepared commands done Begin) = IsSettled accepted disk published noted × IsAccepted disk commands × (1 ≤ length commands)
+IsInPhase accepted last disk pending published noted (Prepared commands done Write) = IsOpen accepted last disk published noted commands × (done < length commands)
+IsInPhase accepted last disk pending published noted (Prepared commands done Count) = IsOpen accepted last disk published noted commands × (done ≡ length commands) × (pending ≡ with_count disk.count (fold disk commands))
+IsInPhase accepted last disk pending published noted (Prepared commands done Commit) = IsOpen accepted last disk published noted commands × (done ≡ length commands) × (pending ≡ fold disk commands)
+IsInPhase accepted last disk pending published noted (Committed commands) = IsStored accepted last disk published noted commands
+IsInPhase accepted last disk pending published noted (Published commands) = IsShown accepted last disk published commands × (published ≡ noted + length commands)
+IsInPhase accepted last disk pending published noted (Noted commands) = IsShown accepted last disk published commands × (published ≡ noted)
+IsInPhase accepted last disk pending published noted Closed = Unit {0}
+IsInPhase accepted last disk pending published noted Stopped = Unit {0}
 
 abbrev pub Phased : World → Phase → Type 0
-Phased w phase = IsInPhase w.accepted w.disk w.pending w.published w.noted phase
+Phased w phase = IsInPhase w.accepted w.last w.disk w.pending w.published w.noted phase
 
 pub record Holds (w : World) : Type 0 where
-  pub counts : IsCounted w.accepted w.disk w.published w.noted
+  pub counts : IsCounted w.accepted w.last w.disk w.published w.noted
   pub history : IsHistory w.accepted w.published w.versions w.lookers w.acks w.answers
   pub phased : Phased w w.phase
 
--- ---- a command
+-- ---- commands that are made together
 
 pub shown_version : (w : World) → Holds w → published_version w ≡ state_after w.accepted w.published
 shown_version w h = ap (λ found. unwrap_or found opening_state) h.history.top_kept
@@ -94,91 +101,100 @@ shown_version w h = ap (λ found. unwrap_or found opening_state) h.history.top_k
 pub settled_version : (w : World) → Holds w → IsSettled w.accepted w.disk w.published w.noted → published_version w ≡ w.disk
 settled_version w h settled = shown_version w h ∙ ap (state_after w.accepted) settled.shown ∙ sym h.counts.prefix
 
-prepare_holds : (w : World) (command : Command) (reason : Option Refusal) (room : Bool) → refusal (published_version w) command ≡ reason → Holds w → IsSettled w.accepted w.disk w.published w.noted → Holds (world.prepare w command reason room).world
-prepare_holds w command (Some reason) room asked h settled = h
-prepare_holds w command None false asked h settled = h
-prepare_holds w command None true asked h settled = record { counts = h.counts; history = h.history; phased = (settled, ap (λ state. refusal state command) (sym (settled_version w h settled)) ∙ asked) }
+prepare_holds : (w : World) (commands : List Command) (reason : Option Refusal) (room : Bool) → 1 ≤ length commands → refusal_all (published_version w) commands ≡ reason → Holds w → IsSettled w.accepted w.disk w.published w.noted → Holds (world.prepare w commands reason room).world
+prepare_holds w commands (Some reason) room some asked h settled = h
+prepare_holds w commands None false some asked h settled = h
+prepare_holds w commands None true some asked h settled = record { counts = h.counts; history = h.history; phased = (settled, accepted_all w.disk commands (ap (λ state. refusal_all state commands) (sym (settled_version w h settled)) ∙ asked), some) }
 
-submit_holds : (w : World) (command : Command) (phase : Phase) → Holds w → Phased w phase → Holds (world.submit w command phase).world
-submit_holds w command Ready h phased = prepare_holds w command (refusal (published_version w) command) (world.has_room w) refl h phased
-submit_holds w command Closed h phased = h
-submit_holds w command phase h phased = h
+submit_holds : (w : World) (commands : List Command) (phase : Phase) → Holds w → Phased w phase → Holds (world.submit w commands phase).world
+submit_holds w [] phase h phased = h
+submit_holds w (first ∷ more) Ready h phased = prepare_holds w (first ∷ more) (refusal_all (published_version w) (first ∷ more)) (world.has_room w) (omega arith) refl h phased
+submit_holds w (first ∷ more) Closed h phased = h
+submit_holds w (first ∷ more) phase h phased = h
 
 -- ---- a store call
 
--- one command more is accepted
-pub begin_holds : (w : World) (command : Command) → Holds w → IsSettled w.accepted w.disk w.published w.noted → refusal w.disk command ≡ None → Holds (world.begun w command)
-begin_holds w command h settled allowed =
-    let longer : length (w.accepted ++ command ∷ []) ≡ length w.accepted + 1 = length-append w.accepted (command ∷ []) in
+-- the commands are accepted
+pub begin_holds : (w : World) (commands : List Command) → Holds w → IsSettled w.accepted w.disk w.published w.noted → IsAccepted w.disk commands → 1 ≤ length commands → Holds (world.begun w commands)
+begin_holds w commands h settled allowed some =
+    let longer : length (w.accepted ++ commands) ≡ length w.accepted + length commands = length-append w.accepted commands in
     let all : length w.accepted ≡ w.disk.count = settled.all in
-    let agree : Agree w.disk.count w.accepted (w.accepted ++ command ∷ []) = λ n within. take-append-le n w.accepted (command ∷ []) (omega arith) in
+    let agree : Agree w.disk.count w.accepted (w.accepted ++ commands) = λ n within. take-append-le n w.accepted commands (omega arith) in
     let shown : w.published ≡ w.disk.count = settled.shown in
-    let whole : take w.disk.count (w.accepted ++ command ∷ []) ≡ w.accepted = ap (λ n. take n (w.accepted ++ command ∷ [])) (sym all) ∙ taken w.accepted command in
+    let whole : take w.disk.count (w.accepted ++ commands) ≡ w.accepted = ap (λ n. take n (w.accepted ++ commands)) (sym all) ∙ taken_before w.accepted commands in
+    let ends : w.accepted ++ commands ≡ take w.disk.count (w.accepted ++ commands) ++ commands = ap (λ xs. xs ++ commands) (sym whole) in
     record {
       counts = record {
         published_low = h.counts.published_low;
         durable_low = omega (arith, h.counts.durable_low);
-        accepted_low = omega arith;
+        all_or_none = inr ends;
         noted_low = h.counts.noted_low;
-        one_more = h.counts.one_more;
-        prefix = h.counts.prefix ∙ sym (same_state w.disk.count w.accepted (w.accepted ++ command ∷ []) agree w.disk.count (omega arith));
+        all_noted = inl (sym settled.known);
+        prefix = h.counts.prefix ∙ sym (same_state w.disk.count w.accepted (w.accepted ++ commands) agree w.disk.count (omega arith));
       };
-      history = history_on w.published w.accepted (w.accepted ++ command ∷ []) w.versions w.lookers w.acks w.answers (λ n within. agree n (omega arith)) h.history;
-      phased = record { ends = ap (λ xs. xs ++ command ∷ []) (sym whole); one = omega arith; shown = settled.shown; known = settled.known; allowed = allowed };
+      history = history_on w.published w.accepted (w.accepted ++ commands) w.versions w.lookers w.acks w.answers (λ n within. agree n (omega arith)) h.history;
+      phased = (record { ends = ends; more = omega arith; shown = settled.shown; known = settled.known; allowed = allowed; some = some; together = refl }, some);
     }
-  where
-    taken : (accepted : List Command) (command : Command) → take (length accepted) (accepted ++ command ∷ []) ≡ accepted
-    taken [] command = refl
-    taken (first ∷ rest) command = ap (λ xs. first ∷ xs) (taken rest command)
+
+written_by : (w : World) (commands : List Command) (done : ℕ) (b : Bool) → nat_lt (done + 1) (length commands) ≡ b → IsOpen w.accepted w.last w.disk w.published w.noted commands → done < length commands → IsInPhase w.accepted w.last w.disk (with_count w.disk.count (fold w.disk (take (done + 1) commands))) w.published w.noted (Prepared commands (done + 1) (cond b Write Count))
+written_by w commands done true asked opened within = (opened, grind (arith, nat_tests))
+written_by w commands done false asked opened within =
+    let last : length commands ≤ done + 1 = grind (arith, nat_tests) in
+    (opened, omega arith, ap (λ xs. with_count w.disk.count (fold w.disk xs)) (take_all (done + 1) commands last))
+
+-- the rows of one command more are written
+write_holds : (w : World) (commands : List Command) (done : ℕ) → Holds w → IsOpen w.accepted w.last w.disk w.published w.noted commands → done < length commands → Holds (world.written w commands done)
+write_holds w commands done h opened within = record { counts = h.counts; history = h.history; phased = written_by w commands done (nat_lt (done + 1) (length commands)) refl opened within }
 
 -- the disk after the commit call
-commit_counts : (w : World) (command : Command) → Holds w → IsOpen w.accepted w.disk w.published w.noted command → w.pending ≡ apply w.disk command → IsCounted w.accepted w.pending w.published w.noted
-commit_counts w command h opened made =
-    let one : length w.accepted ≡ w.disk.count + 1 = opened.one in
+commit_counts : (w : World) (commands : List Command) → Holds w → IsOpen w.accepted w.last w.disk w.published w.noted commands → w.pending ≡ fold w.disk commands → IsCounted w.accepted w.last w.pending w.published w.noted
+commit_counts w commands h opened made =
+    let more : length w.accepted ≡ w.disk.count + length commands = opened.more in
     let shown : w.published ≡ w.disk.count = opened.shown in
-    let counted : w.pending.count ≡ w.disk.count + 1 = ap (λ state. state.count) made ∙ apply_count w.disk command opened.allowed in
+    let counted : w.pending.count ≡ w.disk.count + length commands = ap (λ state. state.count) made ∙ count_fold w.disk commands opened.allowed in
     record {
       published_low = omega arith;
       durable_low = omega arith;
-      accepted_low = omega arith;
+      all_or_none = inl (omega arith);
       noted_low = h.counts.noted_low;
-      one_more = h.counts.one_more;
-      prefix = made ∙ state_after_more w.disk w.accepted command h.counts.prefix opened.ends one opened.allowed ∙ ap (λ state. state_after w.accepted state.count) (sym made);
+      all_noted = h.counts.all_noted;
+      prefix = made ∙ state_after_more w.disk w.accepted commands h.counts.prefix opened.ends more opened.allowed ∙ ap (λ state. state_after w.accepted state.count) (sym made);
     }
 
-commit_holds : (w : World) (command : Command) → Holds w → IsOpen w.accepted w.disk w.published w.noted command → w.pending ≡ apply w.disk command → Holds (world.committed w command)
-commit_holds w command h opened made =
-    let one : length w.accepted ≡ w.disk.count + 1 = opened.one in
-    let counted : w.pending.count ≡ w.disk.count + 1 = ap (λ state. state.count) made ∙ apply_count w.disk command opened.allowed in
+commit_holds : (w : World) (commands : List Command) → Holds w → IsOpen w.accepted w.last w.disk w.published w.noted commands → w.pending ≡ fold w.disk commands → Holds (world.committed w commands)
+commit_holds w commands h opened made =
+    let more : length w.accepted ≡ w.disk.count + length commands = opened.more in
+    let counted : w.pending.count ≡ w.disk.count + length commands = ap (λ state. state.count) made ∙ count_fold w.disk commands opened.allowed in
     let shown : w.published ≡ w.disk.count = opened.shown in
-    let before : length (take w.disk.count w.accepted) ≡ w.published = length-take-le w.disk.count w.accepted h.counts.durable_low ∙ sym shown in
     record {
-      counts = commit_counts w command h opened made;
+      counts = commit_counts w commands h opened made;
       history = h.history;
       phased = record {
         all = omega arith;
         next = omega arith;
         known = opened.known;
-        after = made ∙ ap (λ state. apply state command) (h.counts.prefix ∙ ap (state_after w.accepted) (sym shown));
-        last = ap (λ xs. slice_get xs w.published) opened.ends ∙ ap (slice_get (take w.disk.count w.accepted ++ command ∷ [])) (sym before) ∙ slice_get-push (take w.disk.count w.accepted) command;
+        after = made ∙ ap (λ state. fold state commands) (h.counts.prefix ∙ ap (state_after w.accepted) (sym shown));
+        ends = opened.ends ∙ ap (λ n. take n w.accepted ++ commands) (sym shown);
+        some = opened.some;
+        together = opened.together;
       };
     }
 
 call_holds : (w : World) (phase : Phase) → Holds w → Phased w phase → Holds (world.call w phase).world
-call_holds w (Prepared command Begin) h phased = begin_holds w command h phased.0 phased.1
-call_holds w (Prepared command Write) h phased = record { counts = h.counts; history = h.history; phased = (phased, refl) }
-call_holds w (Prepared command Count) h phased = record { counts = h.counts; history = h.history; phased = (phased.0, ap (with_count (w.disk.count + 1)) phased.1 ∙ written_twice w.disk command phased.0.allowed) }
-call_holds w (Prepared command Commit) h phased = commit_holds w command h phased.0 phased.1
+call_holds w (Prepared commands done Begin) h phased = begin_holds w commands h phased.0 phased.1 phased.2
+call_holds w (Prepared commands done Write) h phased = write_holds w commands done h phased.0 phased.1
+call_holds w (Prepared commands done Count) h phased = record { counts = h.counts; history = h.history; phased = (phased.0, refl, ap (with_count (w.disk.count + length commands)) phased.2 ∙ written_whole w.disk commands phased.0.allowed) }
+call_holds w (Prepared commands done Commit) h phased = commit_holds w commands h phased.0 phased.2
 call_holds w phase h phased = h
 
 -- ---- a stop
 
-stopped_counts : (w : World) (fate : Fate) (phase : Phase) → Holds w → Phased w phase → IsCounted w.accepted (stopped w fate phase) w.published w.noted
-stopped_counts w Kept (Prepared command Commit) h phased = commit_counts w command h phased.0 phased.1
+stopped_counts : (w : World) (fate : Fate) (phase : Phase) → Holds w → Phased w phase → IsCounted w.accepted w.last (stopped w fate phase) w.published w.noted
+stopped_counts w Kept (Prepared commands done Commit) h phased = commit_counts w commands h phased.0 phased.2
 stopped_counts w fate phase h phased = h.counts
 
 fail_holds : (w : World) (fate : Fate) (phase : Phase) → Holds w → Phased w phase → Holds (world.fail w fate phase).world
-fail_holds w fate (Prepared command next) h phased = record { counts = stopped_counts w fate (Prepared command next) h phased; history = h.history; phased = tt }
+fail_holds w fate (Prepared commands done next) h phased = record { counts = stopped_counts w fate (Prepared commands done next) h phased; history = h.history; phased = tt }
 fail_holds w fate phase h phased = h
 
 stop_holds : (w : World) (fate : Fate) → Holds w → Holds (world.stop w fate).world
@@ -192,9 +208,9 @@ reopened_holds w h =
       counts = record {
         published_low = omega arith;
         durable_low = omega arith;
-        accepted_low = omega arith;
+        all_or_none = inl (sym long);
         noted_low = omega arith;
-        one_more = omega arith;
+        all_noted = inl refl;
         prefix = some_same w.disk (state_after (take w.disk.count w.accepted) w.disk.count) (sym (kept_alone w.disk) ∙ history.top_kept);
       };
       history = history;
@@ -209,41 +225,44 @@ reopen_holds w Closed h = reopened_holds w h
 reopen_holds w Stopped h = reopened_holds w h
 reopen_holds w phase h = h
 
--- ---- the version of a committed command
+-- ---- the version of committed commands
 
 publish_holds : (w : World) (phase : Phase) → Holds w → Phased w phase → Holds (world.publish w phase).world
-publish_holds w (Committed command) h phased =
+publish_holds w (Committed commands) h phased =
     let all : length w.accepted ≡ w.disk.count = phased.all in
-    let next : w.disk.count ≡ w.published + 1 = phased.next in
+    let next : w.disk.count ≡ w.published + length commands = phased.next in
     let known : w.noted ≡ w.published = phased.known in
-    let made : apply (published_version w) command ≡ w.disk = ap (λ state. apply state command) (shown_version w h) ∙ sym phased.after in
+    let some : 1 ≤ length commands = phased.some in
+    let long : length w.last ≡ length commands = ap length phased.together in
+    let made : fold (published_version w) commands ≡ w.disk = ap (λ state. fold state commands) (shown_version w h) ∙ sym phased.after in
     let history : IsHistory w.accepted w.disk.count (w.versions ++ w.disk ∷ []) w.lookers w.acks w.answers = history_published w.accepted w.published w.versions w.lookers w.acks w.answers w.disk (omega arith) h.counts.prefix h.history in
+    let before : w.published ≡ w.disk.count - length commands = omega arith in
     record {
       counts = record {
         published_low = omega arith;
         durable_low = h.counts.durable_low;
-        accepted_low = h.counts.accepted_low;
+        all_or_none = h.counts.all_or_none;
         noted_low = omega arith;
-        one_more = omega arith;
+        all_noted = inr (omega arith);
         prefix = h.counts.prefix;
       };
       history = subst (λ state. IsHistory w.accepted w.disk.count (w.versions ++ state ∷ []) w.lookers w.acks w.answers) (sym made) history;
-      phased = (record { all = all; shown = refl; positive = omega arith; last = ap (slice_get w.accepted) (omega arith) ∙ phased.last }, omega arith);
+      phased = (record { all = all; shown = refl; within = omega arith; ends = phased.ends ∙ ap (λ n. take n w.accepted ++ commands) before; some = some; together = phased.together }, omega arith);
     }
 publish_holds w phase h phased = h
 
 fail_publication_holds : (w : World) (phase : Phase) → Holds w → Holds (world.fail_publication w phase).world
-fail_publication_holds w (Committed command) h = record { counts = h.counts; history = h.history; phased = tt }
+fail_publication_holds w (Committed commands) h = record { counts = h.counts; history = h.history; phased = tt }
 fail_publication_holds w phase h = h
 
 note_holds : (w : World) (phase : Phase) → Holds w → Phased w phase → Holds (world.note w phase).world
-note_holds w (Published command) h phased = record {
+note_holds w (Published commands) h phased = record {
   counts = record {
     published_low = h.counts.published_low;
     durable_low = h.counts.durable_low;
-    accepted_low = h.counts.accepted_low;
+    all_or_none = h.counts.all_or_none;
     noted_low = omega arith;
-    one_more = omega arith;
+    all_noted = inl refl;
     prefix = h.counts.prefix;
   };
   history = h.history;
@@ -251,14 +270,20 @@ note_holds w (Published command) h phased = record {
 }
 note_holds w phase h phased = h
 
+-- each of the commands is acknowledged under its number
+shown_acks : (w : World) (commands : List Command) → IsShown w.accepted w.last w.disk w.published commands → Each (IsAcked w.accepted w.published) (acks_after (w.published - length commands) commands)
+shown_acks w commands shown =
+    let top : w.published ≡ length w.accepted = shown.shown ∙ sym shown.all in
+    acks_acked w.accepted (take (w.published - length commands) w.accepted) commands w.published (w.published - length commands) (sym (length-take-le (w.published - length commands) w.accepted (omega arith))) shown.ends (sym top)
+
 ack_holds : (w : World) (phase : Phase) → Holds w → Phased w phase → Holds (world.acknowledge w phase).world
-ack_holds w (Noted command) h phased = record {
+ack_holds w (Noted commands) h phased = record {
   counts = h.counts;
   history = record {
     bounded = h.history.bounded;
     top_kept = h.history.top_kept;
     served = h.history.served;
-    acked = each_append (IsAcked w.accepted w.published) w.acks (record { number = w.published; command = command } ∷ []) h.history.acked (record { counted = phased.0.positive; within = omega arith; command = phased.0.last }, tt);
+    acked = each_append (IsAcked w.accepted w.published) w.acks (acks_after (w.published - length commands) commands) h.history.acked (shown_acks w commands phased.0);
     answered = h.history.answered;
   };
   phased = record { all = phased.0.all; shown = phased.0.shown; known = sym phased.1 };
@@ -341,7 +366,8 @@ pub looker_served : (w : World) (looker : ℕ) → Holds w → Served w (world.l
 looker_served w looker h = each_get (IsServed w.accepted w.published w.versions) w.lookers looker offline tt h.history.served
 
 pub step_holds : (w : World) (event : Event) → Holds w → Holds (step w event).world
-step_holds w (events.Submit command) h = submit_holds w command w.phase h h.phased
+step_holds w (events.Submit command) h = submit_holds w (command ∷ []) w.phase h h.phased
+step_holds w (events.SubmitAll commands) h = submit_holds w commands w.phase h h.phased
 step_holds w events.Call h = call_holds w w.phase h h.phased
 step_holds w (events.Fail fate) h = fail_holds w fate w.phase h h.phased
 step_holds w events.Publish h = publish_holds w w.phase h h.phased
@@ -359,7 +385,7 @@ step_holds w events.Reopen h = reopen_holds w w.phase h
 
 pub start_holds : Holds start
 start_holds = record {
-  counts = record { published_low = omega arith; durable_low = omega arith; accepted_low = omega arith; noted_low = omega arith; one_more = omega arith; prefix = refl };
+  counts = record { published_low = omega arith; durable_low = omega arith; all_or_none = inl refl; noted_low = omega arith; all_noted = inl refl; prefix = refl };
   history = record { bounded = (omega arith, tt); top_kept = refl; served = each_replicate (IsServed [] 0 (opening_state ∷ [])) PLACES offline tt; acked = tt; answered = tt };
   phased = record { all = refl; shown = refl; known = refl };
 }

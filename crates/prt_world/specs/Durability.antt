@@ -1,5 +1,5 @@
 -- What holds of the world after every list of events.
-use Rattle.std.specs.Prelude.{◌≡◌, ℕ, ◌+◌, ◌-◌, ◌≤◌, ◌==◌, Bool, List, [], ◌∷◌, length, take, Some, None, slice_get}
+use Rattle.std.specs.Prelude.{◌≡◌, ◌⊎◌, ℕ, ◌+◌, ◌-◌, ◌≤◌, ◌==◌, Bool, List, [], ◌∷◌, ◌++◌, length, take, Some, None, slice_get}
 use Rattle.std.specs.List.{list_any}
 use Rattle.prt_command.specs.declared.request.Command.{Command}
 use Rattle.prt_version.specs.Change.{fold}
@@ -13,13 +13,14 @@ use Rattle.prt_world.specs.declared.outcome.Outcome.TheVariants.{Reopened}
 abbrev pub state_after : List Command → ℕ → State
 state_after commands n = fold opening_state (take n commands)
 
--- What is durable is a beginning of what was accepted, which lacks one command at most; what is published is durable, and the registry has noted it or all of it but the last version.
+-- What is durable is a beginning of what was accepted, which lacks at most the command, or the commands of the file, that
+-- were accepted last; what is published is durable, and the registry has noted it or all of it but those.
 pub record IsDurable (world : World) : Type 0 where
   pub published_is_durable : world.published ≤ durable world
   pub durable_is_accepted : durable world ≤ length world.accepted
-  pub one_is_not_durable : length world.accepted ≤ durable world + 1
+  pub all_or_none : (durable world ≡ length world.accepted) ⊎ (world.accepted ≡ take (durable world) world.accepted ++ world.last)
   pub noted_is_published : world.noted ≤ world.published
-  pub one_is_not_noted : world.published ≤ world.noted + 1
+  pub all_are_noted : (world.published ≡ world.noted) ⊎ (world.published ≡ world.noted + length world.last)
   pub disk_is_prefix : world.disk ≡ state_after world.accepted (durable world)
   pub published_is_prefix : published_version world ≡ state_after world.accepted world.published
 
@@ -53,3 +54,9 @@ abbrev pub IsRetained : World → LookerState → Type 0
 IsRetained world offline = Unit {0}
 IsRetained world (online announced None) = Unit {0}
 IsRetained world (online announced (Some held)) = (announced ≤ held) × (kept world.versions held ≡ Some (state_after world.accepted held))
+
+-- What was acknowledged and answered, and what is durable, stays so in a later world.
+pub record Grows (before after : World) : Type 0 where
+  pub acks : take (length before.acks) after.acks ≡ before.acks
+  pub answers : take (length before.answers) after.answers ≡ before.answers
+  pub durable : durable before ≤ durable after

@@ -3,12 +3,14 @@
 use Rattle.std.specs.Prelude.{ℕ, ◌+◌, ◌-◌, ◌==◌, nat_lt, Bool, true, false, if◌then◌else◌, List, [], ◌∷◌, ◌++◌, length, map, take, filter, find, replicate, slice_index_or, slice_set, Option, Some, None, unwrap_or}
 use Rattle.prt_addr.specs.declared.refusal.Refusal.{Refusal}
 use Rattle.prt_addr.specs.declared.refusal.Refusal.TheVariants as refusals
+use Rattle.prt_addr.specs.declared.refusal.StoreCall.{StoreCall}
 use Rattle.prt_addr.specs.declared.refusal.StoreCall.TheVariants as calls
 use Rattle.prt_command.specs.declared.request.Command.{Command}
 use Rattle.prt_grace.specs.GracePeriod.{after_reclaim, is_retired}
 use Rattle.prt_grace.specs.declared.limits.TheConstants.{MOST_RETIRED, PLACES}
 use Rattle.prt_rule.specs.declared.packet.Packet.{Packet}
-use Rattle.prt_version.specs.Change.{apply, refusal}
+use Rattle.prt_version.specs.Accepted.{refusal_all}
+use Rattle.prt_version.specs.Change.{fold}
 use Rattle.prt_version.specs.Select.{select}
 use Rattle.prt_version.specs.State.{State, opening_state}
 use Rattle.prt_version.specs.declared.answer.Answer.{Answer}
@@ -18,10 +20,25 @@ use Rattle.prt_world.specs.declared.event.Fate.{Fate}
 use Rattle.prt_world.specs.declared.event.Fate.TheVariants.{Kept}
 use Rattle.prt_world.specs.declared.outcome.Outcome.{Outcome}
 use Rattle.prt_world.specs.declared.outcome.Outcome.TheVariants as outcomes
-use Rattle.prt_world.specs.declared.phase.Phase.{Phase}
-use Rattle.prt_world.specs.declared.phase.Phase.TheVariants.{Ready, Prepared, Committed, Published, Noted, Closed, Stopped}
 
 -- ---- the world
+
+-- How far the commands that are under way together have come.
+pub data Phase : Type 0 where
+  -- no command is under way
+  Ready : Phase
+  -- the commands were checked; the rows of so many of them are written, and this store call is the next
+  Prepared : (commands : List Command) → (written : ℕ) → (next : StoreCall) → Phase
+  -- the transaction of the commands is committed
+  Committed : (commands : List Command) → Phase
+  -- the version after the commands is published
+  Published : (commands : List Command) → Phase
+  -- the registry has noted that version
+  Noted : (commands : List Command) → Phase
+  -- a store call or a publication failed, and no command is accepted any more
+  Closed : Phase
+  -- the service is stopped
+  Stopped : Phase
 
 -- A looker: offline, or online with the number that it announced and that of the version which it holds, if it holds one.
 pub data LookerState : Type 0 where
@@ -41,6 +58,8 @@ pub record Lookup : Type 0 where
 pub record World : Type 0 where
   -- the commands that were accepted, in order
   pub accepted : List Command
+  -- the commands that were accepted last, together
+  pub last : List Command
   pub disk : State
   -- what the open transaction holds; the same as the disk where none is open
   pub pending : State
@@ -59,6 +78,7 @@ pub record World : Type 0 where
 abbrev pub start : World
 start = record {
   accepted = [];
+  last = [];
   disk = opening_state;
   pending = opening_state;
   phase = Ready;
@@ -70,7 +90,7 @@ start = record {
   answers = [];
 }
 
--- the commands that a stop leaves
+-- how many commands are durable
 abbrev pub durable : World → ℕ
 durable world = world.disk.count
 
@@ -100,65 +120,70 @@ pub record Step : Type 0 where
 abbrev pub unmet : World → Step
 unmet world = record { world = world; outcome = outcomes.Nothing }
 
--- ---- a command
+-- ---- commands that are made together
 
 -- one more version can be retired
 abbrev pub has_room : World → Bool
 has_room world = nat_lt (length (filter (λ state. is_retired world.noted state.count) world.versions)) MOST_RETIRED
 
--- the command is under way, unless there is a reason to refuse it, or no room
-abbrev pub prepare : World → Command → Option Refusal → Bool → Step
-prepare world command (Some reason) room = record { world = world; outcome = outcomes.Refused reason }
-prepare world command None false = record { world = world; outcome = outcomes.Refused refusals.Busy }
-prepare world command None true = record { world = record world { phase = Prepared command calls.Begin }; outcome = outcomes.Prepared (world.published + 1) }
+-- the commands are under way, unless there is a reason to refuse one of them, or no room
+abbrev pub prepare : World → List Command → Option Refusal → Bool → Step
+prepare world commands (Some reason) room = record { world = world; outcome = outcomes.Refused reason }
+prepare world commands None false = record { world = world; outcome = outcomes.Refused refusals.Busy }
+prepare world commands None true = record { world = record world { phase = Prepared commands 0 calls.Begin }; outcome = outcomes.Prepared (world.published + length commands) }
 
-abbrev pub submit : World → Command → Phase → Step
-submit world command Ready = prepare world command (refusal (published_version world) command) (has_room world)
-submit world command Closed = record { world = world; outcome = outcomes.Refused refusals.Closed }
-submit world command phase = unmet world
+abbrev pub submit : World → List Command → Phase → Step
+submit world [] phase = unmet world
+submit world (first ∷ more) Ready = prepare world (first ∷ more) (refusal_all (published_version world) (first ∷ more)) (has_room world)
+submit world (first ∷ more) Closed = record { world = world; outcome = outcomes.Refused refusals.Closed }
+submit world (first ∷ more) phase = unmet world
 
 -- ---- a store call
 
 abbrev pub with_count : ℕ → State → State
 with_count count state = record state { count = count }
 
--- the transaction begins, and the command is accepted
-abbrev pub begun : World → Command → World
-begun world command = record world { accepted = world.accepted ++ command ∷ []; pending = world.disk; phase = Prepared command calls.Write }
+-- the transaction begins, and the commands are accepted
+abbrev pub begun : World → List Command → World
+begun world commands = record world { accepted = world.accepted ++ commands; last = commands; pending = world.disk; phase = Prepared commands 0 calls.Write }
 
--- the rows are written, under the old count
-abbrev pub written : World → Command → World
-written world command = record world { pending = with_count world.disk.count (apply world.disk command); phase = Prepared command calls.Count }
+-- the call after so many writes of so many
+abbrev pub call_after : ℕ → ℕ → StoreCall
+call_after done all = if nat_lt done all then calls.Write else calls.Count
+
+-- the rows of one command more are written, under the old count
+abbrev pub written : World → List Command → ℕ → World
+written world commands done = record world { pending = with_count world.disk.count (fold world.disk (take (done + 1) commands)); phase = Prepared commands (done + 1) (call_after (done + 1) (length commands)) }
 
 -- the count is written
-abbrev pub counted : World → Command → World
-counted world command = record world { pending = with_count (world.disk.count + 1) world.pending; phase = Prepared command calls.Commit }
+abbrev pub counted : World → List Command → World
+counted world commands = record world { pending = with_count (world.disk.count + length commands) world.pending; phase = Prepared commands (length commands) calls.Commit }
 
-abbrev pub committed : World → Command → World
-committed world command = record world { disk = world.pending; phase = Committed command }
+abbrev pub committed : World → List Command → World
+committed world commands = record world { disk = world.pending; phase = Committed commands }
 
 -- the next store call succeeds
 abbrev pub call : World → Phase → Step
-call world (Prepared command calls.Begin) = record { world = begun world command; outcome = outcomes.Called calls.Begin }
-call world (Prepared command calls.Write) = record { world = written world command; outcome = outcomes.Called calls.Write }
-call world (Prepared command calls.Count) = record { world = counted world command; outcome = outcomes.Called calls.Count }
-call world (Prepared command calls.Commit) = record { world = committed world command; outcome = outcomes.Called calls.Commit }
+call world (Prepared commands done calls.Begin) = record { world = begun world commands; outcome = outcomes.Called calls.Begin }
+call world (Prepared commands done calls.Write) = record { world = written world commands done; outcome = outcomes.Called calls.Write }
+call world (Prepared commands done calls.Count) = record { world = counted world commands; outcome = outcomes.Called calls.Count }
+call world (Prepared commands done calls.Commit) = record { world = committed world commands; outcome = outcomes.Called calls.Commit }
 call world phase = unmet world
 
 -- ---- a stop
 
 -- what a stop leaves on the disk: within the commit call all that is pending, or nothing of it
 abbrev pub stopped : World → Fate → Phase → State
-stopped world Kept (Prepared command calls.Commit) = world.pending
+stopped world Kept (Prepared commands done calls.Commit) = world.pending
 stopped world fate phase = world.disk
 
 -- the disk after a stop, and no transaction
 abbrev pub with_disk : World → State → Phase → World
 with_disk world state phase = record world { disk = state; pending = state; phase = phase }
 
--- the next store call fails: nobody is told whether the command is durable
+-- the next store call fails: nobody is told whether the commands are durable
 abbrev pub fail : World → Fate → Phase → Step
-fail world fate (Prepared command next) = record { world = with_disk world (stopped world fate (Prepared command next)) Closed; outcome = outcomes.Refused (refusals.StoreFailed next) }
+fail world fate (Prepared commands done next) = record { world = with_disk world (stopped world fate (Prepared commands done next)) Closed; outcome = outcomes.Refused (refusals.StoreFailed next) }
 fail world fate phase = unmet world
 
 abbrev pub stop : World → Fate → Step
@@ -168,6 +193,7 @@ stop world fate = record { world = with_disk world (stopped world fate world.pha
 abbrev pub reopened : World → World
 reopened world = record {
   accepted = take (durable world) world.accepted;
+  last = [];
   disk = world.disk;
   pending = world.disk;
   phase = Ready;
@@ -184,27 +210,33 @@ reopen world Closed = record { world = reopened world; outcome = outcomes.Reopen
 reopen world Stopped = record { world = reopened world; outcome = outcomes.Reopened (durable world) }
 reopen world phase = unmet world
 
--- ---- the version of a committed command
+-- ---- the version of committed commands
 
 abbrev pub publish : World → Phase → Step
-publish world (Committed command) = record {
-  world = record world { versions = world.versions ++ apply (published_version world) command ∷ []; published = durable world; phase = Published command };
+publish world (Committed commands) = record {
+  world = record world { versions = world.versions ++ fold (published_version world) commands ∷ []; published = durable world; phase = Published commands };
   outcome = outcomes.Published (durable world);
 }
 publish world phase = unmet world
 
 abbrev pub fail_publication : World → Phase → Step
-fail_publication world (Committed command) = record { world = record world { phase = Closed }; outcome = outcomes.Refused refusals.NotPublished }
+fail_publication world (Committed commands) = record { world = record world { phase = Closed }; outcome = outcomes.Refused refusals.NotPublished }
 fail_publication world phase = unmet world
 
 -- the registry notes the published version, which retires the one before
 abbrev pub note : World → Phase → Step
-note world (Published command) = record { world = record world { noted = world.published; phase = Noted command }; outcome = outcomes.Noted world.published }
+note world (Published commands) = record { world = record world { noted = world.published; phase = Noted commands }; outcome = outcomes.Noted world.published }
 note world phase = unmet world
 
+-- each command with its number, the first with the one after n
+abbrev pub acks_after : ℕ → List Command → List Ack
+acks_after n [] = []
+acks_after n (command ∷ commands) = record { number = n + 1; command = command } ∷ acks_after (n + 1) commands
+
+-- each command is acknowledged with its own number; the last number is shown
 abbrev pub acknowledge : World → Phase → Step
-acknowledge world (Noted command) = record {
-  world = record world { acks = world.acks ++ record { number = world.published; command = command } ∷ []; phase = Ready };
+acknowledge world (Noted commands) = record {
+  world = record world { acks = world.acks ++ acks_after (world.published - length commands) commands; phase = Ready };
   outcome = outcomes.Acknowledged world.published;
 }
 acknowledge world phase = unmet world
@@ -272,7 +304,8 @@ abbrev pub unless_stopped : World → Step → Step
 unless_stopped world step = if is_stopped world.phase then unmet world else step
 
 abbrev pub step : World → Event → Step
-step world (events.Submit command) = submit world command world.phase
+step world (events.Submit command) = submit world (command ∷ []) world.phase
+step world (events.SubmitAll commands) = submit world commands world.phase
 step world events.Call = call world world.phase
 step world (events.Fail fate) = fail world fate world.phase
 step world events.Publish = publish world world.phase

@@ -45,6 +45,37 @@ impl LookerNumber {
     }
 }
 
+/// Commands that are submitted together.
+#[derive(Drop)]
+pub struct Commands {
+    commands: Vec<Command>,
+}
+
+impl Model for Commands {
+    ghost use Rattle.std.specs.Prelude.{List};
+    ghost use Rattle.prt_command.specs.declared.request.Command.{Command};
+
+    ghost Value = { List Command };
+
+    ghost view = { λ them. them.commands.items };
+}
+
+impl Commands {
+    /// Takes these commands.
+    pub fn new(commands: Vec<Command>) -> Commands
+        ensures { result ≡ commands.items }
+    {
+        Commands { commands }
+    }
+
+    /// Gives the commands, in order.
+    pub fn as_slice(&self) -> &[Command]
+        ensures { result.now ≡ self.now }
+    {
+        self.commands.as_slice()
+    }
+}
+
 /// What a failure or a stop makes of a transaction whose commit it cuts short.
 #[derive(Clone, Copy)]
 pub enum Fate {
@@ -55,10 +86,12 @@ pub enum Fate {
 }
 
 /// One atomic step of publisher, store, lookers and registry.
-#[derive(Clone, Copy)]
+#[derive(Drop)]
 pub enum Event {
     /// A command is checked and prepared.
     Submit(Command),
+    /// Commands are checked and prepared together: those of a file.
+    SubmitAll(Commands),
     /// The next store call succeeds.
     Call,
     /// The next store call fails.
@@ -69,7 +102,7 @@ pub enum Event {
     PublishFail,
     /// The registry notes the published version.
     Note,
-    /// The command is acknowledged.
+    /// The commands are acknowledged, each with its own number.
     Ack,
     /// A looker announces the noted version.
     Online(LookerNumber),

@@ -4,12 +4,10 @@
 mod event;
 mod laws;
 mod outcome;
-mod phase;
 
-pub use event::{Event, Fate, LookerNumber};
+pub use event::{Commands, Event, Fate, LookerNumber};
 pub use laws::every_run;
 pub use outcome::Outcome;
-pub use phase::Phase;
 pub use prt_addr::{Refusal, StoreCall};
 pub use prt_command::{Command, Packet};
 pub use prt_version::Answer;

@@ -7,7 +7,7 @@ use prt_version::Answer;
 pub enum Outcome {
     /// Nothing: the event could not happen, and nothing changed.
     Nothing,
-    /// The command with this number is prepared.
+    /// The commands are prepared, and the last has this number.
     Prepared(u64),
     /// The event was refused, or failed.
     Refused(Refusal),
@@ -17,7 +17,7 @@ pub enum Outcome {
     Published(u64),
     /// The version of this number is noted.
     Noted(u64),
-    /// The command with this number is acknowledged.
+    /// The commands are acknowledged, and the last has this number.
     Acknowledged(u64),
     /// The looker announced this number and is online.
     Online(LookerNumber, u64),

@@ -8,6 +8,8 @@ unfolding events_of events_of_lines line_event lines_of
 returns c = record {
   submit = refl;
   submit_after_ip = refl;
+  submit_all = refl;
+  submit_all_of_one = refl;
   call = refl;
   fail_kept = refl;
   fail_lost = refl;

@@ -1,5 +1,6 @@
 use Rattle.prt_world.specs.World.{run_from, start}
 use Rattle.prt_world.proofs.Claims.{acknowledged_of, answered_of, durable_of, reopened_of, retained_of}
+use Rattle.prt_world.proofs.Growth.{grows_on}
 use Rattle.prt_world.proofs.Phases.{every_run_holds}
 use Rattle.prt_world.proofs.Told.{all_but_last}
 use Rattle.prt_world.proofs.laws.every_run.Goals as goal
@@ -12,4 +13,5 @@ returns c = record {
   all_but_last = all_but_last;
   answered = λ events. answered_of (run_from start events) (every_run_holds events);
   retained = λ events. retained_of (run_from start events) (every_run_holds events);
+  grows = grows_on;
 }

@@ -1,0 +1,101 @@
+-- What an atomic file does: its commands are made together or not at all, once all its lines are read.
+use Rattle.std.specs.Prelude.{◌≡◌, ◌⊎◌, ℕ, zero, suc, ◌+◌, nat_lt, if◌then◌else◌, false, List, [], ◌∷◌, ◌++◌, find, length, Option, Some, None, IfSome, Result, Ok, Err}
+use Rattle.std.specs.Io.KnownBytes.{Appends}
+use Rattle.prt_addr.specs.declared.on_refusal.OnRefusal.TheVariants.{Stop}
+use Rattle.prt_addr.specs.declared.refusal.Refusal.{Refusal}
+use Rattle.prt_addr.specs.declared.refusal.Refusal.TheVariants.{NoMemory, TooManyCommands, UnknownVerb, WriteFault}
+use Rattle.prt_command.specs.declared.request.Command.{Command}
+use Rattle.prt_command.specs.declared.request.Request.TheVariants as requests
+use Rattle.prt_session.specs.Desk.{DeskState, IsNoMemory, Mishap, commands_turn}
+use Rattle.prt_session.specs.Reply.{is_refused, replies_text}
+use Rattle.prt_session.specs.Run.{fault_in, refused_in}
+use Rattle.prt_session.specs.Session.{Input, Mishaps, Path, Session, Turn, TurnsOf, end_of_input, replies, session}
+use Rattle.prt_session.specs.declared.limits.TheConstants.{MOST_TOGETHER}
+use Rattle.prt_session.specs.declared.reply.Reply.{Reply}
+use Rattle.prt_session.specs.declared.reply.Reply.TheVariants.{Accepted, Refused, Silent}
+use Rattle.prt_session.specs.declared.script_end.ScriptEnd.{ScriptEnd}
+
+-- ---- the reading: a session that collects the commands, and executes none
+
+-- a command that there is room for, unless memory is refused
+abbrev pub with_command : List Command → Command → Option Mishap → Turn (List Command)
+with_command commands command None = record { reply = Silent; desk = commands ++ command ∷ [] }
+with_command commands command (Some mishap) = record { reply = Refused NoMemory; desk = commands }
+
+-- A command is collected, in silence. A query is refused, and so is a command more than there may be.
+abbrev pub collect_turn : TurnsOf (List Command) Mishap
+collect_turn commands (requests.Command command) mishap = if nat_lt (length commands) MOST_TOGETHER then with_command commands command mishap else record { reply = Refused TooManyCommands; desk = commands }
+collect_turn commands (requests.Query query) mishap = record { reply = Refused UnknownVerb; desk = commands }
+
+-- memory alone can fail a reading
+abbrev pub CollectMay : Mishaps (List Command) Mishap
+CollectMay commands request mishap = IfSome mishap IsNoMemory
+
+-- it stops after the first refusal
+abbrev pub collected : Input → List (Option Mishap) → Session (List Command) Mishap
+collected input mishaps = session collect_turn [] input Stop mishaps
+
+-- ---- what comes of it
+
+-- What is replied to the whole file, and the desk after it.
+pub record Outcome : Type 0 where
+  pub replies : List Reply
+  pub desk : DeskState
+
+-- `ok N` for each of so many numbers after this one, in order
+abbrev pub accepted_after : ℕ → ℕ → List Reply
+accepted_after number zero = []
+accepted_after number (suc count) = accepted_after number count ++ Accepted (number + suc count) ∷ []
+
+-- each command has a number of its own; a refusal stands alone
+abbrev pub list_replies : DeskState → List Command → Result ℕ Refusal → List Reply
+list_replies desk commands (Ok last) = accepted_after desk.published.count (length commands)
+list_replies desk commands (Err reason) = Refused reason ∷ []
+
+-- a list is submitted once, as a whole, and an empty one is not
+abbrev pub submitted : DeskState → List Command → Option Mishap → Outcome
+submitted desk [] mishap = record { replies = []; desk = desk }
+submitted desk (command ∷ commands) mishap = record {
+  replies = list_replies desk (command ∷ commands) (commands_turn desk (command ∷ commands) mishap).result;
+  desk = (commands_turn desk (command ∷ commands) mishap).desk;
+}
+
+-- where the reading was refused that is the reply, and nothing is submitted
+abbrev pub after_reading : DeskState → Option Reply → List Command → Option Mishap → Outcome
+after_reading desk (Some refused) commands mishap = record { replies = refused ∷ []; desk = desk }
+after_reading desk None commands mishap = submitted desk commands mishap
+
+-- the outcome of an input, with what befalls its lines in the reading, and what befalls the list
+abbrev pub outcome : DeskState → Input → List (Option Mishap) → Option Mishap → Outcome
+outcome desk input mishaps mishap = after_reading desk (find is_refused (replies (collected input mishaps))) (collected input mishaps).desk mishap
+
+-- ---- a run
+
+-- All replies were written or, after a fault of the writer, a part of their text, perhaps none or all of it.
+abbrev pub WroteReplies : List Reply → (writer0 writer : Option (List ℕ)) → Option Refusal → Type 0
+WroteReplies told writer0 writer fault =
+    (Appends writer0 writer (replies_text told) × (fault ≡ fault_in None told))
+    ⊎ ((part : List ℕ) × (cut_off : List ℕ) × (replies_text told ≡ part ++ cut_off) × Appends writer0 writer part × (fault ≡ Some WriteFault))
+
+-- A list was submitted, and what comes of it was written.
+pub record SubmittedIs (may : Mishap → Type 0) (desk0 desk : DeskState) (commands : List Command) (writer0 writer : Option (List ℕ)) (end : ScriptEnd) : Type 0 where
+  pub mishap : Option Mishap
+  pub befalls : IfSome mishap may
+  pub leaves : desk ≡ (submitted desk0 commands mishap).desk
+  pub refused_is : end.refused ≡ refused_in false (submitted desk0 commands mishap).replies
+  pub wrote : WroteReplies (submitted desk0 commands mishap).replies writer0 writer end.fault
+
+-- A run of an atomic file is the outcome of what the reader had, up to its fault if one came, where memory alone failed its reading, and what befell the list may befall it. What the reading leaves unread is still to be read.
+pub record AtomicIs (may : Mishap → Type 0) (desk0 desk : DeskState) (reader0 reader writer0 writer : Option (List ℕ)) (end : ScriptEnd) : Type 0 where
+  pub input : Input
+  pub mishaps : List (Option Mishap)
+  pub mishap : Option Mishap
+  pub path : Path collect_turn CollectMay [] (collected input mishaps).exchanges (collected input mishaps).desk
+  pub befalls : IfSome mishap may
+  pub leaves : desk ≡ (outcome desk0 input mishaps mishap).desk
+  pub beyond : List ℕ
+  pub bytes_before : IfSome reader0 (λ bytes. bytes ≡ input.bytes ++ beyond)
+  pub whole : input.ending ≡ end_of_input → beyond ≡ []
+  pub bytes_left : IfSome reader0 (λ _. reader ≡ Some ((collected input mishaps).unread ++ beyond))
+  pub refused_is : end.refused ≡ refused_in false (outcome desk0 input mishaps mishap).replies
+  pub wrote : WroteReplies (outcome desk0 input mishaps mishap).replies writer0 writer end.fault

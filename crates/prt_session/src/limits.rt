@@ -1,0 +1,4 @@
+//! How many commands are made together.
+
+/// The most commands that are made together.
+pub const MOST_TOGETHER: usize = 1_000;
