@@ -1,5 +1,6 @@
 -- What a commit leaves.
 use Rattle.std.proofs.Common.{◌≡◌, ◌⊎◌, inl, inr, ℕ, suc, ◌+◌, ◌≤◌, Bool, List, [], ◌∷◌, length, None, Result, Ok, Err, refl, sym, ap, subst, ◌∙◌, arith}
+use Rattle.std.proofs.lemmas.List.Elements.{All-head, All-tail}
 use Rattle.std.specs.Prelude.{All, IsTrue}
 use Rattle.std.specs.Result.{result_err}
 use Rattle.sqlite.specs.Effect.{Database}
@@ -18,8 +19,7 @@ use Rattle.prt_store.specs.Openings.{HasDone}
 use Rattle.prt_store.specs.Stored.{Stores}
 use Rattle.prt_version.proofs.Folds.{count_fold}
 use Rattle.prt_version.specs.Accepted.{IsAccepted, changes_of, with_made}
-use Rattle.prt_version.specs.Change.{apply, check, fold, put, put_if, refusal}
-use Rattle.prt_version.specs.Sound.{IsSound}
+use Rattle.prt_version.specs.Change.{apply, check, fold, put, put_if}
 use Rattle.prt_version.specs.State.{State}
 use Rattle.prt_version.specs.declared.change.Change.{Change}
 use Rattle.prt_front.specs.Line.{line_state}
@@ -42,12 +42,14 @@ made_first state command (Err reason) rest allowed = absurd (cc allowed)
 pub are_made : (published : State) (commands : List Command) → All IsStorable commands → IsAccepted published commands → AreMade published (changes_of published commands) × (put_all published (changes_of published commands) ≡ fold published commands)
 are_made published [] storable accepted = (tt, refl)
 are_made published (command ∷ commands) storable accepted =
+    let mine : IsStorable command = All-head IsStorable command commands storable in
+    let others : All IsStorable commands = All-tail IsStorable command commands storable in
     let first = made_first published command (check published command) (changes_of (apply published command) commands) accepted.0 in
     let after : put published first.0 ≡ apply published command = sym (ap (put_if published) first.1) in
-    let rest = are_made (apply published command) commands storable.1 accepted.1 in
+    let rest = are_made (apply published command) commands others accepted.1 in
     subst (λ (changes : List Change). AreMade published changes × (put_all published changes ≡ fold (apply published command) commands)) (sym first.2)
     (subst (λ (state : State). (((c : Command) × IsStorable c × (check published c ≡ Ok first.0)) × AreMade state (changes_of (apply published command) commands)) × (put_all state (changes_of (apply published command) commands) ≡ fold (apply published command) commands)) (sym after)
-    (((command, storable.0, first.1), rest.0), rest.1))
+    (((command, mine, first.1), rest.0), rest.1))
 
 pub as_many : (published : State) (commands : List Command) → IsAccepted published commands → length (changes_of published commands) ≡ length commands
 as_many published [] accepted = refl

@@ -19,7 +19,7 @@ use Rattle.prt_version.specs.State.{State}
 use Rattle.prt_store.proofs.Exits.{found_is, is_stored}
 use Rattle.prt_store.proofs.Openings.{part_of}
 use Rattle.prt_store.proofs.Spelled.{stored_there}
-use Rattle.prt_store.specs.Exits.{IsStored, Spells}
+use Rattle.prt_store.specs.Exits.{IsStored}
 use Rattle.prt_publisher.specs.Openings.{HasOpened, HasRefused, Lasts}
 
 -- ---- adopted, and then loaded

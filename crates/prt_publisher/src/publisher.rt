@@ -33,9 +33,8 @@ use prt_version::Version;
 use sqlite::{Alter, Connection, Error};
 use std::alloc::Global;
 use std::marker::Model;
-use std::mem;
-use std::slice;
 use std::sync::{Arc, Wait};
+use std::{mem, slice};
 
 /// What is kept of the commands under way.
 #[derive(Drop)]
@@ -213,10 +212,8 @@ impl<S: Alter + Drop, R: Wait + Drop> Publisher<S, R> {
         match self.step {
             Step::Ready => {}
             Step::Closed(_) => return Err(Refusal::Closed),
-            Step::Admitted(_)
-            | Step::Prepared(_)
-            | Step::Committed(_, _)
-            | Step::Published(_, _) => unreachable!(),
+            Step::Admitted(_) | Step::Prepared(_) | Step::Committed(_, _) | Step::Published(_, _) =>
+                unreachable!(),
         }
         if let Err(reason) = self.version.check(command) {
             return Err(reason);
@@ -272,10 +269,8 @@ impl<S: Alter + Drop, R: Wait + Drop> Publisher<S, R> {
         match self.step {
             Step::Ready => {}
             Step::Closed(_) => return Err(Refusal::Closed),
-            Step::Admitted(_)
-            | Step::Prepared(_)
-            | Step::Committed(_, _)
-            | Step::Published(_, _) => unreachable!(),
+            Step::Admitted(_) | Step::Prepared(_) | Step::Committed(_, _) | Step::Published(_, _) =>
+                unreachable!(),
         }
         make_plan(&self.version, commands.as_slice())
     }

@@ -1,12 +1,11 @@
-use Rattle.std.proofs.Common.{◌≡◌, ◌+◌, List, ap, sym, ◌∙◌, subst}
+use Rattle.std.proofs.Common.{◌≡◌, ◌+◌, ap, sym, ◌∙◌, subst}
 use Rattle.std.specs.Arc.{arc_value}
 use Rattle.sqlite.specs.Held.{Held, state}
 use Rattle.prt_store.proofs.Exits.{keeps_after, spares_after}
 use Rattle.prt_store.specs.Exits.{IsStored, SparesOthers}
-use Rattle.prt_store.specs.Next.{AreNext, put_all}
+use Rattle.prt_store.specs.Next.{put_all}
 use Rattle.prt_version.specs.Change.{fold}
 use Rattle.prt_version.specs.State.{State}
-use Rattle.prt_version.specs.declared.change.Change.{Change}
 use Rattle.prt_front.specs.Line.{line_state}
 use Rattle.prt_publisher.specs.Standing.{Standing, unnoted}
 use Rattle.prt_publisher.specs.Step.{IsPlan, IsStep, commands_of, phase_of}

@@ -8,7 +8,6 @@ use Rattle.prt_publisher.specs.Standing.{Agrees, unnoted}
 use Rattle.prt_publisher.specs.Step.{IsStep, commands_of, phase_of}
 use Rattle.prt_publisher.specs.declared.publisher.Step.{Step}
 use Rattle.prt_publisher.specs.declared.publisher.Step.TheVariants as step
-use Rattle.prt_publisher.proofs.Commits.{closed_agrees}
 use Rattle.prt_version.proofs.Folds.{count_fold}
 use Rattle.prt_publisher.proofs.Lists.{number_next, state_grown}
 use Rattle.prt_publisher.proofs.publisher.Publisher.show.Goals as goal
