@@ -4,9 +4,13 @@ use Rattle.prt_addr.specs.declared.refusal.Refusal.{Refusal}
 use Rattle.prt_addr.specs.declared.refusal.Refusal.TheVariants.{Busy, Closed, CountFull, Exists, Full, NoMemory, NoSuch, NotPublished, StoreFailed}
 use Rattle.prt_command.specs.declared.request.Command.{Command}
 
+-- the commands are the last of the list
+abbrev pub EndsWithAll : List Command → List Command → Type 0
+EndsWithAll list commands = (before : List Command) × (list ≡ before ++ commands)
+
 -- the command is the last of the list
 abbrev pub EndsWith : List Command → Command → Type 0
-EndsWith list command = (before : List Command) × (list ≡ before ++ command ∷ [])
+EndsWith list command = EndsWithAll list (command ∷ [])
 
 -- what a command can be refused for
 abbrev pub IsServiceRefusal : Refusal → Type 0

@@ -1,9 +1,9 @@
 //! What lies under the lock of a service.
-ghost use Rattle.std.specs.Prelude.{◌≡◌, IfErr, IfOk};
+ghost use Rattle.std.specs.Prelude.{◌≡◌, ◌≤◌, All, IfErr, IfOk, length};
 ghost use Rattle.sqlite.specs.Held.{Held};
 ghost use Rattle.prt_command.specs.Storable.{IsStorable};
 ghost use Rattle.prt_publisher.specs.Standing.{IsQuiet, Standing, Stands};
-ghost use Rattle.prt_service.specs.Service.{EndsWith, IsServiceRefusal};
+ghost use Rattle.prt_service.specs.Service.{EndsWith, EndsWithAll, IsServiceRefusal};
 
 use crate::Naming;
 use prt_command::{Command, Refusal};
@@ -63,6 +63,30 @@ impl<S: Alter + Drop, R: Wait + Drop, J: Naming> QuietPublisher<S, R, J> {
         ensures reason { IfErr result IsServiceRefusal }
     {
         let receipt = match self.publisher.submit(rt, domain, command) {
+            Ok(receipt) => receipt,
+            Err(reason) => return Err(reason),
+        };
+        Ok(receipt)
+    }
+
+    /// Prepares, commits and publishes commands together.
+    ///
+    /// # Errors
+    ///
+    /// Those of `Publisher::submit_all`, with what each leaves.
+    pub(crate) fn submit_all<W: Wait>(
+        &mut self,
+        rt: &W,
+        domain: &Domain,
+        commands: &Vec<Command>,
+    ) -> Result<Receipt, Refusal>
+        requires some { 1 ≤ length commands.now.items }
+        requires storable { All IsStorable commands.now.items }
+        ensures of { IfOk result (λ receipt. (receipt.book ≡ J.book) × (receipt.base ≡ J.base)) }
+        ensures last { IfOk result (λ receipt. EndsWithAll receipt.list commands.now.items) }
+        ensures reason { IfErr result IsServiceRefusal }
+    {
+        let receipt = match self.publisher.submit_all(rt, domain, commands) {
             Ok(receipt) => receipt,
             Err(reason) => return Err(reason),
         };

@@ -1,9 +1,9 @@
 //! A publisher for many threads.
-ghost use Rattle.std.specs.Prelude.{◌≡◌, None, IfErr, IfOk};
+ghost use Rattle.std.specs.Prelude.{◌≡◌, ◌≤◌, All, None, IfErr, IfOk, length};
 ghost use Rattle.sqlite.specs.Held.{Held};
 ghost use Rattle.prt_command.specs.Storable.{IsStorable};
 ghost use Rattle.prt_publisher.specs.Standing.{IsQuiet, Standing, Stands};
-ghost use Rattle.prt_service.specs.Service.{EndsWith, IsServiceRefusal};
+ghost use Rattle.prt_service.specs.Service.{EndsWith, EndsWithAll, IsServiceRefusal};
 
 use crate::quiet::QuietPublisher;
 use crate::spare::SpareReaders;
@@ -60,6 +60,25 @@ impl<S: Alter + Drop, R: Wait + Drop, J: Naming> Service<S, R, J> {
         self.publisher.lock(rt).submit(rt, &self.domain, command)
     }
 
+    /// Has commands stored, published and noted together: all of them or none. The receipt's list ends with them, and its
+    /// number is that of the last.
+    ///
+    /// # Errors
+    ///
+    /// As of `submit`: the first command is refused that is refused in the state after those before it. `NoMemory` may
+    /// come at any command up to that.
+    pub fn submit_all<W: Wait>(&self, rt: &W, commands: &Vec<Command>) -> Result<Receipt, Refusal>
+        requires some { 1 ≤ length commands.now.items }
+        requires storable { All IsStorable commands.now.items }
+        ensures of { IfOk result (λ receipt. (receipt.book ≡ J.book) × (receipt.base ≡ J.base)) }
+        ensures last { IfOk result (λ receipt. EndsWithAll receipt.list commands.now.items) }
+        ensures reason { IfErr result IsServiceRefusal }
+    {
+        self.publisher
+            .lock(rt)
+            .submit_all(rt, &self.domain, commands)
+    }
+
     /// Makes a looker, offline, with a place of the domain and one of the spare readers.
     ///
     /// # Errors
@@ -102,8 +121,8 @@ impl<S: Alter + Drop, R: Wait + Drop, J: Naming> Service<S, R, J> {
     }
 
     /// Ends the service, and gives the connection back, with its tables as the lock keeps them. Of a file that is known,
-    /// a ready publisher's tables hold the published state, and those of a closed one that or the state after one command
-    /// more; a crash leaves no other.
+    /// a ready publisher's tables hold the published state, and those of a closed one that or the state after commands
+    /// more that it accepts; a crash leaves no other.
     pub fn release(self) -> Connection<S>
         ensures { (s : Standing (Held S)) × (s.tables ≡ result) × IsQuiet s.phase × (s.line.book ≡ J.book) × (s.line.base ≡ J.base) × Stands S.Store s }
     {
