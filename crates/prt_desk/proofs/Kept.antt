@@ -1,5 +1,5 @@
 -- What a crash leaves of a desk over a publisher, and what an opening of it gives.
-use Rattle.std.proofs.Common.{◌≡◌, inr, Bool, true, false, Option, Some, None, refl, sym, ap, subst}
+use Rattle.std.proofs.Common.{◌≡◌, inr, Bool, true, false, List, [], ◌∷◌, refl, sym, ap, subst}
 use Rattle.sqlite.specs.Held.{Held, state}
 use Rattle.sqlite.specs.Store.{Ghosts}
 use Rattle.sqlite.specs.Tree.{Trees}
@@ -11,7 +11,7 @@ use Rattle.prt_session.specs.Desk.{DeskState}
 use Rattle.prt_store.proofs.Exits.{found_is}
 use Rattle.prt_store.proofs.Spelled.{spelled_once, stored_there}
 use Rattle.prt_store.specs.Exits.{IsKnown, IsStored, MayLeave, Spells}
-use Rattle.prt_version.specs.Change.{apply}
+use Rattle.prt_version.specs.Change.{fold}
 use Rattle.prt_version.specs.State.{State}
 use Rattle.prt_desk.specs.StoreDesk.{IsKept, MayBeStored, Reopens, StandsBy, StandsFor, desk_with, is_closed_at, is_shut, published}
 
@@ -19,45 +19,45 @@ abbrev with_stored : State → Phase → State → DeskState
 with_stored state phase stored = record { published = state; stored = stored; closed = is_closed_at phase }
 
 module _ {S : Type 0} (g : Ghosts S) (ours_first : Bool) (tables : Held S) (shown : State) where
-  published_by : (phase : Phase) (under : Option Command) (desk : DeskState) → StandsBy g ours_first tables shown phase under desk → desk.published ≡ shown
+  published_by : (phase : Phase) (under : List Command) (desk : DeskState) → StandsBy g ours_first tables shown phase under desk → desk.published ≡ shown
   published_by Ready under desk is = ap (λ (d : DeskState). d.published) is
   published_by Admitted under desk is = absurd is
   published_by Prepared under desk is = absurd is
   published_by Committed under desk is = absurd is
   published_by Published under desk is = absurd is
-  published_by Closed None desk is = is.0
-  published_by Closed (Some command) desk is = ap (λ (d : DeskState). d.published) is
+  published_by Closed [] desk is = is.0
+  published_by Closed (command ∷ commands) desk is = ap (λ (d : DeskState). d.published) is
 
-  shut_by : (phase : Phase) (under : Option Command) (desk : DeskState) → StandsBy g ours_first tables shown phase under desk → desk.closed ≡ is_closed_at phase
+  shut_by : (phase : Phase) (under : List Command) (desk : DeskState) → StandsBy g ours_first tables shown phase under desk → desk.closed ≡ is_closed_at phase
   shut_by Ready under desk is = ap (λ (d : DeskState). d.closed) is
   shut_by Admitted under desk is = absurd is
   shut_by Prepared under desk is = absurd is
   shut_by Committed under desk is = absurd is
   shut_by Published under desk is = absurd is
-  shut_by Closed None desk is = is.1
-  shut_by Closed (Some command) desk is = ap (λ (d : DeskState). d.closed) is
+  shut_by Closed [] desk is = is.1
+  shut_by Closed (command ∷ commands) desk is = ap (λ (d : DeskState). d.closed) is
 
-  durable_by : (phase : Phase) (under : Option Command) → IsQuiet phase → IsKnown g ours_first tables → Agrees g phase under shown tables → (trees : Trees) → (state g tables).may_leave trees
+  durable_by : (phase : Phase) (under : List Command) → IsQuiet phase → IsKnown g ours_first tables → Agrees g phase under shown tables → (trees : Trees) → (state g tables).may_leave trees
       → (stored : State) × Spells trees stored × StandsBy g ours_first tables shown phase under (with_stored shown phase stored)
   durable_by Ready under quiet known kept trees may = (shown, kept.durable trees may, refl)
   durable_by Admitted under quiet known kept trees may = absurd quiet
   durable_by Prepared under quiet known kept trees may = absurd quiet
   durable_by Committed under quiet known kept trees may = absurd quiet
   durable_by Published under quiet known kept trees may = absurd quiet
-  durable_by Closed None quiet known kept trees may = let left = kept.durable trees may in (left.0, left.1, (refl, refl, inr (known, (trees, may, left.1))))
-  durable_by Closed (Some command) quiet known kept trees may = (apply shown command, kept.durable trees may, refl)
+  durable_by Closed [] quiet known kept trees may = let left = kept.durable trees may in (left.0, left.1, (refl, refl, inr (known, (trees, may, left.1))))
+  durable_by Closed (command ∷ commands) quiet known kept trees may = (fold shown (command ∷ commands), kept.durable trees may, refl)
 
 module _ {S : Type 0} (g : Ghosts S) (desk : Standing (Held S)) where
   -- a state that it stands for is told by what is stored
   pub stands_with : (before : DeskState) → StandsFor g desk before → before ≡ desk_with desk before.stored
   stands_with before stands =
-      let shown : before.published ≡ published desk = published_by g desk.ours_first desk.tables (published desk) desk.phase desk.command before stands in
-      let closed : before.closed ≡ is_shut desk = shut_by g desk.ours_first desk.tables (published desk) desk.phase desk.command before stands in
+      let shown : before.published ≡ published desk = published_by g desk.ours_first desk.tables (published desk) desk.phase desk.commands before stands in
+      let closed : before.closed ≡ is_shut desk = shut_by g desk.ours_first desk.tables (published desk) desk.phase desk.commands before stands in
       λ i. record { published = shown i; stored = before.stored; closed = closed i }
 
   -- whatever a crash leaves spells a state that may be stored
   pub durable_is : IsKept g desk → IsKnown g desk.ours_first desk.tables → (trees : Trees) → (state g desk.tables).may_leave trees → (stored : State) × Spells trees stored × MayBeStored g desk stored
-  durable_is kept known = durable_by g desk.ours_first desk.tables (published desk) desk.phase desk.command kept.0 known (kept.1 known)
+  durable_is kept known = durable_by g desk.ours_first desk.tables (published desk) desk.phase desk.commands kept.0 known (kept.1 known)
 
   -- and an opening gives that state
   pub reopens : IsKept g desk → IsKnown g desk.ours_first desk.tables → Reopens g desk.tables (MayBeStored g desk)
@@ -81,7 +81,7 @@ ready_by Closed quiet is = absurd (let both : true ≡ false = is in cc)
 module _ {S : Type 0} (g : Ghosts S) (desk : Standing (Held S)) (kept : IsKept g desk) (is : is_shut desk ≡ false) (known : IsKnown g desk.ours_first desk.tables) where
   -- its state is stored
   pub stored_open : IsStored g desk.tables (published desk)
-  stored_open = subst (λ (p : Phase). Agrees g p desk.command (published desk) desk.tables) (ready_by desk.phase kept.0 is) (kept.1 known)
+  stored_open = subst (λ (p : Phase). Agrees g p desk.commands (published desk) desk.tables) (ready_by desk.phase kept.0 is) (kept.1 known)
 
   -- and a crash leaves that alone
   pub left_open : (left : State) → MayLeave g desk.tables left → left ≡ published desk

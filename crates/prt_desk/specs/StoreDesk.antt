@@ -1,5 +1,5 @@
 -- What a desk over a publisher stands for.
-use Rattle.std.specs.Prelude.{◌≡◌, ◌⊎◌, ℕ, Bool, true, false, List, Option, Some, None, Result, Ok, Err, ⊤}
+use Rattle.std.specs.Prelude.{◌≡◌, ◌⊎◌, ℕ, Bool, true, false, List, [], ◌∷◌, Option, Result, Ok, Err, ⊤}
 use Rattle.sqlite.specs.Effect.{Database, IsDatabase}
 use Rattle.sqlite.specs.Held.{Held, state}
 use Rattle.sqlite.specs.Store.{Ghosts}
@@ -13,11 +13,12 @@ use Rattle.prt_publisher.specs.Standing.{IsQuiet, Standing, Stands}
 use Rattle.prt_publisher.specs.declared.phase.Phase.{Phase}
 use Rattle.prt_publisher.specs.declared.phase.Phase.TheVariants.{Ready, Admitted, Prepared, Committed, Published, Closed}
 use Rattle.prt_rows.specs.Format.{IsFormat2}
+use Rattle.prt_session.specs.Atomic.{AtomicIs}
 use Rattle.prt_session.specs.Desk.{Befalls, DeskState, Mishap, request_turn, settled, shut}
 use Rattle.prt_session.specs.Run.{RunIs}
 use Rattle.prt_session.specs.declared.script_end.ScriptEnd.{ScriptEnd}
 use Rattle.prt_store.specs.Exits.{IsKnown, MayLeave, Opens}
-use Rattle.prt_version.specs.Change.{apply}
+use Rattle.prt_version.specs.Change.{fold}
 use Rattle.prt_version.specs.State.{State}
 
 -- the state that queries are answered from
@@ -36,7 +37,7 @@ is_closed_at Closed = true
 abbrev pub is_shut : {T : Type 0} → Standing T → Bool
 is_shut desk = is_closed_at desk.phase
 
--- No command is under way. While a desk is open, its state is stored; once it is closed, whatever a crash leaves spells that state or the one after one command more.
+-- No command is under way. While a desk is open, its state is stored; once it is closed, whatever a crash leaves spells that state or the one after commands more that it accepts.
 abbrev pub IsKept : {S : Type 0} → Ghosts S → Standing (Held S) → Type 0
 IsKept g desk = IsQuiet desk.phase × Stands g desk
 
@@ -44,19 +45,19 @@ IsKept g desk = IsQuiet desk.phase × Stands g desk
 abbrev pub IsPerhapsStored : {S : Type 0} → Ghosts S → Bool → Held S → State → State → Type 0
 IsPerhapsStored g ours_first tables published stored = (stored ≡ published) ⊎ (IsKnown g ours_first tables × MayLeave g tables stored)
 
--- after a refused publication the state after its command is stored
-abbrev pub StandsBy : {S : Type 0} → Ghosts S → Bool → Held S → State → Phase → Option Command → DeskState → Type 0
-StandsBy g ours_first tables published Ready command desk = desk ≡ settled published
-StandsBy g ours_first tables published Admitted command desk = ⊥
-StandsBy g ours_first tables published Prepared command desk = ⊥
-StandsBy g ours_first tables published Committed command desk = ⊥
-StandsBy g ours_first tables published Published command desk = ⊥
-StandsBy g ours_first tables published Closed None desk = (desk.published ≡ published) × (desk.closed ≡ true) × IsPerhapsStored g ours_first tables published desk.stored
-StandsBy g ours_first tables published Closed (Some command) desk = desk ≡ shut (settled published) (apply published command)
+-- after a refused publication the state after its commands is stored
+abbrev pub StandsBy : {S : Type 0} → Ghosts S → Bool → Held S → State → Phase → List Command → DeskState → Type 0
+StandsBy g ours_first tables published Ready commands desk = desk ≡ settled published
+StandsBy g ours_first tables published Admitted commands desk = ⊥
+StandsBy g ours_first tables published Prepared commands desk = ⊥
+StandsBy g ours_first tables published Committed commands desk = ⊥
+StandsBy g ours_first tables published Published commands desk = ⊥
+StandsBy g ours_first tables published Closed [] desk = (desk.published ≡ published) × (desk.closed ≡ true) × IsPerhapsStored g ours_first tables published desk.stored
+StandsBy g ours_first tables published Closed (command ∷ commands) desk = desk ≡ shut (settled published) (fold published (command ∷ commands))
 
 -- what a desk stands for: while it is open, its state, published and stored; once it is closed, that state is published, and stored is what may be
 abbrev pub StandsFor : {S : Type 0} → Ghosts S → Standing (Held S) → DeskState → Type 0
-StandsFor g desk = StandsBy g desk.ours_first desk.tables (published desk) desk.phase desk.command
+StandsFor g desk = StandsBy g desk.ours_first desk.tables (published desk) desk.phase desk.commands
 
 abbrev pub desk_with : {T : Type 0} → Standing T → State → DeskState
 desk_with desk stored = record { published = published desk; stored = stored; closed = is_shut desk }
@@ -73,7 +74,7 @@ Reopens g tables Left = (found : Database) → IsDatabase found → (state g tab
 abbrev pub IsStoreMishap : Mishap → Type 0
 IsStoreMishap mishap = ⊤
 
--- what a crash leaves once a command has this result: the state after it where it was acknowledged, or only its publication was refused; else the state before it or, only where the call that commits failed, the state after it
+-- what a crash leaves once commands have this result: the state after them where they were acknowledged, or only their publication was refused; else the state before them or, only where the call that commits failed, the state after them
 abbrev pub LeavesEither : Result ℕ Refusal → State → State → State → Type 0
 LeavesEither (Ok number) before after left = left ≡ after
 LeavesEither (Err NotPublished) before after left = left ≡ after
@@ -83,3 +84,8 @@ LeavesEither (Err reason) before after left = (left ≡ before) ⊎ ((reason ≡
 abbrev pub SessionLeaves : {S : Type 0} → Ghosts S → OnRefusal → Standing (Held S) → Standing (Held S) → (reader0 reader writer0 writer : Option (List ℕ)) → ScriptEnd → State → Type 0
 SessionLeaves g mode old new reader0 reader writer0 writer end stored =
     (before : State) × MayBeStored g old before × RunIs request_turn (Befalls IsStoreMishap) mode (desk_with old before) (desk_with new stored) reader0 reader writer0 writer end
+
+-- the run of an atomic file, begun on a state that may have been stored before, left this one
+abbrev pub FileLeaves : {S : Type 0} → Ghosts S → Standing (Held S) → Standing (Held S) → (reader0 reader writer0 writer : Option (List ℕ)) → ScriptEnd → State → Type 0
+FileLeaves g old new reader0 reader writer0 writer end stored =
+    (before : State) × MayBeStored g old before × AtomicIs IsStoreMishap (desk_with old before) (desk_with new stored) reader0 reader writer0 writer end

@@ -1,11 +1,12 @@
-ghost use Rattle.std.specs.Prelude.{◌≡◌, ◌++◌, ◌↔◌, IfErr, IfOk, IsTrue, OnErr, OnOk, false, true};
+ghost use Rattle.std.specs.Prelude.{◌≡◌, ◌≤◌, ◌++◌, ◌↔◌, IfErr, IfOk, IsTrue, OnErr, OnOk, false, length, true};
+ghost use Rattle.std.specs.List.{All};
 ghost use Rattle.sqlite.specs.Held.{state};
 ghost use Rattle.sqlite.specs.State.{HasCleanDisk, Survives};
 ghost use Rattle.sqlite.specs.Tree.{Trees};
 ghost use Rattle.prt_addr.specs.Opening.{IsOpenRefusal};
 ghost use Rattle.prt_addr.specs.declared.refusal.Refusal.TheVariants.{Damaged};
 ghost use Rattle.prt_desk.specs.Remains.{Remains};
-ghost use Rattle.prt_desk.specs.StoreDesk.{IsKept, MayBeStored, Reopens, SessionLeaves, is_shut, published};
+ghost use Rattle.prt_desk.specs.StoreDesk.{FileLeaves, IsKept, MayBeStored, Reopens, SessionLeaves, is_shut, published};
 ghost use Rattle.prt_publisher.specs.Standing.{IsQuiet};
 ghost use Rattle.prt_rows.specs.Format.{BeginsFormat2};
 ghost use Rattle.prt_store.specs.Adopted.{Adopts, AdoptsPart, LeavesPart};
@@ -16,7 +17,10 @@ ghost use Rattle.prt_version.specs.State.{State};
 use prt_grace::Domain;
 use prt_listing::query_text;
 use prt_publisher::{Phase, Publisher};
-use prt_session::{Command, Desk, Observer, OnRefusal, Query, Refusal, ScriptEnd, run_script};
+use prt_session::{
+    Command, Desk, MOST_TOGETHER, Observer, OnRefusal, Query, Refusal, ScriptEnd, run_atomic,
+    run_script,
+};
 use prt_version::Version;
 use sqlite::{Alter, Connection, Error};
 use std::alloc::Global;
@@ -124,6 +128,33 @@ impl<S: Alter + Drop, H: Wait + Drop> StoreDesk<S, H> {
         let _is_closed = self.is_closed();
         end
     }
+
+    /// Runs an atomic file over this desk, as `run_atomic` does: nothing but memory, the store, room for old versions and
+    /// the publication can fail it.
+    ///
+    /// Whatever may be stored at its end is what the file leaves, begun on what may have been stored before: all of its
+    /// commands, or none. A crash, or the end of the program, leaves a file that spells such a state, and an opening of
+    /// it gives that state. A desk that is closed stays exactly as it is, and so do the other tables of the file.
+    pub fn run_atomic<R: Read, W: Write, O: Observer>(
+        &mut self,
+        alloc: Global,
+        reader: &mut R,
+        writer: &mut W,
+        observer: &mut O,
+    ) -> ScriptEnd
+        ensures run { (stored : State) → MayBeStored S.Store self.new stored →
+            FileLeaves S.Store self.old self.new (R.remaining reader.old) (R.remaining reader.new) (W.contents writer.old) (W.contents writer.new) result stored }
+        ensures keeps { Remains S.Store self.old self.new }
+        ensures durable { IsKnown S.Store self.new.ours_first self.new.tables → (trees : Trees) → (state S.Store self.new.tables).may_leave trees →
+            (stored : State) × Spells trees stored × MayBeStored S.Store self.new stored }
+        ensures reopened { IsKnown S.Store self.new.ours_first self.new.tables → Reopens S.Store self.new.tables
+            (FileLeaves S.Store self.old self.new (R.remaining reader.old) (R.remaining reader.new) (W.contents writer.old) (W.contents writer.new) result) }
+    {
+        let end = run_atomic(alloc, self, reader, writer, observer);
+        // Recalls what the desk keeps.
+        let _is_closed = self.is_closed();
+        end
+    }
 }
 
 impl<S: Alter + Drop, H: Wait + Copy + Drop> StoreDesk<S, H> {
@@ -177,11 +208,11 @@ impl<S: Alter + Drop, H: Wait + Drop> Desk for StoreDesk<S, H> {
     ghost use Rattle.prt_desk.specs.Remains.{Remains, remains_over_all};
     ghost use Rattle.prt_desk.specs.StoreDesk.{IsStoreMishap, LeavesEither, StandsFor};
     ghost use Rattle.prt_listing.specs.QueryText.{query_text};
-    ghost use Rattle.prt_publisher.specs.Exits.{HasCommitted};
+    ghost use Rattle.prt_publisher.specs.Exits.{HasCommitted, HaveCommitted};
     ghost use Rattle.prt_session.specs.Stands.{Explained, StandsForSome};
-    ghost use Rattle.prt_session.specs.Steps.{CommandGives};
+    ghost use Rattle.prt_session.specs.Steps.{CommandGives, CommandsGive};
     ghost use Rattle.prt_store.specs.Exits.{IsKnown, MayLeave};
-    ghost use Rattle.prt_version.specs.Change.{apply};
+    ghost use Rattle.prt_version.specs.Change.{apply, fold};
 
     ghost stands = { StandsFor S.Store };
 
@@ -201,6 +232,28 @@ impl<S: Alter + Drop, H: Wait + Drop> Desk for StoreDesk<S, H> {
             LeavesEither result (published self.old) (apply (published self.old) command.now) left }
     {
         let receipt = match self.publisher.submit(&self.rt, &self.domain, command) {
+            Ok(receipt) => receipt,
+            Err(reason) => return Err(reason),
+        };
+        let number = receipt.number();
+        Ok(number)
+    }
+
+    fn commands(&mut self, commands: &Vec<Command>) -> Result<u64, Refusal>
+        requires some { 1 ≤ length commands.now.items }
+        requires most { length commands.now.items ≤ MOST_TOGETHER }
+        requires storable { All IsStorable commands.now.items }
+        ensures turn { Explained (StandsFor S.Store) self.old self.new (λ before after. CommandsGive IsStoreMishap before commands.now.items result after) }
+        ensures left { StandsForSome (StandsFor S.Store) self.old → StandsForSome (StandsFor S.Store) self.new }
+        ensures keeps { Remains S.Store self.old self.new }
+        ensures ran { HasCleanDisk (state S.Store self.new.tables) → OnOk result (HaveCommitted S.Store self.old commands.now.items self.new.tables) }
+        ensures leaves { is_shut self.old ≡ false → IsKnown S.Store self.new.ours_first self.new.tables → (left : State) → MayLeave S.Store self.new.tables left →
+            LeavesEither result (published self.old) (fold (published self.old) commands.now.items) left }
+    {
+        let receipt = match self
+            .publisher
+            .submit_all(&self.rt, &self.domain, commands)
+        {
             Ok(receipt) => receipt,
             Err(reason) => return Err(reason),
         };

@@ -8,8 +8,8 @@ use Rattle.prt_addr.specs.declared.refusal.Refusal.TheVariants.{WriteFault}
 use Rattle.prt_command.specs.declared.request.Command.{Command}
 use Rattle.prt_session.proofs.Collected.{IsReading, alone, collected_alike, collected_told, found, its_refusal, refused_or_fault, says_alone}
 use Rattle.prt_session.proofs.Known.{Gives, appends_more, gives_all, gives_beyond, left_of}
-use Rattle.prt_session.proofs.Replies.{one_text}
-use Rattle.prt_session.specs.Atomic.{AtomicIs, CollectMay, Outcome, SubmittedIs, WroteReplies, after_reading, collect_turn, collected, outcome, submitted}
+use Rattle.prt_session.proofs.Replies.{cons_not_nil, one_text}
+use Rattle.prt_session.specs.Atomic.{AtomicIs, CollectMay, Outcome, SubmittedIs, WroteReplies, after_reading, collect_turn, collected, atomic_output, submitted}
 use Rattle.prt_session.specs.Desk.{DeskState, Mishap}
 use Rattle.prt_session.specs.Reply.{is_refused, replies_text, reply_text}
 use Rattle.prt_session.specs.Run.{Cut, RanWhole, RunIs, fault_in, refused_in}
@@ -151,6 +151,10 @@ empty_there (command ∷ commands) h = absurd (omega arith)
 
 -- ---- the outcome
 
+some_alone : (refusal : Option Reply) (reply : Reply) → refusal ≡ Some reply → alone refusal ≢ []
+some_alone None reply is = absurd (cc)
+some_alone (Some refused) reply is = λ e. cons_not_nil refused [] e
+
 -- the refusal alone, if there is one, and the desk as it was
 abbrev pub refused_alone : DeskState → Option Reply → Outcome
 refused_alone desk refusal = record { replies = alone refusal; desk = desk }
@@ -163,7 +167,7 @@ module _ (may : Mishap → Type 0) (commands : List Command) (reader0 reader wri
   -- a run in which nothing is submitted
   pub only_read : (desk : DeskState) (writer : Option (List ℕ)) (end : ScriptEnd) (read : ReadIs commands reader0 reader writer0 writer end) → (read.refusal ≡ None → commands ≡ []) → AtomicIs may desk desk reader0 reader writer0 writer end
   only_read desk writer end read none =
-      let is : outcome desk read.input read.mishaps None ≡ refused_alone desk read.refusal =
+      let is : atomic_output desk read.input read.mishaps None ≡ refused_alone desk read.refusal =
       ap (λ refusal. after_reading desk refusal (collected read.input read.mishaps).desk None) (sym read.is_first)
       ∙ ap (λ cs. after_reading desk read.refusal cs None) (sym read.are)
       ∙ nothing_submitted desk read.refusal commands none in
@@ -179,7 +183,7 @@ module _ (may : Mishap → Type 0) (commands : List Command) (reader0 reader wri
         whole = read.whole;
         bytes_left = read.bytes_left;
         refused_is = read.refused_is ∙ ap (λ (o : Outcome). refused_in false o.replies) (sym is);
-        wrote = subst (λ (o : Outcome). WroteReplies o.replies writer0 writer end.fault) (sym is) (elim read.wrote [ inl w ↦ inl w | inr w ↦ inr (w.1, w.2, w.4, w.5, w.6) ]);
+        wrote = subst (λ (o : Outcome). WroteReplies o.replies writer0 writer end.fault) (sym is) (elim read.wrote [ inl w ↦ inl w | inr w ↦ inr (w.1, w.2, some_alone read.refusal w.0 w.3, w.4, w.5, w.6) ]);
       }
 
   -- a reading without a refusal
@@ -204,7 +208,7 @@ module _ (may : Mishap → Type 0) (commands : List Command) (reader0 reader wri
   read_and_submitted desk0 desk between writer end0 end read refused fault list =
       let none = unrefused between end0 read refused fault in
       let nothing = wrote_nothing between end0 read none in
-      let is : outcome desk0 read.input read.mishaps list.mishap ≡ submitted desk0 commands list.mishap =
+      let is : atomic_output desk0 read.input read.mishaps list.mishap ≡ submitted desk0 commands list.mishap =
       ap (λ refusal. after_reading desk0 refusal (collected read.input read.mishaps).desk list.mishap) (sym read.is_first ∙ none)
       ∙ ap (λ cs. submitted desk0 cs list.mishap) (sym read.are) in
       record {
@@ -221,6 +225,6 @@ module _ (may : Mishap → Type 0) (commands : List Command) (reader0 reader wri
         refused_is = list.refused_is ∙ ap (λ (o : Outcome). refused_in false o.replies) (sym is);
         wrote = subst (λ (o : Outcome). WroteReplies o.replies writer0 writer end.fault) (sym is) (elim list.wrote [
           | inl w ↦ inl (appends_more writer0 between writer [] _ nothing w.0, w.1)
-          | inr w ↦ inr (w.0, w.1, w.2, appends_more writer0 between writer [] _ nothing w.3, w.4)
+          | inr w ↦ inr (w.0, w.1, w.2, w.3, appends_more writer0 between writer [] _ nothing w.4, w.5)
         ]);
       }

@@ -14,3 +14,4 @@ pub mod ClosedReplies
 pub mod Collected
 pub mod AtomicRuns
 pub mod Submitted
+pub mod AllOrNone

@@ -32,6 +32,9 @@ pub fault_append : (a b : List Reply) (last : Option Refusal) → fault_in last 
 unfolding fault_in
 fault_append a b last = fold-append fault_after last a b
 
+pub cons_not_nil : (reply : Reply) (told : List Reply) → reply ∷ told ≡ [] → ⊥
+cons_not_nil reply told e = absurd (cc)
+
 pub one_text : (reply : Reply) → replies_text (reply ∷ []) ≡ reply_text reply
 unfolding replies_text
 one_text reply = append_none (reply_text reply)

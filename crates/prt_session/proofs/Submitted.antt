@@ -1,5 +1,5 @@
 -- The submission of a list: the numbers of its commands, and the lines that are written.
-use Rattle.std.proofs.Common.{◌≡◌, ℕ, zero, suc, ◌+◌, ◌-◌, ◌≤◌, ◌<◌, true, false, Bool, List, [], ◌∷◌, ◌++◌, length, Option, Some, None, Result, Ok, Err, inl, inr, refl, sym, ap, ◌∙◌, subst, arith, append_assoc}
+use Rattle.std.proofs.Common.{◌≢◌, ◌≡◌, ℕ, zero, suc, ◌+◌, ◌-◌, ◌≤◌, ◌<◌, true, false, Bool, List, [], ◌∷◌, ◌++◌, length, Option, Some, None, Result, Ok, Err, inl, inr, refl, sym, ap, ◌∙◌, subst, arith, append_assoc}
 use Rattle.std.specs.Prelude.{if◌then◌else◌}
 use Rattle.std.specs.Io.KnownBytes.{Appends}
 use Rattle.std.specs.Result.{result_err}
@@ -7,13 +7,14 @@ use Rattle.prt_addr.specs.declared.refusal.Refusal.{Refusal}
 use Rattle.prt_addr.specs.declared.refusal.Refusal.TheVariants.{NoMemory, WriteFault}
 use Rattle.prt_command.specs.declared.request.Command.{Command}
 use Rattle.prt_session.proofs.Known.{append_none, appends_more}
-use Rattle.prt_session.proofs.Replies.{fault_append, one_text, refused_append, text_append}
+use Rattle.prt_session.proofs.Replies.{cons_not_nil, fault_append, one_text, refused_append, text_append}
 use Rattle.prt_session.specs.Atomic.{SubmittedIs, WroteReplies, accepted_after, list_replies, submitted}
 use Rattle.prt_session.specs.Desk.{DeskState, IsNoMemory, Mishap, commands_or_refusal, commands_turn, commit_kept, no_memory, no_room, publication_fails, refuse_all, settled, store_fails}
 use Rattle.prt_session.specs.Reply.{replies_text, reply_text}
 use Rattle.prt_session.specs.Run.{fault_after, fault_in, refused_after, refused_in}
 use Rattle.prt_session.specs.Steps.{CommandsGive, EndsWith, Written}
 use Rattle.prt_session.specs.declared.form.Form.TheVariants.{Plain}
+use Rattle.prt_session.specs.declared.reply.Reply.{Reply}
 use Rattle.prt_session.specs.declared.reply.Reply.TheVariants.{Accepted, Refused}
 use Rattle.prt_session.specs.declared.script_end.ScriptEnd.{ScriptEnd}
 use Rattle.prt_version.specs.Accepted.{IsAccepted, IsRefusedFor, or_later, refusal_all}
@@ -34,7 +35,7 @@ made_count : (state : State) (made : Result Change Refusal) → result_err made 
 made_count state (Ok made) e = put_count state made
 made_count state (Err reason) e = absurd (cc)
 
-neither : (first later : Option Refusal) → or_later first later ≡ None → (first ≡ None) × (later ≡ None)
+pub neither : (first later : Option Refusal) → or_later first later ≡ None → (first ≡ None) × (later ≡ None)
 neither None later e = (refl, e)
 neither (Some reason) later e = absurd (cc)
 
@@ -75,12 +76,12 @@ last_number desk commands mishap last e = last_by desk commands mishap last desk
 
 -- ---- the lines
 
-unrefused_lines : (number count : ℕ) → refused_in false (accepted_after number count) ≡ false
+pub unrefused_lines : (number count : ℕ) → refused_in false (accepted_after number count) ≡ false
 unfolding refused_in
 unrefused_lines number zero = refl
 unrefused_lines number (suc count) = refused_append (accepted_after number count) (Accepted (number + suc count) ∷ []) false ∙ ap (λ had. refused_in had (Accepted (number + suc count) ∷ [])) (unrefused_lines number count)
 
-faultless_lines : (number count : ℕ) → fault_in None (accepted_after number count) ≡ None
+pub faultless_lines : (number count : ℕ) → fault_in None (accepted_after number count) ≡ None
 unfolding fault_in
 faultless_lines number zero = refl
 faultless_lines number (suc count) = fault_append (accepted_after number count) (Accepted (number + suc count) ∷ []) None ∙ ap (λ last. fault_in last (Accepted (number + suc count) ∷ [])) (faultless_lines number count)
@@ -130,11 +131,19 @@ refused_ends reason writer0 writer end0 end had ends = ends.refused_is ∙ ap (�
 refused_wrote : (reason : Refusal) (writer0 writer : Option (List ℕ)) (last : Option Refusal) (fault : Option Refusal) → last ≡ None → (whole : Bool) → Written whole writer0 writer (reply_text (Refused reason)) → fault ≡ (if whole then fault_after last (Refused reason) else Some WriteFault) → WroteReplies (Refused reason ∷ []) writer0 writer fault
 unfolding fault_in
 refused_wrote reason writer0 writer last fault had true wrote is = inl (rw (one_text (Refused reason)) wrote, is ∙ ap (λ before. fault_after before (Refused reason)) had)
-refused_wrote reason writer0 writer last fault had false wrote is = inr (wrote.0, wrote.1, one_text (Refused reason) ∙ wrote.2, wrote.3, is)
+refused_wrote reason writer0 writer last fault had false wrote is = inr (wrote.0, wrote.1, cons_not_nil (Refused reason) [], one_text (Refused reason) ∙ wrote.2, wrote.3, is)
 
-lines_wrote : (number count : ℕ) (whole : Bool) (writer0 writer : Option (List ℕ)) (fault : Option Refusal) → Written whole writer0 writer (replies_text (accepted_after number count)) → fault ≡ (if whole then None else Some WriteFault) → WroteReplies (accepted_after number count) writer0 writer fault
-lines_wrote number count true writer0 writer fault wrote is = inl (wrote, is ∙ sym (faultless_lines number count))
-lines_wrote number count false writer0 writer fault wrote is = inr (wrote.0, wrote.1, wrote.2, wrote.3, is)
+one_at_end : (told : List Reply) (reply : Reply) → told ++ reply ∷ [] ≡ [] → ⊥
+one_at_end [] reply e = cons_not_nil reply [] e
+one_at_end (first ∷ told) reply e = cons_not_nil first (told ++ reply ∷ []) e
+
+some_lines : (number count : ℕ) → 1 ≤ count → accepted_after number count ≢ []
+some_lines number zero h = absurd (omega arith)
+some_lines number (suc count) h = λ e. one_at_end (accepted_after number count) (Accepted (number + suc count)) e
+
+lines_wrote : (number count : ℕ) → 1 ≤ count → (whole : Bool) (writer0 writer : Option (List ℕ)) (fault : Option Refusal) → Written whole writer0 writer (replies_text (accepted_after number count)) → fault ≡ (if whole then None else Some WriteFault) → WroteReplies (accepted_after number count) writer0 writer fault
+lines_wrote number count some true writer0 writer fault wrote is = inl (wrote, is ∙ sym (faultless_lines number count))
+lines_wrote number count some false writer0 writer fault wrote is = inr (wrote.0, wrote.1, some_lines number count some, wrote.2, wrote.3, is)
 
 -- the list is refused
 pub list_refused : (may : Mishap → Type 0) (desk0 desk : DeskState) (commands : List Command) (reason : Refusal) (writer0 writer : Option (List ℕ)) (end0 end : ScriptEnd) → 1 ≤ length commands → end0.refused ≡ false → end0.fault ≡ None → CommandsGive may desk0 commands (Err reason) desk → EndsWith Plain 0 (Refused reason) writer0 writer end0 end →
@@ -164,7 +173,7 @@ list_accepted may desk0 desk commands last before whole writer0 writer end some 
       befalls = gives.1;
       leaves = gives.3 ∙ sym is.1;
       refused_is = rw told (refused ∙ sym (unrefused_lines desk0.published.count (length commands)));
-      wrote = rw told (lines_wrote desk0.published.count (length commands) whole writer0 writer end.fault (rw first at wrote) fault);
+      wrote = rw told (lines_wrote desk0.published.count (length commands) some whole writer0 writer end.fault (rw first at wrote) fault);
     }
 
 -- ---- the plain desk

@@ -1,5 +1,5 @@
 -- What an atomic file does: its commands are made together or not at all, once all its lines are read.
-use Rattle.std.specs.Prelude.{◌≡◌, ◌⊎◌, ℕ, zero, suc, ◌+◌, nat_lt, if◌then◌else◌, false, List, [], ◌∷◌, ◌++◌, find, length, Option, Some, None, IfSome, Result, Ok, Err}
+use Rattle.std.specs.Prelude.{◌≡◌, ◌≢◌, ◌⊎◌, ℕ, zero, suc, ◌+◌, nat_lt, if◌then◌else◌, false, List, [], ◌∷◌, ◌++◌, find, length, Option, Some, None, IfSome, Result, Ok, Err}
 use Rattle.std.specs.Io.KnownBytes.{Appends}
 use Rattle.prt_addr.specs.declared.on_refusal.OnRefusal.TheVariants.{Stop}
 use Rattle.prt_addr.specs.declared.refusal.Refusal.{Refusal}
@@ -14,6 +14,8 @@ use Rattle.prt_session.specs.declared.limits.TheConstants.{MOST_TOGETHER}
 use Rattle.prt_session.specs.declared.reply.Reply.{Reply}
 use Rattle.prt_session.specs.declared.reply.Reply.TheVariants.{Accepted, Refused, Silent}
 use Rattle.prt_session.specs.declared.script_end.ScriptEnd.{ScriptEnd}
+use Rattle.prt_version.specs.Accepted.{IsAccepted}
+use Rattle.prt_version.specs.Change.{fold}
 
 -- ---- the reading: a session that collects the commands, and executes none
 
@@ -66,16 +68,26 @@ after_reading desk (Some refused) commands mishap = record { replies = refused �
 after_reading desk None commands mishap = submitted desk commands mishap
 
 -- the outcome of an input, with what befalls its lines in the reading, and what befalls the list
-abbrev pub outcome : DeskState → Input → List (Option Mishap) → Option Mishap → Outcome
-outcome desk input mishaps mishap = after_reading desk (find is_refused (replies (collected input mishaps))) (collected input mishaps).desk mishap
+abbrev pub atomic_output : DeskState → Input → List (Option Mishap) → Option Mishap → Outcome
+atomic_output desk input mishaps mishap = after_reading desk (find is_refused (replies (collected input mishaps))) (collected input mishaps).desk mishap
+
+-- ---- all or none
+
+-- all commands are accepted, and each has a number of its own
+abbrev pub AllMade : DeskState → List Command → Outcome → Type 0
+AllMade desk commands made = IsAccepted desk.published commands × (made.replies ≡ accepted_after desk.published.count (length commands)) × (made.desk.published ≡ fold desk.published commands)
+
+-- a refusal is the only reply, and queries are answered as before
+abbrev pub NoneMade : DeskState → Outcome → Type 0
+NoneMade desk made = (reason : Refusal) × (made.replies ≡ Refused reason ∷ []) × (made.desk.published ≡ desk.published)
 
 -- ---- a run
 
--- All replies were written or, after a fault of the writer, a part of their text, perhaps none or all of it.
+-- All replies were written or, after a fault of the writer, a part of their text, perhaps none or all of it. A writer that gets nothing has no fault.
 abbrev pub WroteReplies : List Reply → (writer0 writer : Option (List ℕ)) → Option Refusal → Type 0
 WroteReplies told writer0 writer fault =
     (Appends writer0 writer (replies_text told) × (fault ≡ fault_in None told))
-    ⊎ ((part : List ℕ) × (cut_off : List ℕ) × (replies_text told ≡ part ++ cut_off) × Appends writer0 writer part × (fault ≡ Some WriteFault))
+    ⊎ ((part : List ℕ) × (cut_off : List ℕ) × (told ≢ []) × (replies_text told ≡ part ++ cut_off) × Appends writer0 writer part × (fault ≡ Some WriteFault))
 
 -- A list was submitted, and what comes of it was written.
 pub record SubmittedIs (may : Mishap → Type 0) (desk0 desk : DeskState) (commands : List Command) (writer0 writer : Option (List ℕ)) (end : ScriptEnd) : Type 0 where
@@ -92,10 +104,10 @@ pub record AtomicIs (may : Mishap → Type 0) (desk0 desk : DeskState) (reader0 
   pub mishap : Option Mishap
   pub path : Path collect_turn CollectMay [] (collected input mishaps).exchanges (collected input mishaps).desk
   pub befalls : IfSome mishap may
-  pub leaves : desk ≡ (outcome desk0 input mishaps mishap).desk
+  pub leaves : desk ≡ (atomic_output desk0 input mishaps mishap).desk
   pub beyond : List ℕ
   pub bytes_before : IfSome reader0 (λ bytes. bytes ≡ input.bytes ++ beyond)
   pub whole : input.ending ≡ end_of_input → beyond ≡ []
   pub bytes_left : IfSome reader0 (λ _. reader ≡ Some ((collected input mishaps).unread ++ beyond))
-  pub refused_is : end.refused ≡ refused_in false (outcome desk0 input mishaps mishap).replies
-  pub wrote : WroteReplies (outcome desk0 input mishaps mishap).replies writer0 writer end.fault
+  pub refused_is : end.refused ≡ refused_in false (atomic_output desk0 input mishaps mishap).replies
+  pub wrote : WroteReplies (atomic_output desk0 input mishaps mishap).replies writer0 writer end.fault

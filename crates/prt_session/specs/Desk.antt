@@ -74,7 +74,7 @@ submit_all desk commands (Some (store_fails call)) = record { result = Err (Stor
 submit_all desk commands (Some commit_kept) = record { result = Err (StoreFailed Commit); desk = shut desk (fold desk.published commands) }
 submit_all desk commands (Some publication_fails) = record { result = Err NotPublished; desk = shut desk (fold desk.published commands) }
 
--- A list with a refused command. Memory may be refused at that command or at one before it, and then the list is not read as far as that.
+-- A list with a refused command. Where memory is refused at that command or at one before it, that is why the list is not made.
 abbrev pub refuse_all : DeskState → Refusal → Option Mishap → ListTurn
 refuse_all desk reason (Some no_memory) = record { result = Err NoMemory; desk = desk }
 refuse_all desk reason mishap = record { result = Err reason; desk = desk }

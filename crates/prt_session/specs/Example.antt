@@ -1,6 +1,6 @@
 -- A session and an atomic file on a new database, and a check, for examples.
 use Rattle.std.specs.Prelude.{ℕ, List, [], None, Option}
-use Rattle.prt_session.specs.Atomic.{Outcome, outcome}
+use Rattle.prt_session.specs.Atomic.{Outcome, atomic_output}
 use Rattle.prt_session.specs.Check.{nothing_turn}
 use Rattle.prt_session.specs.Desk.{DeskState, Mishap, settled, request_turn}
 use Rattle.prt_session.specs.Form.{numbered_from}
@@ -23,7 +23,7 @@ refusals_of bytes ending = numbered_from 1 (replies (session nothing_turn tt (re
 
 -- what comes of an atomic file, where nothing befalls it
 abbrev pub atomic_on : List ℕ → Outcome
-atomic_on bytes = outcome (settled opening_state) (record { bytes = bytes; ending = end_of_input }) [] None
+atomic_on bytes = atomic_output (settled opening_state) (record { bytes = bytes; ending = end_of_input }) [] None
 
 -- the bytes that it replies
 abbrev pub atomic_replies_to : List ℕ → List ℕ

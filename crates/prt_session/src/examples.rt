@@ -1,5 +1,5 @@
 //! Scripts with their replies, computed with the definitions alone.
-ghost use Rattle.std.specs.Prelude.{◌≡◌, ◌∷◌, [], ◌++◌, None, Some, codes, length, replicate, true};
+ghost use Rattle.std.specs.Prelude.{◌≡◌, ◌∷◌, [], ◌++◌, None, Some, codes, flat_map, length, replicate, true};
 ghost use Rattle.prt_session.specs.Example.{atomic_on, atomic_replies_to, refusals_of, replies_to, session_on};
 ghost use Rattle.prt_session.specs.Desk.{commit_kept, no_memory, publication_fails};
 ghost use Rattle.prt_session.specs.Session.{end_of_input, read_fault};
@@ -36,11 +36,12 @@ pub fn line_limits()
     ensures unread { (session_on GoOn (replicate 65537 32 ++ codes "\nroute get 1\n") end_of_input []).unread ≡ codes "\nroute get 1\n" }
 {}
 
-/// Atomic files: one that is made, one that the tables refuse, and two that are refused as they are read.
+/// Atomic files: one that is made, one that the tables refuse, and three that are refused as they are read.
 pub fn atomic_files()
     ensures atomic_ok { atomic_replies_to (codes "route add 10/8 dev a1\n# x\nrule add table 7\n") ≡ codes "ok 1\nok 2\n" }
     ensures atomic_refused { atomic_replies_to (codes "route add 10/8 dev a1\nroute add 10/8 dev a2\n") ≡ codes "error 21 Exists\n" }
     ensures none_made { (atomic_on (codes "route add 10/8 dev a1\nroute add 10/8 dev a2\n")).desk.published.count ≡ 0 }
     ensures atomic_first_fault { atomic_replies_to (codes "route add 10/8 dev a1\nroute add 10/8 dev a2\nroute add x\n") ≡ codes "error 9 BadPrefix\n" }
     ensures atomic_query { atomic_replies_to (codes "route add 10/8 dev a1\nrule show\n") ≡ codes "error 4 UnknownVerb\n" }
+    ensures atomic_limit { atomic_replies_to (flat_map (λ line. line) (replicate 1001 (codes "rule flush\n"))) ≡ codes "error 19 TooManyCommands\n" }
 {}

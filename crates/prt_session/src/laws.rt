@@ -1,10 +1,14 @@
-//! Laws of the definition of a session, which no program calls.
-ghost use Rattle.std.specs.Prelude.{◌≡◌, ◌+◌, ◌*◌, ◌≤◌, List, Option, length, true};
+//! Laws of the definitions of a session and of an atomic file, which no program calls.
+ghost use Rattle.std.specs.Prelude.{◌≡◌, ◌⊎◌, ◌+◌, ◌*◌, ◌≤◌, ◌∷◌, [], List, Option, length, true};
 ghost use Rattle.std.specs.List.{All};
+ghost use Rattle.prt_addr.specs.Refusal.{code_of};
+ghost use Rattle.prt_addr.specs.declared.refusal.Refusal.{Refusal};
+ghost use Rattle.prt_session.specs.Atomic.{AllMade, NoneMade, atomic_output, collected};
 ghost use Rattle.prt_session.specs.Desk.{Befalls, DeskState, IsNoMemory, Mishap, request_turn, settled};
 ghost use Rattle.prt_session.specs.Refusals.{IsClosedExchange, IsListReply, IsWithinLists};
 ghost use Rattle.prt_session.specs.Session.{Input, Path, replies, session};
 ghost use Rattle.prt_addr.specs.declared.on_refusal.OnRefusal.{OnRefusal};
+ghost use Rattle.prt_session.specs.declared.reply.Reply.TheVariants.{Refused};
 ghost use Rattle.prt_version.specs.State.{State};
 
 /// A session ends: it takes at most 1,000,000 lines of 65,537 bytes each, and one byte more.
@@ -30,4 +34,13 @@ pub fn closed_replies()
         All IsClosedExchange (session request_turn desk input mode mishaps).exchanges }
     ensures same { (desk : DeskState) (input : Input) (mode : OnRefusal) (mishaps : List (Option Mishap)) → desk.closed ≡ true →
         (session request_turn desk input mode mishaps).desk ≡ desk }
+{}
+
+/// Of an atomic file all commands are made, in the order of their lines and each with a number of its own, or none is, and
+/// one refusal is its only reply. A refusal with a number up to that of `NoMemory` leaves the desk as it was.
+pub fn all_or_none()
+    ensures made { (desk : DeskState) (input : Input) (mishaps : List (Option Mishap)) (mishap : Option Mishap) →
+        AllMade desk (collected input mishaps).desk (atomic_output desk input mishaps mishap) ⊎ NoneMade desk (atomic_output desk input mishaps mishap) }
+    ensures unchanged { (desk : DeskState) (input : Input) (mishaps : List (Option Mishap)) (mishap : Option Mishap) (reason : Refusal) →
+        (atomic_output desk input mishaps mishap).replies ≡ Refused reason ∷ [] → code_of reason ≤ 26 → (atomic_output desk input mishaps mishap).desk ≡ desk }
 {}

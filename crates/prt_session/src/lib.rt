@@ -1,4 +1,5 @@
-//! Sessions: the replies to a script, and the desk that executes its commands. Checks, which execute nothing.
+//! Sessions: the replies to a script, and the desk that executes its commands. Atomic files, whose commands are made together.
+//! Checks, which execute nothing.
 #![tactic(auto)]
 
 mod atomic;
@@ -23,7 +24,7 @@ pub use atomic::run_atomic;
 pub use check::check_lines;
 pub use desk::Desk;
 pub use executor::Executor;
-pub use laws::{closed_replies, list_replies, session_ends};
+pub use laws::{all_or_none, closed_replies, list_replies, session_ends};
 pub use limits::MOST_TOGETHER;
 pub use list_desk::ListDesk;
 pub use observer::{Observer, Unobserved};

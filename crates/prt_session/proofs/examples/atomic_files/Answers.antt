@@ -24,3 +24,7 @@ returns-clause-atomic_first_fault c = refl
 pub returns-clause-atomic_query : goal.returns-clause-atomic_query
 unfolding session session_lines lines_of line_turn stops_after replies_text digits
 returns-clause-atomic_query c = refl
+
+pub returns-clause-atomic_limit : goal.returns-clause-atomic_limit
+unfolding session session_lines lines_of line_turn stops_after replies_text digits
+returns-clause-atomic_limit c = refl

@@ -7,4 +7,4 @@ use Rattle.prt_desk.proofs.store_desk.StoreDesk.open.Goals as goal
 pub returns-in-Ok-clause-own : goal.returns-in-Ok-clause-own
 returns-in-Ok-clause-own g c known =
     let made = c.in-Ok.publisher in
-    ((c.in-Ok.ensures.own known).0, subst (λ (p : Phase). Agrees g.S.Store p made.command (line_state made.line) made.tables) c.in-Ok.ensures.ready.0 (c.in-Ok.ensures.stands known))
+    ((c.in-Ok.ensures.own known).0, subst (λ (p : Phase). Agrees g.S.Store p made.commands (line_state made.line) made.tables) c.in-Ok.ensures.ready.0 (c.in-Ok.ensures.stands known))
