@@ -7,7 +7,7 @@ use Rattle.prt_addr.specs.declared.refusal.Refusal.TheVariants.{NotPublished, St
 use Rattle.prt_addr.specs.declared.refusal.StoreCall.{StoreCall}
 use Rattle.prt_command.specs.declared.request.Command.{Command}
 use Rattle.prt_session.proofs.Collected.{collected_told, found, refused_or_fault}
-use Rattle.prt_session.proofs.Submitted.{faultless_lines, neither, unrefused_lines}
+use Rattle.prt_session.proofs.Submitted.{faultless_lines, unrefused_lines}
 use Rattle.prt_session.specs.Atomic.{AllMade, NoneMade, Outcome, accepted_after, after_reading, atomic_output, collected, list_replies}
 use Rattle.prt_session.specs.Desk.{DeskState, ListTurn, Mishap, commands_or_refusal, commit_kept, no_memory, no_room, publication_fails, store_fails}
 use Rattle.prt_session.specs.Reply.{is_refused}
@@ -15,15 +15,9 @@ use Rattle.prt_session.specs.Run.{fault_in, refused_in}
 use Rattle.prt_session.specs.Session.{Input, replies}
 use Rattle.prt_session.specs.declared.reply.Reply.{Reply}
 use Rattle.prt_session.specs.declared.reply.Reply.TheVariants.{Refused}
-use Rattle.prt_version.specs.Accepted.{IsAccepted, refusal_all}
-use Rattle.prt_version.specs.Change.{apply, refusal}
-use Rattle.prt_version.specs.State.{State}
-
-all_accepted : (state : State) (commands : List Command) → refusal_all state commands ≡ None → IsAccepted state commands
-all_accepted state [] h = tt
-all_accepted state (command ∷ commands) h =
-    let both = neither (refusal state command) (refusal_all (apply state command) commands) h in
-    (both.0, all_accepted (apply state command) commands both.1)
+use Rattle.prt_version.proofs.Folds.{accepted_all}
+use Rattle.prt_version.specs.Accepted.{refusal_all}
+use Rattle.prt_version.specs.Change.{refusal}
 
 -- what comes of a list's turn
 abbrev from_turn : DeskState → List Command → ListTurn → Outcome
@@ -53,7 +47,7 @@ turn_made desk commands (Some no_memory) false (Some reason) is = inr (_, refl, 
 turn_made desk commands (Some (store_fails call)) false (Some reason) is = inr (_, refl, refl)
 turn_made desk commands (Some commit_kept) false (Some reason) is = inr (_, refl, refl)
 turn_made desk commands (Some publication_fails) false (Some reason) is = inr (_, refl, refl)
-turn_made desk commands None false None is = inl (all_accepted desk.published commands is, refl, refl)
+turn_made desk commands None false None is = inl (accepted_all desk.published commands is, refl, refl)
 turn_made desk commands (Some no_room) false None is = inr (_, refl, refl)
 turn_made desk commands (Some no_memory) false None is = inr (_, refl, refl)
 turn_made desk commands (Some (store_fails call)) false None is = inr (_, refl, refl)

@@ -1,8 +1,7 @@
 -- The submission of a list: the numbers of its commands, and the lines that are written.
-use Rattle.std.proofs.Common.{◌≢◌, ◌≡◌, ℕ, zero, suc, ◌+◌, ◌-◌, ◌≤◌, ◌<◌, true, false, Bool, List, [], ◌∷◌, ◌++◌, length, Option, Some, None, Result, Ok, Err, inl, inr, refl, sym, ap, ◌∙◌, subst, arith, append_assoc}
+use Rattle.std.proofs.Common.{◌≢◌, ◌≡◌, ℕ, zero, suc, ◌+◌, ◌-◌, ◌≤◌, ◌<◌, true, false, Bool, List, [], ◌∷◌, ◌++◌, length, Option, Some, None, Ok, Err, inl, inr, refl, sym, ap, ◌∙◌, subst, arith, append_assoc}
 use Rattle.std.specs.Prelude.{if◌then◌else◌}
 use Rattle.std.specs.Io.KnownBytes.{Appends}
-use Rattle.std.specs.Result.{result_err}
 use Rattle.prt_addr.specs.declared.refusal.Refusal.{Refusal}
 use Rattle.prt_addr.specs.declared.refusal.Refusal.TheVariants.{NoMemory, WriteFault}
 use Rattle.prt_command.specs.declared.request.Command.{Command}
@@ -17,40 +16,12 @@ use Rattle.prt_session.specs.declared.form.Form.TheVariants.{Plain}
 use Rattle.prt_session.specs.declared.reply.Reply.{Reply}
 use Rattle.prt_session.specs.declared.reply.Reply.TheVariants.{Accepted, Refused}
 use Rattle.prt_session.specs.declared.script_end.ScriptEnd.{ScriptEnd}
-use Rattle.prt_version.specs.Accepted.{IsAccepted, IsRefusedFor, or_later, refusal_all}
-use Rattle.prt_version.specs.Change.{apply, check, fold, put, put_if, refusal}
+use Rattle.prt_version.proofs.Folds.{accepted_all, count_fold, none_refused}
+use Rattle.prt_version.specs.Accepted.{IsAccepted, IsRefusedFor, refusal_all}
+use Rattle.prt_version.specs.Change.{fold}
 use Rattle.prt_version.specs.State.{State}
-use Rattle.prt_version.specs.declared.change.Change.{Change}
-use Rattle.prt_version.specs.declared.change.Change.TheVariants as change
 
 -- ---- the numbers of commands that are accepted
-
-put_count : (state : State) (made : Change) → (put state made).count ≡ state.count + 1
-put_count state (change.Route edit) = refl
-put_count state (change.RulePut rule) = refl
-put_count state (change.RuleDrop id) = refl
-put_count state change.RuleFlush = refl
-
-made_count : (state : State) (made : Result Change Refusal) → result_err made ≡ None → (put_if state made).count ≡ state.count + 1
-made_count state (Ok made) e = put_count state made
-made_count state (Err reason) e = absurd (cc)
-
-pub neither : (first later : Option Refusal) → or_later first later ≡ None → (first ≡ None) × (later ≡ None)
-neither None later e = (refl, e)
-neither (Some reason) later e = absurd (cc)
-
-fold_count : (state : State) (commands : List Command) → refusal_all state commands ≡ None → (fold state commands).count ≡ state.count + length commands
-fold_count state [] e = omega arith
-fold_count state (command ∷ commands) e =
-    let h = neither (refusal state command) (refusal_all (apply state command) commands) e in
-    let one : (apply state command).count ≡ state.count + 1 = made_count state (check state command) h.0 in
-    let more = fold_count (apply state command) commands h.1 in
-    omega (arith, one, more)
-
--- all are refused for nothing
-pub none_refused : (state : State) (commands : List Command) → IsAccepted state commands → refusal_all state commands ≡ None
-none_refused state [] h = refl
-none_refused state (command ∷ commands) h = ap (λ first. or_later first (refusal_all (apply state command) commands)) h.0 ∙ none_refused (apply state command) commands h.1
 
 refused_list : (desk : DeskState) (reason : Refusal) (mishap : Option Mishap) (last : ℕ) → Ok last ≡ (refuse_all desk reason mishap).result → ⊥
 refused_list desk reason None last e = absurd (cc)
@@ -63,7 +34,7 @@ refused_list desk reason (Some publication_fails) last e = absurd (cc)
 last_by : (desk : DeskState) (commands : List Command) (mishap : Option Mishap) (last : ℕ) (closed : Bool) (reason : Option Refusal) → refusal_all desk.published commands ≡ reason → Ok last ≡ (commands_or_refusal desk commands closed reason mishap).result → last ≡ desk.published.count + length commands
 last_by desk commands mishap last true reason is e = absurd (cc)
 last_by desk commands mishap last false (Some reason) is e = absurd (refused_list desk reason mishap last e)
-last_by desk commands None last false None is e = let h : last ≡ (fold desk.published commands).count = cc in h ∙ fold_count desk.published commands is
+last_by desk commands None last false None is e = let h : last ≡ (fold desk.published commands).count = cc in h ∙ count_fold desk.published commands (accepted_all desk.published commands is)
 last_by desk commands (Some no_room) last false None is e = absurd (cc)
 last_by desk commands (Some no_memory) last false None is e = absurd (cc)
 last_by desk commands (Some (store_fails call)) last false None is e = absurd (cc)
