@@ -1,14 +1,34 @@
--- What a stop leaves that falls into a command.
+-- What a stop leaves that falls into the commit of commands.
+use Rattle.std.proofs.Common.{◌≡◌, ◌⊎◌, ◌+◌, List, length, subst, arith}
+use Rattle.sqlite.specs.Held.{Held}
 use Rattle.sqlite.specs.Store.{Ghosts}
+use Rattle.prt_addr.specs.declared.refusal.StoreCall.{StoreCall}
+use Rattle.prt_addr.specs.declared.refusal.StoreCall.TheVariants.{Commit}
+use Rattle.prt_command.specs.Storable.{IsStorable}
+use Rattle.prt_command.specs.declared.request.Command.{Command}
+use Rattle.prt_publisher.proofs.Commits.{are_made, as_many}
+use Rattle.prt_publisher.specs.Standing.{Standing}
 use Rattle.prt_store.proofs.StoppedCommits.{stopped_leaves}
+use Rattle.prt_store.specs.Exits.{IsKnown, IsStored}
+use Rattle.prt_store.specs.Next.{AreNext}
+use Rattle.prt_version.specs.Accepted.{changes_of}
+use Rattle.prt_version.specs.State.{State}
+use Rattle.std.specs.Prelude.{All}
 use Rattle.prt_desk.proofs.Kept.{left_open, stored_open}
-use Rattle.prt_desk.specs.StoreDesk.{published}
-use Rattle.prt_desk.specs.Stops.{LeavesAState}
+use Rattle.prt_desk.specs.StoreDesk.{IsKept, published}
+use Rattle.prt_desk.specs.Stops.{LeavesAState, StopsIn}
 
--- a stop leaves the state before the command or the one after it
+-- a stop leaves the state before the commands or the one after all of them
 pub leaves_a_state : {S : Type 0} (g : Ghosts S) → LeavesAState g
 leaves_a_state g desk kept is known left = (
   left_open g desk kept is known left,
-  λ command call now storable stops known.
-      stopped_leaves g (published desk) desk.ours_first desk.tables now command call stops.0 storable (λ known. stored_open g desk kept is known) stops.1 stops.2 known left,
+  λ commands call now storable stops known may.
+      let before = published desk in
+      let changes = changes_of before commands in
+      let number = before.count + length commands in
+      let stored : IsStored g desk.tables before = stored_open g desk kept is known in
+      let made = are_made before commands storable stops.0 in
+      let next : AreNext before changes number = record { sound = stored.now.fits.sound; made = made.0; counts = omega (arith, as_many before commands stops.0) } in
+      subst (λ (after : State). (left ≡ before) ⊎ ((call ≡ Commit) × (left ≡ after))) made.1
+      (stopped_leaves g before desk.ours_first desk.tables now changes number call (λ known. stored_open g desk kept is known) next stops.1 known left may),
 )

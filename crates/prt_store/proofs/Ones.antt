@@ -1,5 +1,5 @@
 -- The commit of one change is that of several changes, of which there is one.
-use Rattle.std.proofs.Common.{ℕ, Option, [], ◌∷◌, inl, inr, sym, subst, arith}
+use Rattle.std.proofs.Common.{ℕ, Option, [], ◌∷◌, inl, inr, refl, sym, subst, arith}
 use Rattle.sqlite.specs.Effect.{Database}
 use Rattle.sqlite.specs.Held.{Held}
 use Rattle.sqlite.specs.Store.{Ghosts}
@@ -28,6 +28,9 @@ module _ {S : Type 0} (g : Ghosts S) (made : Change) where
   each_one : (old written : Held S) → WritesEach g (made ∷ []) old written → Writes g made old written
   each_one old written wrote = (wrote.0.0, (wrote_one (begun_from old) written wrote.1.0, wrote.1.1))
 
+  all_wrote : (old written : Held S) → Writes g made old written → WritesEach g (made ∷ []) old written
+  all_wrote old written wrote = ((wrote.0, tt), ((written, wrote.1.0, refl), wrote.1.1))
+
   module _ (number : ℕ) (old : Held S) where
     pub done_one : (db : Database) → HasDone g (MakesChanges g (made ∷ []) number) old db → HasDone g (MakesChange g made number) old db
     done_one db done = (done.0, (done.1.0, wrote_one (begun_from old) done.1.0 done.1.1, done.1.2), done.2)
@@ -46,3 +49,10 @@ module _ {S : Type 0} (g : Ghosts S) (made : Change) where
     fails_one Write left failure fails = (fails.0, fails.1, λ clean. let refused = fails.2 clean in (refused.0, refused_one fails.0 (begun_from old) refused.0 refused.1))
     fails_one Count left failure fails = (fails.0, fails.1, λ clean. let why = fails.2 clean in (why.0, each_one old why.0 why.1, why.2, why.3))
     fails_one Commit left failure fails = (fails.0, fails.1, λ clean. let why = fails.2 clean in (why.0, each_one old why.0 why.1, why.2, why.3, why.4))
+
+    -- and the other way
+    pub all_stopped : (call : StoreCall) (left : Held S) → StoppedIn g made number old call left → AllStoppedIn g (made ∷ []) number old call left
+    all_stopped Begin left stopped = stopped
+    all_stopped Write left stopped = stopped
+    all_stopped Count left stopped = (stopped.0, all_wrote old stopped.0 stopped.1, stopped.2)
+    all_stopped Commit left stopped = (stopped.0, all_wrote old stopped.0 stopped.1, stopped.2, stopped.3, stopped.4)

@@ -1,5 +1,5 @@
 -- The calls of a commit, and what is left where it is stopped in one of them.
-use Rattle.std.proofs.Common.{◌≡◌, inl, inr, ℕ, List, false, IsTrue, Result, refl, sym, subst, arith}
+use Rattle.std.proofs.Common.{◌≡◌, inl, inr, ℕ, List, [], ◌∷◌, false, IsTrue, Result, refl, sym, subst, arith}
 use Rattle.std.specs.List.{AllByRecursion as Each}
 use Rattle.std.specs.Result.{is_err}
 use Rattle.sqlite.proofs.Callers.{survives_begin}
@@ -15,14 +15,14 @@ use Rattle.prt_addr.specs.declared.refusal.StoreCall.{StoreCall}
 use Rattle.prt_addr.specs.declared.refusal.StoreCall.TheVariants.{Begin, Write, Count, Commit}
 use Rattle.prt_rows.specs.Kept.{count_values}
 use Rattle.prt_rows.specs.Statements.{set_count}
-use Rattle.prt_version.specs.Change.{put}
 use Rattle.prt_version.specs.declared.change.Change.{Change}
-use Rattle.prt_store.proofs.Calls.{makes_next}
+use Rattle.prt_store.proofs.Ones.{all_stopped, next_one}
+use Rattle.prt_store.proofs.Several.{makes_all_next}
 use Rattle.prt_store.proofs.Transactions.{of_ok, statement_works, survives_itself}
-use Rattle.prt_store.specs.Made.{MakesChange, WritesAll}
-use Rattle.prt_store.specs.Next.{MakesNext}
+use Rattle.prt_store.specs.Made.{MakesChanges, WritesAll}
+use Rattle.prt_store.specs.Next.{MakesNext, put_all}
 use Rattle.prt_store.specs.Openings.{HasLeft, Works, begun_from}
-use Rattle.prt_store.specs.Stops.{AllStoppedIn, Counts, LeavesAState, MakesAllCalls, MayCommit, RanInside, StoppedIn, WritesEach}
+use Rattle.prt_store.specs.Stops.{AllStoppedIn, Counts, LeavesAState, LeavesAllOrNone, MakesAllCalls, MayCommit, RanInside, WritesEach}
 use Rattle.prt_store.specs.Written.{CommitsNothing, IsTyped, RunsInside}
 
 -- one call after another, of which none commits
@@ -68,19 +68,19 @@ module _ {S : Type 0} (g : Ghosts S) (changes : List Change) (number : ℕ) (old
 
 -- ---- what is left
 
--- the two statements left these trees
-abbrev pub HasLeftNext : {S : Type 0} → Ghosts S → Change → ℕ → Held S → StoreCall → Trees → Type 0
-HasLeftNext g made number old call trees = (call ≡ Commit) × IsTyped made × HasLeft g (MakesChange g made number) old trees
+-- the statements of all changes left these trees
+abbrev pub HasLeftNext : {S : Type 0} → Ghosts S → List Change → ℕ → Held S → StoreCall → Trees → Type 0
+HasLeftNext g changes number old call trees = (call ≡ Commit) × Each IsTyped changes × HasLeft g (MakesChanges g changes number) old trees
 
-module _ {S : Type 0} (g : Ghosts S) (made : Change) (number : ℕ) (old left : Held S) where
-  quiet_from : (call : StoreCall) (last : Held S) → CommitsNothing g (begun_from old) last → CommitsNothing g last left → Survives (state g old) (state g left) (HasLeftNext g made number old call)
+module _ {S : Type 0} (g : Ghosts S) (changes : List Change) (number : ℕ) (old left : Held S) where
+  quiet_from : (call : StoreCall) (last : Held S) → CommitsNothing g (begun_from old) last → CommitsNothing g last left → Survives (state g old) (state g left) (HasLeftNext g changes number old call)
   quiet_from call last one two =
-      survives_begin g old (state g left) _ (survives_then (state g (begun_from old)) (state g last) (state g left) _ _ (HasLeftNext g made number old call) (λ _ db none. absurd none) (λ _ db none. absurd none) one two)
+      survives_begin g old (state g left) _ (survives_then (state g (begun_from old)) (state g last) (state g left) _ _ (HasLeftNext g changes number old call) (λ _ db none. absurd none) (λ _ db none. absurd none) one two)
 
-  -- a crash finds what it could find before, or what the two statements left
-  pub left_by : (call : StoreCall) → StoppedIn g made number old call left → Survives (state g old) (state g left) (HasLeftNext g made number old call)
-  left_by Begin is = subst (λ h. Survives (state g old) (state g h) (HasLeftNext g made number old Begin)) (sym is) (survives_itself (state g old) _)
-  left_by Write quiet = survives_begin g old (state g left) _ (survives_weaker (state g (begun_from old)) (state g left) _ (HasLeftNext g made number old Write) (λ _ db none. absurd none) quiet)
+  -- a crash finds what it could find before, or what the statements left
+  pub left_by : (call : StoreCall) → AllStoppedIn g changes number old call left → Survives (state g old) (state g left) (HasLeftNext g changes number old call)
+  left_by Begin is = subst (λ h. Survives (state g old) (state g h) (HasLeftNext g changes number old Begin)) (sym is) (survives_itself (state g old) _)
+  left_by Write quiet = survives_begin g old (state g left) _ (survives_weaker (state g (begun_from old)) (state g left) _ (HasLeftNext g changes number old Write) (λ _ db none. absurd none) quiet)
   left_by Count stopped = quiet_from Count stopped.0 stopped.1.1.1 stopped.2
   left_by Commit stopped =
       let write = stopped.1 in
@@ -88,15 +88,20 @@ module _ {S : Type 0} (g : Ghosts S) (made : Change) (number : ℕ) (old left : 
       let last = stopped.2 in
       let quiet = quiet_then g (begun_from old) stopped.0 last write.1.1 count.1 in
       survives_begin g old (state g left) _
-      (survives_then (state g (begun_from old)) (state g last) (state g left) _ _ (HasLeftNext g made number old Commit) (λ _ db none. absurd none)
+      (survives_then (state g (begun_from old)) (state g last) (state g left) _ _ (HasLeftNext g changes number old Commit) (λ _ db none. absurd none)
       (λ _ trees is. (refl, write.0, ((state g last).now, (last, (stopped.0, write.1.0, count.0), refl), is))) quiet stopped.4)
 
--- whichever call a commit is stopped in, a crash finds the rows as they were or those of the next state
-pub leaves_a_state : {S : Type 0} (g : Ghosts S) → LeavesAState g
-leaves_a_state g before made number old left call next held rest stopped clean trees leaves = elim ((left_by g made number old left call stopped).crash clean trees leaves) [
+-- whichever call a commit is stopped in, a crash finds the rows as they were or those of the state after all changes
+pub leaves_all_or_none : {S : Type 0} (g : Ghosts S) → LeavesAllOrNone g
+leaves_all_or_none g before changes number old left call next held rest stopped clean trees leaves = elim ((left_by g changes number old left call stopped).crash clean trees leaves) [
   | inl was ↦ inl (rest.crash trees was)
   | inr it ↦
       let done = it.2 in
-      let all = makes_next g made number old done.0 before next it.1 held done.1 in
-      inr (it.0, subst (MakesNext (state g old).now (put before made)) (λ i. record { schema = all.schema i; trees = sym done.2 i }) all)
+      let all = makes_all_next g changes number old done.0 before next it.1 held done.1 in
+      inr (it.0, subst (MakesNext (state g old).now (put_all before changes)) (λ i. record { schema = all.schema i; trees = sym done.2 i }) all)
 ]
+
+-- so it is of one change
+pub leaves_a_state : {S : Type 0} (g : Ghosts S) → LeavesAState g
+leaves_a_state g before made number old left call next held rest stopped =
+    leaves_all_or_none g before (made ∷ []) number old left call (next_one before made number next) held rest (all_stopped g made number old call left stopped)

@@ -16,7 +16,7 @@ use Rattle.prt_version.specs.State.{State}
 use Rattle.prt_version.specs.declared.change.Change.{Change}
 use Rattle.prt_store.specs.Adopted.{IsAtRest}
 use Rattle.prt_store.specs.Made.{WritesAll, WritesRows}
-use Rattle.prt_store.specs.Next.{IsNext, MakesNext}
+use Rattle.prt_store.specs.Next.{AreNext, IsNext, MakesNext, put_all}
 use Rattle.prt_store.specs.Openings.{Ran, begun_from}
 use Rattle.prt_store.specs.Stored.{Stores}
 use Rattle.prt_store.specs.Written.{CommitsNothing, IsTyped}
@@ -78,3 +78,9 @@ AllStoppedIn g changes number old Begin left = left ≡ old
 AllStoppedIn g changes number old Write left = CommitsNothing g (begun_from old) left
 AllStoppedIn {S = S} g changes number old Count left = (written : Held S) × WritesEach g changes old written × CommitsNothing g written left
 AllStoppedIn {S = S} g changes number old Commit left = (written : Held S) × WritesEach g changes old written × (counted : Held S) × Counts g number written counted × MayCommit g counted left
+
+-- Whichever call of a commit of several changes a stop falls into, a crash finds the rows as they were or, in the call that commits alone, those of the state after all of them.
+abbrev pub LeavesAllOrNone : {S : Type 0} → Ghosts S → Type 0
+LeavesAllOrNone {S = S} g = (before : State) (changes : List Change) (number : ℕ) (old left : Held S) (call : StoreCall) → AreNext before changes number → Stores (state g old).now before → IsAtRest g old
+    → AllStoppedIn g changes number old call left → HasCleanDisk (state g left) → (trees : Trees) → (state g left).may_leave trees
+    → (trees ≡ (state g old).now.trees) ⊎ ((call ≡ Commit) × MakesNext (state g old).now (put_all before changes) (record { schema = (state g old).now.schema; trees = trees }))

@@ -2,7 +2,7 @@
 
 ghost use Rattle.sqlite.specs.Effect.{Database};
 ghost use Rattle.prt_store.specs.Adopted.{Adopts, AdoptsPart};
-ghost use Rattle.prt_store.specs.Stops.{LeavesAState};
+ghost use Rattle.prt_store.specs.Stops.{LeavesAState, LeavesAllOrNone};
 
 use sqlite::Alter;
 
@@ -12,7 +12,8 @@ pub fn openings_go_on()
 {}
 
 /// Whichever of its calls a commit is stopped in, a crash finds the rows as they were or, only where it was stopped in
-/// the call that commits, those of the next state.
+/// the call that commits, those of the next state; of several changes those of the state after all of them.
 pub fn stops_leave_a_state<S: Alter>()
-    ensures { LeavesAState S.Store }
+    ensures one { LeavesAState S.Store }
+    ensures several { LeavesAllOrNone S.Store }
 {}
