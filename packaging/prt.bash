@@ -20,7 +20,7 @@ _prt() {
     --workers | --sessions | --idle) return ;;
   esac
   case ${COMP_WORDS[1]} in
-    batch) options='--force --db --verbose --help' ;;
+    batch) options='--force --atomic --db --verbose --help' ;;
     check | replay) options=--help ;;
     dump) options='--db --help' ;;
     serve) options='--db --listen --workers --sessions --idle --help' ;;

@@ -1,5 +1,6 @@
-// Puts routes into a database file as `prt batch --db` does: a transaction and a reply for each.
-// usage: transactions PATH <ROUTES, in which each line has the address and the length of a destination in main
+// Puts routes into a database file as `prt batch --db` does: a transaction and a reply for each. With the word `together`
+// it does as `prt batch --atomic --db`: one transaction for all, and then the replies.
+// usage: transactions PATH [together] <ROUTES, in which each line has the address and the length of a destination in main
 #include <sqlite3.h>
 #include <stdio.h>
 #include <stdlib.h>
@@ -39,10 +40,17 @@ static void open_database(const char *path)
         "INSERT INTO meta (id, format, count) VALUES (1, 2, 0)", NULL, NULL, NULL), SQLITE_OK);
 }
 
+static void reply(long long number)
+{
+    printf("ok %lld\n", number);
+    fflush(stdout);
+}
+
 int main(int argc, char **argv)
 {
-    if (argc != 2)
+    if (argc < 2)
         return 2;
+    int together = argc > 2;
     open_database(argv[1]);
     sqlite3_stmt *begin = prepare("BEGIN");
     sqlite3_stmt *put = prepare(
@@ -52,16 +60,26 @@ int main(int argc, char **argv)
     sqlite3_stmt *count = prepare("UPDATE meta SET count = ?1");
     sqlite3_stmt *commit = prepare("COMMIT");
     long long net, length, number = 0;
+    if (together)
+        run(begin);
     while (scanf("%lld %lld", &net, &length) == 2) {
         sqlite3_bind_int64(put, 1, net);
         sqlite3_bind_int64(put, 2, length);
         sqlite3_bind_int64(count, 1, ++number);
-        run(begin);
+        if (!together)
+            run(begin);
         run(put);
+        if (!together) {
+            run(count);
+            run(commit);
+            reply(number);
+        }
+    }
+    if (together) {
         run(count);
         run(commit);
-        printf("ok %lld\n", number);
-        fflush(stdout);
+        for (long long made = 1; made <= number; made++)
+            reply(made);
     }
     return 0;
 }

@@ -1,18 +1,17 @@
 -- Sessions that were run over a desk.
 use Rattle.std.proofs.Common.{◌≡◌, ◌∙◌, ℕ, List, Option, subst, sym}
-use Rattle.prt_addr.specs.declared.on_refusal.OnRefusal.{OnRefusal}
-use Rattle.prt_program.specs.Program.{RunsOn, exit_status, streams_of}
-use Rattle.prt_session.specs.Desk.{Befalls, DeskState, Mishap, request_turn, settled}
+use Rattle.prt_program.specs.Program.{RunsOn, SessionIs, exit_status, streams_of}
+use Rattle.prt_session.specs.Desk.{DeskState, Mishap, settled}
 use Rattle.prt_session.specs.Open.{IsOpenOn}
-use Rattle.prt_session.specs.Run.{RunIs}
 use Rattle.prt_session.specs.Stands.{Explained, StandsForSome}
 use Rattle.prt_session.specs.declared.script_end.ScriptEnd.{ScriptEnd}
 use Rattle.prt_version.specs.State.{State, opening_state}
+use Rattle.prt_words.specs.declared.task.Mode.{Mode}
 
 -- what was run over a desk that stood for one state alone
-pub runs_on : {X : Type 0} (stands : X → DeskState → Type 0) (may : Mishap → Type 0) (mode : OnRefusal) (opened : State) (old new : X) (reader0 reader writer0 writer : Option (List ℕ)) (end : ScriptEnd) (status : ℕ)
+pub runs_on : {X : Type 0} (stands : X → DeskState → Type 0) (may : Mishap → Type 0) (mode : Mode) (opened : State) (old new : X) (reader0 reader writer0 writer : Option (List ℕ)) (end : ScriptEnd) (status : ℕ)
     → IsOpenOn stands old opened
-    → Explained stands old new (λ before after. RunIs request_turn (Befalls may) mode before after reader0 reader writer0 writer end)
+    → Explained stands old new (λ before after. SessionIs may mode before after reader0 reader writer0 writer end)
     → (StandsForSome stands old → StandsForSome stands new)
     → status ≡ exit_status end
     → RunsOn stands may mode opened new (streams_of reader0 writer0 writer) status
@@ -22,7 +21,7 @@ runs_on stands may mode opened old new reader0 reader writer0 writer end status 
   left = left (settled opened, is_open.there);
   run = λ after stood.
       let found = explained after stood in
-      subst (λ before. RunIs request_turn (Befalls may) mode before after reader0 reader writer0 writer end) (is_open.alone found.0 found.1) found.2;
+      subst (λ before. SessionIs may mode before after reader0 reader writer0 writer end) (is_open.alone found.0 found.1) found.2;
   status_is = is;
 }
 

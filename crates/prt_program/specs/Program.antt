@@ -7,17 +7,19 @@ use Rattle.prt_program.specs.Faults.{database_of}
 use Rattle.prt_words.specs.Faults.{IsStatusOf}
 use Rattle.prt_words.specs.Invocation.{Invocation, batch, check, replay}
 use Rattle.prt_replay.specs.Replay.{ReplayIs}
+use Rattle.prt_session.specs.Atomic.{AtomicIs}
 use Rattle.prt_session.specs.Check.{ChecksLines}
 use Rattle.prt_session.specs.Desk.{Befalls, DeskState, IsNoMemory, Mishap, request_turn, settled}
 use Rattle.prt_session.specs.Open.{IsOpenOn}
 use Rattle.prt_session.specs.Run.{RunIs}
 use Rattle.prt_session.specs.Stands.{StandsForSome}
 use Rattle.prt_version.specs.State.{State, opening_state}
-use Rattle.prt_addr.specs.declared.on_refusal.OnRefusal.{OnRefusal}
 use Rattle.prt_program.specs.declared.next.Next.{Next}
 use Rattle.prt_program.specs.declared.next.Next.TheVariants.{Dump, Exit, Serve}
 use Rattle.prt_session.specs.declared.script_end.ScriptEnd.{ScriptEnd}
 use Rattle.prt_words.specs.declared.serving.Serving.{Serving}
+use Rattle.prt_words.specs.declared.task.Mode.{Mode}
+use Rattle.prt_words.specs.declared.task.Mode.TheVariants.{InTurn, Together}
 
 -- 3 for a fault, else 1 for a refused line, else 0
 abbrev pub status_by : Option Refusal → Bool → ℕ
@@ -37,17 +39,22 @@ pub record Streams : Type 0 where
 abbrev pub streams_of : (input output_before output_after : Option (List ℕ)) → Streams
 streams_of input output_before output_after = record { input = input; output_before = output_before; output_after = output_after }
 
+-- what a session made of a desk: line by line, or all commands together
+abbrev pub SessionIs : (may : Mishap → Type 0) → Mode → (before after : DeskState) → (reader0 reader writer0 writer : Option (List ℕ)) → ScriptEnd → Type 0
+SessionIs may (InTurn on_refusal) before after reader0 reader writer0 writer end = RunIs request_turn (Befalls may) on_refusal before after reader0 reader writer0 writer end
+SessionIs may Together before after reader0 reader writer0 writer end = AtomicIs may before after reader0 reader writer0 writer end
+
 -- A session that begins with this state was run, and this is its exit status. After it the desk stands for something, and for nothing but what the session left.
-pub record RunsOn {X : Type 0} (stands : X → DeskState → Type 0) (may : Mishap → Type 0) (mode : OnRefusal) (opened : State) (desk : X) (streams : Streams) (status : ℕ) : Type 0 where
+pub record RunsOn {X : Type 0} (stands : X → DeskState → Type 0) (may : Mishap → Type 0) (mode : Mode) (opened : State) (desk : X) (streams : Streams) (status : ℕ) : Type 0 where
   pub reader : Option (List ℕ)
   pub end : ScriptEnd
   pub left : StandsForSome stands desk
-  pub run : (after : DeskState) → stands desk after → RunIs request_turn (Befalls may) mode (settled opened) after streams.input reader streams.output_before streams.output_after end
+  pub run : (after : DeskState) → stands desk after → SessionIs may mode (settled opened) after streams.input reader streams.output_before streams.output_after end
   pub status_is : status ≡ exit_status end
 
 -- A session was run over the database at a path. The desk that was opened stood for a state that may be there, the one that was closed stands for what the session left. Nothing else was done to databases.
 pub record RunsAt {D X : Type 0} (holds : D → Word → State → Type 0) (opens : D → D → Word → X → Type 0) (closed : D → D → X → Type 0) (stands : X → DeskState → Type 0) (keeps : X → X → Type 0) (may : Mishap → Type 0)
-    (old new : D) (path : Word) (mode : OnRefusal) (streams : Streams) (status : ℕ) : Type 0 where
+    (old new : D) (path : Word) (mode : Mode) (streams : Streams) (status : ℕ) : Type 0 where
   pub opened : State
   pub first : X
   pub last : X
@@ -59,7 +66,7 @@ pub record RunsAt {D X : Type 0} (holds : D → Word → State → Type 0) (open
 
 -- a fact of a session: of its mode, its streams and its exit status
 abbrev pub SessionFact : Type 1
-SessionFact = OnRefusal → Streams → ℕ → Type 0
+SessionFact = Mode → Streams → ℕ → Type 0
 
 -- a session over a new database in memory, which stays open, or over the one at this path
 abbrev pub RunsBatch : (Word → SessionFact) → Option Word → SessionFact

@@ -7,7 +7,7 @@ ghost use Rattle.prt_words.specs.Faults.{fault_status};
 use crate::noting::Noting;
 use prt_command::{fault_word, is, next_word};
 use prt_replay::call_name;
-use prt_session::{Observer, Refusal, Reply};
+use prt_session::{Observer, Refusal, Reply, ScriptEnd};
 use prt_words::{DONE, Fault, report};
 use std::alloc::{AllocError, Global};
 use std::fmt::Display;
@@ -377,6 +377,18 @@ impl<'a, E: Write + Drop, K: Clock + Drop> Messages<'a, E, K> {
         let rate = self.lines / seconds;
         self.write(progress_message(self.alloc, self.lines, rate));
         self.telling = Telling::ShowingProgress;
+    }
+
+    /// Counts a refusal of commands that were to be made together, since that is told of no line.
+    pub(crate) fn count_refusal(&mut self, end: ScriptEnd) {
+        let is_refused = end.refused
+            || matches!(
+                end.fault,
+                Some(Refusal::StoreFailed(_) | Refusal::NotPublished)
+            );
+        if is_refused && self.refused == 0 {
+            self.refused = 1;
+        }
     }
 
     /// Tells at the end of a run how many lines there were.

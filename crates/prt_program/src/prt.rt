@@ -4,8 +4,9 @@ ghost use Rattle.std.specs.Io.Buffered.{reader_remaining};
 ghost use Rattle.prt_addr.specs.Opening.{IsOpenRefusal};
 ghost use Rattle.prt_addr.specs.declared.refusal.Refusal.TheVariants.{NoMemory, ReadFault};
 ghost use Rattle.prt_program.specs.Faults.{IsDatabaseFault, IsFault, IsOpening, IsScriptFault};
-ghost use Rattle.prt_program.specs.Program.{IfDump, IfExit, IfServe, LeavesDatabases, LeavesInput, LeavesInputFor, Runs, RunsAt, RunsBatch, RunsCheck, RunsNothing, RunsOn, RunsOver, RunsReplay, exit_status, streams_of};
+ghost use Rattle.prt_program.specs.Program.{IfDump, IfExit, IfServe, LeavesDatabases, LeavesInput, LeavesInputFor, Runs, RunsAt, RunsBatch, RunsCheck, RunsNothing, RunsOn, RunsOver, RunsReplay, SessionIs, exit_status, streams_of};
 ghost use Rattle.prt_session.specs.Open.{IsOpenOn};
+ghost use Rattle.prt_session.specs.Stands.{Explained, StandsForSome};
 ghost use Rattle.prt_version.specs.State.{State};
 ghost use Rattle.prt_words.specs.CommandLine.{IsServing};
 ghost use Rattle.prt_words.specs.Invocation.{arguments, dump, invocation, serve};
@@ -18,9 +19,9 @@ use crate::next::Next;
 use crate::noting::Noting;
 use prt_replay::run_replay;
 use prt_session::{
-    Desk, ListDesk, Observer, OnRefusal, Refusal, ScriptEnd, check_lines, run_script,
+    Desk, ListDesk, Observer, Refusal, ScriptEnd, check_lines, run_atomic, run_script,
 };
-use prt_words::{Batch, DONE, FAULT, Fault, STANDARD_INPUT, Task, read_words};
+use prt_words::{Batch, DONE, FAULT, Fault, Mode, STANDARD_INPUT, Task, read_words};
 use std::alloc::Global;
 use std::fs::{self, Files};
 use std::io::{BufReader, IsTerminal, Read, Write};
@@ -40,20 +41,41 @@ fn exit_status(end: ScriptEnd) -> u8
     }
 }
 
-/// Runs a script over a desk, and gives the exit status of the session.
-fn run_over<D: Desk, R: Read, W: Write, O: Observer>(
+/// Runs a script over a desk: line by line, or all its commands together.
+fn run_in<D: Desk, R: Read, W: Write, O: Observer>(
     alloc: Global,
     desk: &mut D,
     reader: &mut R,
     output: &mut W,
-    mode: OnRefusal,
+    mode: Mode,
     observer: &mut O,
+) -> ScriptEnd
+    ensures run { Explained D.stands desk.old desk.new (λ before after. SessionIs D.may mode before after
+        (R.remaining reader.old) (R.remaining reader.new) (W.contents output.old) (W.contents output.new) result) }
+    ensures left { StandsForSome D.stands desk.old → StandsForSome D.stands desk.new }
+    ensures keeps { D.keeps desk.old desk.new }
+{
+    match mode {
+        Mode::InTurn(on_refusal) => run_script(alloc, desk, reader, output, on_refusal, observer),
+        Mode::Together => run_atomic(alloc, desk, reader, output, observer),
+    }
+}
+
+/// Runs a script over a desk, and gives the exit status of the session.
+fn run_over<D: Desk, R: Read, W: Write, E: Write + Drop, K: Clock + Drop>(
+    alloc: Global,
+    desk: &mut D,
+    reader: &mut R,
+    output: &mut W,
+    mode: Mode,
+    messages: &mut Messages<'_, E, K>,
 ) -> u8
     ensures run { (opened : State) → IsOpenOn D.stands desk.old opened →
         RunsOn D.stands D.may mode opened desk.new (streams_of (R.remaining reader.old) (W.contents output.old) (W.contents output.new)) result }
     ensures keeps { D.keeps desk.old desk.new }
 {
-    let end = run_script(alloc, desk, reader, output, mode, observer);
+    let end = run_in(alloc, desk, reader, output, mode, messages);
+    messages.count_refusal(end);
     exit_status(end)
 }
 
@@ -99,7 +121,7 @@ fn run_batch<H: Host, R: Read + Drop>(
     around: &mut Surroundings<'_, '_, H>,
     database: Option<&str>,
     input: R,
-    mode: OnRefusal,
+    mode: Mode,
     messages: &mut Messages<'_, H::Errors, H::Clock>,
 ) -> Result<u8, Fault>
     ensures run { IfOk result (RunsBatch (RunsAt H.Databases.holds H.Databases.opens H.Databases.closed H.Databases.Opened.stands H.Databases.Opened.keeps H.Databases.Opened.may around.old.databases.now around.new.databases.now)
@@ -300,7 +322,8 @@ fn run_words<'a, H: Host, R: Read>(
 
 /// Runs the program with these words, the first of which is its own name, and gives its exit status.
 ///
-/// `batch [--force] [--db PATH] [--verbose] [FILE]` runs a script over the database at PATH or a new one in memory.
+/// `batch [--force | --atomic] [--db PATH] [--verbose] [FILE]` runs a script over the database at PATH or a new one in
+/// memory; with `--atomic` all its changes are made together or none.
 /// `check [FILE]` says which of its lines would be refused as they stand, and `replay [FILE]` replays a list of events.
 /// Where a FILE is named, `input` is not read. Of `serve` and `dump` the words are read and handed back; nothing is
 /// written then, and no database touched.

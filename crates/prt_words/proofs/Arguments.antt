@@ -1,5 +1,5 @@
 -- The rows of the arguments that a subcommand was given, and what its defaults add.
-use Rattle.std.proofs.Common.{◌≡◌, ◌∙◌, ◌||◌, Bool, cond, true, false, refl, sym, ap, List, [], ◌∷◌, ◌++◌, Option, Some, None, option_map, is_some, codes}
+use Rattle.std.proofs.Common.{◌≡◌, ◌∙◌, ◌||◌, Bool, cond, true, false, refl, ap, List, [], ◌∷◌, ◌++◌, Option, Some, None, option_map, is_some, codes}
 use Rattle.std.specs.Prelude.{find, option_and_then, slice_get}
 use Rattle.std.specs.List.{fold}
 use Rattle.std.specs.Str.{bytes_eq}
@@ -10,10 +10,9 @@ use Rattle.clap.specs.Walk.{Row, Rule, Text, is_empty, first_of, one_of, has_row
 use Rattle.clap.specs.declared.parser.matches.ValueSource.TheVariants.{CommandLine, DefaultValue}
 use Rattle.clap.specs.declared.builder.value_parser.Reading.TheVariants.{AsWritten}
 use Rattle.prt_addr.specs.Word.{Word}
-use Rattle.prt_words.specs.CommandLine.{flag_rule, database_rule, file_rule}
-use Rattle.prt_words.specs.Invocation.{Argument, Force, Verbose, Database, File, Given, Subcommand, Batch, Check, Replay, has_given, with_given}
+use Rattle.prt_words.specs.CommandLine.{flag_rule, database_rule, file_rule, text_of_flag}
+use Rattle.prt_words.specs.Invocation.{Argument, Force, Atomic, Verbose, Database, File, Given, Subcommand, Batch, Check, Replay, has_given, with_given}
 use Rattle.prt_words.proofs.Rows.{find_kept, find_last, row, valued}
-use Rattle.prt_words.proofs.Walks.{text_of_flag}
 use Rattle.prt_words.proofs.WordClasses.{id_of, rules_of, shape_of}
 
 -- ---- what was given
@@ -36,6 +35,7 @@ flag_row a false = None
 -- the row of such an argument, as far as it was given
 abbrev pub given_row : Given → Argument → Option Row
 given_row given Force = flag_row Force given.forced
+given_row given Atomic = flag_row Atomic given.atomic
 given_row given Verbose = flag_row Verbose given.verbose
 given_row given (Database path) = option_map (λ p. row_of (Database p)) given.database
 given_row given (File word) = option_map (λ w. row_of (File w)) given.operand
@@ -61,6 +61,7 @@ some_mapped f (Some x) = refl
 
 some_given : (given : Given) (a : Argument) → is_some (given_row given a) ≡ has_given given a
 some_given given Force = some_flag Force given.forced
+some_given given Atomic = some_flag Atomic given.atomic
 some_given given Verbose = some_flag Verbose given.verbose
 some_given given (Database path) = some_mapped (λ p. row_of (Database p)) given.database
 some_given given (File word) = some_mapped (λ w. row_of (File w)) given.operand
@@ -71,6 +72,7 @@ given_has given rows are a = has_found (id_of a) rows ∙ ap is_some (are a) ∙
 -- one more argument
 pub one_more : (given : Given) (rows : List Row) (a : Argument) → has_row (id_of a) rows ≡ false → AreGiven given rows → AreGiven (with_given given a) (rows ++ row_of a ∷ [])
 one_more given rows Force none are Force = find_last (codes "force") rows (row_of Force) none refl
+one_more given rows Atomic none are Atomic = find_last (codes "atomic") rows (row_of Atomic) none refl
 one_more given rows Verbose none are Verbose = find_last (codes "verbose") rows (row_of Verbose) none refl
 one_more given rows (Database path) none are (Database other) = find_last (codes "db") rows (row_of (Database path)) none refl
 one_more given rows (File word) none are (File other) = find_last (codes "file") rows (row_of (File word)) none refl
@@ -97,6 +99,9 @@ both_quiet a b p q = rw p q
 abbrev built_force : Rule
 built_force = with_index 1 (filled (flag_rule (codes "force")))
 
+abbrev built_atomic : Rule
+built_atomic = with_index 1 (filled (flag_rule (codes "atomic")))
+
 abbrev built_database : Rule
 built_database = with_index 1 (filled database_rule)
 
@@ -115,6 +120,9 @@ no_default rows rule none = rw none (quiet_or (has_row rule.id rows) (given_defa
 force_quiet : (rows : List Row) → default_fault rows built_force ≡ []
 force_quiet rows = quiet (has_row (codes "force") rows || false) (given_default_fault built_force built_force.defaults) refl
 
+atomic_quiet : (rows : List Row) → default_fault rows built_atomic ≡ []
+atomic_quiet rows = quiet (has_row (codes "atomic") rows || false) (given_default_fault built_atomic built_atomic.defaults) refl
+
 verbose_quiet : (rows : List Row) → default_fault rows built_verbose ≡ []
 verbose_quiet rows = quiet (has_row (codes "verbose") rows || false) (given_default_fault built_verbose built_verbose.defaults) refl
 
@@ -132,10 +140,12 @@ operand_quiet rows =
 pub defaults_quiet : (s : Subcommand) (rows : List Row) → defaults_fault rows (rules_of s) ≡ []
 defaults_quiet Batch rows =
     let forced = with_default rows built_force in
-    let named = with_default forced built_database in
-    one_quiet rows built_force (built_database ∷ built_verbose ∷ built_file ∷ built_help ∷ []) (force_quiet rows)
-    (one_quiet forced built_database (built_verbose ∷ built_file ∷ built_help ∷ []) (no_default forced built_database refl)
-    (one_quiet named built_verbose (built_file ∷ built_help ∷ []) (verbose_quiet named) (operand_quiet (with_default named built_verbose))))
+    let joined = with_default forced built_atomic in
+    let named = with_default joined built_database in
+    one_quiet rows built_force (built_atomic ∷ built_database ∷ built_verbose ∷ built_file ∷ built_help ∷ []) (force_quiet rows)
+    (one_quiet forced built_atomic (built_database ∷ built_verbose ∷ built_file ∷ built_help ∷ []) (atomic_quiet forced)
+    (one_quiet joined built_database (built_verbose ∷ built_file ∷ built_help ∷ []) (no_default joined built_database refl)
+    (one_quiet named built_verbose (built_file ∷ built_help ∷ []) (verbose_quiet named) (operand_quiet (with_default named built_verbose)))))
 defaults_quiet Check rows = operand_quiet rows
 defaults_quiet Replay rows = operand_quiet rows
 
@@ -158,15 +168,21 @@ force_default : (rows : List Row) (has : Bool) → has_row (codes "force") rows 
 force_default rows true is = rw is refl
 force_default rows false is = rw is (valued (codes "force") AsWritten DefaultValue (codes "false" ∷ []) rows is)
 
+atomic_default : (rows : List Row) (has : Bool) → has_row (codes "atomic") rows ≡ has → with_default rows built_atomic ≡ with_flag (codes "atomic") rows
+atomic_default rows true is = rw is refl
+atomic_default rows false is = rw is (valued (codes "atomic") AsWritten DefaultValue (codes "false" ∷ []) rows is)
+
 verbose_default : (rows : List Row) (has : Bool) → has_row (codes "verbose") rows ≡ has → with_default rows built_verbose ≡ with_flag (codes "verbose") rows
 verbose_default rows true is = rw is refl
 verbose_default rows false is = rw is (valued (codes "verbose") AsWritten DefaultValue (codes "false" ∷ []) rows is)
 
-batch_defaults : (rows : List Row) → defaulted Batch rows ≡ with_flag (codes "verbose") (with_flag (codes "force") rows)
+batch_defaults : (rows : List Row) → defaulted Batch rows ≡ with_flag (codes "verbose") (with_flag (codes "atomic") (with_flag (codes "force") rows))
 batch_defaults rows =
     let forced = with_default rows built_force in
-    let named = with_default forced built_database in
-    either _ _ ∙ either _ _ ∙ verbose_default named _ refl ∙ ap (with_flag (codes "verbose")) (either _ forced ∙ force_default rows _ refl)
+    let joined = with_default forced built_atomic in
+    let named = with_default joined built_database in
+    either _ _ ∙ either _ _ ∙ verbose_default named _ refl
+    ∙ ap (with_flag (codes "verbose")) (either _ joined ∙ atomic_default forced _ refl ∙ ap (with_flag (codes "atomic")) (force_default rows _ refl))
 
 -- a default adds nothing to another argument
 other_flag : (name id : Text) (rows : List Row) → bytes_eq name id ≡ false → find_row id (with_flag name rows) ≡ find_row id rows
@@ -185,32 +201,51 @@ flag_value : (given : Given) (set : Bool) (a : Argument) (rows : List Row) → t
 flag_value given true a rows text is = ap (option_and_then row_text) is ∙ ap (λ t. Some t) text
 flag_value given false a rows text is = ap (option_and_then row_text) is
 
+-- a flag whose own row is kept by what stands before its default and after it
+flag_at_end : (given : Given) (set : Bool) (a : Argument) (rows before after : List Row) → text_of a ≡ codes "true" → bytes_eq (id_of a) (id_of a) ≡ true
+    → find_row (id_of a) rows ≡ flag_row a set → find_row (id_of a) before ≡ find_row (id_of a) rows → find_row (id_of a) after ≡ find_row (id_of a) (with_flag (id_of a) before)
+    → one_of (id_of a) after ≡ Some (text_of_flag set)
+flag_at_end given set a rows before after text same is kept_before kept_after =
+    ap (option_and_then row_text) kept_after
+    ∙ own_flag (id_of a) before set same (has_found (id_of a) before ∙ ap is_some (kept_before ∙ is) ∙ some_flag a set)
+    (ap (option_and_then row_text) kept_before ∙ flag_value given set a rows text is)
+
 pub forced_at_end : (given : Given) (rows : List Row) → AreGiven given rows → one_of (codes "force") (defaulted Batch rows) ≡ Some (text_of_flag given.forced)
 forced_at_end given rows are =
-    let kept = other_flag (codes "verbose") (codes "force") (with_flag (codes "force") rows) refl in
-    ap (one_of (codes "force")) (batch_defaults rows) ∙ ap (option_and_then row_text) kept
-    ∙ own_flag (codes "force") rows given.forced refl (given_has given rows are Force) (flag_value given given.forced Force rows refl (are Force))
+    let forced = with_flag (codes "force") rows in
+    ap (one_of (codes "force")) (batch_defaults rows)
+    ∙ flag_at_end given given.forced Force rows rows (with_flag (codes "verbose") (with_flag (codes "atomic") forced)) refl refl (are Force) refl
+    (other_flag (codes "verbose") (codes "force") (with_flag (codes "atomic") forced) refl ∙ other_flag (codes "atomic") (codes "force") forced refl)
+
+pub atomic_at_end : (given : Given) (rows : List Row) → AreGiven given rows → one_of (codes "atomic") (defaulted Batch rows) ≡ Some (text_of_flag given.atomic)
+atomic_at_end given rows are =
+    let forced = with_flag (codes "force") rows in
+    ap (one_of (codes "atomic")) (batch_defaults rows)
+    ∙ flag_at_end given given.atomic Atomic rows forced (with_flag (codes "verbose") (with_flag (codes "atomic") forced)) refl refl (are Atomic) (other_flag (codes "force") (codes "atomic") rows refl)
+    (other_flag (codes "verbose") (codes "atomic") (with_flag (codes "atomic") forced) refl)
 
 pub verbose_at_end : (given : Given) (rows : List Row) → AreGiven given rows → one_of (codes "verbose") (defaulted Batch rows) ≡ Some (text_of_flag given.verbose)
 verbose_at_end given rows are =
     let forced = with_flag (codes "force") rows in
-    let kept = other_flag (codes "force") (codes "verbose") rows refl in
+    let joined = with_flag (codes "atomic") forced in
     ap (one_of (codes "verbose")) (batch_defaults rows)
-    ∙ own_flag (codes "verbose") forced given.verbose refl (has_found (codes "verbose") forced ∙ ap is_some kept ∙ sym (has_found (codes "verbose") rows) ∙ given_has given rows are Verbose)
-    (ap (option_and_then row_text) kept ∙ flag_value given given.verbose Verbose rows refl (are Verbose))
+    ∙ flag_at_end given given.verbose Verbose rows joined (with_flag (codes "verbose") joined) refl refl (are Verbose)
+    (other_flag (codes "atomic") (codes "verbose") forced refl ∙ other_flag (codes "force") (codes "verbose") rows refl) refl
 
 first_value : (f : Word → Row) (value : Option Word) → ((word : Word) → slice_get (f word).values 0 ≡ Some word) → option_and_then (λ r. slice_get r.values 0) (option_map f value) ≡ value
 first_value f None first = refl
 first_value f (Some word) first = first word
 
-named_in_batch : (id : Text) (rows : List Row) → bytes_eq (codes "force") id ≡ false → bytes_eq (codes "verbose") id ≡ false → first_of id (defaulted Batch rows) ≡ first_of id rows
-named_in_batch id rows no_force no_verbose =
+named_in_batch : (id : Text) (rows : List Row) → bytes_eq (codes "force") id ≡ false → bytes_eq (codes "atomic") id ≡ false → bytes_eq (codes "verbose") id ≡ false
+    → first_of id (defaulted Batch rows) ≡ first_of id rows
+named_in_batch id rows no_force no_atomic no_verbose =
+    let forced = with_flag (codes "force") rows in
     ap (first_of id) (batch_defaults rows) ∙ ap (option_and_then (λ r. slice_get r.values 0))
-    (other_flag (codes "verbose") id (with_flag (codes "force") rows) no_verbose ∙ other_flag (codes "force") id rows no_force)
+    (other_flag (codes "verbose") id (with_flag (codes "atomic") forced) no_verbose ∙ other_flag (codes "atomic") id forced no_atomic ∙ other_flag (codes "force") id rows no_force)
 
 pub file_at_end : (s : Subcommand) (given : Given) (rows : List Row) → AreGiven given rows → first_of (codes "file") (defaulted s rows) ≡ given.operand
 file_at_end Batch given rows are =
-    named_in_batch (codes "file") rows refl refl ∙ ap (option_and_then (λ r. slice_get r.values 0)) (are (File [])) ∙ first_value (λ w. row_of (File w)) given.operand (λ word. refl)
+    named_in_batch (codes "file") rows refl refl refl ∙ ap (option_and_then (λ r. slice_get r.values 0)) (are (File [])) ∙ first_value (λ w. row_of (File w)) given.operand (λ word. refl)
 file_at_end Check given rows are =
     ap (first_of (codes "file")) (either _ _ ∙ either _ rows) ∙ ap (option_and_then (λ r. slice_get r.values 0)) (are (File [])) ∙ first_value (λ w. row_of (File w)) given.operand (λ word. refl)
 file_at_end Replay given rows are =
@@ -218,4 +253,4 @@ file_at_end Replay given rows are =
 
 pub database_at_end : (given : Given) (rows : List Row) → AreGiven given rows → first_of (codes "db") (defaulted Batch rows) ≡ given.database
 database_at_end given rows are =
-    named_in_batch (codes "db") rows refl refl ∙ ap (option_and_then (λ r. slice_get r.values 0)) (are (Database [])) ∙ first_value (λ p. row_of (Database p)) given.database (λ path. refl)
+    named_in_batch (codes "db") rows refl refl refl ∙ ap (option_and_then (λ r. slice_get r.values 0)) (are (Database [])) ∙ first_value (λ p. row_of (Database p)) given.database (λ path. refl)

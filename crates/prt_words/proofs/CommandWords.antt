@@ -1,19 +1,21 @@
 -- The words of a subcommand, as clap reads them and as the definition of an invocation does.
-use Rattle.std.proofs.Common.{◌≡◌, ◌∙◌, ◌&&◌, ℕ, Bool, cond, true, false, refl, sym, ap, subst, List, [], ◌∷◌, ◌++◌, Option, Some, None, is_some, codes}
+use Rattle.std.proofs.Common.{◌≡◌, ◌∙◌, ◌&&◌, ℕ, Bool, cond, true, false, refl, sym, ap, inr, subst, List, [], ◌∷◌, ◌++◌, Option, Some, None, is_some, codes}
 use Rattle.std.specs.Prelude.{option_and_then}
 use Rattle.clap.specs.Kinds.{Kinds, or_else}
 use Rattle.clap.specs.Faults.{turn_fault, walk_fault, settle_fault, defaults_fault, check_fault}
-use Rattle.clap.specs.Walk.{Held, Row, Text, Walk, has_row, option as waits_for, pushed, settled_rows, walked}
+use Rattle.clap.specs.Walk.{Held, Row, Text, Walk, first_of, has_row, one_of, option as waits_for, pushed, settled_rows, walked}
 use Rattle.clap.specs.declared.parser.matches.ValueSource.TheVariants.{CommandLine}
 use Rattle.clap.specs.declared.builder.value_parser.Reading.TheVariants.{AsWritten}
 use Rattle.clap.specs.declared.error.kind.ErrorKind.TheVariants as kind
 use Rattle.clap.proofs.OnLiterals.{clap_on_literals}
 use Rattle.prt_addr.specs.Word.{Word}
-use Rattle.prt_words.specs.Invocation.{Argument, Force, Verbose, Database, File, Given, Invocation, anywhere, at_path, at_operands, asks_help, argument, unknown, Subcommand, Batch, Check, Replay, asked, asked_by, file_of, has_given, is_delimiter, is_option, mode_of, nothing_given, usage_error, with_given}
+use Rattle.prt_words.specs.Invocation.{Argument, Force, Atomic, Verbose, Database, File, Given, Invocation, anywhere, at_path, at_operands, asks_help, argument, unknown, Subcommand, Batch, Check, Replay, asked, asked_by, asked_in, file_of, has_given, is_delimiter, is_option, mode_of, nothing_given, usage_error, with_given}
+use Rattle.prt_words.specs.CommandLine.{text_of_flag}
+use Rattle.prt_words.specs.declared.task.Mode.{Mode}
 use Rattle.prt_words.proofs.Rows.{used_once}
-use Rattle.prt_words.proofs.Arguments.{AreGiven, both_quiet, checks_quiet, database_at_end, defaults_quiet, file_at_end, forced_at_end, given_has, one_more, row_of, verbose_at_end}
+use Rattle.prt_words.proofs.Arguments.{AreGiven, atomic_at_end, both_quiet, checks_quiet, database_at_end, defaults_quiet, file_at_end, forced_at_end, given_has, one_more, row_of, verbose_at_end}
 use Rattle.prt_words.proofs.LostWords.{end_lost, lost, lost_operands, option_mistaken, position_of}
-use Rattle.prt_words.proofs.Walks.{Reads, as_part, faults, goes_on, rows_at_end, text_of_flag, word_mistaken, word_refused, word_taken}
+use Rattle.prt_words.proofs.Walks.{Agrees, Reads, as_part, faults, rows_at_end, word_mistaken, word_refused, word_taken}
 use Rattle.prt_words.proofs.WordClasses.{Class, Gives, Operand, IsMistake, after_operand, awaits_option, class_of, id_of, rules_of, settles, shape_of, value_turn, walk_at, walk_waiting, walk_when, word_turn}
 use Rattle.prt_words.proofs.WordClasses as class
 
@@ -42,21 +44,29 @@ no_faults s rows pending position trailing settled_here =
     both_quiet (settle_fault (rules_of s) false (walk_at rows pending position trailing).held) (or_else (defaults_fault held (rules_of s)) checks) settled_here
     (both_quiet (defaults_fault held (rules_of s)) checks (defaults_quiet s held) (checks_quiet s (rows_at_end s (walk_at rows pending position trailing) [])))
 
-mode_goes_on : (forced : Bool) → goes_on (mode_of forced) ≡ forced
-mode_goes_on true = refl
-mode_goes_on false = refl
+-- a script by what was given, or none where that says how to execute it in no way
+batch_at_end : (given : Given) (kinds : Kinds) (rows : List Row) (mode : Option Mode) → mode_of given.forced given.atomic ≡ mode
+    → kinds ≡ []
+    → option_and_then file_of (first_of (codes "file") rows) ≡ option_and_then file_of given.operand
+    → first_of (codes "db") rows ≡ given.database
+    → one_of (codes "force") rows ≡ Some (text_of_flag given.forced)
+    → one_of (codes "atomic") rows ≡ Some (text_of_flag given.atomic)
+    → one_of (codes "verbose") rows ≡ Some (text_of_flag given.verbose)
+    → Agrees (asked_in mode given) kinds (Some (codes "batch", rows))
+batch_at_end given kinds rows None is none file database forced atomic verbose = inr (none, refl, (given.forced, given.atomic, forced, atomic, is))
+batch_at_end given kinds rows (Some mode) is none file database forced atomic verbose =
+    (none, refl, file, database, (given.forced, given.atomic, forced, atomic, is), verbose)
 
 at_end : (s : Subcommand) (given : Given) (rows : List Row) (pending : Option (Text × List Text)) (position : ℕ) (trailing : Bool) → HasWalked s given rows pending position
     → Reads s (asked s given) (walk_at rows pending position trailing) []
 at_end Batch given rows pending position trailing stands =
-    let held = held_rows Batch rows pending in (
-      no_faults Batch rows pending position trailing stands.settled_here,
-      refl,
-      ap (option_and_then file_of) (file_at_end Batch given held stands.are),
-      database_at_end given held stands.are,
-      forced_at_end given held stands.are ∙ ap (λ b. Some (text_of_flag b)) (sym (mode_goes_on given.forced)),
-      verbose_at_end given held stands.are,
-    )
+    let held = held_rows Batch rows pending in
+    batch_at_end given _ _ _ refl (no_faults Batch rows pending position trailing stands.settled_here)
+    (ap (option_and_then file_of) (file_at_end Batch given held stands.are))
+    (database_at_end given held stands.are)
+    (forced_at_end given held stands.are)
+    (atomic_at_end given held stands.are)
+    (verbose_at_end given held stands.are)
 at_end Check given rows pending position trailing stands = (
   no_faults Check rows pending position trailing stands.settled_here,
   refl,
@@ -166,6 +176,8 @@ given_turn : (word : Text) (a : Argument) (rows : List Row) (pending : Option (T
     → has_row (id_of a) (held_rows Batch rows pending) ≡ has → word_turn Batch word rows pending position ≡ cond has (kind.ArgumentConflict ∷ []) []
 given_turn word Force rows pending position true g settled_here is = rw (g.no_delimiter, g.long, settled_here, is) refl
 given_turn word Force rows pending position false g settled_here is = rw (g.no_delimiter, g.long, settled_here, is) refl
+given_turn word Atomic rows pending position true g settled_here is = rw (g.no_delimiter, g.long, settled_here, is) refl
+given_turn word Atomic rows pending position false g settled_here is = rw (g.no_delimiter, g.long, settled_here, is) refl
 given_turn word Verbose rows pending position true g settled_here is = rw (g.no_delimiter, g.long, settled_here, is) refl
 given_turn word Verbose rows pending position false g settled_here is = rw (g.no_delimiter, g.long, settled_here, is) refl
 given_turn word (Database path) rows pending position true g settled_here is = rw (g.no_delimiter, g.long, settled_here, is) refl
@@ -177,6 +189,8 @@ given_next : (word : Text) (a : Argument) (rows : List Row) (pending : Option (T
 unfolding walked
 given_next word Force rows pending position g none = rw (g.no_delimiter, g.long)
     (ap (λ rs. walk_at rs None position false) (used_once (codes "force") AsWritten CommandLine (codes "true" ∷ []) (held_rows Batch rows pending) none))
+given_next word Atomic rows pending position g none = rw (g.no_delimiter, g.long)
+    (ap (λ rs. walk_at rs None position false) (used_once (codes "atomic") AsWritten CommandLine (codes "true" ∷ []) (held_rows Batch rows pending) none))
 given_next word Verbose rows pending position g none = rw (g.no_delimiter, g.long)
     (ap (λ rs. walk_at rs None position false) (used_once (codes "verbose") AsWritten CommandLine (codes "true" ∷ []) (held_rows Batch rows pending) none))
 given_next word (Database path) rows pending position g none = rw (g.no_delimiter, g.long)
@@ -185,6 +199,7 @@ given_next word (File file) rows pending position g none = absurd g.named
 
 same_place : (given : Given) (word : Text) (a : Argument) → Gives word a → position_of given.operand ≡ position_of (with_given given a).operand
 same_place given word Force g = refl
+same_place given word Atomic g = refl
 same_place given word Verbose g = refl
 same_place given word (Database path) g = refl
 same_place given word (File file) g = absurd g.named
@@ -337,6 +352,7 @@ words_read s (word ∷ words) = (
 
 none_given : AreGiven nothing_given []
 none_given Force = refl
+none_given Atomic = refl
 none_given Verbose = refl
 none_given (Database path) = refl
 none_given (File word) = refl

@@ -1,5 +1,5 @@
 -- Places among the words of `batch` from which every list of words is a mistake: where what is pending cannot be used.
-use Rattle.std.proofs.Common.{◌≡◌, ◌∙◌, ℕ, Bool, cond, true, false, refl, sym, subst, List, [], ◌∷◌, Option, Some, None, is_some, codes, eqb-true, true≢false}
+use Rattle.std.proofs.Common.{◌≡◌, ◌∙◌, ℕ, Bool, cond, true, false, refl, sym, inl, subst, List, [], ◌∷◌, Option, Some, None, is_some, codes, eqb-true, true≢false}
 use Rattle.std.specs.Prelude.{◌==◌, drop, encode_utf8, length, slice_get}
 use Rattle.std.specs.Str.{chars}
 use Rattle.clap.specs.Kinds.{Kinds, or_else}
@@ -115,7 +115,7 @@ value_mistaken waiting word rows values (Some file) bad = refl
 pub end_lost : (waiting : Waiting) (rows : List Row) (pending : Option (Text × List Text)) (position : ℕ) (trailing : Bool) → IsLost rows pending
     → Reads Batch usage_error (walk_when waiting rows pending position trailing) []
 unfolding walk_fault
-end_lost waiting rows pending position trailing bad = mistaken_or _ _ bad
+end_lost waiting rows pending position trailing bad = inl (mistaken_or _ _ bad)
 
 pub lost_operands : (waiting : Waiting) (rows : List Row) (values : List Text) (operand : Option Word) → IsLost rows (pending_path values) → (words : List Word)
     → Reads Batch usage_error (walk_when waiting rows (pending_path values) (position_of operand) true) words

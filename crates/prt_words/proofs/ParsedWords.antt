@@ -1,5 +1,5 @@
 -- The words of the program, as clap reads them and as the definition of an invocation does.
-use Rattle.std.proofs.Common.{◌≡◌, ◌∙◌, ℕ, Bool, true, false, refl, sym, ap, ap₂, subst, List, [], ◌∷◌, ◌++◌, Option, Some, None, is_some, codes, drop, append_assoc, append-nil, eqb-true, ne_eqb}
+use Rattle.std.proofs.Common.{◌≡◌, ◌∙◌, ℕ, Bool, true, false, refl, sym, ap, ap₂, inl, subst, List, [], ◌∷◌, ◌++◌, Option, Some, None, is_some, codes, drop, append_assoc, append-nil, eqb-true, ne_eqb}
 use Rattle.std.proofs.lemmas.Bool.{eq-eqb, eqb-false}
 use Rattle.std.specs.Prelude.{◌==◌, slice_get}
 use Rattle.std.specs.List.{fold, after_first}
@@ -236,13 +236,13 @@ asks_nothing word words other h v = rw (flipped (codes "batch") word other.no_ba
 agrees_on_first : (program word : Text) (words : List Text) → First word → IsOther word → AgreesOn (invocation (word ∷ words)) (program ∷ word ∷ words)
 unfolding chars
 agrees_on_first program word words (delimiter is) other =
-    subst (λ w. AgreesOn (invocation (w ∷ words)) (program ∷ w ∷ words)) (sym is) (after_delimiter program words)
+    subst (λ w. AgreesOn (invocation (w ∷ words)) (program ∷ w ∷ words)) (sym is) (inl (after_delimiter program words))
 agrees_on_first program word words (asks h turn) other =
     subst (λ i. AgreesOn i (program ∷ word ∷ words)) (sym (asks_help word words other h)) (first_refused program word words (kind.DisplayHelp ∷ []) turn)
 agrees_on_first program word words (tells h v turn) other =
     subst (λ i. AgreesOn i (program ∷ word ∷ words)) (sym (tells_version word words other h v)) (first_refused program word words (kind.DisplayVersion ∷ []) turn)
 agrees_on_first program word words (mistake h v turn) other =
-    subst (λ i. AgreesOn i (program ∷ word ∷ words)) (sym (asks_nothing word words other h v)) (first_mistaken program word words turn)
+    subst (λ i. AgreesOn i (program ∷ word ∷ words)) (sym (asks_nothing word words other h v)) (inl (first_mistaken program word words turn))
 
 agrees_on_words : (program word : Text) (words : List Text) (is_batch is_check is_replay is_serve is_dump is_topic : Bool) → bytes_eq word (codes "batch") ≡ is_batch → bytes_eq word (codes "check") ≡ is_check
     → bytes_eq word (codes "replay") ≡ is_replay → bytes_eq word (codes "serve") ≡ is_serve → bytes_eq word (codes "dump") ≡ is_dump → bytes_eq word (codes "help") ≡ is_topic → AgreesOn (invocation (word ∷ words)) (program ∷ word ∷ words)
@@ -266,6 +266,6 @@ agrees_on_words program word words false false false false false false b c r s d
 -- what a parse finds of the words is what they ask for
 pub words_agree : (words : List Text) → AgreesOn (invocation (drop 1 words)) words
 unfolding walk_fault defaults_fault
-words_agree [] = refl
-words_agree (program ∷ []) = refl
+words_agree [] = inl refl
+words_agree (program ∷ []) = inl refl
 words_agree (program ∷ word ∷ words) = agrees_on_words program word words _ _ _ _ _ _ refl refl refl refl refl refl

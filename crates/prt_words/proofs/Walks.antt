@@ -1,5 +1,5 @@
 -- What a walk over the words of a subcommand comes to, and when that is what the words ask for.
-use Rattle.std.proofs.Common.{◌≡◌, Bool, true, false, sym, ap, subst, List, [], ◌∷◌, Option, Some, codes}
+use Rattle.std.proofs.Common.{◌≡◌, ◌⊎◌, Bool, false, sym, ap, inl, subst, List, [], ◌∷◌, Option, Some, None, codes}
 use Rattle.std.specs.Prelude.{option_and_then}
 use Rattle.std.specs.List.{fold}
 use Rattle.clap.specs.Kinds.{Kinds, or_else}
@@ -8,24 +8,23 @@ use Rattle.clap.specs.Walk.{Held, Row, Text, Walk, walked, settled, finished}
 use Rattle.clap.specs.declared.error.kind.ErrorKind.{ErrorKind}
 use Rattle.clap.specs.declared.error.kind.ErrorKind.TheVariants as kind
 use Rattle.prt_addr.specs.Word.{Word}
-use Rattle.prt_addr.specs.declared.on_refusal.OnRefusal.{OnRefusal}
-use Rattle.prt_addr.specs.declared.on_refusal.OnRefusal.TheVariants.{Stop, GoOn}
-use Rattle.prt_words.specs.CommandLine.{flag_text, named_database, named_file, subcommand_name}
-use Rattle.prt_words.specs.Invocation.{Invocation, ArgumentPlace, Part, Given, Subcommand, Batch, Check, Replay, asked_by, asked_with, batch, check, file_of, help, help_on, part_at, replay, serve, dump, usage_error, version}
+use Rattle.prt_words.specs.CommandLine.{flag_text, named_database, named_file, subcommand_name, text_of_flag}
+use Rattle.prt_words.specs.declared.task.Mode.{Mode}
+use Rattle.prt_words.specs.Invocation.{Invocation, ArgumentPlace, Part, Given, Subcommand, Batch, Check, Replay, asked_by, asked_with, batch, check, file_of, help, help_on, mode_of, part_at, replay, serve, dump, usage_error, version}
 use Rattle.prt_words.proofs.WordClasses.{IsMistake, mistaken_or, rules_of, shape_of}
-
-abbrev pub text_of_flag : Bool → Text
-text_of_flag true = codes "true"
-text_of_flag false = codes "false"
-
-abbrev pub goes_on : OnRefusal → Bool
-goes_on Stop = false
-goes_on GoOn = true
 
 abbrev pub name_of : Subcommand → Text
 name_of Batch = codes "batch"
 name_of Check = codes "check"
 name_of Replay = codes "replay"
+
+-- what a parse finds of `--force` and `--atomic` says that a script's lines are executed so, or in no way
+abbrev pub HasMode : Option Mode → Option (Text × List Row) → Type 0
+HasMode mode found = (forced atomic : Bool) × (flag_text (codes "force") found ≡ Some (text_of_flag forced)) × (flag_text (codes "atomic") found ≡ Some (text_of_flag atomic)) × (mode_of forced atomic ≡ mode)
+
+-- a script that was found without an error can be executed in no way
+abbrev pub HasConflict : Kinds → Option (Text × List Row) → Type 0
+HasConflict kinds found = (kinds ≡ []) × (subcommand_name found ≡ Some (codes "batch")) × HasMode None found
 
 -- what a parse finds is what the words ask for: the kinds of error, and the subcommand with its rows
 abbrev pub Agrees : Invocation → Kinds → Option (Text × List Row) → Type 0
@@ -34,7 +33,7 @@ Agrees (batch script) kinds found =
     × (subcommand_name found ≡ Some (codes "batch"))
     × (option_and_then file_of (named_file found) ≡ script.file)
     × (named_database found ≡ script.database)
-    × (flag_text (codes "force") found ≡ Some (text_of_flag (goes_on script.mode)))
+    × HasMode (Some script.mode) found
     × (flag_text (codes "verbose") found ≡ Some (text_of_flag script.verbose))
 Agrees (check file) kinds found =
     (kinds ≡ [])
@@ -49,7 +48,7 @@ Agrees dump kinds found = subcommand_name found ≡ Some (codes "dump")
 Agrees help kinds found = kinds ≡ kind.DisplayHelp ∷ []
 Agrees version kinds found = kinds ≡ kind.DisplayVersion ∷ []
 Agrees help_on kinds found = kinds ≡ kind.DisplayHelp ∷ kind.InvalidSubcommand ∷ []
-Agrees usage_error kinds found = IsMistake kinds
+Agrees usage_error kinds found = IsMistake kinds ⊎ HasConflict kinds found
 
 abbrev end_of : Subcommand → Walk → List Text → Held
 end_of s at words = (fold (walked (rules_of s) []) at words).held
@@ -86,7 +85,7 @@ unfolding walk_fault
 word_mistaken s at word words bad =
     let turn = turn_fault (shape_of s) [] at word in
     let rest = walk_fault (shape_of s) [] (walked (rules_of s) [] at word) words in
-    mistaken_or (or_else turn rest) (faults_after s (walked (rules_of s) [] at word) words) (mistaken_or turn rest bad)
+    inl (mistaken_or (or_else turn rest) (faults_after s (walked (rules_of s) [] at word) words) (mistaken_or turn rest bad))
 
 -- what the definition makes of a word of this part
 pub as_part : (s : Subcommand) (place : ArgumentPlace) (given : Given) (word : Word) (words : List Word) (at : Walk) (part : Part) → part_at place s word ≡ part

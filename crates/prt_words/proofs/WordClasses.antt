@@ -15,7 +15,7 @@ use Rattle.clap.specs.Walk.{bundle_met, Held, Row, Rule, Text, Waiting, Walk, wa
 use Rattle.clap.specs.declared.error.kind.ErrorKind.{ErrorKind}
 use Rattle.clap.specs.declared.error.kind.ErrorKind.TheVariants as kind
 use Rattle.prt_words.specs.CommandLine.{command_line, batch_line, check_line, replay_line, flag_rule, database_rule, file_rule}
-use Rattle.prt_words.specs.Invocation.{Argument, Force, Verbose, Database, File, asks_help, argument, unknown as unknown_part, Subcommand, Batch, Check, Replay, is_delimiter, is_equals, is_help, is_option, option_part, part_of}
+use Rattle.prt_words.specs.Invocation.{Argument, Force, Atomic, Verbose, Database, File, asks_help, argument, unknown as unknown_part, Subcommand, Batch, Check, Replay, is_delimiter, is_equals, is_help, is_option, option_part, part_of}
 
 pub simple_line : is_simple command_line ≡ true
 simple_line = refl
@@ -25,7 +25,7 @@ free_line = refl
 
 -- a subcommand as it is built
 abbrev pub rules_of : Subcommand → List Rule
-rules_of Batch = filled_from 1 (flag_rule (codes "force") ∷ database_rule ∷ flag_rule (codes "verbose") ∷ file_rule ∷ help_rule ∷ [])
+rules_of Batch = filled_from 1 (flag_rule (codes "force") ∷ flag_rule (codes "atomic") ∷ database_rule ∷ flag_rule (codes "verbose") ∷ file_rule ∷ help_rule ∷ [])
 rules_of Check = filled_from 1 (file_rule ∷ help_rule ∷ [])
 rules_of Replay = filled_from 1 (file_rule ∷ help_rule ∷ [])
 
@@ -106,6 +106,7 @@ pub record Unknown (s : Subcommand) (word : Text) : Type 0 where
 -- what an option of `batch` is called, and the value that is attached to it
 abbrev pub id_of : Argument → Text
 id_of Force = codes "force"
+id_of Atomic = codes "atomic"
 id_of Verbose = codes "verbose"
 id_of (Database path) = codes "db"
 id_of (File word) = codes "file"
@@ -319,6 +320,7 @@ short_word s byte rest (Some letter) short first = (
 -- a text that is no name of an option
 record NoName (text : Text) : Type 0 where
   no_force : bytes_eq text (codes "force") ≡ false
+  no_atomic : bytes_eq text (codes "atomic") ≡ false
   no_verbose : bytes_eq text (codes "verbose") ≡ false
   no_database : bytes_eq text (codes "db") ≡ false
   no_help : bytes_eq text (codes "help") ≡ false
@@ -326,28 +328,32 @@ record NoName (text : Text) : Type 0 where
 -- a name that is none of theirs
 record IsOther (name : Text) : Type 0 where
   no_force : bytes_eq (codes "force") name ≡ false
+  no_atomic : bytes_eq (codes "atomic") name ≡ false
   no_verbose : bytes_eq (codes "verbose") name ≡ false
   no_database : bytes_eq (codes "db") name ≡ false
   no_help : bytes_eq (codes "help") name ≡ false
 
 data Name (name : Text) : Type 0 where
   force_name : name ≡ codes "force" → Name name
+  atomic_name : name ≡ codes "atomic" → Name name
   verbose_name : name ≡ codes "verbose" → Name name
   database_name : name ≡ codes "db" → Name name
   help_name : name ≡ codes "help" → Name name
   other_name : IsOther name → Name name
 
-name_by : (name : Text) (is_force is_verbose is_database is_help : Bool) → bytes_eq (codes "force") name ≡ is_force → bytes_eq (codes "verbose") name ≡ is_verbose
+name_by : (name : Text) (is_force is_atomic is_verbose is_database is_help : Bool) → bytes_eq (codes "force") name ≡ is_force → bytes_eq (codes "atomic") name ≡ is_atomic → bytes_eq (codes "verbose") name ≡ is_verbose
     → bytes_eq (codes "db") name ≡ is_database → bytes_eq (codes "help") name ≡ is_help → Name name
-name_by name true _ _ _ f v d h = force_name (sym (same_bytes _ _ f))
-name_by name false true _ _ f v d h = verbose_name (sym (same_bytes _ _ v))
-name_by name false false true _ f v d h = database_name (sym (same_bytes _ _ d))
-name_by name false false false true f v d h = help_name (sym (same_bytes _ _ h))
-name_by name false false false false f v d h = other_name (record { no_force = f; no_verbose = v; no_database = d; no_help = h })
+name_by name true _ _ _ _ f a v d h = force_name (sym (same_bytes _ _ f))
+name_by name false true _ _ _ f a v d h = atomic_name (sym (same_bytes _ _ a))
+name_by name false false true _ _ f a v d h = verbose_name (sym (same_bytes _ _ v))
+name_by name false false false true _ f a v d h = database_name (sym (same_bytes _ _ d))
+name_by name false false false false true f a v d h = help_name (sym (same_bytes _ _ h))
+name_by name false false false false false f a v d h = other_name (record { no_force = f; no_atomic = a; no_verbose = v; no_database = d; no_help = h })
 
 valued_no_name : (text : Text) → has_byte 61 text ≡ true → NoName text
 valued_no_name text has = record {
   no_force = differs text (codes "force") (no_value_in text (codes "force") refl has);
+  no_atomic = differs text (codes "atomic") (no_value_in text (codes "atomic") refl has);
   no_verbose = differs text (codes "verbose") (no_value_in text (codes "verbose") refl has);
   no_database = differs text (codes "db") (no_value_in text (codes "db") refl has);
   no_help = differs text (codes "help") (no_value_in text (codes "help") refl has);
@@ -356,6 +362,7 @@ valued_no_name text has = record {
 other_no_name : (text : Text) → IsOther (long_name text) → NoName text
 other_no_name text other = record {
   no_force = differs text (codes "force") (no_name_of text (codes "force") other.no_force refl refl);
+  no_atomic = differs text (codes "atomic") (no_name_of text (codes "atomic") other.no_atomic refl refl);
   no_verbose = differs text (codes "verbose") (no_name_of text (codes "verbose") other.no_verbose refl refl);
   no_database = differs text (codes "db") (no_name_of text (codes "db") other.no_database refl refl);
   no_help = differs text (codes "help") (no_name_of text (codes "help") other.no_help refl refl);
@@ -364,11 +371,12 @@ other_no_name text other = record {
 -- one that there is not, a flag with a value, and help with a value
 long_unknown : (word name : Text) (value : Option Text) → is_delimiter word ≡ false → long_of word ≡ Some (name, value) → IsOther name
     → (rows : List Row) (pending : Option (Text × List Text)) (position : ℕ) → IsMistake (word_turn Batch word rows pending position)
-long_unknown word name value plain long other rows pending position = rw (plain, long, other.no_force, other.no_database, other.no_verbose, other.no_help) refl
+long_unknown word name value plain long other rows pending position = rw (plain, long, other.no_force, other.no_atomic, other.no_database, other.no_verbose, other.no_help) refl
 
 flag_valued : (word value : Text) (a : Argument) → attached_to a ≡ None → IsNamed a → is_delimiter word ≡ false → long_of word ≡ Some (id_of a, Some value)
     → (rows : List Row) (pending : Option (Text × List Text)) (position : ℕ) → IsMistake (word_turn Batch word rows pending position)
 flag_valued word value Force alone named plain long rows pending position = rw (plain, long) refl
+flag_valued word value Atomic alone named plain long rows pending position = rw (plain, long) refl
 flag_valued word value Verbose alone named plain long rows pending position = rw (plain, long) refl
 flag_valued word value (Database path) alone named plain long rows pending position = absurd (true≢false (ap is_some alone))
 flag_valued word value (File path) alone named plain long rows pending position = absurd named
@@ -405,6 +413,10 @@ force_word : Gives (codes "--force") Force
 unfolding clap_on_literals
 force_word = record { no_delimiter = refl; is_one = refl; part = refl; named = tt; long = refl }
 
+atomic_word : Gives (codes "--atomic") Atomic
+unfolding clap_on_literals
+atomic_word = record { no_delimiter = refl; is_one = refl; part = refl; named = tt; long = refl }
+
 verbose_word : Gives (codes "--verbose") Verbose
 unfolding clap_on_literals
 verbose_word = record { no_delimiter = refl; is_one = refl; part = refl; named = tt; long = refl }
@@ -415,7 +427,7 @@ awaits_option = (refl, refl)
 
 -- what the definition makes of one
 long_part : (text : Text) → NoName text → option_part Batch (45 ∷ 45 ∷ text) ≡ cond (bytes_eq (long_name text) (codes "db")) (argument (Database (after_first is_equals text))) unknown_part
-long_part text none = rw (none.no_force, none.no_verbose, none.no_database, before_hyphens text, after_hyphens text) refl
+long_part text none = rw (none.no_force, none.no_atomic, none.no_verbose, none.no_database, before_hyphens text, after_hyphens text) refl
 
 unknown_option : (s : Subcommand) (byte : ℕ) (rest : Text) → bytes_eq (byte ∷ rest) (codes "help") ≡ false → option_part s (45 ∷ 45 ∷ byte ∷ rest) ≡ unknown_part
     → ((rows : List Row) (pending : Option (Text × List Text)) (position : ℕ) → IsMistake (word_turn s (45 ∷ 45 ∷ byte ∷ rest) rows pending position))
@@ -458,6 +470,7 @@ flag_class byte rest a alone named given other is true has = batch_unknown byte 
 
 batch_long : (byte : ℕ) (rest : Text) → Name (long_name (byte ∷ rest)) → (has : Bool) → has_byte 61 (byte ∷ rest) ≡ has → Class Batch (45 ∷ 45 ∷ byte ∷ rest)
 batch_long byte rest (force_name is) has v = flag_class byte rest Force refl tt force_word refl is has v
+batch_long byte rest (atomic_name is) has v = flag_class byte rest Atomic refl tt atomic_word refl is has v
 batch_long byte rest (verbose_name is) has v = flag_class byte rest Verbose refl tt verbose_word refl is has v
 batch_long byte rest (database_name is) false v = awaits tt (sym (named_word byte rest (codes "db") is v))
 batch_long byte rest (database_name is) true v = gives (Database (after_first is_equals (byte ∷ rest))) tt (database_valued byte rest is v)
@@ -475,7 +488,7 @@ plain_long s none byte rest false h has v = unknown (unknown_option s byte rest 
     (plain_unknown s none (45 ∷ 45 ∷ byte ∷ rest) _ _ refl (long_of_is byte rest has v) h))
 
 long_word : (s : Subcommand) (byte : ℕ) (rest : Text) → Class s (45 ∷ 45 ∷ byte ∷ rest)
-long_word Batch byte rest = batch_long byte rest (name_by (long_name (byte ∷ rest)) _ _ _ _ refl refl refl refl) _ refl
+long_word Batch byte rest = batch_long byte rest (name_by (long_name (byte ∷ rest)) _ _ _ _ _ refl refl refl refl refl) _ refl
 long_word Check byte rest = plain_long Check tt byte rest _ refl _ refl
 long_word Replay byte rest = plain_long Replay tt byte rest _ refl _ refl
 

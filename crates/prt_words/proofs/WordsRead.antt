@@ -2,14 +2,14 @@
 use Rattle.std.proofs.Common.{◌≡◌, ◌∙◌, ◌&&◌, ◌⊎◌, Bool, true, false, refl, sym, ap, ap₂, subst, inl, inr, List, [], ◌∷◌, Option, Some, None, option_map, is_some, codes, drop, true≢false}
 use Rattle.std.specs.Borrow.{Bor}
 use Rattle.std.specs.Box.{box_value}
-use Rattle.std.specs.Prelude.{Box, MatchOption, ℕ, ◌==◌, option_and_then, slice_get, unwrap_or}
+use Rattle.std.specs.Prelude.{Box, Err, IfErr, MatchOption, Ok, Result, ℕ, ◌==◌, option_and_then, slice_get, unwrap_or}
 use Rattle.clap.specs.Words.{fault_of, subcommand_name_of, subcommand_of, subcommand_rows, subcommand_rows_of}
 use Rattle.clap.specs.declared.parser.matches.SubCommand.{SubCommand}
 use Rattle.clap.specs.declared.parser.matches.ArgMatches.{ArgMatches}
 use Rattle.clap.specs.declared.parser.matches.ArgMatches.TheViews.{out-ArgMatches, out-SubCommand}
 use Rattle.clap.specs.Walk.{Row}
 use Rattle.prt_addr.specs.Word.{Word}
-use Rattle.prt_words.specs.CommandLine.{IsTaskOf, command_line, invocation_of, subcommand_name, flag_text}
+use Rattle.prt_words.specs.CommandLine.{IsConflict, IsModeOf, IsTaskOf, command_line, invocation_of, subcommand_name, flag_text, text_of_flag}
 use Rattle.std.specs.List.{list_all}
 use Rattle.clap.specs.Kinds.{HasKind, IsAmong, Kinds}
 use Rattle.clap.specs.Words.{Text, kind_of}
@@ -18,13 +18,12 @@ use Rattle.clap.specs.declared.error.kind.ErrorKind.{ErrorKind}
 use Rattle.clap.specs.declared.error.kind.ErrorKind.TheVariants.{DisplayHelp, DisplayVersion, InvalidSubcommand}
 use Rattle.prt_words.specs.Faults.{FaultOf, IsStatusOf, IsWordsFault, words_status}
 use Rattle.prt_words.specs.Invocation.{Invocation, batch, check, replay, serve, dump, help, help_on, version, invocation, usage_error, file_of}
-use Rattle.prt_addr.specs.declared.on_refusal.OnRefusal.{OnRefusal}
-use Rattle.prt_addr.specs.declared.on_refusal.OnRefusal.TheVariants.{Stop, GoOn}
+use Rattle.prt_words.specs.declared.task.Mode.{Mode}
 use Rattle.prt_words.specs.declared.fault.Fault.{Fault}
 use Rattle.prt_words.specs.declared.task.Task.{Task}
 use Rattle.prt_words.specs.declared.task.Task.TheVariants.{Batch, Check, Dump, Replay, Serve}
 use Rattle.prt_words.proofs.ParsedWords.{words_agree}
-use Rattle.prt_words.proofs.Walks.{Agrees, goes_on, text_of_flag}
+use Rattle.prt_words.proofs.Walks.{Agrees, HasMode}
 use Rattle.prt_words.proofs.WordClasses.{IsMistake, is_mistake}
 
 not_empty : (k : ErrorKind) (kinds : Kinds) → (k ∷ kinds) ≡ [] → ⊥
@@ -34,15 +33,21 @@ not_empty k kinds same = absurd (true≢false (ap is_some_kind same))
     is_some_kind [] = false
     is_some_kind (k ∷ kinds) = true
 
-mode_is : (found mode : OnRefusal) (flag : Option Text) → flag ≡ Some (text_of_flag (goes_on mode)) → (flag ≡ Some (codes "true") → found ≡ GoOn) → (flag ≡ Some (codes "false") → found ≡ Stop) → mode ≡ found
-mode_is found Stop flag is goes_on stops = sym (stops is)
-mode_is found GoOn flag is goes_on stops = sym (goes_on is)
+-- what the flags say of the mode, and what a parse has of them
+mode_is : (asked has : Option Mode) (found : Option (Text × List Row)) → HasMode asked found → IsModeOf found has → has ≡ asked
+mode_is asked has found flags is = is flags.0 flags.1 flags.2 flags.3 ∙ flags.4
+
+some_mode : (a b : Mode) → Some a ≡ Some b → b ≡ a
+some_mode a b same = ap (λ mode. unwrap_or mode a) (sym same)
+
+no_mode : (mode : Mode) → Some mode ≡ None → ⊥
+no_mode mode same = true≢false (ap is_some same)
 
 flag_is : (found set : Bool) (flag : Option Text) → flag ≡ Some (text_of_flag set) → (flag ≡ Some (codes "true") → found ≡ true) → (flag ≡ Some (codes "false") → found ≡ false) → set ≡ found
 flag_is found true flag is given left_out = sym (given is)
 flag_is found false flag is given left_out = sym (left_out is)
 
-script_is : {mode mode0 : OnRefusal} {verbose verbose0 : Bool} {database database0 file file0 : Option Word} → mode ≡ mode0 → verbose ≡ verbose0 → database ≡ database0 → file ≡ file0
+script_is : {mode mode0 : Mode} {verbose verbose0 : Bool} {database database0 file file0 : Option Word} → mode ≡ mode0 → verbose ≡ verbose0 → database ≡ database0 → file ≡ file0
     → batch (record { mode = mode; verbose = verbose; database = database; file = file }) ≡ batch (record { mode = mode0; verbose = verbose0; database = database0; file = file0 })
 script_is a b c d = rw (a, b, c, d) refl
 
@@ -93,7 +98,8 @@ serve_is dump kinds found agrees none is = absurd (serve_no_dump (sym is ∙ agr
 serve_is help kinds found agrees none is = absurd (not_empty _ _ (sym agrees ∙ none))
 serve_is version kinds found agrees none is = absurd (not_empty _ _ (sym agrees ∙ none))
 serve_is help_on kinds found agrees none is = absurd (not_empty _ _ (sym agrees ∙ none))
-serve_is usage_error kinds found agrees none is = absurd (subst IsMistake none agrees)
+serve_is usage_error kinds found (inl mistake) none is = absurd (subst IsMistake none mistake)
+serve_is usage_error kinds found (inr conflict) none is = absurd (batch_no_serve (sym conflict.1 ∙ is))
 
 dump_is : (asked : Invocation) (kinds : Kinds) (found : Option (Text × List Row)) → Agrees asked kinds found → kinds ≡ [] → subcommand_name found ≡ Some (codes "dump") → asked ≡ dump
 dump_is (batch script) kinds found agrees none is = absurd (batch_no_dump (sym agrees.1 ∙ is))
@@ -104,14 +110,15 @@ dump_is dump kinds found agrees none is = refl
 dump_is help kinds found agrees none is = absurd (not_empty _ _ (sym agrees ∙ none))
 dump_is version kinds found agrees none is = absurd (not_empty _ _ (sym agrees ∙ none))
 dump_is help_on kinds found agrees none is = absurd (not_empty _ _ (sym agrees ∙ none))
-dump_is usage_error kinds found agrees none is = absurd (subst IsMistake none agrees)
+dump_is usage_error kinds found (inl mistake) none is = absurd (subst IsMistake none mistake)
+dump_is usage_error kinds found (inr conflict) none is = absurd (batch_no_dump (sym conflict.1 ∙ is))
 
 task_is : (asked : Invocation) (kinds : Kinds) (found : Option (Text × List Row)) (task : Task) → Agrees asked kinds found → kinds ≡ [] → (subcommand_name found ≡ Some (codes "serve") → ⊥) → (subcommand_name found ≡ Some (codes "dump") → ⊥) → IsTaskOf found task
     → asked ≡ invocation_of task
 task_is asked kinds found (Serve serving) agrees none other no_dump is = absurd is
 task_is asked kinds found (Dump path) agrees none other no_dump is = absurd is
 task_is (batch script) kinds found (Batch task) agrees none other no_dump is =
-    script_is (mode_is task.mode script.mode (flag_text (codes "force") found) agrees.4 is.4 is.5) (flag_is task.is_verbose script.verbose (flag_text (codes "verbose") found) agrees.5 is.6 is.7)
+    script_is (some_mode task.mode script.mode (mode_is (Some script.mode) (Some task.mode) found agrees.4 is.4)) (flag_is task.is_verbose script.verbose (flag_text (codes "verbose") found) agrees.5 is.5 is.6)
     (sym (is.3 ∙ agrees.3)) (sym (is.2 ∙ agrees.2))
 task_is (batch script) kinds found (Check file) agrees none other no_dump is = absurd (no_check (sym agrees.1 ∙ is.0))
 task_is (batch script) kinds found (Replay file) agrees none other no_dump is = absurd (no_replay (sym agrees.1 ∙ is.0))
@@ -126,7 +133,23 @@ task_is dump kinds found task agrees none other no_dump is = absurd (no_dump agr
 task_is help kinds found task agrees none other no_dump is = absurd (not_empty _ _ (sym agrees ∙ none))
 task_is version kinds found task agrees none other no_dump is = absurd (not_empty _ _ (sym agrees ∙ none))
 task_is help_on kinds found task agrees none other no_dump is = absurd (not_empty _ _ (sym agrees ∙ none))
-task_is usage_error kinds found task agrees none other no_dump is = absurd (subst IsMistake none agrees)
+task_is usage_error kinds found task (inl mistake) none other no_dump is = absurd (subst IsMistake none mistake)
+task_is usage_error kinds found (Batch task) (inr conflict) none other no_dump is = absurd (no_mode task.mode (mode_is None (Some task.mode) found conflict.2 is.4))
+task_is usage_error kinds found (Check path) (inr conflict) none other no_dump is = absurd (no_check (sym conflict.1 ∙ is.0))
+task_is usage_error kinds found (Replay path) (inr conflict) none other no_dump is = absurd (no_replay (sym conflict.1 ∙ is.0))
+
+-- a script that can be executed in no way
+conflict_is : (asked : Invocation) (kinds : Kinds) (found : Option (Text × List Row)) → Agrees asked kinds found → kinds ≡ [] → (subcommand_name found ≡ Some (codes "serve") → ⊥) → (subcommand_name found ≡ Some (codes "dump") → ⊥) → IsConflict found
+    → asked ≡ usage_error
+conflict_is (batch script) kinds found agrees none other no_dump is = absurd (no_mode script.mode (sym (mode_is (Some script.mode) None found agrees.4 is.2)))
+conflict_is (check file) kinds found agrees none other no_dump is = absurd (is.0 agrees.1)
+conflict_is (replay file) kinds found agrees none other no_dump is = absurd (is.1 agrees.1)
+conflict_is serve kinds found agrees none other no_dump is = absurd (other agrees)
+conflict_is dump kinds found agrees none other no_dump is = absurd (no_dump agrees)
+conflict_is help kinds found agrees none other no_dump is = absurd (not_empty _ _ (sym agrees ∙ none))
+conflict_is version kinds found agrees none other no_dump is = absurd (not_empty _ _ (sym agrees ∙ none))
+conflict_is help_on kinds found agrees none other no_dump is = absurd (not_empty _ _ (sym agrees ∙ none))
+conflict_is usage_error kinds found agrees none other no_dump is = refl
 
 mistake_status : (k : ErrorKind) → is_mistake k ≡ true → words_status k ≡ 2
 mistake_status DisplayHelp bad = absurd (true≢false (sym bad))
@@ -170,8 +193,9 @@ status_of_kind help_on kinds found k agrees among = shown (subst (IsAmong k) agr
     shown (inl is) = inl (ap words_status is)
     shown (inr (inl is)) = inr (ap words_status is)
     shown (inr (inr none)) = absurd none
-status_of_kind usage_error [] found k agrees among = absurd agrees
-status_of_kind usage_error (x ∷ kinds) found k agrees among = mistakes_status (x ∷ kinds) k agrees among
+status_of_kind usage_error [] found k (inl mistake) among = absurd mistake
+status_of_kind usage_error (x ∷ kinds) found k (inl mistake) among = mistakes_status (x ∷ kinds) k mistake among
+status_of_kind usage_error kinds found k (inr conflict) among = absurd (subst (IsAmong k) conflict.0 among)
 
 -- a parse with an error found no script, or memory was refused
 pub words_fault : (asked : Invocation) (kinds : Kinds) (found : Option (Text × List Row)) (error : Error) (fault : Fault) → Agrees asked kinds found → HasKind kinds error → FaultOf error fault
@@ -220,3 +244,14 @@ other_is words m task found none other no_dump is =
     task_is (invocation (drop 1 words)) (fault_of command_line words) (subcommand_of command_line words) task (words_agree words) none
     (λ named. other (name_of_found (out-ArgMatches m).subcommand ∙ ap subcommand_name found ∙ named))
     (λ named. no_dump (name_of_found (out-ArgMatches m).subcommand ∙ ap subcommand_name found ∙ named)) (subst (λ f. IsTaskOf f task) found is)
+
+pub conflicting_is : (words : List Text) (m : ArgMatches) → subcommand_rows_of m ≡ subcommand_of command_line words → fault_of command_line words ≡ []
+    → (subcommand_name_of m ≡ Some (codes "serve") → ⊥) → (subcommand_name_of m ≡ Some (codes "dump") → ⊥) → IsConflict (subcommand_rows_of m) → invocation (drop 1 words) ≡ usage_error
+conflicting_is words m found none other no_dump is =
+    conflict_is (invocation (drop 1 words)) (fault_of command_line words) (subcommand_of command_line words) (words_agree words) none
+    (λ named. other (name_of_found (out-ArgMatches m).subcommand ∙ ap subcommand_name found ∙ named))
+    (λ named. no_dump (name_of_found (out-ArgMatches m).subcommand ∙ ap subcommand_name found ∙ named)) (subst IsConflict found is)
+
+pub conflict_fault : {T : Type 0} (asked : Invocation) (result : Result T Fault) → IfErr result (λ fault. asked ≡ usage_error) → IfErr result (IsWordsFault usage_error) → IfErr result (IsWordsFault asked)
+conflict_fault asked (Ok task) same is = tt
+conflict_fault asked (Err fault) same is = subst (λ a. IsWordsFault a fault) (sym same) is

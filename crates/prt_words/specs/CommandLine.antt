@@ -1,15 +1,15 @@
 -- The words that the program knows, as a parse reads them, and what it finds of its subcommands.
-use Rattle.std.specs.Prelude.{◌≡◌, ◌≢◌, ◌≤◌, Bool, true, false, List, [], ◌∷◌, Option, Some, codes, option_and_then, option_map}
+use Rattle.std.specs.Prelude.{◌≡◌, ◌≢◌, ◌≤◌, Bool, true, false, List, [], ◌∷◌, Option, Some, None, codes, option_and_then, option_map}
 use Rattle.clap.specs.Words.{App, Row, Rule, Text, first_of, one_of, new_app, new_rule, with_rule, with_subcommand}
 use Rattle.clap.specs.Simple.{on_top}
 use Rattle.clap.specs.declared.builder.action.ArgAction.TheVariants.{SetTrue}
 use Rattle.clap.specs.declared.builder.command.Command.{Command}
 use Rattle.clap.specs.declared.builder.command.Command.TheViews.{out-Command}
-use Rattle.prt_words.specs.Invocation.{Invocation, batch, check, dump, file_of, replay, serve}
+use Rattle.prt_words.specs.Invocation.{Invocation, batch, check, dump, file_of, mode_of, replay, serve}
 use Rattle.prt_words.specs.declared.serving.Serving.{Serving}
 use Rattle.prt_words.specs.declared.task.Task.{Task}
 use Rattle.prt_words.specs.declared.task.Task.TheVariants.{Batch, Check, Dump, Replay, Serve}
-use Rattle.prt_addr.specs.declared.on_refusal.OnRefusal.TheVariants.{Stop, GoOn}
+use Rattle.prt_words.specs.declared.task.Mode.{Mode}
 
 abbrev pub flag_rule : Text → Rule
 flag_rule name = record (new_rule name) { long = Some name; action = Some SetTrue }
@@ -21,7 +21,7 @@ abbrev pub file_rule : Rule
 file_rule = record (new_rule (codes "file")) { value_names = 1 }
 
 abbrev pub batch_line : App
-batch_line = with_rule (with_rule (with_rule (with_rule (new_app (codes "batch")) (flag_rule (codes "force"))) database_rule) (flag_rule (codes "verbose"))) file_rule
+batch_line = with_rule (with_rule (with_rule (with_rule (with_rule (new_app (codes "batch")) (flag_rule (codes "force"))) (flag_rule (codes "atomic"))) database_rule) (flag_rule (codes "verbose"))) file_rule
 
 abbrev pub check_line : App
 check_line = with_rule (new_app (codes "check")) file_rule
@@ -68,6 +68,22 @@ named_database = option_and_then (λ p. first_of (codes "db") p.1)
 abbrev pub flag_text : Text → Option (Text × List Row) → Option Text
 flag_text name = option_and_then (λ p. one_of name p.1)
 
+abbrev pub text_of_flag : Bool → Text
+text_of_flag true = codes "true"
+text_of_flag false = codes "false"
+
+-- how a script's lines are executed by what a parse has for `--force` and `--atomic`; no way for both
+abbrev pub IsModeBy : (force atomic : Option Text) → Option Mode → Type 0
+IsModeBy force atomic mode = (forced together : Bool) → force ≡ Some (text_of_flag forced) → atomic ≡ Some (text_of_flag together) → mode ≡ mode_of forced together
+
+-- how those of the script that a parse found are executed
+abbrev pub IsModeOf : Option (Text × List Row) → Option Mode → Type 0
+IsModeOf found = IsModeBy (flag_text (codes "force") found) (flag_text (codes "atomic") found)
+
+-- the parse found a script whose lines can't be executed as its words ask
+abbrev pub IsConflict : Option (Text × List Row) → Type 0
+IsConflict found = (subcommand_name found ≢ Some (codes "check")) × (subcommand_name found ≢ Some (codes "replay")) × IsModeOf found None
+
 -- the task is that of the subcommand that a parse found, other than `serve` and `dump`
 abbrev pub IsTaskOf : Option (Text × List Row) → Task → Type 0
 IsTaskOf found (Batch script) =
@@ -75,8 +91,7 @@ IsTaskOf found (Batch script) =
     × (subcommand_name found ≢ Some (codes "replay"))
     × (option_map (λ path. path.now) script.file ≡ option_and_then file_of (named_file found))
     × (option_map (λ path. path.now) script.database ≡ named_database found)
-    × (flag_text (codes "force") found ≡ Some (codes "true") → script.mode ≡ GoOn)
-    × (flag_text (codes "force") found ≡ Some (codes "false") → script.mode ≡ Stop)
+    × IsModeOf found (Some script.mode)
     × (flag_text (codes "verbose") found ≡ Some (codes "true") → script.is_verbose ≡ true)
     × (flag_text (codes "verbose") found ≡ Some (codes "false") → script.is_verbose ≡ false)
 IsTaskOf found (Check file) =

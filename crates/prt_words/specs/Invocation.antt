@@ -1,15 +1,16 @@
--- What the words after the program's name ask for: `batch [--force] [--db PATH] [--verbose] [FILE]`, `check [FILE]`, `replay [FILE]`, `serve` and `dump` with their options, the version, or help.
+-- What the words after the program's name ask for: `batch [--force | --atomic] [--db PATH] [--verbose] [FILE]`, `check [FILE]`, `replay [FILE]`, `serve` and `dump` with their options, the version, or help.
 -- Options and operands are told apart as POSIX.1 does (Base Definitions, section 12.2, guidelines 4, 10 and 13), but options may follow operands, and `--db=PATH` is `--db PATH`.
 use Rattle.std.specs.Prelude.{ℕ, ◌==◌, ◌||◌, Bool, true, false, List, [], ◌∷◌, Option, Some, None, is_some, if◌then◌else◌, map, drop, codes, option_and_then, slice_get, chars, bytes_eq, String, string_bytes}
 use Rattle.std.specs.List.{before_first, after_first}
 use Rattle.std.specs.Option.{option_map_or}
 use Rattle.prt_addr.specs.Word.{Word}
-use Rattle.prt_addr.specs.declared.on_refusal.OnRefusal.{OnRefusal}
 use Rattle.prt_addr.specs.declared.on_refusal.OnRefusal.TheVariants.{Stop, GoOn}
+use Rattle.prt_words.specs.declared.task.Mode.{Mode}
+use Rattle.prt_words.specs.declared.task.Mode.TheVariants.{InTurn, Together}
 
--- A script: how it is run, and whether a person is told of it.
+-- A script: how its lines are executed, and whether a person is told of it.
 pub record Script : Type 0 where
-  pub mode : OnRefusal
+  pub mode : Mode
   pub verbose : Bool
   -- the path of its database; none for one in memory
   pub database : Option Word
@@ -71,6 +72,8 @@ pub data Subcommand : Type 0 where
 pub data Argument : Type 0 where
   -- `--force`
   Force : Argument
+  -- `--atomic`
+  Atomic : Argument
   -- `--verbose`
   Verbose : Argument
   -- `--db PATH`
@@ -81,33 +84,43 @@ pub data Argument : Type 0 where
 -- What its words have given so far.
 pub record Given : Type 0 where
   pub forced : Bool
+  pub atomic : Bool
   pub verbose : Bool
   pub database : Option Word
   pub operand : Option Word
 
 abbrev pub nothing_given : Given
-nothing_given = record { forced = false; verbose = false; database = None; operand = None }
+nothing_given = record { forced = false; atomic = false; verbose = false; database = None; operand = None }
 
 -- such an argument was given
 abbrev pub has_given : Given → Argument → Bool
 has_given given Force = given.forced
+has_given given Atomic = given.atomic
 has_given given Verbose = given.verbose
 has_given given (Database path) = is_some given.database
 has_given given (File word) = is_some given.operand
 
 abbrev pub with_given : Given → Argument → Given
 with_given given Force = record given { forced = true }
+with_given given Atomic = record given { atomic = true }
 with_given given Verbose = record given { verbose = true }
 with_given given (Database path) = record given { database = Some path }
 with_given given (File word) = record given { operand = Some word }
 
-abbrev pub mode_of : Bool → OnRefusal
-mode_of true = GoOn
-mode_of false = Stop
+-- how the lines are executed, by whether `--force` and `--atomic` are given; no way for both
+abbrev pub mode_of : Bool → Bool → Option Mode
+mode_of false false = Some (InTurn Stop)
+mode_of true false = Some (InTurn GoOn)
+mode_of false true = Some Together
+mode_of true true = None
+
+abbrev pub asked_in : Option Mode → Given → Invocation
+asked_in None given = usage_error
+asked_in (Some mode) given = batch (record { mode = mode; verbose = given.verbose; database = given.database; file = option_and_then file_of given.operand })
 
 -- what the subcommand asks for with this
 abbrev pub asked : Subcommand → Given → Invocation
-asked Batch given = batch (record { mode = mode_of given.forced; verbose = given.verbose; database = given.database; file = option_and_then file_of given.operand })
+asked Batch given = asked_in (mode_of given.forced given.atomic) given
 asked Check given = check (option_and_then file_of given.operand)
 asked Replay given = replay (option_and_then file_of given.operand)
 
@@ -132,10 +145,11 @@ option_part Check word = unknown
 option_part Replay word = unknown
 option_part Batch word =
     if bytes_eq word (codes "--force") then argument Force
+    else (if bytes_eq word (codes "--atomic") then argument Atomic
     else (if bytes_eq word (codes "--verbose") then argument Verbose
     else (if bytes_eq word (codes "--db") then awaits_path
     else (if bytes_eq (before_first is_equals word) (codes "--db") then argument (Database (after_first is_equals word))
-    else unknown)))
+    else unknown))))
 
 abbrev pub part_of : Subcommand → Word → Part
 part_of subcommand word =

@@ -70,7 +70,7 @@ fn number_option<'a>(
 }
 
 /// Says which words may follow `batch`.
-fn batch_line<'a>(alloc: Global) -> Result<Command<'a>, AllocError>
+pub(crate) fn batch_line<'a>(alloc: Global) -> Result<Command<'a>, AllocError>
     ensures line { IfOk result (λ command. app_of command ≡ batch_line) }
     ensures own { IfOk result (λ command. has_globals command ≡ false) }
 {
@@ -78,6 +78,11 @@ fn batch_line<'a>(alloc: Global) -> Result<Command<'a>, AllocError>
         alloc,
         "force",
         "Go on with the next line after a refused one",
+    );
+    let atomic = flag(
+        alloc,
+        "atomic",
+        "Make all changes together or none, once all lines are read; not with --force",
     );
     let database = database_option(alloc);
     let verbose = flag(
@@ -92,6 +97,7 @@ fn batch_line<'a>(alloc: Global) -> Result<Command<'a>, AllocError>
     Command::new(alloc, "batch")
         .about("Runs a script of route and rule commands over a database")
         .arg(force)?
+        .arg(atomic)?
         .arg(database)?
         .arg(verbose)?
         .arg(file)

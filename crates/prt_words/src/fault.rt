@@ -6,7 +6,7 @@ ghost use Rattle.prt_words.specs.Faults.{FaultOf, IsWordsFault, fault_status};
 ghost use Rattle.prt_words.specs.Invocation.{dump, serve, usage_error};
 ghost use Rattle.prt_words.specs.declared.fault.Fault.TheVariants.{Opening};
 
-use crate::command_line::{command_line, dump_line, serve_line};
+use crate::command_line::{batch_line, command_line, dump_line, serve_line};
 use clap::error::ErrorKind;
 use prt_addr::Refusal;
 use std::alloc::{AllocError, Global};
@@ -24,6 +24,9 @@ pub const FAULT: u8 = 3;
 
 /// Says of a word that it is no text.
 const NOT_TEXT: &str = "invalid UTF-8 was detected in one or more arguments";
+
+/// What is wrong with a script that is to go on after a refused line and to be executed together.
+const CONFLICT: &str = "the argument '--force' cannot be used with '--atomic'";
 
 /// Why the program runs nothing.
 #[derive(Debug, Drop, Error)]
@@ -81,6 +84,25 @@ pub fn words_fault(alloc: Global, error: &io::Error) -> Fault
         return Fault::Opening(Refusal::NoMemory);
     }
     match not_text(alloc) {
+        Ok(error) => Fault::Words(error),
+        Err(_) => Fault::Opening(Refusal::NoMemory),
+    }
+}
+
+/// Makes the error of a script that is to go on and to be executed together, in the form of those of a parse.
+fn conflict_error(alloc: Global) -> Result<clap::Error, AllocError>
+    ensures { IfOk result (λ error. kind_of error ≡ ErrorKind.ArgumentConflict) }
+{
+    batch_line(alloc)?
+        .bin_name("prt batch")?
+        .error(ErrorKind::ArgumentConflict, CONFLICT)
+}
+
+/// Tells that a script can't go on after a refused line and be executed together.
+pub(crate) fn conflict_fault(alloc: Global) -> Fault
+    ensures { IsWordsFault usage_error result }
+{
+    match conflict_error(alloc) {
         Ok(error) => Fault::Words(error),
         Err(_) => Fault::Opening(Refusal::NoMemory),
     }

@@ -10,4 +10,4 @@ mod version;
 
 pub use fault::{DONE, FAULT, Fault, report, words_fault};
 pub use serving::Serving;
-pub use task::{Batch, STANDARD_INPUT, Task, read_words};
+pub use task::{Batch, Mode, STANDARD_INPUT, Task, read_words};

@@ -1,13 +1,13 @@
 //! What the words of the program ask for.
-ghost use Rattle.std.specs.Prelude.{◌≡◌, IfErr, IfOk, Some, codes, false, option_and_then, option_map, true};
+ghost use Rattle.std.specs.Prelude.{◌≡◌, IfErr, IfOk, None, Some, codes, false, option_and_then, option_map, true};
 ghost use Rattle.clap.specs.Words.{first_of, found_of, one_of, rows_of, subcommand_rows_of};
-ghost use Rattle.prt_words.specs.CommandLine.{IsTaskOf, IsWithinLimits, invocation_of};
+ghost use Rattle.prt_words.specs.CommandLine.{IsConflict, IsModeBy, IsTaskOf, IsWithinLimits, invocation_of};
 ghost use Rattle.prt_words.specs.Faults.{IsWordsFault};
-ghost use Rattle.prt_words.specs.Invocation.{arguments, file_of, invocation};
+ghost use Rattle.prt_words.specs.Invocation.{arguments, file_of, invocation, usage_error};
 
 use crate::command_line::command_line;
 use crate::dumping::dumped_database;
-use crate::fault::Fault;
+use crate::fault::{Fault, conflict_fault};
 use crate::serving::{Serving, serving_of};
 use clap::ArgMatches;
 use prt_addr::OnRefusal;
@@ -28,6 +28,15 @@ const DUMP: &str = "dump";
 /// The word for standard input in the place of a file.
 pub const STANDARD_INPUT: &str = "-";
 
+/// How the lines of a script are executed.
+#[derive(Clone, Copy)]
+pub enum Mode {
+    /// Each once it is read; after a refused one the session does this.
+    InTurn(OnRefusal),
+    /// All together once all are read, or none.
+    Together,
+}
+
 /// A script to run.
 #[derive(Drop)]
 pub struct Batch<'a> {
@@ -35,8 +44,8 @@ pub struct Batch<'a> {
     pub file: Option<&'a str>,
     /// The path of the database; a new one in memory where there is none.
     pub database: Option<&'a str>,
-    /// What its session does after a refused line.
-    pub mode: OnRefusal,
+    /// How its lines are executed.
+    pub mode: Mode,
     /// Whether a person is told of it, wherever standard error goes.
     pub is_verbose: bool,
 }
@@ -89,50 +98,68 @@ fn has_flag(matches: &ArgMatches<'_>, name: &str) -> bool
     matches.get_flag(name)
 }
 
-/// Tells what a script does after a refused line, by the matches of `batch`.
-fn mode_in(matches: &ArgMatches<'_>) -> OnRefusal
-    ensures goes_on { one_of (codes "force") (rows_of (found_of matches.now)) ≡ Some (codes "true") → result ≡ OnRefusal.GoOn }
-    ensures stops { one_of (codes "force") (rows_of (found_of matches.now)) ≡ Some (codes "false") → result ≡ OnRefusal.Stop }
+/// Tells how the lines of a script are executed, by the matches of `batch`.
+///
+/// # Errors
+///
+/// `Words` where the matches have both flags, `Opening` with `NoMemory` where memory is refused.
+fn mode_in(alloc: Global, matches: &ArgMatches<'_>) -> Result<Mode, Fault>
+    ensures mode { IfOk result (λ mode. IsModeBy (one_of (codes "force") (rows_of (found_of matches.now))) (one_of (codes "atomic") (rows_of (found_of matches.now))) (Some mode)) }
+    ensures conflict { IfErr result (λ fault. IsModeBy (one_of (codes "force") (rows_of (found_of matches.now))) (one_of (codes "atomic") (rows_of (found_of matches.now))) None) }
+    ensures fault { IfErr result (IsWordsFault usage_error) }
 {
-    if has_flag(matches, "force") {
-        OnRefusal::GoOn
-    } else {
-        OnRefusal::Stop
+    let is_forced = has_flag(matches, "force");
+    let is_atomic = has_flag(matches, "atomic");
+    if is_forced && is_atomic {
+        return Err(conflict_fault(alloc));
     }
+    if is_atomic {
+        return Ok(Mode::Together);
+    }
+    if is_forced {
+        return Ok(Mode::InTurn(OnRefusal::GoOn));
+    }
+    Ok(Mode::InTurn(OnRefusal::Stop))
 }
 
 /// Tells what the matches of all words ask for, where that is neither to serve nor to dump.
-fn task_of<'a>(matches: &ArgMatches<'a>) -> Task<'a>
-    ensures { IsTaskOf (subcommand_rows_of matches.now) result }
+///
+/// # Errors
+///
+/// `Words` where a script is to go on and to be executed together, `Opening` with `NoMemory` where memory is refused.
+fn task_of<'a>(alloc: Global, matches: &ArgMatches<'a>) -> Result<Task<'a>, Fault>
+    ensures task { IfOk result (IsTaskOf (subcommand_rows_of matches.now)) }
+    ensures conflict { IfErr result (λ fault. IsConflict (subcommand_rows_of matches.now)) }
+    ensures fault { IfErr result (IsWordsFault usage_error) }
 {
     let Some((name, found)) = matches.subcommand() else {
-        return Task::Batch(Batch {
+        return Ok(Task::Batch(Batch {
             file: None,
             database: None,
-            mode: OnRefusal::Stop,
+            mode: Mode::InTurn(OnRefusal::Stop),
             is_verbose: false,
-        });
+        }));
     };
     let file = file_in(found);
     if name == CHECK {
-        return Task::Check(file);
+        return Ok(Task::Check(file));
     }
     if name == REPLAY {
-        return Task::Replay(file);
+        return Ok(Task::Replay(file));
     }
-    Task::Batch(Batch {
+    Ok(Task::Batch(Batch {
         file,
         database: database_in(found),
-        mode: mode_in(found),
+        mode: mode_in(alloc, found)?,
         is_verbose: has_flag(found, "verbose"),
-    })
+    }))
 }
 
 /// Reads what the words ask for, the first of which is the program's own name.
 ///
 /// # Errors
 ///
-/// `Words` where they ask for help, for the version or for nothing that there is, or where a value of `serve` is none that it may have; `Opening` with `NoMemory` where memory is refused.
+/// `Words` where they ask for help, for the version or for nothing that there is, where a value of `serve` is none that it may have, or where a script is to go on and to be executed together; `Opening` with `NoMemory` where memory is refused.
 pub fn read_words<'a>(alloc: Global, words: &'a [String]) -> Result<Task<'a>, Fault>
     ensures task { IfOk result (λ task. invocation (arguments words.entry.now) ≡ invocation_of task) }
     ensures limits { IfOk result IsWithinLimits }
@@ -143,7 +170,7 @@ pub fn read_words<'a>(alloc: Global, words: &'a [String]) -> Result<Task<'a>, Fa
         Some(found) => Ok(Task::Serve(serving_of(alloc, found)?)),
         None => match matches.subcommand_matches(DUMP) {
             Some(found) => Ok(Task::Dump(dumped_database(alloc, found)?)),
-            None => Ok(task_of(&matches)),
+            None => task_of(alloc, &matches),
         },
     }
 }

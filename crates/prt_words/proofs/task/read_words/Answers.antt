@@ -1,5 +1,5 @@
 use Rattle.std.proofs.Common.{rules, ◌∙◌, ℕ, is_some, ap, subst, sym, map, List, true≢false}
-use Rattle.std.proofs.lemmas.Result.{err_from_is_err_and}
+use Rattle.std.proofs.lemmas.Result.{IfErr-weaker, IfOk-weaker, err_from_is_err_and}
 use Rattle.std.specs.Prelude.{string_bytes}
 use Rattle.clap.specs.Kinds.{HasKind}
 use Rattle.clap.specs.Words.{App, fault_of, is_simple, is_simple_and_free, subcommand_of}
@@ -7,7 +7,7 @@ use Rattle.prt_words.specs.CommandLine.{command_line}
 use Rattle.prt_words.specs.Invocation.{invocation, arguments}
 use Rattle.prt_words.proofs.WordClasses.{simple_line, free_line}
 use Rattle.prt_words.proofs.ParsedWords.{words_agree}
-use Rattle.prt_words.proofs.WordsRead.{dumped_is, other_is, served_is, words_fault}
+use Rattle.prt_words.proofs.WordsRead.{conflict_fault, conflicting_is, dumped_is, other_is, served_is, words_fault}
 use Rattle.prt_words.proofs.task.read_words.Goals as goal
 
 pub returns-in_err-matches-clause-fault : goal.returns-in_err-matches-clause-fault
@@ -59,6 +59,16 @@ returns-clause-task c =
     let line = c.in_ok-command_line.ensures in
     let found = (c.in_ok-matches.ensures.matches (ap is_simple line ∙ simple_line)).1 ∙ ap (λ (a : App). subcommand_of a texts) line in
     let none = sym (ap (λ (a : App). fault_of a texts) line) ∙ c.in_ok-matches.ensures.kinds (ap is_simple_and_free line ∙ free_line) in
-    other_is texts c.in_ok-matches.matches c.task_of.result found none
+    IfOk-weaker c.task_of.result _ _ (λ task is. other_is texts c.in_ok-matches.matches task found none
     (λ named. absurd (true≢false (sym (c.subcommand_matches.ensures.found.1 named) ∙ ap is_some c.in-None.is)))
-    (λ named. absurd (true≢false (sym (c.subcommand_matches-in-None.ensures.found.1 named) ∙ ap is_some c.in-None-subcommand_matches.is))) c.task_of.ensures
+    (λ named. absurd (true≢false (sym (c.subcommand_matches-in-None.ensures.found.1 named) ∙ ap is_some c.in-None-subcommand_matches.is))) is) c.task_of.ensures.task
+
+pub returns-clause-fault : goal.returns-clause-fault
+returns-clause-fault c =
+    let texts : List (List ℕ) = map string_bytes c.args.words.now in
+    let line = c.in_ok-command_line.ensures in
+    let found = (c.in_ok-matches.ensures.matches (ap is_simple line ∙ simple_line)).1 ∙ ap (λ (a : App). subcommand_of a texts) line in
+    let none = sym (ap (λ (a : App). fault_of a texts) line) ∙ c.in_ok-matches.ensures.kinds (ap is_simple_and_free line ∙ free_line) in
+    conflict_fault (invocation (arguments c.args.words.now)) c.task_of.result (IfErr-weaker c.task_of.result _ _ (λ fault is. conflicting_is texts c.in_ok-matches.matches found none
+    (λ named. absurd (true≢false (sym (c.subcommand_matches.ensures.found.1 named) ∙ ap is_some c.in-None.is)))
+    (λ named. absurd (true≢false (sym (c.subcommand_matches-in-None.ensures.found.1 named) ∙ ap is_some c.in-None-subcommand_matches.is))) is) c.task_of.ensures.conflict) c.task_of.ensures.fault
