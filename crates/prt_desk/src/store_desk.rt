@@ -252,10 +252,10 @@ impl<S: Alter + Drop, H: Wait + Drop> Desk for StoreDesk<S, H> {
     {
         let receipt = match self.publisher.submit_all(&self.rt, &self.domain, commands) {
             Ok(receipt) => receipt,
-            Err(reason) => return Err(reason),
+            Err(refusal) => return Err(refusal),
         };
-        let number = receipt.number();
-        Ok(number)
+        let last = receipt.number();
+        Ok(last)
     }
 
     fn answer(&mut self, query: &Query, out: &mut Vec<u8>) -> Result<(), Refusal>

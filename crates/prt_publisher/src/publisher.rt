@@ -3,7 +3,7 @@ ghost use Rattle.std.specs.Prelude.{◌≡◌, ◌⊎◌, ◌+◌, ◌<◌, ◌�
 ghost use Rattle.sqlite.specs.Held.{state};
 ghost use Rattle.sqlite.specs.State.{HasCleanDisk, Survives};
 ghost use Rattle.prt_addr.specs.Opening.{IsOpenRefusal};
-ghost use Rattle.prt_addr.specs.declared.refusal.Refusal.TheVariants.{Busy, Damaged, NoMemory, NotPublished, StoreFailed};
+ghost use Rattle.prt_addr.specs.declared.refusal.Refusal.TheVariants.{Busy, Closed, Damaged, NoMemory, NotPublished, StoreFailed};
 ghost use Rattle.prt_addr.specs.declared.refusal.StoreCall.{StoreCall};
 ghost use Rattle.prt_addr.specs.declared.refusal.StoreCall.TheVariants.{Commit};
 ghost use Rattle.prt_command.specs.Storable.{IsStorable};
@@ -192,6 +192,25 @@ impl<S: Alter + Drop, R: Wait + Drop> Publisher<S, R> {
         self.store.release()
     }
 
+    /// Sees that it takes commands.
+    ///
+    /// # Errors
+    ///
+    /// `Closed`, where it is closed.
+    fn see_ready(&self) -> Result<(), Refusal>
+        requires { IsQuiet self.now.phase }
+        ensures ready { OnOk result ((self.now.phase ≡ Phase.Ready) × (self.now.commands ≡ [])) }
+        ensures closed { IfErr result (λ reason. (reason ≡ Closed) × (self.now.phase ≡ Phase.Closed)) }
+        ensures stands { Stands S.Store self.now }
+    {
+        match self.step {
+            Step::Ready => Ok(()),
+            Step::Closed(_) => Err(Refusal::Closed),
+            Step::Admitted(_) | Step::Prepared(_) | Step::Committed(_, _) | Step::Published(_, _) =>
+                unreachable!(),
+        }
+    }
+
     /// Checks a command, has the registry give up the versions that nobody can hold, and sees that it has room for one
     /// more.
     ///
@@ -209,11 +228,8 @@ impl<S: Alter + Drop, R: Wait + Drop> Publisher<S, R> {
         ensures err { IfErr result (λ reason. (self.new ≡ self.old) × IsNotAdmitted self.old.phase (line_state self.old.line) command.now registry.old registry.new reason) }
         ensures stands { Stands S.Store self.new }
     {
-        match self.step {
-            Step::Ready => {}
-            Step::Closed(_) => return Err(Refusal::Closed),
-            Step::Admitted(_) | Step::Prepared(_) | Step::Committed(_, _) | Step::Published(_, _) =>
-                unreachable!(),
+        if let Err(reason) = self.see_ready() {
+            return Err(reason);
         }
         if let Err(reason) = self.version.check(command) {
             return Err(reason);
@@ -266,11 +282,8 @@ impl<S: Alter + Drop, R: Wait + Drop> Publisher<S, R> {
         ensures took { OnOk result (TakesAll self.now commands.now.items × (self.now.commands ≡ [])) }
         ensures err { IfErr result (AreNotPlanned self.now.phase (line_state self.now.line) commands.now.items) }
     {
-        match self.step {
-            Step::Ready => {}
-            Step::Closed(_) => return Err(Refusal::Closed),
-            Step::Admitted(_) | Step::Prepared(_) | Step::Committed(_, _) | Step::Published(_, _) =>
-                unreachable!(),
+        if let Err(reason) = self.see_ready() {
+            return Err(reason);
         }
         make_plan(&self.version, commands.as_slice())
     }
@@ -294,7 +307,8 @@ impl<S: Alter + Drop, R: Wait + Drop> Publisher<S, R> {
     {
         // Recalls what is stored.
         let _phase = self.phase();
-        if !registry.make_room() {
+        let has_room = registry.make_room();
+        if !has_room {
             return Err(Refusal::Busy);
         }
         self.step = Step::Prepared(plan);
@@ -531,7 +545,8 @@ impl<S: Alter + Drop, R: Wait + Drop> Publisher<S, R> {
         if let Err(reason) = self.prepare_all(rt, domain, commands) {
             return Err(reason);
         }
-        if let Err(reason) = self.commit() {
+        let committed = self.commit();
+        if let Err(reason) = committed {
             return Err(reason);
         }
         match self.publish(rt, domain) {
