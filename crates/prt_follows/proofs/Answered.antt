@@ -4,12 +4,10 @@ use Rattle.std.specs.List.{AllByRecursion as Each}
 use Rattle.prt_rule.specs.declared.packet.Packet.{Packet}
 use Rattle.prt_version.specs.declared.answer.Answer.{Answer}
 use Rattle.prt_world.specs.World as world
-use Rattle.prt_world.specs.World.{Lookup, LookerState, Step, World, looker_state, offline, online, run_from, step}
+use Rattle.prt_world.specs.World.{Phase as Moment, Lookup, LookerState, Step, World, looker_state, offline, online, run_from, step}
 use Rattle.prt_world.specs.declared.event.Event.{Event}
 use Rattle.prt_world.specs.declared.event.Event.TheVariants as events
 use Rattle.prt_world.specs.declared.outcome.Outcome.TheVariants as outcomes
-use Rattle.prt_world.specs.declared.phase.Phase.{Phase as Moment}
-use Rattle.prt_world.specs.declared.phase.Phase.TheVariants as moments
 use Rattle.prt_follows.proofs.Headline.{each_last}
 use Rattle.prt_follows.proofs.Keeping.{most_keep}
 
@@ -23,7 +21,7 @@ module _ (P : Lookup → Type 0) where
   Had w s = Each P s.world.answers → Each P w.answers
 
   ack_had : (w : World) (moment : Moment) → Had w (world.acknowledge w moment)
-  ack_had w (moments.Noted command) h = h
+  ack_had w (world.Noted commands) h = h
   ack_had w moment h = h
 
   look_had : (w : World) (packet : Packet) (state : LookerState) → Had w (world.look w packet state)
@@ -38,7 +36,7 @@ module _ (P : Lookup → Type 0) where
   event_had : (w : World) (event : Event) → Had w (step w event)
   event_had w events.Ack h = ack_had w w.phase h
   event_had w (events.Look at packet) h = unless w (world.look w packet (looker_state w at)) (world.is_stopped w.phase) (look_had w packet (looker_state w at)) h
-  event_had w event h = subst (λ (answers : List Lookup). Each P answers) (most_keep (λ v. v.answers) (λ w accepted disk pending moment published noted versions lookers. refl) w event refl) h
+  event_had w event h = subst (λ (answers : List Lookup). Each P answers) (most_keep (λ v. v.answers) (λ w accepted last disk pending moment published noted versions lookers. refl) w event refl) h
 
   pub list_had : (list : List Event) (w : World) → Each P (run_from w list).answers → Each P w.answers
   list_had [] w h = h

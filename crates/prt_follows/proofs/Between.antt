@@ -1,4 +1,4 @@
--- Events of lookers, and reclaims, leave a world where it is with a command.
+-- Events of lookers, and reclaims, leave a world where it is with commands.
 use Rattle.std.proofs.Common.{◌≡◌, ℕ, ◌+◌, ◌≤◌, Bool, true, false, List, [], ◌∷◌, ◌++◌, Some, None, length, map, refl, sym, ap, ◌∙◌, subst, arith, cond}
 use Rattle.std.specs.Prelude.{filter, nat_lt, unwrap_or}
 use Rattle.std.proofs.lemmas.Bool.Decides.{nat_tests}
@@ -9,14 +9,12 @@ use Rattle.prt_front.specs.Line.{Line}
 use Rattle.prt_grace.specs.GracePeriod.{is_retired}
 use Rattle.prt_grace.specs.declared.limits.TheConstants.{MOST_RETIRED}
 use Rattle.prt_rule.specs.declared.packet.Packet.{Packet}
-use Rattle.prt_version.specs.Change.{apply}
+use Rattle.prt_version.specs.Change.{fold}
 use Rattle.prt_version.specs.State.{State, opening_state}
 use Rattle.prt_world.specs.World as world
-use Rattle.prt_world.specs.World.{LookerState, Step, World, announced_by, has_room, looker_state, offline, online, published_version, step}
+use Rattle.prt_world.specs.World.{Phase as Moment, LookerState, Step, World, announced_by, has_room, looker_state, offline, online, published_version, step}
 use Rattle.prt_world.specs.declared.event.Event.{Event}
 use Rattle.prt_world.specs.declared.event.Event.TheVariants as events
-use Rattle.prt_world.specs.declared.phase.Phase.{Phase as Moment}
-use Rattle.prt_world.specs.declared.phase.Phase.TheVariants as moments
 use Rattle.prt_world.proofs.History.{not_retired, stays}
 use Rattle.prt_world.proofs.KeptVersions.{kept_filtered}
 use Rattle.prt_world.proofs.Phases.{Holds, Phased}
@@ -50,18 +48,19 @@ above : (noted count : ℕ) → noted ≤ count → nat_lt count noted ≡ false
 above noted count high = grind (arith, nat_tests)
 
 -- a version above the noted one takes no room
-pub room_published : (w : World) (line : Line) (disk : State) (command : Command) → IsAt (record { line = line; disk = disk; moment = moments.Committed command }) w → HasRoom (world.publish w (moments.Committed command)).world (moments.Published command)
-room_published w line disk command h =
+pub room_published : (w : World) (line : Line) (disk : State) (commands : List Command) → IsAt (record { line = line; disk = disk; moment = world.Committed commands }) w → HasRoom (world.publish w (world.Committed commands)).world (world.Published commands)
+room_published w line disk commands h =
     let holds : Holds w = holds_of w h.reached in
     let p = λ (state : State). is_retired w.noted state.count in
-    let phased : Phased w (moments.Committed command) = phased_of w (moments.Committed command) h.reached h.moment in
-    let made : apply (published_version w) command ≡ w.disk = ap (λ (s : State). apply s command) h.shown ∙ sym (disk_after line disk w command h) in
-    let next : w.disk.count ≡ w.published + 1 = phased.next in
+    let phased : Phased w (world.Committed commands) = phased_of w (world.Committed commands) h.reached h.moment in
+    let after : State = fold (published_version w) commands in
+    let made : after ≡ w.disk = ap (λ (s : State). fold s commands) h.shown ∙ sym (disk_after line disk w commands h) in
+    let next : w.disk.count ≡ w.published + length commands = phased.next in
     let known : w.noted ≡ w.published = phased.known in
     let high : p w.disk ≡ false = above w.noted w.disk.count (omega arith) in
-    let none : filter p (apply (published_version w) command ∷ []) ≡ [] = ap (λ (s : State). filter p (s ∷ [])) made ∙ ap (λ b. cond b (w.disk ∷ []) []) high in
-    let same : filter p (w.versions ++ apply (published_version w) command ∷ []) ≡ filter p w.versions =
-    filter-append p w.versions (apply (published_version w) command ∷ []) ∙ ap (λ xs. filter p w.versions ++ xs) none ∙ append-nil (filter p w.versions) in
+    let none : filter p (after ∷ []) ≡ [] = ap (λ (s : State). filter p (s ∷ [])) made ∙ ap (λ b. cond b (w.disk ∷ []) []) high in
+    let same : filter p (w.versions ++ after ∷ []) ≡ filter p w.versions =
+    filter-append p w.versions (after ∷ []) ∙ ap (λ xs. filter p w.versions ++ xs) none ∙ append-nil (filter p w.versions) in
     ap (λ xs. nat_lt (length xs) MOST_RETIRED) same ∙ h.room
 
 -- ---- one event
@@ -133,13 +132,13 @@ pub room_stays : (w : World) (event : Event) → is_lookers event ≡ true → I
 room_stays w event is reached room = (beside w event is reached).room room
 
 pub room_beside : (w v : World) (moment : Moment) → (has_room w ≡ true → has_room v ≡ true) → HasRoom w moment → HasRoom v moment
-room_beside w v moments.Ready room h = tt
-room_beside w v (moments.Prepared command call) room h = room h
-room_beside w v (moments.Committed command) room h = room h
-room_beside w v (moments.Published command) room h = room h
-room_beside w v (moments.Noted command) room h = tt
-room_beside w v moments.Closed room h = tt
-room_beside w v moments.Stopped room h = tt
+room_beside w v world.Ready room h = tt
+room_beside w v (world.Prepared commands done call) room h = room h
+room_beside w v (world.Committed commands) room h = room h
+room_beside w v (world.Published commands) room h = room h
+room_beside w v (world.Noted commands) room h = tt
+room_beside w v world.Closed room h = tt
+room_beside w v world.Stopped room h = tt
 
 -- a world is where it was after an event of a looker
 pub stays_there : (spot : Spot) (w : World) (event : Event) → is_lookers event ≡ true → IsAt spot w → IsAt spot (step w event).world

@@ -1,20 +1,20 @@
 -- Two worlds that are alike but for what is on disk, as after a call that failed with one fate or the other.
-use Rattle.std.proofs.Common.{◌≡◌, ℕ, Bool, true, false, List, [], ◌∷◌, Some, None, map, refl, sym, ap, ◌∙◌, subst, cond}
+use Rattle.std.proofs.Common.{◌≡◌, ℕ, Bool, true, false, List, [], ◌∷◌, ◌++◌, Some, None, map, refl, sym, ap, ◌∙◌, subst, cond}
+use Rattle.std.specs.List.{AllByRecursion as Each}
 use Rattle.prt_addr.specs.declared.refusal.StoreCall.{StoreCall}
-use Rattle.prt_addr.specs.declared.refusal.StoreCall.TheVariants as calls
 use Rattle.prt_command.specs.declared.request.Command.{Command}
 use Rattle.prt_grace.specs.Registry.{RegistryState}
 use Rattle.prt_rule.specs.declared.packet.Packet.{Packet}
 use Rattle.prt_version.specs.State.{State}
 use Rattle.prt_world.specs.World as world
-use Rattle.prt_world.specs.World.{LookerState, Step, World, looker_state, offline, online, run_from, step}
+use Rattle.prt_world.specs.World.{Phase as Moment, LookerState, Step, World, looker_state, offline, online, run_from, step}
 use Rattle.prt_world.specs.declared.event.Event.{Event}
 use Rattle.prt_world.specs.declared.event.Event.TheVariants as events
 use Rattle.prt_world.specs.declared.event.Fate.{Fate}
-use Rattle.prt_world.specs.declared.phase.Phase.{Phase as Moment}
-use Rattle.prt_world.specs.declared.phase.Phase.TheVariants as moments
-use Rattle.prt_follows.specs.Events.{fail_events, is_lookers, own, without_fate}
+use Rattle.prt_follows.specs.Events.{AsksSome, events_before, fail_events, is_lookers, own, without_fate}
 use Rattle.prt_follows.specs.Registries.{registry_after, registry_through}
+use Rattle.prt_follows.proofs.Calling.{only_calls}
+use Rattle.prt_follows.proofs.Steps.{asked_closed}
 use Rattle.prt_follows.proofs.Woven.{heads, own_by, tails}
 
 -- ---- another disk
@@ -65,8 +65,8 @@ module _ (w : World) (d p : State) where
   beside_with event is = absurd cc
 
   -- a closed world refuses there, too
-  pub closed_with : (command : Command) → w.phase ≡ moments.Closed → step (with w d p) (events.Submit command) ≡ step_with (step w (events.Submit command)) d p
-  closed_with command is = ap (world.submit (with w d p) command) is ∙ sym (ap (λ (m : Moment). step_with (world.submit w command m) d p) is)
+  pub closed_with : (event : Event) → AsksSome event → w.phase ≡ world.Closed → step (with w d p) event ≡ step_with (step w event) d p
+  closed_with event some is = asked_closed (with w d p) event some is ∙ sym (ap (λ (s : Step). step_with s d p) (asked_closed w event some is))
 
   -- and is nothing else to the registry
   pub registry_with : (r : RegistryState) (event : Event) → registry_after r (with w d p) event ≡ registry_after r w event
@@ -126,7 +126,7 @@ beside_all fate (event ∷ all) e r w d p = by (is_lookers event) refl (λ e q v
 
 -- a call that fails leaves the same but for the disk
 fail_with : (w : World) (first second : Fate) (moment : Moment) → (d : State) × (p : State) × ((world.fail w first moment).world ≡ with (world.fail w second moment).world d p)
-fail_with w first second (moments.Prepared command next) = (world.stopped w first (moments.Prepared command next), world.stopped w first (moments.Prepared command next), refl)
+fail_with w first second (world.Prepared commands done next) = (world.stopped w first (world.Prepared commands done next), world.stopped w first (world.Prepared commands done next), refl)
 fail_with w first second moment = (w.disk, w.pending, refl)
 
 own_none : (fate : Fate) (all : List Event) → own all ≡ [] → own (map (refated fate) all) ≡ []
@@ -171,29 +171,30 @@ refates_fail fate other event all at none = subst (λ (x : Event). Refates fate 
       alike_after r w w (events.Fail fate) (events.Fail other) (map (refated fate) all) all there.0 there.1 there.2 refl rest,
     ))
 
-nothing : (call : StoreCall) (fate : Fate) → [] ≡ fail_events call fate → ⊥
-nothing calls.Begin fate e = cc
-nothing calls.Write fate e = cc
-nothing calls.Count fate e = cc
-nothing calls.Commit fate e = cc
+-- the own events of a list: calls, and the one that fails
+abbrev pub RefatesCalls : Fate → Fate → List Event → Type 0
+RefatesCalls fate other all = (calls : List Event) → Each (λ event. events.Call ≡ event) calls → own all ≡ calls ++ events.Fail other ∷ [] → Refates fate all (calls ++ events.Fail fate ∷ [])
 
-refates_own : (fate other : Fate) (call : StoreCall) (event : Event) (all : List Event) → event ∷ own all ≡ fail_events call other → ((call : StoreCall) → own all ≡ fail_events call other → Refates fate all (fail_events call fate)) → Refates fate (event ∷ all) (fail_events call fate)
-refates_own fate other calls.Begin event all e again = refates_fail fate other event all (heads event (events.Fail other) (own all) [] e) (tails event (events.Fail other) (own all) [] e)
-refates_own fate other calls.Write event all e again =
-    let rest = fail_events calls.Begin other in
-    refates_call fate event all (fail_events calls.Begin fate) (heads event events.Call (own all) rest e) (again calls.Begin (tails event events.Call (own all) rest e))
-refates_own fate other calls.Count event all e again =
-    let rest = fail_events calls.Write other in
-    refates_call fate event all (fail_events calls.Write fate) (heads event events.Call (own all) rest e) (again calls.Write (tails event events.Call (own all) rest e))
-refates_own fate other calls.Commit event all e again =
-    let rest = fail_events calls.Count other in
-    refates_call fate event all (fail_events calls.Count fate) (heads event events.Call (own all) rest e) (again calls.Count (tails event events.Call (own all) rest e))
+refates_own : (fate other : Fate) (event : Event) (all calls : List Event) → Each (λ event. events.Call ≡ event) calls → event ∷ own all ≡ calls ++ events.Fail other ∷ [] → RefatesCalls fate other all → Refates fate (event ∷ all) (calls ++ events.Fail fate ∷ [])
+refates_own fate other event all [] each e again = refates_fail fate other event all (heads event (events.Fail other) (own all) [] e) (tails event (events.Fail other) (own all) [] e)
+refates_own fate other event all (first ∷ calls) each e again =
+    let rest = calls ++ events.Fail other ∷ [] in
+    let left = calls ++ events.Fail fate ∷ [] in
+    let at : events.Call ≡ event = each.0 ∙ heads event first (own all) rest e in
+    subst (λ (x : Event). Refates fate (event ∷ all) (x ∷ left)) each.0 (refates_call fate event all left at (again calls each.1 (tails event first (own all) rest e)))
+
+none_fails : (calls : List Event) (fate : Fate) → [] ≡ calls ++ events.Fail fate ∷ [] → ⊥
+none_fails [] fate e = cc
+none_fails (first ∷ calls) fate e = cc
+
+refates_calls : (fate other : Fate) (all : List Event) → RefatesCalls fate other all
+refates_calls fate other [] calls each e = absurd (none_fails calls other e)
+refates_calls fate other (event ∷ all) calls each e = by (is_lookers event) refl (refates_calls fate other all)
+  where
+    by : (b : Bool) → is_lookers event ≡ b → RefatesCalls fate other all → Refates fate (event ∷ all) (calls ++ events.Fail fate ∷ [])
+    by true is again = refates_beside fate event all (calls ++ events.Fail fate ∷ []) is (again calls each (sym (own_by event all true is) ∙ e))
+    by false is again = refates_own fate other event all calls each (sym (own_by event all false is) ∙ e) again
 
 -- calls of which the last fails, whatever lookers do between them
-pub refates : (fate other : Fate) (all : List Event) (call : StoreCall) → own all ≡ fail_events call other → Refates fate all (fail_events call fate)
-refates fate other [] call e = absurd (nothing call other e)
-refates fate other (event ∷ all) call e = by (is_lookers event) refl (refates fate other all)
-  where
-    by : (b : Bool) → is_lookers event ≡ b → ((call : StoreCall) → own all ≡ fail_events call other → Refates fate all (fail_events call fate)) → Refates fate (event ∷ all) (fail_events call fate)
-    by true is again = refates_beside fate event all (fail_events call fate) is (again call (sym (own_by event all true is) ∙ e))
-    by false is again = refates_own fate other call event all (sym (own_by event all false is) ∙ e) again
+pub refates : (fate other : Fate) (all : List Event) (commands : List Command) (call : StoreCall) → own all ≡ fail_events commands call other → Refates fate all (fail_events commands call fate)
+refates fate other all commands call e = refates_calls fate other all (events_before commands call) (only_calls (λ event. events.Call ≡ event) refl commands call) e

@@ -1,5 +1,5 @@
 -- A run with the fates that fit what is left.
-use Rattle.std.proofs.Common.{◌≡◌, ◌⊎◌, inl, inr, Bool, true, false, List, [], ◌∷◌, ◌++◌, Option, Some, None, map, refl, sym, ap, ◌∙◌, subst}
+use Rattle.std.proofs.Common.{◌≡◌, ◌⊎◌, inl, inr, ◌≤◌, Bool, true, false, List, [], ◌∷◌, ◌++◌, length, map, refl, sym, ap, ◌∙◌, subst, arith}
 use Rattle.std.specs.List.{AllByRecursion as Each}
 use Rattle.std.proofs.lemmas.List.{map-append}
 use Rattle.sqlite.specs.Held.{Held, state}
@@ -16,23 +16,29 @@ use Rattle.prt_publisher.specs.declared.phase.Phase.{Phase}
 use Rattle.prt_publisher.specs.declared.phase.Phase.TheVariants.{Ready, Admitted, Prepared, Committed, Published, Closed}
 use Rattle.prt_version.specs.State.{State}
 use Rattle.prt_world.specs.Durability.{IsAnswered}
+use Rattle.prt_world.specs.World as world
 use Rattle.prt_world.specs.World.{Ack, Lookup, Step, World, run_from, start, step}
 use Rattle.prt_world.specs.declared.event.Event.{Event}
 use Rattle.prt_world.specs.declared.event.Event.TheVariants as events
-use Rattle.prt_world.specs.declared.phase.Phase.TheVariants as moments
-use Rattle.prt_follows.specs.Events.{stop_events, without_fate}
+use Rattle.prt_follows.specs.Events.{AsksSome, asked, stop_events, without_fate}
 use Rattle.prt_follows.specs.Laws.{BeginsAt, FailsBy, SubmitFailsBy}
-use Rattle.prt_follows.specs.Publishers.{AreBothOf, HasDisk, moment_of}
-use Rattle.prt_follows.specs.Runs.{Act, Acts, ActsAll, EveryRunGoesOn, EveryRunLeaves, EveryStopLeaves, HoldsAll, SameButFates, act_answers, act_events, act_receipts, adopted, admitted, answers_of, beside, committed, declined, events_of, failed, looked, noted, planned, prepared, published, receipts_of, refused, seated, shown, stopped, submit_failed, submit_unpublished, submitted, unplanned, unshown}
+use Rattle.prt_follows.specs.Publishers.{AreBothOf, HasDisk}
+use Rattle.prt_follows.specs.Registries.{registry_after}
+use Rattle.prt_follows.specs.Runs.{Act, Acts, ActsAll, EveryRunGoesOn, EveryRunLeaves, EveryStopLeaves, HoldsAll, SameButFates, act_answers, act_events, act_receipts, adopted, admitted, answers_of, beside, committed, declined, events_of, failed, looked, noted, planned, prepared, published, receipts_of, refused, seated, shown, stopped, submit_failed, submit_unpublished, submitted, taken, unplanned, unshown}
 use Rattle.prt_follows.proofs.Acks.{stopped_none, woven_keeps}
 use Rattle.prt_follows.proofs.Answered.{list_had}
 use Rattle.prt_follows.proofs.Between.{moment_stays}
-use Rattle.prt_follows.proofs.Exits.{committed_command, place_in}
+use Rattle.prt_follows.proofs.Exits.{place_in, some_committed}
 use Rattle.prt_follows.proofs.Fates.{beside_with, closed_with, refated, refates, registry_with, same_without, with}
 use Rattle.prt_follows.proofs.Headline.{holds_all}
 use Rattle.prt_follows.proofs.Opening.{cut_left, left_is, stopped_at}
 use Rattle.prt_follows.proofs.Runs.{acted, leaves_all, ran, run_gave}
 use Rattle.prt_follows.proofs.Steps.{holds_of, run_more}
+use Rattle.prt_follows.proofs.Woven.{own_asked}
+
+none_left : (commands : List Command) → 1 ≤ length commands → commands ≡ [] → ⊥
+none_left [] some is = omega (arith, some)
+none_left (command ∷ commands) some is = cc
 
 same_call : (a b : StoreCall) → StoreFailed a ≡ StoreFailed b → b ≡ a
 same_call a b is = cc
@@ -61,7 +67,7 @@ module _ {S : Type 0} (g : Ghosts S) where
   -- a commit has failed, and nothing was done since, whatever is on disk
   abbrev Idles : Standing (Held S) → RegistryState → World → List Act → Standing (Held S) → RegistryState → Type 0
   Idles old r w acts new after =
-      (old.phase ≡ Closed) × (old.command ≡ None) × (new ≡ old)
+      (old.phase ≡ Closed) × (old.commands ≡ []) × (new ≡ old)
       × ((d p : State) → ActsAll g old r (with w d p) acts new after × (run_from (with w d p) (events_of acts) ≡ with (run_from w (events_of acts)) d p))
 
   -- an act that leaves the publisher as it is, whatever is on disk
@@ -71,7 +77,7 @@ module _ {S : Type 0} (g : Ghosts S) where
   idles_more : (old mid new : Standing (Held S)) (r between after : RegistryState) (w : World) (act : Act) (acts : List Act) → IsIdle old r w act mid between → Idles mid between (run_from w (act_events act)) acts new after → Idles old r w (act ∷ acts) new after
   idles_more old mid new r between after w act acts here idle = (
     ap (λ (p : Standing (Held S)). p.phase) (sym here.0) ∙ idle.0,
-    ap (λ (p : Standing (Held S)). p.command) (sym here.0) ∙ idle.1,
+    ap (λ (p : Standing (Held S)). p.commands) (sym here.0) ∙ idle.1,
     idle.2 ∙ here.0,
     λ d p.
         let x = here.1 d p in
@@ -84,11 +90,11 @@ module _ {S : Type 0} (g : Ghosts S) where
         ),
   )
 
-  declined_with : (command : Command) (reclaims : Bool) (w : World) (d p : State) → w.phase ≡ moments.Closed → (step w events.Reclaim).world.phase ≡ moments.Closed → (why : _)
-      → run_from (with w d p) (act_events (declined command why reclaims)) ≡ with (run_from w (act_events (declined command why reclaims))) d p
-  declined_with command true w d p here then why =
-      ap (λ (s : Step). (step s.world (events.Submit command)).world) (beside_with w d p events.Reclaim refl) ∙ ap (λ (s : Step). s.world) (closed_with (step w events.Reclaim).world d p command then)
-  declined_with command false w d p here then why = ap (λ (s : Step). s.world) (closed_with w d p command here)
+  declined_with : (event : Event) → AsksSome event → (reclaims : Bool) (w : World) (d p : State) → w.phase ≡ world.Closed → (step w events.Reclaim).world.phase ≡ world.Closed → (why : _)
+      → run_from (with w d p) (act_events (declined event why reclaims)) ≡ with (run_from w (act_events (declined event why reclaims))) d p
+  declined_with event some true w d p here then why =
+      ap (λ (s : Step). (step s.world event).world) (beside_with w d p events.Reclaim refl) ∙ ap (λ (s : Step). s.world) (closed_with (step w events.Reclaim).world d p event some then)
+  declined_with event some false w d p here then why = ap (λ (s : Step). s.world) (closed_with w d p event some here)
 
   -- ---- the failing exit, with the fate that fits
 
@@ -123,50 +129,51 @@ module _ {S : Type 0} (g : Ghosts S) where
         ) idle)
     last (seated i place) t idle known left may = inr (idles_more old mid new r between after w (seated i place) acts (t.2, λ d p. (t, refl)) idle)
     last admitted t idle known left may = absurd (let both : Admitted ≡ Closed = sym t.0 ∙ idle.0 in cc)
-    last (declined command why reclaims) t idle known left may =
-        let shut : old.phase ≡ Closed = ap (λ (p : Standing (Held S)). p.phase) (sym t.0) ∙ idle.0 in
-        let place = place_in g old old w h.0 Closed moments.Closed shut refl in
+    last (declined event why reclaims) t idle known left may =
+        let shut : old.phase ≡ Closed = ap (λ (p : Standing (Held S)). p.phase) (sym t.1.0) ∙ idle.0 in
+        let place = place_in g old old w h.0 Closed shut in
         let then = moment_stays w events.Reclaim refl place.reached ∙ place.moment in
-        inr (idles_more old mid new r between after w (declined command why reclaims) acts (t.0, λ d p. (t, declined_with command reclaims w d p place.moment then why)) idle)
-    last (planned command) t idle known left may = absurd (let both : Prepared ≡ Closed = sym t.1.0 ∙ idle.0 in cc)
+        inr (idles_more old mid new r between after w (declined event why reclaims) acts (t.1.0, λ d p. (t, declined_with event t.0 reclaims w d p place.moment then why)) idle)
+    last (planned event) t idle known left may = absurd (let both : Prepared ≡ Closed = sym t.2.0 ∙ idle.0 in cc)
     last unplanned t idle known left may = absurd (let both : Ready ≡ Closed = sym t.1.1 ∙ idle.0 in cc)
+    last (taken event) t idle known left may = absurd (let both : Prepared ≡ Closed = sym t.1.0 ∙ idle.0 in cc)
     last (committed all) t idle known left may = absurd (let both : Committed ≡ Closed = sym t.2.0 ∙ idle.0 in cc)
     last (failed call fate other all) t idle known left may =
         let by = t.3.4 (subst (λ (p : Standing (Held S)). IsKnown g p.ours_first p.tables) idle.2 known) left (subst (λ (p : Standing (Held S)). MayLeave g p.tables left) idle.2 may) in
         let law : FailsBy g old mid call by.0 left = subst (λ (k : StoreCall). FailsBy g old mid k by.0 left) (same_call call t.3.2 t.3.3) by.1 in
         let again = map (refated by.0) all in
-        let alike = refates by.0 fate all call t.0 r w in
+        let alike = refates by.0 fate all old.commands call t.0 r w in
         inl (refailed old mid new r between after w (failed call by.0 left again) (failed call fate other all) acts left alike.1.0 alike.1.1 (alike.0, t.1 ∙ sym alike.1.3, law, t.3) refl refl (same_without by.0 all) alike.1.2
         (law w h.0 again alike.0).2 idle)
     last shown t idle known left may = absurd (let both : Published ≡ Closed = sym t.1.0 ∙ idle.0 in cc)
     last unshown t idle known left may =
-        let c = committed_command old.command h.0.moment (h.0.is ∙ ap (λ (p : Phase). moment_of p old.command) t.1) in
-        absurd (let both : Some c.0 ≡ None = sym c.1 ∙ ap (λ (p : Standing (Held S)). p.command) (sym t.2.1) ∙ idle.1 in cc)
-    last (noted command told more) t idle known left may = absurd (let both : Ready ≡ Closed = sym t.5.0 ∙ idle.0 in cc)
-    last (prepared command) t idle known left may = absurd (let both : Prepared ≡ Closed = sym t.2.0 ∙ idle.0 in cc)
-    last (published command told all) t idle known left may = absurd (let both : Ready ≡ Closed = sym t.4.0 ∙ idle.0 in cc)
-    last (submitted command told more) t idle known left may = absurd (let both : Ready ≡ Closed = sym t.4.0 ∙ idle.0 in cc)
-    last (refused command why) t idle known left may =
-        let shut : old.phase ≡ Closed = ap (λ (p : Standing (Held S)). p.phase) (sym t.2.0) ∙ idle.0 in
-        let place = place_in g old old w h.0 Closed moments.Closed shut refl in
-        inr (idles_more old mid new r between after w (refused command why) acts (t.2.0, λ d p. (t, ap (λ (s : Step). s.world) (closed_with w d p command place.moment))) idle)
-    last (submit_failed command call fate other more) t idle known left may =
-        let by = t.4.4 (subst (λ (p : Standing (Held S)). IsKnown g p.ours_first p.tables) idle.2 known) left (subst (λ (p : Standing (Held S)). MayLeave g p.tables left) idle.2 may) in
-        let law : SubmitFailsBy g old mid command call by.0 left = subst (λ (k : StoreCall). SubmitFailsBy g old mid command k by.0 left) (same_call call t.4.2 t.4.3) by.1 in
+        let some = some_committed old.line w.disk old.commands w (place_in g old old w h.0 Committed t.1) in
+        absurd (none_left old.commands some (ap (λ (p : Standing (Held S)). p.commands) (sym t.2.1) ∙ idle.1))
+    last (noted commands told more) t idle known left may = absurd (let both : Ready ≡ Closed = sym t.5.0 ∙ idle.0 in cc)
+    last (prepared event) t idle known left may = absurd (let both : Prepared ≡ Closed = sym t.3.0 ∙ idle.0 in cc)
+    last (published commands told all) t idle known left may = absurd (let both : Ready ≡ Closed = sym t.4.0 ∙ idle.0 in cc)
+    last (submitted event told more) t idle known left may = absurd (let both : Ready ≡ Closed = sym t.5.0 ∙ idle.0 in cc)
+    last (refused event why) t idle known left may =
+        let shut : old.phase ≡ Closed = ap (λ (p : Standing (Held S)). p.phase) (sym t.3.0) ∙ idle.0 in
+        let place = place_in g old old w h.0 Closed shut in
+        inr (idles_more old mid new r between after w (refused event why) acts (t.3.0, λ d p. (t, ap (λ (s : Step). s.world) (closed_with w d p event t.0 place.moment))) idle)
+    last (submit_failed event call fate other more) t idle known left may =
+        let by = t.5.4 (subst (λ (p : Standing (Held S)). IsKnown g p.ours_first p.tables) idle.2 known) left (subst (λ (p : Standing (Held S)). MayLeave g p.tables left) idle.2 may) in
+        let law : SubmitFailsBy g old mid event call by.0 left = subst (λ (k : StoreCall). SubmitFailsBy g old mid event k by.0 left) (same_call call t.5.2 t.5.3) by.1 in
         let again = map (refated by.0) more in
-        let alike = refates by.0 fate more call t.0 r (step w (events.Submit command)).world in
-        let own_is = ap (λ xs. events.Submit command ∷ xs) alike.0 in
-        inl (refailed old mid new r between after w (submit_failed command call by.0 left again) (submit_failed command call fate other more) acts left alike.1.0 alike.1.1 (alike.0, t.1, t.2 ∙ sym alike.1.3, law, t.4) refl refl
-        (ap (λ xs. events.Submit command ∷ xs) (same_without by.0 more)) alike.1.2
-        (law w h.0 t.1 (events.Submit command ∷ again) own_is).2 idle)
-    last (submit_unpublished command more) t idle known left may = absurd (let both : Some command ≡ None = sym t.3.2 ∙ idle.1 in cc)
+        let alike = refates by.0 fate more (asked event) call t.1 (registry_after r w event) (step w event).world in
+        let own_is = own_asked event again t.0 ∙ ap (λ xs. event ∷ xs) alike.0 in
+        inl (refailed old mid new r between after w (submit_failed event call by.0 left again) (submit_failed event call fate other more) acts left alike.1.0 alike.1.1 (t.0, alike.0, t.2, t.3 ∙ sym alike.1.3, law, t.5) refl refl
+        (ap (λ xs. without_fate event ∷ xs) (same_without by.0 more)) alike.1.2
+        (law w h.0 t.2 (event ∷ again) own_is).2 idle)
+    last (submit_unpublished event more) t idle known left may = absurd (none_left (asked event) t.0 (sym t.4.2 ∙ idle.1))
     last (adopted trees) t idle known left may = absurd (let both : Ready ≡ Closed = sym t.2.0 ∙ idle.0 in cc)
     last (stopped call fate all) t idle known left may = absurd (let both : Ready ≡ Closed = sym t.2.0 ∙ idle.0 in cc)
 
   -- a run fits what is left, or began where it idles
   fits : (acts : List Act) (old new : Standing (Held S)) (r after : RegistryState) (w : World) → AreBothOf g old r w → ActsAll g old r w acts new after → IsKnown g new.ours_first new.tables → (left : State) → MayLeave g new.tables left
       → Fits old r w acts new after left ⊎ Idles old r w acts new after
-  fits [] old new r after w h t known left may = at_end old.phase old.command refl refl (h.0.stored here)
+  fits [] old new r after w h t known left may = at_end old.phase old.commands refl refl (h.0.stored here)
     where
       here : IsKnown g old.ours_first old.tables
       here = subst (λ (p : Standing (Held S)). IsKnown g p.ours_first p.tables) t.0 known
@@ -174,14 +181,14 @@ module _ {S : Type 0} (g : Ghosts S) where
       stored_there : IsStored g old.tables w.disk → Fits old r w [] new after left
       stored_there stored = ([], record { events = refl; receipts = refl; answers = refl }, t, sym (left_is g old w h.0 here left (subst (λ (p : Standing (Held S)). MayLeave g p.tables left) t.0 may) (λ _. stored)))
 
-      at_end : (phase : Phase) (command : Option Command) → old.phase ≡ phase → old.command ≡ command → HasDisk g phase command old.tables w.disk → Fits old r w [] new after left ⊎ Idles old r w [] new after
-      at_end Ready command at under stored = inl (stored_there stored)
-      at_end Admitted command at under stored = inl (stored_there stored)
-      at_end Prepared command at under stored = inl (stored_there stored)
-      at_end Committed command at under stored = inl (stored_there stored)
-      at_end Published command at under stored = inl (stored_there stored)
-      at_end Closed None at under stored = inr (at, under, t.0, λ d p. (t, refl))
-      at_end Closed (Some command) at under stored = inl (stored_there stored)
+      at_end : (phase : Phase) (commands : List Command) → old.phase ≡ phase → old.commands ≡ commands → HasDisk g phase commands old.tables w.disk → Fits old r w [] new after left ⊎ Idles old r w [] new after
+      at_end Ready commands at under stored = inl (stored_there stored)
+      at_end Admitted commands at under stored = inl (stored_there stored)
+      at_end Prepared commands at under stored = inl (stored_there stored)
+      at_end Committed commands at under stored = inl (stored_there stored)
+      at_end Published commands at under stored = inl (stored_there stored)
+      at_end Closed [] at under stored = inr (at, under, t.0, λ d p. (t, refl))
+      at_end Closed (command ∷ commands) at under stored = inl (stored_there stored)
   fits (act ∷ acts) old new r after w h t known left may =
       let first = acted g old t.0 r t.1 w act h.0 h.1 t.2 in
       elim (fits acts t.0 new t.1 after (run_from w (act_events act)) (first.0, first.1) t.3 known left may) [
@@ -199,23 +206,22 @@ module _ {S : Type 0} (g : Ghosts S) where
       → Fits old (new_registry (line_state old.line)) start acts new after left
   run_fits acts old new after h t known left may = elim (fits acts old new (new_registry (line_state old.line)) after start h t known left may) [
     | inl f ↦ f
-    | inr idle ↦ absurd (let both : moments.Ready ≡ moments.Closed = (place_in g old old start h.0 Closed moments.Closed idle.0 refl).moment in cc)
+    | inr idle ↦ absurd (let both : world.Ready ≡ world.Closed = (place_in g old old start h.0 Closed idle.0).moment in cc)
   ]
 
   -- whatever may be left spells a state
-  spells_by : (phase : Phase) (command : Option Command) (current : State) (tables : Held S) (trees : Trees) → (state g tables).may_leave trees → Agrees g phase command current tables → (left : State) × Spells trees left
-  spells_by Ready command current tables trees may held = (current, held.durable trees may)
-  spells_by Admitted command current tables trees may held = (current, held.durable trees may)
-  spells_by Prepared command current tables trees may held = (current, held.durable trees may)
-  spells_by Committed None current tables trees may held = absurd held
-  spells_by Committed (Some command) current tables trees may held = (_, held.durable trees may)
-  spells_by Published command current tables trees may held = (current, held.durable trees may)
-  spells_by Closed None current tables trees may held = let found = held.durable trees may in (found.0, found.1)
-  spells_by Closed (Some command) current tables trees may held = (_, held.durable trees may)
+  spells_by : (phase : Phase) (commands : List Command) (current : State) (tables : Held S) (trees : Trees) → (state g tables).may_leave trees → Agrees g phase commands current tables → (left : State) × Spells trees left
+  spells_by Ready commands current tables trees may held = (current, held.durable trees may)
+  spells_by Admitted commands current tables trees may held = (current, held.durable trees may)
+  spells_by Prepared commands current tables trees may held = (current, held.durable trees may)
+  spells_by Committed commands current tables trees may held = (_, held.durable trees may)
+  spells_by Published commands current tables trees may held = (current, held.durable trees may)
+  spells_by Closed [] current tables trees may held = let found = held.durable trees may in (found.0, found.1)
+  spells_by Closed (command ∷ commands) current tables trees may held = (_, held.durable trees may)
 
   pub run_leaves : EveryRunLeaves g
   run_leaves acts old new after h t stood known trees may =
-      let spelled = spells_by new.phase new.command (line_state new.line) new.tables trees may (stood known) in
+      let spelled = spells_by new.phase new.commands (line_state new.line) new.tables trees may (stood known) in
       let left : State = spelled.0 in
       let may_leave : MayLeave g new.tables left = (trees, may, spelled.1) in
       let f = run_fits acts old new after h t known left may_leave in
@@ -245,7 +251,7 @@ module _ {S : Type 0} (g : Ghosts S) where
   run_goes_on acts old new last after h t stood known trees may adopts =
       let r = new_registry (line_state old.line) in
       let next = new_registry (line_state last.line) in
-      let spelled = spells_by new.phase new.command (line_state new.line) new.tables trees may (stood known) in
+      let spelled = spells_by new.phase new.commands (line_state new.line) new.tables trees may (stood known) in
       let f = run_fits acts old new after h t known spelled.0 (trees, may, spelled.1) in
       let v : World = run_from start (events_of f.0) in
       let on_disk : Spells trees v.disk = subst (Spells trees) (sym f.3) spelled.1 in (
@@ -271,7 +277,7 @@ module _ {S : Type 0} (g : Ghosts S) where
             let there = at.1 u reached.0.0 all e in
             let v : World = run_from start (events_of acts ++ all) in
             let is : v ≡ run_from u all = run_more start (events_of acts) all in
-            let kept : v.acks ≡ receipts_of acts = ap (λ (x : World). x.acks) is ∙ woven_keeps all (stop_events call at.0) e (stopped_none call at.0) u ∙ reached.1 in
+            let kept : v.acks ≡ receipts_of acts = ap (λ (x : World). x.acks) is ∙ woven_keeps all (stop_events mid.commands call at.0) e (stopped_none mid.commands call at.0) u ∙ reached.1 in
             let given : Each (IsAnswered v) v.answers → Each (IsAnswered v) (answers_of acts) = λ xs. run_gave g (IsAnswered v) acts old mid r after start t (list_had (IsAnswered v) all u (subst (λ (x : World). Each (IsAnswered v) x.answers) is xs)) in
             holds_all v [] (receipts_of acts) (answers_of acts) left (holds_of v (events_of acts ++ all, refl)) (sym (ap (λ (x : World). x.disk) is ∙ there.1.disk)) kept given,
       )

@@ -9,7 +9,7 @@ use Rattle.prt_world.specs.World.{World, has_room, run_from, step}
 use Rattle.prt_world.specs.declared.event.Event.{Event}
 use Rattle.prt_world.specs.declared.outcome.Outcome.{Outcome}
 use Rattle.prt_follows.specs.Events.{is_lookers, own, own_outcomes}
-use Rattle.prt_follows.specs.Publishers.{Leads, LeadsTo, SawRoom, IsPublisherOf}
+use Rattle.prt_follows.specs.Publishers.{Leads, LeadsTo, SawRoom, IsPublisherOf, moment_of}
 use Rattle.prt_version.specs.State.{State}
 use Rattle.prt_follows.proofs.Between.{room_stays, stays_there}
 use Rattle.prt_follows.proofs.Exits.{spot, stands}
@@ -57,11 +57,15 @@ shown_more w (event ∷ a) b =
 shown_by : (w : World) (event : Event) (all : List Event) (b : Bool) → is_lookers event ≡ b → own_outcomes w (event ∷ all) ≡ cond b (own_outcomes (step w event).world all) ((step w event).outcome ∷ own_outcomes (step w event).world all)
 shown_by w event all b is = ap (λ b. cond b (own_outcomes (step w event).world all) ((step w event).outcome ∷ own_outcomes (step w event).world all)) is
 
+-- an event of the publisher's own shows its outcome
+pub shown_own : (w : World) (event : Event) (all : List Event) → is_lookers event ≡ false → own_outcomes w (event ∷ all) ≡ (step w event).outcome ∷ own_outcomes (step w event).world all
+shown_own w event all is = shown_by w event all false is
+
 module _ {S : Type 0} (g : Ghosts S) where
   -- a publisher stands for a world after an event of a looker, too
   pub stands_beside : (p : Standing (Held S)) (w : World) (event : Event) → is_lookers event ≡ true → IsPublisherOf g p w → IsPublisherOf g p (step w event).world
   stands_beside p w event is s =
-      stands g p (step w event).world w.disk s.moment s.is (stays_there (spot p.line w.disk s.moment) w event is s.place) s.stored
+      stands g p (step w event).world w.disk (stays_there (spot p.line w.disk (moment_of p.phase p.commands)) w event is s.place) s.stored
       (saw_stays p.phase w (step w event).world (room_stays w event is s.place.reached) s.room)
 
   -- no event of its own

@@ -1,27 +1,33 @@
 -- Fields of a world that an event leaves as they are.
-use Rattle.std.proofs.Common.{◌≡◌, ℕ, ◌+◌, ◌++◌, Bool, true, false, List, [], ◌∷◌, Option, Some, None, replicate, take, refl, cond}
+use Rattle.std.proofs.Common.{◌≡◌, ℕ, ◌+◌, ◌++◌, Bool, true, false, List, [], ◌∷◌, Option, Some, None, length, replicate, take, refl, cond, arith}
 use Rattle.prt_addr.specs.declared.refusal.Refusal.{Refusal}
 use Rattle.prt_addr.specs.declared.refusal.StoreCall.TheVariants as calls
 use Rattle.prt_command.specs.declared.request.Command.{Command}
 use Rattle.prt_grace.specs.declared.limits.TheConstants.{PLACES}
-use Rattle.prt_version.specs.Change.{apply, refusal}
+use Rattle.prt_version.specs.Accepted.{refusal_all}
+use Rattle.prt_version.specs.Change.{fold}
 use Rattle.prt_version.specs.State.{State}
 use Rattle.prt_world.specs.World as world
-use Rattle.prt_world.specs.World.{LookerState, Step, World, durable, has_room, kept_versions, looker_state, offline, online, published_version, step}
+use Rattle.prt_world.specs.World.{Phase as Moment, LookerState, Step, World, durable, has_room, kept_versions, looker_state, offline, online, published_version, step}
 use Rattle.prt_world.specs.declared.event.Event.{Event}
 use Rattle.prt_world.specs.declared.event.Event.TheVariants as events
 use Rattle.prt_world.specs.declared.event.Fate.{Fate}
-use Rattle.prt_world.specs.declared.phase.Phase.{Phase as Moment}
-use Rattle.prt_world.specs.declared.phase.Phase.TheVariants as moments
 use Rattle.std.specs.Prelude.{slice_set}
+use Rattle.prt_follows.specs.Events.{AsksSome}
 
--- a command is checked or stored, or that fails
+-- commands are checked or stored, or that fails
 abbrev pub is_storing : Event → Bool
 is_storing (events.Submit command) = true
+is_storing (events.SubmitAll commands) = true
 is_storing events.Call = true
 is_storing (events.Fail fate) = true
 is_storing events.PublishFail = true
 is_storing event = false
+
+pub asks_storing : (event : Event) → AsksSome event → is_storing event ≡ true
+asks_storing (events.Submit command) some = refl
+asks_storing (events.SubmitAll commands) some = refl
+asks_storing event some = absurd (omega (arith, some))
 
 -- it records an acknowledgement or an answer
 abbrev pub is_record : Event → Bool
@@ -37,59 +43,63 @@ module _ {X : Type 0} (f : World → X) where
   unless_keeps w s true h = refl
   unless_keeps w s false h = h
 
-  module _ (apart : (w : World) (accepted : List Command) (disk pending : State) (moment : Moment) → f (record w { accepted = accepted; disk = disk; pending = pending; phase = moment }) ≡ f w) where
-    prepare_keeps : (w : World) (command : Command) (why : Option Refusal) (room : Bool) → Keeps w (world.prepare w command why room)
-    prepare_keeps w command (Some why) room = refl
-    prepare_keeps w command None true = apart w w.accepted w.disk w.pending (moments.Prepared command calls.Begin)
-    prepare_keeps w command None false = refl
+  module _ (apart : (w : World) (accepted last : List Command) (disk pending : State) (moment : Moment) → f (record w { accepted = accepted; last = last; disk = disk; pending = pending; phase = moment }) ≡ f w) where
+    prepare_keeps : (w : World) (commands : List Command) (why : Option Refusal) (room : Bool) → Keeps w (world.prepare w commands why room)
+    prepare_keeps w commands (Some why) room = refl
+    prepare_keeps w commands None true = apart w w.accepted w.last w.disk w.pending (world.Prepared commands 0 calls.Begin)
+    prepare_keeps w commands None false = refl
 
-    submit_keeps : (w : World) (command : Command) (moment : Moment) → Keeps w (world.submit w command moment)
-    submit_keeps w command moments.Ready = prepare_keeps w command (refusal (published_version w) command) (has_room w)
-    submit_keeps w command moment = refl
+    submit_keeps : (w : World) (commands : List Command) (moment : Moment) → Keeps w (world.submit w commands moment)
+    submit_keeps w [] moment = refl
+    submit_keeps w (first ∷ more) world.Ready = prepare_keeps w (first ∷ more) (refusal_all (published_version w) (first ∷ more)) (has_room w)
+    submit_keeps w (first ∷ more) world.Closed = refl
+    submit_keeps w (first ∷ more) moment = refl
 
     call_keeps : (w : World) (moment : Moment) → Keeps w (world.call w moment)
-    call_keeps w (moments.Prepared command calls.Begin) = apart w (w.accepted ++ command ∷ []) w.disk w.disk (moments.Prepared command calls.Write)
-    call_keeps w (moments.Prepared command calls.Write) = apart w w.accepted w.disk (world.with_count w.disk.count (apply w.disk command)) (moments.Prepared command calls.Count)
-    call_keeps w (moments.Prepared command calls.Count) = apart w w.accepted w.disk (world.with_count (w.disk.count + 1) w.pending) (moments.Prepared command calls.Commit)
-    call_keeps w (moments.Prepared command calls.Commit) = apart w w.accepted w.pending w.pending (moments.Committed command)
+    call_keeps w (world.Prepared commands done calls.Begin) = apart w (w.accepted ++ commands) commands w.disk w.disk (world.Prepared commands 0 calls.Write)
+    call_keeps w (world.Prepared commands done calls.Write) =
+        apart w w.accepted w.last w.disk (world.with_count w.disk.count (fold w.disk (take (done + 1) commands))) (world.Prepared commands (done + 1) (world.call_after (done + 1) (length commands)))
+    call_keeps w (world.Prepared commands done calls.Count) = apart w w.accepted w.last w.disk (world.with_count (w.disk.count + length commands) w.pending) (world.Prepared commands (length commands) calls.Commit)
+    call_keeps w (world.Prepared commands done calls.Commit) = apart w w.accepted w.last w.pending w.pending (world.Committed commands)
     call_keeps w moment = refl
 
     fail_keeps : (w : World) (fate : Fate) (moment : Moment) → Keeps w (world.fail w fate moment)
-    fail_keeps w fate (moments.Prepared command next) =
-        let left : State = world.stopped w fate (moments.Prepared command next) in
-        apart w w.accepted left left moments.Closed
+    fail_keeps w fate (world.Prepared commands done next) =
+        let left : State = world.stopped w fate (world.Prepared commands done next) in
+        apart w w.accepted w.last left left world.Closed
     fail_keeps w fate moment = refl
 
     unshown_keeps : (w : World) (moment : Moment) → Keeps w (world.fail_publication w moment)
-    unshown_keeps w (moments.Committed command) = apart w w.accepted w.disk w.pending moments.Closed
+    unshown_keeps w (world.Committed commands) = apart w w.accepted w.last w.disk w.pending world.Closed
     unshown_keeps w moment = refl
 
     pub storing_keeps : (w : World) (event : Event) → is_storing event ≡ true → Keeps w (step w event)
-    storing_keeps w (events.Submit command) is = submit_keeps w command w.phase
+    storing_keeps w (events.Submit command) is = submit_keeps w (command ∷ []) w.phase
+    storing_keeps w (events.SubmitAll commands) is = submit_keeps w commands w.phase
     storing_keeps w events.Call is = call_keeps w w.phase
     storing_keeps w (events.Fail fate) is = fail_keeps w fate w.phase
     storing_keeps w events.PublishFail is = unshown_keeps w w.phase
     storing_keeps w event is = absurd cc
 
-  module _ (apart : (w : World) (accepted : List Command) (disk pending : State) (moment : Moment) (published noted : ℕ) (versions : List State) (lookers : List LookerState)
-      → f (record w { accepted = accepted; disk = disk; pending = pending; phase = moment; published = published; noted = noted; versions = versions; lookers = lookers }) ≡ f w) where
+  module _ (apart : (w : World) (accepted last : List Command) (disk pending : State) (moment : Moment) (published noted : ℕ) (versions : List State) (lookers : List LookerState)
+      → f (record w { accepted = accepted; last = last; disk = disk; pending = pending; phase = moment; published = published; noted = noted; versions = versions; lookers = lookers }) ≡ f w) where
     seat_keeps : (w : World) (at : ℕ) (state : LookerState) → f (world.with_looker w at state) ≡ f w
-    seat_keeps w at state = apart w w.accepted w.disk w.pending w.phase w.published w.noted w.versions (slice_set w.lookers at state)
+    seat_keeps w at state = apart w w.accepted w.last w.disk w.pending w.phase w.published w.noted w.versions (slice_set w.lookers at state)
 
     publish_keeps : (w : World) (moment : Moment) → Keeps w (world.publish w moment)
-    publish_keeps w (moments.Committed command) = apart w w.accepted w.disk w.pending (moments.Published command) (durable w) w.noted (w.versions ++ apply (published_version w) command ∷ []) w.lookers
+    publish_keeps w (world.Committed commands) = apart w w.accepted w.last w.disk w.pending (world.Published commands) (durable w) w.noted (w.versions ++ fold (published_version w) commands ∷ []) w.lookers
     publish_keeps w moment = refl
 
     note_keeps : (w : World) (moment : Moment) → Keeps w (world.note w moment)
-    note_keeps w (moments.Published command) = apart w w.accepted w.disk w.pending (moments.Noted command) w.published w.published w.versions w.lookers
+    note_keeps w (world.Published commands) = apart w w.accepted w.last w.disk w.pending (world.Noted commands) w.published w.published w.versions w.lookers
     note_keeps w moment = refl
 
     reopened_keeps : (w : World) → f (world.reopened w) ≡ f w
-    reopened_keeps w = apart w (take (durable w) w.accepted) w.disk w.disk moments.Ready (durable w) (durable w) (w.disk ∷ []) (replicate PLACES offline)
+    reopened_keeps w = apart w (take (durable w) w.accepted) [] w.disk w.disk world.Ready (durable w) (durable w) (w.disk ∷ []) (replicate PLACES offline)
 
     reopen_keeps : (w : World) (moment : Moment) → Keeps w (world.reopen w moment)
-    reopen_keeps w moments.Closed = reopened_keeps w
-    reopen_keeps w moments.Stopped = reopened_keeps w
+    reopen_keeps w world.Closed = reopened_keeps w
+    reopen_keeps w world.Stopped = reopened_keeps w
     reopen_keeps w moment = refl
 
     online_keeps : (w : World) (at : ℕ) (state : LookerState) → Keeps w (world.go_online w at state)
@@ -110,18 +120,19 @@ module _ {X : Type 0} (f : World → X) where
     offline_keeps w at (online announced held) = seat_keeps w at offline
 
     reclaim_keeps : (w : World) → Keeps w (world.reclaim w)
-    reclaim_keeps w = apart w w.accepted w.disk w.pending w.phase w.published w.noted (kept_versions w) w.lookers
+    reclaim_keeps w = apart w w.accepted w.last w.disk w.pending w.phase w.published w.noted (kept_versions w) w.lookers
 
     stop_keeps : (w : World) (fate : Fate) → Keeps w (world.stop w fate)
     stop_keeps w fate =
         let left : State = world.stopped w fate w.phase in
-        apart w w.accepted left left moments.Stopped w.published w.noted w.versions w.lookers
+        apart w w.accepted w.last left left world.Stopped w.published w.noted w.versions w.lookers
 
     storing : (w : World) (event : Event) → is_storing event ≡ true → Keeps w (step w event)
-    storing w event is = storing_keeps (λ w accepted disk pending moment. apart w accepted disk pending moment w.published w.noted w.versions w.lookers) w event is
+    storing w event is = storing_keeps (λ w accepted last disk pending moment. apart w accepted last disk pending moment w.published w.noted w.versions w.lookers) w event is
 
     pub most_keep : (w : World) (event : Event) → is_record event ≡ false → Keeps w (step w event)
     most_keep w (events.Submit command) is = storing w (events.Submit command) refl
+    most_keep w (events.SubmitAll commands) is = storing w (events.SubmitAll commands) refl
     most_keep w events.Call is = storing w events.Call refl
     most_keep w (events.Fail fate) is = storing w (events.Fail fate) refl
     most_keep w events.Publish is = publish_keeps w w.phase

@@ -1,4 +1,6 @@
 pub mod Steps
+pub mod Calling
+pub mod Cut
 pub mod Between
 pub mod Woven
 pub mod Keeping

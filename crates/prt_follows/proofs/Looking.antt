@@ -180,5 +180,5 @@ reclaim_shows r new number is sum w going reached s =
 pub lookers_event : {S : Type 0} (g : Ghosts S) → EveryLookersEvent g
 lookers_event g p r w event is h =
     let s : IsPublisherOf g p w = h.0 in
-    let going : world.is_stopped w.phase ≡ false = ap world.is_stopped s.place.moment ∙ open_moment p.phase p.command s.moment s.is in
+    let going : world.is_stopped w.phase ≡ false = ap world.is_stopped s.place.moment ∙ open_moment p.phase p.commands in
     (stands_beside g p w event is s, registers_beside r w event is going s.place.reached h.1)

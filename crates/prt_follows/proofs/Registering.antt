@@ -13,13 +13,12 @@ use Rattle.prt_grace.specs.declared.limits.TheConstants.{MOST_RETIRED, PLACES}
 use Rattle.prt_grace.specs.declared.place.PlaceState.{PlaceState}
 use Rattle.prt_grace.specs.declared.place.PlaceState.TheVariants as places
 use Rattle.prt_version.specs.State.{State, opening_state}
-use Rattle.prt_version.specs.Change.{apply}
+use Rattle.prt_version.specs.Change.{fold}
 use Rattle.prt_command.specs.declared.request.Command.{Command}
 use Rattle.prt_world.specs.World as world
 use Rattle.prt_world.specs.World.{LookerState, Step, World, announced_by, has_room, looker_state, offline, online, published_version, start, step}
 use Rattle.prt_world.specs.declared.event.Event.{Event}
 use Rattle.prt_world.specs.declared.event.Event.TheVariants as events
-use Rattle.prt_world.specs.declared.phase.Phase.TheVariants as moments
 use Rattle.prt_world.proofs.History.{not_retired, stays}
 use Rattle.prt_world.proofs.KeptVersions.{kept_alone, kept_filtered, other_number, same_number}
 use Rattle.prt_world.proofs.Phases.{Holds, Phased, version_kept}
@@ -93,15 +92,16 @@ module _ (r : RegistryState) (w : World) (reached : IsReached w) (s : IsRegistry
 
 -- ---- publish and note
 
-module _ (line : Line) (disk : State) (command : Command) (r : RegistryState) (w : World) (s : IsRegistryOf r w) where
+module _ (line : Line) (disk : State) (commands : List Command) (r : RegistryState) (w : World) (s : IsRegistryOf r w) where
   -- one more version, which is not noted
-  pub registers_published : (h : IsAt (record { line = line; disk = disk; moment = moments.Committed command }) w) → published_version (world.publish w (moments.Committed command)).world ≡ apply (published_version w) command → IsRegistryOf r (world.publish w (moments.Committed command)).world
+  pub registers_published : (h : IsAt (record { line = line; disk = disk; moment = world.Committed commands }) w) → published_version (world.publish w (world.Committed commands)).world ≡ fold (published_version w) commands → IsRegistryOf r (world.publish w (world.Committed commands)).world
   registers_published h shown =
       let holds : Holds w = holds_of w h.reached in
-      let phased : Phased w (moments.Committed command) = phased_of w (moments.Committed command) h.reached h.moment in
-      let next : w.disk.count ≡ w.published + 1 = phased.next in
+      let phased : Phased w (world.Committed commands) = phased_of w (world.Committed commands) h.reached h.moment in
+      let next : w.disk.count ≡ w.published + length commands = phased.next in
       let known : w.noted ≡ w.published = phased.known in
-      let after : State = apply (published_version w) command in
+      let some : 1 ≤ length commands = phased.some in
+      let after : State = fold (published_version w) commands in
       record {
         noted = s.noted;
         below = s.below;
@@ -109,16 +109,17 @@ module _ (line : Line) (disk : State) (command : Command) (r : RegistryState) (w
             ap (λ xs. xs ++ after ∷ []) (s.all ∙ ap (λ b. r.retired ++ r.noted ∷ unnoted_version b (published_version w)) (same_number w.noted w.published known))
             ∙ append_assoc r.retired (r.noted ∷ []) (after ∷ [])
             ∙ ap (λ (state : State). r.retired ++ r.noted ∷ (state ∷ [])) (sym shown)
-            ∙ ap (λ b. r.retired ++ r.noted ∷ unnoted_version b (published_version (world.publish w (moments.Committed command)).world)) (sym (other_number w.noted w.noted w.disk.count (omega arith) (omega arith)));
+            ∙ ap (λ b. r.retired ++ r.noted ∷ unnoted_version b (published_version (world.publish w (world.Committed commands)).world)) (sym (other_number w.noted w.noted w.disk.count (omega arith) (omega arith)));
         told = s.told;
       }
 
   -- the note takes place, and retires the version that was noted
-  pub registers_noted : (h : IsAt (record { line = line; disk = disk; moment = moments.Published command }) w) → (version : State) → version ≡ line_state line → (noted_by r version ≡ with_noted r version) × IsRegistryOf (noted_by r version) (world.note w (moments.Published command)).world
+  pub registers_noted : (h : IsAt (record { line = line; disk = disk; moment = world.Published commands }) w) → (version : State) → version ≡ line_state line → (noted_by r version ≡ with_noted r version) × IsRegistryOf (noted_by r version) (world.note w (world.Published commands)).world
   registers_noted h version is =
-      let spot : Spot = record { line = line; disk = disk; moment = moments.Published command } in
-      let phased : Phased w (moments.Published command) = phased_of w (moments.Published command) h.reached h.moment in
-      let next : w.published ≡ w.noted + 1 = phased.1 in
+      let spot : Spot = record { line = line; disk = disk; moment = world.Published commands } in
+      let phased : Phased w (world.Published commands) = phased_of w (world.Published commands) h.reached h.moment in
+      let next : w.published ≡ w.noted + length commands = phased.1 in
+      let some : 1 ≤ length commands = phased.0.some in
       let noted : r.noted.count ≡ w.noted = s.noted in
       let count : version.count ≡ w.published = ap (λ state. state.count) is ∙ number_of spot w h in
       let room : nat_lt (length r.retired) MOST_RETIRED ≡ true = sym (room_is r w h.reached s) ∙ h.room in
@@ -132,13 +133,13 @@ module _ (line : Line) (disk : State) (command : Command) (r : RegistryState) (w
       ∙ ap (λ (state : State). r.retired ++ r.noted ∷ (state ∷ [])) shown
       ∙ sym (append_assoc r.retired (r.noted ∷ []) (version ∷ []))
       ∙ ap (λ b. (r.retired ++ r.noted ∷ []) ++ version ∷ unnoted_version b (published_version w)) (sym (same_number w.published w.published refl)) in
-      let after : IsRegistryOf (with_noted r version) (world.note w (moments.Published command)).world = record {
+      let after : IsRegistryOf (with_noted r version) (world.note w (world.Published commands)).world = record {
         noted = count;
         below = each_append (λ state. state.count < w.published) r.retired (r.noted ∷ []) (each_implies (λ state. state.count < w.noted) (λ state. state.count < w.published) (λ state low. omega arith) r.retired s.below) (omega arith, tt);
         all = all;
         told = s.told;
       } in
-      (notes, subst (λ (q : RegistryState). IsRegistryOf q (world.note w (moments.Published command)).world) (sym notes) after)
+      (notes, subst (λ (q : RegistryState). IsRegistryOf q (world.note w (world.Published commands)).world) (sym notes) after)
 
 -- ---- a registry that is opened
 

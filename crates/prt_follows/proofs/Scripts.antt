@@ -1,11 +1,10 @@
 -- The lines of a script are a list of the world's events.
-use Rattle.std.proofs.Common.{◌≡◌, inl, inr, ℕ, Bool, true, false, not, ◌&&◌, List, [], ◌∷◌, ◌++◌, Option, Some, None, Result, Ok, Err, get_or, length, map, replicate, set, refl, sym, ap, ◌∙◌, subst, cond}
+use Rattle.std.proofs.Common.{◌≡◌, inl, inr, ℕ, Bool, true, false, not, ◌&&◌, List, [], ◌∷◌, ◌++◌, Option, Some, None, Result, Ok, Err, get_or, length, map, replicate, set, refl, sym, ap, ◌∙◌, subst, cond, arith}
 use Rattle.std.specs.Prelude.{codes, filter, nat_lt}
 use Rattle.std.specs.List.{AllByRecursion as Each, list_any}
 use Rattle.std.proofs.lemmas.List.{append-nil, append_assoc}
 use Rattle.prt_addr.specs.declared.refusal.Refusal.{Refusal}
 use Rattle.prt_addr.specs.declared.refusal.Refusal.TheVariants.{Busy, NoMemory}
-use Rattle.prt_addr.specs.declared.refusal.StoreCall.{StoreCall}
 use Rattle.prt_addr.specs.declared.refusal.StoreCall.TheVariants as calls
 use Rattle.prt_command.specs.Reading.{reading}
 use Rattle.prt_command.specs.declared.request.Command.{Command}
@@ -29,24 +28,22 @@ use Rattle.prt_version.specs.State.{State, opening_state}
 use Rattle.prt_version.specs.declared.answer.Answer.{Answer}
 use Rattle.prt_world.specs.Durability.{IsAnswered}
 use Rattle.prt_world.specs.World as world
-use Rattle.prt_world.specs.World.{Ack, LookerState, Lookup, Step, World, announced_by, has_room, looker_state, offline, online, outcomes_from, published_version, run_from, start, step}
+use Rattle.prt_world.specs.World.{Phase as Moment, Ack, LookerState, Lookup, Step, World, announced_by, has_room, looker_state, offline, online, outcomes_from, published_version, run_from, start, step}
 use Rattle.prt_world.specs.declared.event.Event.{Event}
 use Rattle.prt_world.specs.declared.event.Event.TheVariants as events
-use Rattle.prt_world.specs.declared.event.Fate.{Fate}
 use Rattle.prt_world.specs.declared.event.Fate.TheVariants.{Kept, Lost}
 use Rattle.prt_world.specs.declared.outcome.Outcome.{Outcome}
 use Rattle.prt_world.specs.declared.outcome.Outcome.TheVariants as outcomes
-use Rattle.prt_world.specs.declared.phase.Phase.{Phase as Moment}
-use Rattle.prt_world.specs.declared.phase.Phase.TheVariants as moments
 use Rattle.prt_world.proofs.Claims.{answered_of}
 use Rattle.prt_world.proofs.History.{stays}
 use Rattle.prt_world.proofs.KeptVersions.{each_replicate}
 use Rattle.prt_follows.specs.Desks.{AllTell, AnswersOrNot, AreOffline, DeskHasRoom, HasRoomFor, IsDeskOf, Lines, ReopenedDesk, ScriptIsRun, Sessions, SessionsHold, ShowsAnswer, ShowsReply, ShowsTurn, Tells, Weaves, accepted_by, accepted_in, desk_events, events_by, joined, lookup_events, lookup_outcomes, moment_between, reply_acks, request_acks, submitted_events}
-use Rattle.prt_follows.specs.Events.{commit_events, fail_events, own, publish_events}
+use Rattle.prt_follows.specs.Events.{AsksSome, asked, commit_events, fail_events, is_lookers, own, publish_events}
 use Rattle.prt_follows.specs.Spots.{HasRoom, IsAt, IsReached}
 use Rattle.prt_follows.proofs.Acks.{event_keeps}
 use Rattle.prt_follows.proofs.Answered.{list_had, unless_shows}
 use Rattle.prt_follows.proofs.Between.{stays_there}
+use Rattle.prt_follows.proofs.Calling.{calls_then, committed_then}
 use Rattle.prt_follows.proofs.Desks.{desk_of, turn_is_steps}
 use Rattle.prt_follows.proofs.Exits.{spot}
 use Rattle.prt_follows.proofs.Headline.{holds_all}
@@ -54,6 +51,7 @@ use Rattle.prt_follows.proofs.Keeping.{Keeps, is_storing, storing_keeps}
 use Rattle.prt_follows.proofs.Looking.{runs}
 use Rattle.prt_follows.proofs.Opening.{reopens, stops}
 use Rattle.prt_follows.proofs.Steps.{holds_of, line_at, placed, reached_run, run_more}
+use Rattle.prt_follows.proofs.Woven.{own_asked, own_by}
 
 -- ---- a desk's events leave lookers as they are
 
@@ -61,22 +59,23 @@ abbrev Seats : World → Step → Type 0
 Seats = Keeps (λ w. w.lookers)
 
 publish_seats : (w : World) (moment : Moment) → Seats w (world.publish w moment)
-publish_seats w (moments.Committed command) = refl
+publish_seats w (world.Committed commands) = refl
 publish_seats w moment = refl
 
 note_seats : (w : World) (moment : Moment) → Seats w (world.note w moment)
-note_seats w (moments.Published command) = refl
+note_seats w (world.Published commands) = refl
 note_seats w moment = refl
 
 ack_seats : (w : World) (moment : Moment) → Seats w (world.acknowledge w moment)
-ack_seats w (moments.Noted command) = refl
+ack_seats w (world.Noted commands) = refl
 ack_seats w moment = refl
 
 storing_seats : (w : World) (event : Event) → is_storing event ≡ true → Seats w (step w event)
-storing_seats = storing_keeps (λ w. w.lookers) (λ w accepted disk pending moment. refl)
+storing_seats = storing_keeps (λ w. w.lookers) (λ w accepted last disk pending moment. refl)
 
 abbrev pub is_command : Event → Bool
 is_command (events.Submit command) = true
+is_command (events.SubmitAll commands) = true
 is_command events.Call = true
 is_command (events.Fail fate) = true
 is_command events.Publish = true
@@ -85,8 +84,25 @@ is_command events.Note = true
 is_command events.Ack = true
 is_command event = false
 
+command_own : (event : Event) → is_command event ≡ true → is_lookers event ≡ false
+command_own (events.Submit command) is = refl
+command_own (events.SubmitAll commands) is = refl
+command_own events.Call is = refl
+command_own (events.Fail fate) is = refl
+command_own events.Publish is = refl
+command_own events.PublishFail is = refl
+command_own events.Note is = refl
+command_own events.Ack is = refl
+command_own event is = absurd cc
+
+asks_command : (event : Event) → AsksSome event → is_command event ≡ true
+asks_command (events.Submit command) some = refl
+asks_command (events.SubmitAll commands) some = refl
+asks_command event some = absurd (omega (arith, some))
+
 pub event_seats : (w : World) (event : Event) → is_command event ≡ true → Seats w (step w event)
 event_seats w (events.Submit command) is = storing_seats w (events.Submit command) refl
+event_seats w (events.SubmitAll commands) is = storing_seats w (events.SubmitAll commands) refl
 event_seats w events.Call is = storing_seats w events.Call refl
 event_seats w (events.Fail fate) is = storing_seats w (events.Fail fate) refl
 event_seats w events.Publish is = publish_seats w w.phase
@@ -105,24 +121,28 @@ list_seats (event ∷ list) all w = list_seats list all.1 (step w event).world �
 abbrev IsPlain : List Event → Type 0
 IsPlain list = Each (λ event. is_command event ≡ true) list × Weaves list list × (own list ≡ list)
 
-plain_fail : (command : Command) (call : StoreCall) (fate : Fate) → IsPlain (events.Submit command ∷ fail_events call fate)
-plain_fail command calls.Begin fate = ((refl, (refl, tt)), (fail_events calls.Begin fate, refl, refl), refl)
-plain_fail command calls.Write fate = ((refl, (refl, (refl, tt))), (fail_events calls.Write fate, refl, refl), refl)
-plain_fail command calls.Count fate = ((refl, (refl, (refl, (refl, tt)))), (fail_events calls.Count fate, refl, refl), refl)
-plain_fail command calls.Commit fate = ((refl, (refl, (refl, (refl, (refl, tt))))), (fail_events calls.Commit fate, refl, refl), refl)
+commands_own : (list : List Event) → Each (λ event. is_command event ≡ true) list → own list ≡ list
+commands_own [] all = refl
+commands_own (event ∷ list) all = own_by event list false (command_own event all.0) ∙ ap (λ xs. event ∷ xs) (commands_own list all.1)
 
-plain_submitted : (command : Command) (mishap : Option Mishap) → IsPlain (submitted_events command mishap)
-plain_submitted command None = ((refl, (refl, (refl, (refl, (refl, (refl, (refl, (refl, tt)))))))), (commit_events ++ publish_events, refl, refl), refl)
-plain_submitted command (Some no_room) = ((refl, tt), ([], refl, refl), refl)
-plain_submitted command (Some no_memory) = (tt, refl, refl)
-plain_submitted command (Some (store_fails call)) = plain_fail command call Lost
-plain_submitted command (Some commit_kept) = plain_fail command calls.Commit Kept
-plain_submitted command (Some publication_fails) = ((refl, (refl, (refl, (refl, (refl, (refl, tt)))))), (commit_events ++ events.PublishFail ∷ [], refl, refl), refl)
+-- what an event submits, and events of a command after it
+plain_with : (event : Event) (list : List Event) → AsksSome event → Each (λ event. is_command event ≡ true) list → IsPlain (event ∷ list)
+plain_with event list some all =
+    let own_is = commands_own list all in
+    ((asks_command event some, all), (list, refl, own_is), own_asked event list some ∙ ap (λ xs. event ∷ xs) own_is)
+
+plain_submitted : (event : Event) (mishap : Option Mishap) → AsksSome event → IsPlain (submitted_events event mishap)
+plain_submitted event None some = plain_with event (commit_events (asked event) ++ publish_events) some (committed_then (λ event. is_command event ≡ true) refl (asked event) publish_events (refl, (refl, (refl, tt))))
+plain_submitted event (Some no_room) some = plain_with event [] some tt
+plain_submitted event (Some no_memory) some = (tt, refl, refl)
+plain_submitted event (Some (store_fails call)) some = plain_with event (fail_events (asked event) call Lost) some (calls_then (λ event. is_command event ≡ true) refl (asked event) call (events.Fail Lost ∷ []) (refl, tt))
+plain_submitted event (Some commit_kept) some = plain_with event (fail_events (asked event) calls.Commit Kept) some (calls_then (λ event. is_command event ≡ true) refl (asked event) calls.Commit (events.Fail Kept ∷ []) (refl, tt))
+plain_submitted event (Some publication_fails) some = plain_with event (commit_events (asked event) ++ events.PublishFail ∷ []) some (committed_then (λ event. is_command event ≡ true) refl (asked event) (events.PublishFail ∷ []) (refl, tt))
 
 plain : (command : Command) (shuts : Bool) (reason : Option Refusal) (mishap : Option Mishap) → IsPlain (events_by command shuts reason mishap)
-plain command true reason mishap = ((refl, tt), ([], refl, refl), refl)
-plain command false (Some why) mishap = ((refl, tt), ([], refl, refl), refl)
-plain command false None mishap = plain_submitted command mishap
+plain command true reason mishap = plain_with (events.Submit command) [] (omega arith) tt
+plain command false (Some why) mishap = plain_with (events.Submit command) [] (omega arith) tt
+plain command false None mishap = plain_submitted (events.Submit command) mishap (omega arith)
 
 -- ---- a reclaim where no looker is online
 
@@ -319,8 +339,8 @@ reopened_desk desk w h =
     let v : World = (step w (events.Stop Lost)).world in
     let opened : Line = record { book = (line_at w).book; base = w.disk; list = [] } in
     let b = reopens (line_at w) opened w.disk v refl refl a.1 in
-    let is : step v events.Reopen ≡ world.reopen v moments.Stopped = ap (world.reopen v) a.1.moment in (
-      desk_of (settled desk.stored) opened w.disk moments.Ready (step v events.Reopen).world b.1 refl h.stored h.stored,
+    let is : step v events.Reopen ≡ world.reopen v world.Stopped = ap (world.reopen v) a.1.moment in (
+      desk_of (settled desk.stored) opened w.disk world.Ready (step v events.Reopen).world b.1 refl h.stored h.stored,
       subst (λ (s : Step). AreOffline s.world) (sym is) refl,
       event_keeps v events.Reopen refl ∙ event_keeps w (events.Stop Lost) refl,
     )

@@ -1,28 +1,27 @@
 -- One event of a publisher's call.
-use Rattle.std.proofs.Common.{◌≡◌, ℕ, zero, suc, ◌+◌, ◌≤◌, length, take, true, false, List, [], ◌∷◌, ◌++◌, Some, None, refl, sym, ap, ◌∙◌, subst, arith}
+use Rattle.std.proofs.Common.{◌≡◌, ℕ, ◌+◌, ◌≤◌, length, take, true, false, List, [], ◌∷◌, ◌++◌, Some, None, refl, sym, ap, ◌∙◌, subst, arith}
 use Rattle.prt_addr.specs.declared.refusal.Refusal.{Refusal}
 use Rattle.prt_addr.specs.declared.refusal.Refusal.TheVariants as refusals
 use Rattle.prt_addr.specs.declared.refusal.StoreCall.{StoreCall}
 use Rattle.prt_addr.specs.declared.refusal.StoreCall.TheVariants as calls
 use Rattle.prt_command.specs.declared.request.Command.{Command}
-use Rattle.prt_front.specs.Line.{Line, grown, line_state}
-use Rattle.prt_version.proofs.Folds.{fold_push}
-use Rattle.std.specs.Prelude.{slice_get}
-use Rattle.std.proofs.lemmas.List.{append-nil, append_assoc, take-append-le}
-use Rattle.prt_version.specs.Change.{apply, fold, refusal}
+use Rattle.prt_front.specs.Line.{Line, grown_by, line_state}
+use Rattle.prt_version.proofs.Folds.{fold_append, none_refused}
+use Rattle.std.proofs.lemmas.List.{append-nil, append_assoc, take-append-le, take_all}
+use Rattle.prt_version.specs.Accepted.{IsAccepted, refusal_all}
+use Rattle.prt_version.specs.Change.{fold}
 use Rattle.prt_version.specs.State.{State, opening_state}
 use Rattle.prt_world.specs.Durability.{state_after}
 use Rattle.prt_world.specs.World as world
-use Rattle.prt_world.specs.World.{Step, World, has_room, published_version, run_from, start, step}
+use Rattle.prt_world.specs.World.{Phase as Moment, Step, World, has_room, published_version, run_from, start, step}
 use Rattle.prt_world.specs.declared.event.Event.{Event}
 use Rattle.prt_world.specs.declared.event.Event.TheVariants as events
 use Rattle.prt_world.specs.declared.event.Fate.TheVariants.{Kept, Lost}
 use Rattle.prt_world.specs.declared.outcome.Outcome.{Outcome}
 use Rattle.prt_world.specs.declared.outcome.Outcome.TheVariants as outcomes
-use Rattle.prt_world.specs.declared.phase.Phase.{Phase as Moment}
-use Rattle.prt_world.specs.declared.phase.Phase.TheVariants as moments
 use Rattle.prt_world.proofs.KeptVersions.{kept_count}
 use Rattle.prt_world.proofs.Phases.{Holds, Phased, every_run_holds, settled_version, shown_version}
+use Rattle.prt_follows.specs.Events.{AsksSome, asked}
 use Rattle.prt_follows.specs.Spots.{HasRoom, IsAt, IsReached, IsTold, Spot}
 
 -- ---- worlds that are reached
@@ -49,35 +48,47 @@ shown_number w reached =
 pub number_of : (spot : Spot) (w : World) → IsAt spot w → (line_state spot.line).count ≡ w.published
 number_of spot w h = ap (λ state. state.count) (sym h.shown) ∙ shown_number w h.reached
 
+-- ---- what an event submits
+
+asked_step : (w : World) (event : Event) → AsksSome event → step w event ≡ world.submit w (asked event) w.phase
+asked_step w (events.Submit command) some = refl
+asked_step w (events.SubmitAll commands) some = refl
+asked_step w event some = absurd (omega (arith, some))
+
+submit_ready : (w : World) (commands : List Command) → 1 ≤ length commands → world.submit w commands world.Ready ≡ world.prepare w commands (refusal_all (published_version w) commands) (has_room w)
+submit_ready w [] some = absurd (omega (arith, some))
+submit_ready w (first ∷ more) some = refl
+
+submit_closed : (w : World) (commands : List Command) → 1 ≤ length commands → world.submit w commands world.Closed ≡ record { world = w; outcome = outcomes.Refused refusals.Closed }
+submit_closed w [] some = absurd (omega (arith, some))
+submit_closed w (first ∷ more) some = refl
+
+asked_ready : (w : World) (event : Event) → AsksSome event → w.phase ≡ world.Ready → step w event ≡ world.prepare w (asked event) (refusal_all (published_version w) (asked event)) (has_room w)
+asked_ready w event some is = asked_step w event some ∙ ap (world.submit w (asked event)) is ∙ submit_ready w (asked event) some
+
+pub asked_closed : (w : World) (event : Event) → AsksSome event → w.phase ≡ world.Closed → step w event ≡ record { world = w; outcome = outcomes.Refused refusals.Closed }
+asked_closed w event some is = asked_step w event some ∙ ap (world.submit w (asked event)) is ∙ submit_closed w (asked event) some
+
 -- ---- the commands of a line
 
 le_through : (a b c : ℕ) → a ≤ b → b ≤ c → a ≤ c
 le_through a b c low high = omega arith
 
-take_suc : {X : Type 0} (xs : List X) (n : ℕ) (x : X) → slice_get xs n ≡ Some x → take (suc n) xs ≡ take n xs ++ x ∷ []
-take_suc [] n x is = absurd cc
-take_suc (y ∷ xs) zero x is = let same : y ≡ x = cc in ap (λ z. z ∷ []) same
-take_suc (y ∷ xs) (suc n) x is = ap (λ ys. y ∷ ys) (take_suc xs n x is)
-
-take_next : {X : Type 0} (xs : List X) (n : ℕ) (x : X) → slice_get xs n ≡ Some x → take (n + 1) xs ≡ take n xs ++ x ∷ []
-take_next xs n x is =
-    let next : n + 1 ≡ suc n = omega arith in
-    ap (λ k. take k xs) next ∙ take_suc xs n x is
-
-told_more : (line : Line) (accepted : List Command) (published : ℕ) (command : Command) → published ≤ length accepted → IsTold line accepted published → IsTold line (accepted ++ command ∷ []) published
-told_more line accepted published command low h =
-    let first : take line.base.count (accepted ++ command ∷ []) ≡ take line.base.count accepted = take-append-le line.base.count accepted (command ∷ []) (le_through line.base.count published (length accepted) h.low low) in
+told_more : (line : Line) (accepted : List Command) (published : ℕ) (commands : List Command) → published ≤ length accepted → IsTold line accepted published → IsTold line (accepted ++ commands) published
+told_more line accepted published commands low h =
+    let first : take line.base.count (accepted ++ commands) ≡ take line.base.count accepted = take-append-le line.base.count accepted commands (le_through line.base.count published (length accepted) h.low low) in
     record {
       low = h.low;
       base = h.base ∙ ap (fold opening_state) (sym first);
-      list = take-append-le published accepted (command ∷ []) low ∙ h.list ∙ ap (λ xs. xs ++ line.list) (sym first);
+      list = take-append-le published accepted commands low ∙ h.list ∙ ap (λ xs. xs ++ line.list) (sym first);
     }
 
-told_next : (line : Line) (accepted : List Command) (published : ℕ) (command : Command) → slice_get accepted published ≡ Some command → IsTold line accepted published → IsTold (grown line command) accepted (published + 1)
-told_next line accepted published command last h = record {
-  low = omega (arith, h.low);
+-- all accepted commands, which end with these
+told_next : (line : Line) (accepted : List Command) (published durable : ℕ) (commands : List Command) → length accepted ≤ durable → published ≤ durable → accepted ≡ take published accepted ++ commands → IsTold line accepted published → IsTold (grown_by line commands) accepted durable
+told_next line accepted published durable commands all more ends h = record {
+  low = le_through line.base.count published durable h.low more;
   base = h.base;
-  list = take_next accepted published command last ∙ ap (λ xs. xs ++ command ∷ []) h.list ∙ append_assoc (take line.base.count accepted) line.list (command ∷ []);
+  list = take_all durable accepted all ∙ ends ∙ ap (λ xs. xs ++ commands) h.list ∙ append_assoc (take line.base.count accepted) line.list commands;
 }
 
 -- a line that was just opened
@@ -124,111 +135,133 @@ module _ (line : Line) (disk : State) (w : World) where
   abbrev pub Here : Moment → Type 0
   Here moment = IsAt (record { line = line; disk = disk; moment = moment }) w
 
-  -- ---- a command is checked
+  -- ---- what an event submits is checked
 
-  pub takes : (command : Command) → refusal (line_state line) command ≡ None → has_room w ≡ true → Here moments.Ready
-      → Moves w (events.Submit command) (outcomes.Prepared ((line_state line).count + 1)) (record { line = line; disk = disk; moment = moments.Prepared command calls.Begin })
-  takes command allowed room h =
-      let is : step w (events.Submit command) ≡ world.prepare w command None true =
-      ap (world.submit w command) h.moment
-      ∙ ap (λ (s : State). world.prepare w command (refusal s command) (has_room w)) h.shown
-      ∙ ap (λ r. world.prepare w command r (has_room w)) allowed
-      ∙ ap (world.prepare w command None) room in
-      let number = number_of (record { line = line; disk = disk; moment = moments.Ready }) w h in
-      subst (λ n. Moves w (events.Submit command) (outcomes.Prepared (n + 1)) (record { line = line; disk = disk; moment = moments.Prepared command calls.Begin })) (sym number)
-      (moved w (events.Submit command) (world.prepare w command None true) (record { line = line; disk = disk; moment = moments.Prepared command calls.Begin }) h.reached is refl h.disk h.shown h.told room)
+  pub takes : (event : Event) → AsksSome event → IsAccepted (line_state line) (asked event) → has_room w ≡ true → Here world.Ready
+      → Moves w event (outcomes.Prepared ((line_state line).count + length (asked event))) (record { line = line; disk = disk; moment = world.Prepared (asked event) 0 calls.Begin })
+  takes event some allowed room h =
+      let commands = asked event in
+      let is : step w event ≡ world.prepare w commands None true =
+      asked_ready w event some h.moment
+      ∙ ap (λ (s : State). world.prepare w commands (refusal_all s commands) (has_room w)) h.shown
+      ∙ ap (λ r. world.prepare w commands r (has_room w)) (none_refused (line_state line) commands allowed)
+      ∙ ap (world.prepare w commands None) room in
+      let there : Spot = record { line = line; disk = disk; moment = world.Prepared commands 0 calls.Begin } in
+      let number = number_of (record { line = line; disk = disk; moment = world.Ready }) w h in
+      subst (λ n. Moves w event (outcomes.Prepared (n + length commands)) there) (sym number)
+      (moved w event (world.prepare w commands None true) there h.reached is refl h.disk h.shown h.told room)
 
-  pub refuses : (command : Command) (why : Refusal) → refusal (line_state line) command ≡ Some why → Here moments.Ready → Moves w (events.Submit command) (outcomes.Refused why) (record { line = line; disk = disk; moment = moments.Ready })
-  refuses command why refused h =
-      let is : step w (events.Submit command) ≡ world.prepare w command (Some why) (has_room w) =
-      ap (world.submit w command) h.moment
-      ∙ ap (λ (s : State). world.prepare w command (refusal s command) (has_room w)) h.shown
-      ∙ ap (λ r. world.prepare w command r (has_room w)) refused in
-      moved w (events.Submit command) (world.prepare w command (Some why) (has_room w)) (record { line = line; disk = disk; moment = moments.Ready }) h.reached is h.moment h.disk h.shown h.told tt
+  pub refuses : (event : Event) (why : Refusal) → AsksSome event → refusal_all (line_state line) (asked event) ≡ Some why → Here world.Ready → Moves w event (outcomes.Refused why) (record { line = line; disk = disk; moment = world.Ready })
+  refuses event why some refused h =
+      let commands = asked event in
+      let is : step w event ≡ world.prepare w commands (Some why) (has_room w) =
+      asked_ready w event some h.moment
+      ∙ ap (λ (s : State). world.prepare w commands (refusal_all s commands) (has_room w)) h.shown
+      ∙ ap (λ r. world.prepare w commands r (has_room w)) refused in
+      moved w event (world.prepare w commands (Some why) (has_room w)) (record { line = line; disk = disk; moment = world.Ready }) h.reached is h.moment h.disk h.shown h.told tt
 
-  pub busy : (command : Command) → refusal (line_state line) command ≡ None → has_room w ≡ false → Here moments.Ready → Moves w (events.Submit command) (outcomes.Refused refusals.Busy) (record { line = line; disk = disk; moment = moments.Ready })
-  busy command allowed none h =
-      let is : step w (events.Submit command) ≡ world.prepare w command None false =
-      ap (world.submit w command) h.moment
-      ∙ ap (λ (s : State). world.prepare w command (refusal s command) (has_room w)) h.shown
-      ∙ ap (λ r. world.prepare w command r (has_room w)) allowed
-      ∙ ap (world.prepare w command None) none in
-      moved w (events.Submit command) (world.prepare w command None false) (record { line = line; disk = disk; moment = moments.Ready }) h.reached is h.moment h.disk h.shown h.told tt
+  pub busy : (event : Event) → AsksSome event → IsAccepted (line_state line) (asked event) → has_room w ≡ false → Here world.Ready → Moves w event (outcomes.Refused refusals.Busy) (record { line = line; disk = disk; moment = world.Ready })
+  busy event some allowed none h =
+      let commands = asked event in
+      let is : step w event ≡ world.prepare w commands None false =
+      asked_ready w event some h.moment
+      ∙ ap (λ (s : State). world.prepare w commands (refusal_all s commands) (has_room w)) h.shown
+      ∙ ap (λ r. world.prepare w commands r (has_room w)) (none_refused (line_state line) commands allowed)
+      ∙ ap (world.prepare w commands None) none in
+      moved w event (world.prepare w commands None false) (record { line = line; disk = disk; moment = world.Ready }) h.reached is h.moment h.disk h.shown h.told tt
 
-  pub shut : (command : Command) → Here moments.Closed → Moves w (events.Submit command) (outcomes.Refused refusals.Closed) (record { line = line; disk = disk; moment = moments.Closed })
-  shut command h = moved w (events.Submit command) (world.submit w command moments.Closed) (record { line = line; disk = disk; moment = moments.Closed }) h.reached (ap (world.submit w command) h.moment) h.moment h.disk h.shown h.told tt
+  pub shut : (event : Event) → AsksSome event → Here world.Closed → Moves w event (outcomes.Refused refusals.Closed) (record { line = line; disk = disk; moment = world.Closed })
+  shut event some h =
+      moved w event (record { world = w; outcome = outcomes.Refused refusals.Closed }) (record { line = line; disk = disk; moment = world.Closed }) h.reached (asked_closed w event some h.moment) h.moment h.disk h.shown h.told tt
 
   -- ---- store calls
 
-  pub begins : (command : Command) → Here (moments.Prepared command calls.Begin) → Moves w events.Call (outcomes.Called calls.Begin) (record { line = line; disk = disk; moment = moments.Prepared command calls.Write })
-  begins command h =
-      let holds : Holds w = holds_of w h.reached in
-      let low : w.published ≤ length w.accepted = le_through w.published w.disk.count (length w.accepted) holds.counts.published_low holds.counts.durable_low in
-      moved w events.Call (world.call w (moments.Prepared command calls.Begin)) (record { line = line; disk = disk; moment = moments.Prepared command calls.Write }) h.reached (ap (world.call w) h.moment) refl h.disk h.shown (told_more line w.accepted w.published command low h.told) h.room
+  module _ (commands : List Command) where
+    abbrev pub prepared : ℕ → StoreCall → Moment
+    prepared done call = world.Prepared commands done call
 
-  pub writes : (command : Command) → Here (moments.Prepared command calls.Write) → Moves w events.Call (outcomes.Called calls.Write) (record { line = line; disk = disk; moment = moments.Prepared command calls.Count })
-  writes command h = moved w events.Call (world.call w (moments.Prepared command calls.Write)) (record { line = line; disk = disk; moment = moments.Prepared command calls.Count }) h.reached (ap (world.call w) h.moment) refl h.disk h.shown h.told h.room
+    abbrev There : ℕ → StoreCall → Spot
+    There done call = record { line = line; disk = disk; moment = world.Prepared commands done call }
 
-  pub counts : (command : Command) → Here (moments.Prepared command calls.Count) → Moves w events.Call (outcomes.Called calls.Count) (record { line = line; disk = disk; moment = moments.Prepared command calls.Commit })
-  counts command h = moved w events.Call (world.call w (moments.Prepared command calls.Count)) (record { line = line; disk = disk; moment = moments.Prepared command calls.Commit }) h.reached (ap (world.call w) h.moment) refl h.disk h.shown h.told h.room
+    abbrev next : State
+    next = fold (line_state line) commands
 
-  -- before a command's transaction the disk holds the published version
-  pub disk_before : (command : Command) → Here (moments.Prepared command calls.Begin) → disk ≡ line_state line
-  disk_before command h = sym h.disk ∙ sym (settled_version w (holds_of w h.reached) (phased_of w (moments.Prepared command calls.Begin) h.reached h.moment).0) ∙ h.shown
+    pub begins : (done : ℕ) → Here (prepared done calls.Begin) → Moves w events.Call (outcomes.Called calls.Begin) (There 0 calls.Write)
+    begins done h =
+        let holds : Holds w = holds_of w h.reached in
+        let low : w.published ≤ length w.accepted = le_through w.published w.disk.count (length w.accepted) holds.counts.published_low holds.counts.durable_low in
+        moved w events.Call (world.call w (prepared done calls.Begin)) (There 0 calls.Write) h.reached (ap (world.call w) h.moment) refl h.disk h.shown (told_more line w.accepted w.published commands low h.told) h.room
 
-  -- what the open transaction holds before the commit
-  pub pending : (command : Command) → Here (moments.Prepared command calls.Commit) → w.pending ≡ apply (line_state line) command
-  pending command h =
-      let holds : Holds w = holds_of w h.reached in
-      let phased : Phased w (moments.Prepared command calls.Commit) = phased_of w (moments.Prepared command calls.Commit) h.reached h.moment in
-      let settled : w.disk ≡ published_version w = holds.counts.prefix ∙ ap (state_after w.accepted) (sym phased.0.shown) ∙ sym (shown_version w holds) in
-      phased.1 ∙ ap (λ (s : State). apply s command) (settled ∙ h.shown)
+    pub writes : (done : ℕ) → Here (prepared done calls.Write) → Moves w events.Call (outcomes.Called calls.Write) (There (done + 1) (world.call_after (done + 1) (length commands)))
+    writes done h =
+        moved w events.Call (world.call w (prepared done calls.Write)) (There (done + 1) (world.call_after (done + 1) (length commands))) h.reached (ap (world.call w) h.moment) refl h.disk h.shown h.told h.room
 
-  pub commits : (command : Command) → Here (moments.Prepared command calls.Commit) → Moves w events.Call (outcomes.Called calls.Commit) (record { line = line; disk = apply (line_state line) command; moment = moments.Committed command })
-  commits command h = moved w events.Call (world.call w (moments.Prepared command calls.Commit)) (record { line = line; disk = apply (line_state line) command; moment = moments.Committed command }) h.reached (ap (world.call w) h.moment) refl (pending command h) h.shown h.told h.room
+    pub counts : (done : ℕ) → Here (prepared done calls.Count) → Moves w events.Call (outcomes.Called calls.Count) (There (length commands) calls.Commit)
+    counts done h = moved w events.Call (world.call w (prepared done calls.Count)) (There (length commands) calls.Commit) h.reached (ap (world.call w) h.moment) refl h.disk h.shown h.told h.room
 
-  -- ---- a store call fails
+    -- before the transaction the disk holds the published version
+    pub disk_before : (done : ℕ) → Here (prepared done calls.Begin) → disk ≡ line_state line
+    disk_before done h = sym h.disk ∙ sym (settled_version w (holds_of w h.reached) (phased_of w (prepared done calls.Begin) h.reached h.moment).0) ∙ h.shown
 
-  pub loses : (command : Command) (call : StoreCall) → Here (moments.Prepared command call) → Moves w (events.Fail Lost) (outcomes.Refused (refusals.StoreFailed call)) (record { line = line; disk = disk; moment = moments.Closed })
-  loses command call h = moved w (events.Fail Lost) (world.fail w Lost (moments.Prepared command call)) (record { line = line; disk = disk; moment = moments.Closed }) h.reached (ap (world.fail w Lost) h.moment) refl h.disk h.shown h.told tt
+    -- what the open transaction holds before the commit
+    pub pending : (done : ℕ) → Here (prepared done calls.Commit) → w.pending ≡ next
+    pending done h =
+        let holds : Holds w = holds_of w h.reached in
+        let phased : Phased w (prepared done calls.Commit) = phased_of w (prepared done calls.Commit) h.reached h.moment in
+        let settled : w.disk ≡ published_version w = holds.counts.prefix ∙ ap (state_after w.accepted) (sym phased.0.shown) ∙ sym (shown_version w holds) in
+        phased.2 ∙ ap (λ (s : State). fold s commands) (settled ∙ h.shown)
 
-  pub keeps : (command : Command) → Here (moments.Prepared command calls.Commit) → Moves w (events.Fail Kept) (outcomes.Refused (refusals.StoreFailed calls.Commit)) (record { line = line; disk = apply (line_state line) command; moment = moments.Closed })
-  keeps command h = moved w (events.Fail Kept) (world.fail w Kept (moments.Prepared command calls.Commit)) (record { line = line; disk = apply (line_state line) command; moment = moments.Closed }) h.reached (ap (world.fail w Kept) h.moment) refl (pending command h) h.shown h.told tt
+    pub commits : (done : ℕ) → Here (prepared done calls.Commit) → Moves w events.Call (outcomes.Called calls.Commit) (record { line = line; disk = next; moment = world.Committed commands })
+    commits done h =
+        moved w events.Call (world.call w (prepared done calls.Commit)) (record { line = line; disk = next; moment = world.Committed commands }) h.reached (ap (world.call w) h.moment) refl (pending done h) h.shown h.told h.room
 
-  -- ---- the version of a committed command
+    -- ---- a store call fails
 
-  pub disk_after : (command : Command) → Here (moments.Committed command) → w.disk ≡ apply (line_state line) command
-  disk_after command h =
-      let holds : Holds w = holds_of w h.reached in
-      let phased : Phased w (moments.Committed command) = phased_of w (moments.Committed command) h.reached h.moment in
-      phased.after ∙ ap (λ (s : State). apply s command) (sym (shown_version w holds) ∙ h.shown)
+    pub loses : (done : ℕ) (call : StoreCall) → Here (prepared done call) → Moves w (events.Fail Lost) (outcomes.Refused (refusals.StoreFailed call)) (record { line = line; disk = disk; moment = world.Closed })
+    loses done call h = moved w (events.Fail Lost) (world.fail w Lost (prepared done call)) (record { line = line; disk = disk; moment = world.Closed }) h.reached (ap (world.fail w Lost) h.moment) refl h.disk h.shown h.told tt
 
-  -- one more version, above the noted one, takes no room
-  pub publishes : (command : Command) → Here (moments.Committed command) → HasRoom (world.publish w (moments.Committed command)).world (moments.Published command) → Moves w events.Publish (outcomes.Published (line_state (grown line command)).count) (record { line = grown line command; disk = disk; moment = moments.Published command })
-  publishes command h room =
-      let after : World = (world.publish w (moments.Committed command)).world in
-      let is : step w events.Publish ≡ world.publish w (moments.Committed command) = ap (world.publish w) h.moment in
-      let reached : IsReached after = subst (λ (s : Step). IsReached s.world) is (reached_run w (events.Publish ∷ []) h.reached) in
-      let holds : Holds after = holds_of after reached in
-      let grows : apply (line_state line) command ≡ line_state (grown line command) = sym (fold_push line.base line.list command) in
-      let made : w.disk ≡ line_state (grown line command) = disk_after command h ∙ grows in
-      let shown : published_version after ≡ line_state (grown line command) = shown_version after holds ∙ sym holds.counts.prefix ∙ made in
-      let phased : Phased w (moments.Committed command) = phased_of w (moments.Committed command) h.reached h.moment in
-      let told : IsTold (grown line command) w.accepted w.disk.count = subst (λ n. IsTold (grown line command) w.accepted n) (sym phased.next) (told_next line w.accepted w.published command phased.last h.told) in
-      subst (λ n. Moves w events.Publish (outcomes.Published n) (record { line = grown line command; disk = disk; moment = moments.Published command })) (ap (λ state. state.count) made)
-      (moved w events.Publish (world.publish w (moments.Committed command)) (record { line = grown line command; disk = disk; moment = moments.Published command }) h.reached is refl h.disk shown told room)
+    pub keeps : (done : ℕ) → Here (prepared done calls.Commit) → Moves w (events.Fail Kept) (outcomes.Refused (refusals.StoreFailed calls.Commit)) (record { line = line; disk = next; moment = world.Closed })
+    keeps done h =
+        moved w (events.Fail Kept) (world.fail w Kept (prepared done calls.Commit)) (record { line = line; disk = next; moment = world.Closed }) h.reached (ap (world.fail w Kept) h.moment) refl (pending done h) h.shown h.told tt
 
-  pub publishes_not : (command : Command) → Here (moments.Committed command) → Moves w events.PublishFail (outcomes.Refused refusals.NotPublished) (record { line = line; disk = disk; moment = moments.Closed })
-  publishes_not command h = moved w events.PublishFail (world.fail_publication w (moments.Committed command)) (record { line = line; disk = disk; moment = moments.Closed }) h.reached (ap (world.fail_publication w) h.moment) refl h.disk h.shown h.told tt
+    -- ---- the version of committed commands
 
-  pub notes : (command : Command) → Here (moments.Published command) → Moves w events.Note (outcomes.Noted (line_state line).count) (record { line = line; disk = disk; moment = moments.Noted command })
-  notes command h =
-      let number = number_of (record { line = line; disk = disk; moment = moments.Published command }) w h in
-      subst (λ n. Moves w events.Note (outcomes.Noted n) (record { line = line; disk = disk; moment = moments.Noted command })) (sym number)
-      (moved w events.Note (world.note w (moments.Published command)) (record { line = line; disk = disk; moment = moments.Noted command }) h.reached (ap (world.note w) h.moment) refl h.disk h.shown h.told tt)
+    pub disk_after : Here (world.Committed commands) → w.disk ≡ next
+    disk_after h =
+        let holds : Holds w = holds_of w h.reached in
+        let phased : Phased w (world.Committed commands) = phased_of w (world.Committed commands) h.reached h.moment in
+        phased.after ∙ ap (λ (s : State). fold s commands) (sym (shown_version w holds) ∙ h.shown)
 
-  pub acknowledges : (command : Command) → Here (moments.Noted command) → Moves w events.Ack (outcomes.Acknowledged (line_state line).count) (record { line = line; disk = disk; moment = moments.Ready })
-  acknowledges command h =
-      let number = number_of (record { line = line; disk = disk; moment = moments.Noted command }) w h in
-      subst (λ n. Moves w events.Ack (outcomes.Acknowledged n) (record { line = line; disk = disk; moment = moments.Ready })) (sym number)
-      (moved w events.Ack (world.acknowledge w (moments.Noted command)) (record { line = line; disk = disk; moment = moments.Ready }) h.reached (ap (world.acknowledge w) h.moment) refl h.disk h.shown h.told tt)
+    -- one more version, above the noted one, takes no room
+    pub publishes : Here (world.Committed commands) → HasRoom (world.publish w (world.Committed commands)).world (world.Published commands)
+        → Moves w events.Publish (outcomes.Published (line_state (grown_by line commands)).count) (record { line = grown_by line commands; disk = disk; moment = world.Published commands })
+    publishes h room =
+        let grown : Line = grown_by line commands in
+        let there : Spot = record { line = grown; disk = disk; moment = world.Published commands } in
+        let after : World = (world.publish w (world.Committed commands)).world in
+        let is : step w events.Publish ≡ world.publish w (world.Committed commands) = ap (world.publish w) h.moment in
+        let reached : IsReached after = subst (λ (s : Step). IsReached s.world) is (reached_run w (events.Publish ∷ []) h.reached) in
+        let holds : Holds after = holds_of after reached in
+        let made : w.disk ≡ line_state grown = disk_after h ∙ sym (fold_append line.base line.list commands) in
+        let shown : published_version after ≡ line_state grown = shown_version after holds ∙ sym holds.counts.prefix ∙ made in
+        let phased : Phased w (world.Committed commands) = phased_of w (world.Committed commands) h.reached h.moment in
+        let all : length w.accepted ≡ w.disk.count = phased.all in
+        let told : IsTold grown w.accepted w.disk.count = told_next line w.accepted w.published w.disk.count commands (omega arith) (holds_of w h.reached).counts.published_low phased.ends h.told in
+        subst (λ n. Moves w events.Publish (outcomes.Published n) there) (ap (λ state. state.count) made)
+        (moved w events.Publish (world.publish w (world.Committed commands)) there h.reached is refl h.disk shown told room)
+
+    pub publishes_not : Here (world.Committed commands) → Moves w events.PublishFail (outcomes.Refused refusals.NotPublished) (record { line = line; disk = disk; moment = world.Closed })
+    publishes_not h =
+        moved w events.PublishFail (world.fail_publication w (world.Committed commands)) (record { line = line; disk = disk; moment = world.Closed }) h.reached (ap (world.fail_publication w) h.moment) refl h.disk h.shown h.told tt
+
+    pub notes : Here (world.Published commands) → Moves w events.Note (outcomes.Noted (line_state line).count) (record { line = line; disk = disk; moment = world.Noted commands })
+    notes h =
+        let number = number_of (record { line = line; disk = disk; moment = world.Published commands }) w h in
+        subst (λ n. Moves w events.Note (outcomes.Noted n) (record { line = line; disk = disk; moment = world.Noted commands })) (sym number)
+        (moved w events.Note (world.note w (world.Published commands)) (record { line = line; disk = disk; moment = world.Noted commands }) h.reached (ap (world.note w) h.moment) refl h.disk h.shown h.told tt)
+
+    pub acknowledges : Here (world.Noted commands) → Moves w events.Ack (outcomes.Acknowledged (line_state line).count) (record { line = line; disk = disk; moment = world.Ready })
+    acknowledges h =
+        let number = number_of (record { line = line; disk = disk; moment = world.Noted commands }) w h in
+        subst (λ n. Moves w events.Ack (outcomes.Acknowledged n) (record { line = line; disk = disk; moment = world.Ready })) (sym number)
+        (moved w events.Ack (world.acknowledge w (world.Noted commands)) (record { line = line; disk = disk; moment = world.Ready }) h.reached (ap (world.acknowledge w) h.moment) refl h.disk h.shown h.told tt)

@@ -1,22 +1,23 @@
 -- A registry over a list of events.
-use Rattle.std.proofs.Common.{◌≡◌, Bool, true, false, List, [], ◌∷◌, Option, Some, None, refl, sym, ◌∙◌, ap, subst, cond}
+use Rattle.std.proofs.Common.{◌≡◌, Bool, true, false, List, [], ◌∷◌, ◌++◌, Option, Some, None, refl, sym, ◌∙◌, ap, subst, cond, arith}
 use Rattle.std.specs.List.{AllByRecursion as Each}
 use Rattle.prt_addr.specs.declared.refusal.Refusal.{Refusal}
 use Rattle.prt_addr.specs.declared.refusal.StoreCall.{StoreCall}
 use Rattle.prt_addr.specs.declared.refusal.StoreCall.TheVariants as calls
 use Rattle.prt_command.specs.declared.request.Command.{Command}
 use Rattle.prt_grace.specs.Registry.{RegistryState}
-use Rattle.prt_version.specs.Change.{apply, refusal}
+use Rattle.prt_version.specs.Accepted.{refusal_all}
+use Rattle.prt_version.specs.Change.{fold}
+use Rattle.prt_version.specs.State.{State}
 use Rattle.prt_world.specs.World as world
-use Rattle.prt_world.specs.World.{Step, World, has_room, published_version, run_from, start, step}
+use Rattle.prt_world.specs.World.{Phase as Moment, Step, World, has_room, published_version, run_from, start, step}
 use Rattle.prt_world.specs.declared.event.Event.{Event}
 use Rattle.prt_world.specs.declared.event.Event.TheVariants as events
 use Rattle.prt_world.specs.declared.event.Fate.{Fate}
-use Rattle.prt_world.specs.declared.phase.Phase.{Phase as Moment}
-use Rattle.prt_world.specs.declared.phase.Phase.TheVariants as moments
-use Rattle.prt_follows.specs.Events.{fail_events, is_going, is_lookers, own}
+use Rattle.prt_follows.specs.Events.{AsksSome, commit_events, fail_events, is_going, is_lookers, own}
 use Rattle.prt_follows.specs.Registries.{EveryEventKeepsRegistry, RoomIsRoom, IsRegistryOf, noted_at, registry_after, registry_through}
 use Rattle.prt_follows.specs.Spots.{HasRoom, IsAt, IsReached}
+use Rattle.prt_follows.proofs.Calling.{calls_then, committed_then}
 use Rattle.prt_follows.proofs.Between.{moment_stays, room_beside, room_published, room_stays}
 use Rattle.prt_follows.proofs.Exits.{acknowledges_registers, spot, storing_registers}
 use Rattle.prt_follows.proofs.Registering.{registers_beside, registers_noted, registers_published, room_is}
@@ -31,47 +32,50 @@ Runs s = world.is_stopped s.world.phase ≡ false
 still : (w : World) (moment : Moment) → w.phase ≡ moment → world.is_stopped moment ≡ false → Runs (world.unmet w)
 still w moment is going = ap world.is_stopped is ∙ going
 
-prepare_runs : (w : World) (command : Command) (why : Option Refusal) (room : Bool) → world.is_stopped w.phase ≡ false → Runs (world.prepare w command why room)
-prepare_runs w command (Some why) room going = going
-prepare_runs w command None true going = refl
-prepare_runs w command None false going = going
+prepare_runs : (w : World) (commands : List Command) (why : Option Refusal) (room : Bool) → world.is_stopped w.phase ≡ false → Runs (world.prepare w commands why room)
+prepare_runs w commands (Some why) room going = going
+prepare_runs w commands None true going = refl
+prepare_runs w commands None false going = going
 
-submit_runs : (w : World) (command : Command) (moment : Moment) → world.is_stopped w.phase ≡ false → Runs (world.submit w command moment)
-submit_runs w command moments.Ready going = prepare_runs w command (refusal (published_version w) command) (has_room w) going
-submit_runs w command moment going = going
+submit_runs : (w : World) (commands : List Command) (moment : Moment) → world.is_stopped w.phase ≡ false → Runs (world.submit w commands moment)
+submit_runs w [] moment going = going
+submit_runs w (first ∷ more) world.Ready going = prepare_runs w (first ∷ more) (refusal_all (published_version w) (first ∷ more)) (has_room w) going
+submit_runs w (first ∷ more) world.Closed going = going
+submit_runs w (first ∷ more) moment going = going
 
 call_runs : (w : World) (moment : Moment) → world.is_stopped w.phase ≡ false → Runs (world.call w moment)
-call_runs w (moments.Prepared command calls.Begin) going = refl
-call_runs w (moments.Prepared command calls.Write) going = refl
-call_runs w (moments.Prepared command calls.Count) going = refl
-call_runs w (moments.Prepared command calls.Commit) going = refl
+call_runs w (world.Prepared commands done calls.Begin) going = refl
+call_runs w (world.Prepared commands done calls.Write) going = refl
+call_runs w (world.Prepared commands done calls.Count) going = refl
+call_runs w (world.Prepared commands done calls.Commit) going = refl
 call_runs w moment going = going
 
 fail_runs : (w : World) (fate : Fate) (moment : Moment) → world.is_stopped w.phase ≡ false → Runs (world.fail w fate moment)
-fail_runs w fate (moments.Prepared command next) going = refl
+fail_runs w fate (world.Prepared commands done next) going = refl
 fail_runs w fate moment going = going
 
 publish_runs : (w : World) (moment : Moment) → world.is_stopped w.phase ≡ false → Runs (world.publish w moment)
-publish_runs w (moments.Committed command) going = refl
+publish_runs w (world.Committed commands) going = refl
 publish_runs w moment going = going
 
 unshown_runs : (w : World) (moment : Moment) → world.is_stopped w.phase ≡ false → Runs (world.fail_publication w moment)
-unshown_runs w (moments.Committed command) going = refl
+unshown_runs w (world.Committed commands) going = refl
 unshown_runs w moment going = going
 
 note_runs : (w : World) (moment : Moment) → world.is_stopped w.phase ≡ false → Runs (world.note w moment)
-note_runs w (moments.Published command) going = refl
+note_runs w (world.Published commands) going = refl
 note_runs w moment going = going
 
 ack_runs : (w : World) (moment : Moment) → world.is_stopped w.phase ≡ false → Runs (world.acknowledge w moment)
-ack_runs w (moments.Noted command) going = refl
+ack_runs w (world.Noted commands) going = refl
 ack_runs w moment going = going
 
 looker_runs : (w : World) (event : Event) → is_lookers event ≡ true → IsReached w → world.is_stopped w.phase ≡ false → Runs (step w event)
 looker_runs w event is reached going = ap world.is_stopped (moment_stays w event is reached) ∙ going
 
 runs_on : (w : World) (event : Event) → is_going event ≡ true → IsReached w → world.is_stopped w.phase ≡ false → Runs (step w event)
-runs_on w (events.Submit command) is reached going = submit_runs w command w.phase going
+runs_on w (events.Submit command) is reached going = submit_runs w (command ∷ []) w.phase going
+runs_on w (events.SubmitAll commands) is reached going = submit_runs w commands w.phase going
 runs_on w events.Call is reached going = call_runs w w.phase going
 runs_on w (events.Fail fate) is reached going = fail_runs w fate w.phase going
 runs_on w events.Publish is reached going = publish_runs w w.phase going
@@ -87,45 +91,47 @@ runs_on w events.Reclaim is reached going = looker_runs w events.Reclaim refl re
 runs_on w (events.Stop fate) is reached going = absurd cc
 runs_on w events.Reopen is reached going = absurd cc
 
--- ---- in each reached world a command that is prepared, stored or published has its room
+-- ---- in each reached world commands that are prepared, stored or published have their room
 
 abbrev Roomy : Step → Type 0
 Roomy s = HasRoom s.world s.world.phase
 
-prepare_room : (w : World) (command : Command) (why : Option Refusal) (room : Bool) → has_room w ≡ room → HasRoom w w.phase → Roomy (world.prepare w command why room)
-prepare_room w command (Some why) room is h = h
-prepare_room w command None true is h = is
-prepare_room w command None false is h = h
+prepare_room : (w : World) (commands : List Command) (why : Option Refusal) (room : Bool) → has_room w ≡ room → HasRoom w w.phase → Roomy (world.prepare w commands why room)
+prepare_room w commands (Some why) room is h = h
+prepare_room w commands None true is h = is
+prepare_room w commands None false is h = h
 
-submit_room : (w : World) (command : Command) (moment : Moment) → HasRoom w w.phase → Roomy (world.submit w command moment)
-submit_room w command moments.Ready h = prepare_room w command (refusal (published_version w) command) (has_room w) refl h
-submit_room w command moment h = h
+submit_room : (w : World) (commands : List Command) (moment : Moment) → HasRoom w w.phase → Roomy (world.submit w commands moment)
+submit_room w [] moment h = h
+submit_room w (first ∷ more) world.Ready h = prepare_room w (first ∷ more) (refusal_all (published_version w) (first ∷ more)) (has_room w) refl h
+submit_room w (first ∷ more) world.Closed h = h
+submit_room w (first ∷ more) moment h = h
 
 call_room : (w : World) (moment : Moment) → w.phase ≡ moment → HasRoom w w.phase → Roomy (world.call w moment)
-call_room w (moments.Prepared command calls.Begin) is h = subst (HasRoom w) is h
-call_room w (moments.Prepared command calls.Write) is h = subst (HasRoom w) is h
-call_room w (moments.Prepared command calls.Count) is h = subst (HasRoom w) is h
-call_room w (moments.Prepared command calls.Commit) is h = subst (HasRoom w) is h
+call_room w (world.Prepared commands done calls.Begin) is h = subst (HasRoom w) is h
+call_room w (world.Prepared commands done calls.Write) is h = subst (HasRoom w) is h
+call_room w (world.Prepared commands done calls.Count) is h = subst (HasRoom w) is h
+call_room w (world.Prepared commands done calls.Commit) is h = subst (HasRoom w) is h
 call_room w moment is h = h
 
 fail_room : (w : World) (fate : Fate) (moment : Moment) → HasRoom w w.phase → Roomy (world.fail w fate moment)
-fail_room w fate (moments.Prepared command next) h = tt
+fail_room w fate (world.Prepared commands done next) h = tt
 fail_room w fate moment h = h
 
 publish_room : (w : World) (moment : Moment) → IsReached w → w.phase ≡ moment → HasRoom w w.phase → Roomy (world.publish w moment)
-publish_room w (moments.Committed command) reached is h = room_published w (line_at w) w.disk command (placed w (moments.Committed command) reached is (subst (HasRoom w) is h))
+publish_room w (world.Committed commands) reached is h = room_published w (line_at w) w.disk commands (placed w (world.Committed commands) reached is (subst (HasRoom w) is h))
 publish_room w moment reached is h = h
 
 unshown_room : (w : World) (moment : Moment) → HasRoom w w.phase → Roomy (world.fail_publication w moment)
-unshown_room w (moments.Committed command) h = tt
+unshown_room w (world.Committed commands) h = tt
 unshown_room w moment h = h
 
 note_room : (w : World) (moment : Moment) → HasRoom w w.phase → Roomy (world.note w moment)
-note_room w (moments.Published command) h = tt
+note_room w (world.Published commands) h = tt
 note_room w moment h = h
 
 ack_room : (w : World) (moment : Moment) → HasRoom w w.phase → Roomy (world.acknowledge w moment)
-ack_room w (moments.Noted command) h = tt
+ack_room w (world.Noted commands) h = tt
 ack_room w moment h = h
 
 looker_room : (w : World) (event : Event) → is_lookers event ≡ true → IsReached w → HasRoom w w.phase → Roomy (step w event)
@@ -138,12 +144,13 @@ stop_room w fate true h = h
 stop_room w fate false h = tt
 
 reopen_room : (w : World) (moment : Moment) → HasRoom w w.phase → Roomy (world.reopen w moment)
-reopen_room w moments.Closed h = tt
-reopen_room w moments.Stopped h = tt
+reopen_room w world.Closed h = tt
+reopen_room w world.Stopped h = tt
 reopen_room w moment h = h
 
 step_room : (w : World) (event : Event) → IsReached w → HasRoom w w.phase → Roomy (step w event)
-step_room w (events.Submit command) reached h = submit_room w command w.phase h
+step_room w (events.Submit command) reached h = submit_room w (command ∷ []) w.phase h
+step_room w (events.SubmitAll commands) reached h = submit_room w commands w.phase h
 step_room w events.Call reached h = call_room w w.phase refl h
 step_room w (events.Fail fate) reached h = fail_room w fate w.phase h
 step_room w events.Publish reached h = publish_room w w.phase reached refl h
@@ -170,22 +177,24 @@ room_of w reached = subst (λ (v : World). HasRoom v v.phase) (sym reached.1) (r
 
 module _ (r : RegistryState) (w : World) (reached : IsReached w) (s : IsRegistryOf r w) where
   published_there : (moment : Moment) → w.phase ≡ moment → IsRegistryOf r (world.publish w moment).world
-  published_there (moments.Committed command) is =
-      let h : IsAt (spot (line_at w) w.disk (moments.Committed command)) w = placed w (moments.Committed command) reached is (subst (HasRoom w) is (room_of w reached)) in
-      let to : step w events.Publish ≡ world.publish w (moments.Committed command) = ap (world.publish w) is in
-      let there = publishes (line_at w) w.disk w command h (room_published w (line_at w) w.disk command h) in
-      let now : published_version (world.publish w (moments.Committed command)).world ≡ apply (published_version w) command = subst (λ (t : Step). published_version t.world ≡ apply (published_version w) command) to there.1.shown in
-      registers_published (line_at w) w.disk command r w s h now
+  published_there (world.Committed commands) is =
+      let h : IsAt (spot (line_at w) w.disk (world.Committed commands)) w = placed w (world.Committed commands) reached is (subst (HasRoom w) is (room_of w reached)) in
+      let next : State = fold (published_version w) commands in
+      let to : step w events.Publish ≡ world.publish w (world.Committed commands) = ap (world.publish w) is in
+      let there = publishes (line_at w) w.disk w commands h (room_published w (line_at w) w.disk commands h) in
+      let now : published_version (world.publish w (world.Committed commands)).world ≡ next = subst (λ (t : Step). published_version t.world ≡ next) to there.1.shown in
+      registers_published (line_at w) w.disk commands r w s h now
   published_there moment is = s
 
   noted_there : (moment : Moment) → w.phase ≡ moment → IsRegistryOf (noted_at r (published_version w) moment) (world.note w moment).world
-  noted_there (moments.Published command) is =
-      let h : IsAt (spot (line_at w) w.disk (moments.Published command)) w = placed w (moments.Published command) reached is (subst (HasRoom w) is (room_of w reached)) in
-      (registers_noted (line_at w) w.disk command r w s h (published_version w) refl).1
+  noted_there (world.Published commands) is =
+      let h : IsAt (spot (line_at w) w.disk (world.Published commands)) w = placed w (world.Published commands) reached is (subst (HasRoom w) is (room_of w reached)) in
+      (registers_noted (line_at w) w.disk commands r w s h (published_version w) refl).1
   noted_there moment is = s
 
   pub registers_event : (event : Event) → is_going event ≡ true → world.is_stopped w.phase ≡ false → IsRegistryOf (registry_after r w event) (step w event).world
   registers_event (events.Submit command) is going = storing_registers r w (events.Submit command) refl s
+  registers_event (events.SubmitAll commands) is going = storing_registers r w (events.SubmitAll commands) refl s
   registers_event events.Call is going = storing_registers r w events.Call refl s
   registers_event (events.Fail fate) is going = storing_registers r w (events.Fail fate) refl s
   registers_event events.Publish is going = published_there w.phase refl
@@ -224,11 +233,16 @@ all_go_on (event ∷ all) list e each = by (is_lookers event) refl (λ rest e ea
         let held : Each (λ event. is_going event ≡ true) (event ∷ own all) = subst (λ (xs : List Event). Each (λ event. is_going event ≡ true) xs) (sym e ∙ own_by event all false is) each in
         (held.0, again (own all) refl held.1)
 
-pub failed_go_on : (call : StoreCall) (fate : Fate) → Each (λ event. is_going event ≡ true) (fail_events call fate)
-failed_go_on calls.Begin fate = (refl, tt)
-failed_go_on calls.Write fate = (refl, (refl, tt))
-failed_go_on calls.Count fate = (refl, (refl, (refl, tt)))
-failed_go_on calls.Commit fate = (refl, (refl, (refl, (refl, tt))))
+pub asks_go_on : (event : Event) → AsksSome event → is_going event ≡ true
+asks_go_on (events.Stop fate) some = absurd (omega (arith, some))
+asks_go_on events.Reopen some = absurd (omega (arith, some))
+asks_go_on event some = refl
+
+pub failed_go_on : (commands : List Command) (call : StoreCall) (fate : Fate) → Each (λ event. is_going event ≡ true) (fail_events commands call fate)
+failed_go_on commands call fate = calls_then (λ event. is_going event ≡ true) refl commands call (events.Fail fate ∷ []) (refl, tt)
+
+pub committed_go_on : (commands : List Command) (rest : List Event) → Each (λ event. is_going event ≡ true) rest → Each (λ event. is_going event ≡ true) (commit_events commands ++ rest)
+committed_go_on commands rest each = committed_then (λ event. is_going event ≡ true) refl commands rest each
 
 -- ---- the registry beside the world
 

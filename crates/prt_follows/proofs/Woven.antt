@@ -1,10 +1,11 @@
 -- Lists of a publisher's events, whatever lookers do between them.
-use Rattle.std.proofs.Common.{◌≡◌, Bool, true, false, not, List, [], ◌∷◌, refl, sym, ap, ◌∙◌, subst, cond}
+use Rattle.std.proofs.Common.{◌≡◌, Bool, true, false, not, List, [], ◌∷◌, refl, sym, ap, ◌∙◌, subst, cond, arith}
 use Rattle.prt_world.specs.World.{World, run_from, step}
 use Rattle.prt_world.specs.declared.event.Event.{Event}
+use Rattle.prt_world.specs.declared.event.Event.TheVariants as events
 use Rattle.prt_world.specs.declared.outcome.Outcome.{Outcome}
 use Rattle.prt_follows.specs.Spots.{IsAt, Spot}
-use Rattle.prt_follows.specs.Events.{is_lookers, own, own_outcomes}
+use Rattle.prt_follows.specs.Events.{AsksSome, is_lookers, own, own_outcomes}
 use Rattle.prt_follows.proofs.Between.{stays_there}
 use Rattle.prt_follows.proofs.Steps.{Moves}
 
@@ -36,6 +37,15 @@ IsWoven all = (list : List Event) (shown : List Outcome) (spot last : Spot) (w :
 
 pub own_by : (event : Event) (all : List Event) (b : Bool) → is_lookers event ≡ b → own (event ∷ all) ≡ cond (not b) (event ∷ own all) (own all)
 own_by event all b is = ap (λ b. cond (not b) (event ∷ own all) (own all)) is
+
+pub asks_own : (event : Event) → AsksSome event → is_lookers event ≡ false
+asks_own (events.Submit command) some = refl
+asks_own (events.SubmitAll commands) some = refl
+asks_own event some = absurd (omega (arith, some))
+
+-- what an event submits comes first
+pub own_asked : (event : Event) (all : List Event) → AsksSome event → own (event ∷ all) ≡ event ∷ own all
+own_asked event all some = own_by event all false (asks_own event some)
 
 pub heads : (event first : Event) (all list : List Event) → event ∷ all ≡ first ∷ list → first ≡ event
 heads event first all list is = cc

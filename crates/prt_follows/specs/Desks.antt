@@ -1,5 +1,5 @@
 -- The turns of a desk's definition, beside the world's events.
-use Rattle.std.specs.Prelude.{◌≡◌, ◌⊎◌, ◌++◌, Bool, true, false, List, [], ◌∷◌, replicate, Option, Some, None, Result, Ok, Err, codes, ⊤}
+use Rattle.std.specs.Prelude.{ℕ, ◌≤◌, length, ◌≡◌, ◌⊎◌, ◌++◌, Bool, true, false, List, [], ◌∷◌, replicate, Option, Some, None, Result, Ok, Err, codes, ⊤}
 use Rattle.std.specs.List.{AllByRecursion as Each}
 use Rattle.prt_addr.specs.declared.refusal.Refusal.{Refusal}
 use Rattle.prt_addr.specs.declared.refusal.Refusal.TheVariants.{Busy, NoMemory}
@@ -14,23 +14,24 @@ use Rattle.prt_grace.specs.declared.limits.TheConstants.{PLACES}
 use Rattle.prt_listing.specs.AnswerText.{answer_text}
 use Rattle.prt_listing.specs.QueryText.{query_text}
 use Rattle.prt_rule.specs.declared.packet.Packet.{Packet}
-use Rattle.prt_session.specs.Desk.{Befalls, DeskState, Mishap, command_turn, commit_kept, no_memory, no_room, publication_fails, request_turn, settled, store_fails}
+use Rattle.prt_session.specs.Desk.{Befalls, DeskState, Mishap, command_turn, commands_turn, commit_kept, no_memory, no_room, publication_fails, request_turn, settled, store_fails}
 use Rattle.prt_session.specs.Session.{Exchange, Path}
+use Rattle.prt_session.specs.Steps.{reply_of}
 use Rattle.prt_session.specs.declared.reply.Reply.{Reply}
 use Rattle.prt_session.specs.declared.reply.Reply.TheVariants.{Accepted, Answered, Refused, Silent}
+use Rattle.prt_version.specs.Accepted.{refusal_all}
 use Rattle.prt_version.specs.Change.{refusal}
 use Rattle.prt_version.specs.State.{State, opening_state}
 use Rattle.prt_version.specs.declared.answer.Answer.{Answer}
 use Rattle.prt_world.specs.Durability.{IsAnswered}
-use Rattle.prt_world.specs.World.{Ack, Lookup, World, has_room, offline, outcomes_from, published_version, run_from, step}
+use Rattle.prt_world.specs.World as world
+use Rattle.prt_world.specs.World.{Ack, Lookup, Phase as Moment, World, has_room, offline, outcomes_from, published_version, run_from, step}
 use Rattle.prt_world.specs.declared.event.Event.{Event}
 use Rattle.prt_world.specs.declared.event.Event.TheVariants as events
 use Rattle.prt_world.specs.declared.event.Fate.TheVariants.{Kept, Lost}
 use Rattle.prt_world.specs.declared.outcome.Outcome.{Outcome}
 use Rattle.prt_world.specs.declared.outcome.Outcome.TheVariants as outcomes
-use Rattle.prt_world.specs.declared.phase.Phase.{Phase as Moment}
-use Rattle.prt_world.specs.declared.phase.Phase.TheVariants as moments
-use Rattle.prt_follows.specs.Events.{fail_events, own, own_outcomes, submit_events, unpublished_events}
+use Rattle.prt_follows.specs.Events.{acks_to, asked, fail_events, own, own_outcomes, submit_events, unpublished_events}
 use Rattle.prt_follows.specs.Runs.{HoldsAll}
 use Rattle.prt_follows.specs.Spots.{IsReached}
 
@@ -38,8 +39,8 @@ use Rattle.prt_follows.specs.Spots.{IsReached}
 
 -- between commands
 abbrev pub moment_between : Bool → Moment
-moment_between true = moments.Closed
-moment_between false = moments.Ready
+moment_between true = world.Closed
+moment_between false = world.Ready
 
 -- The world publishes what the desk does, has on disk what is stored there, and is closed where the desk is.
 pub record IsDeskOf (desk : DeskState) (w : World) : Type 0 where
@@ -50,23 +51,33 @@ pub record IsDeskOf (desk : DeskState) (w : World) : Type 0 where
 
 -- ---- one turn
 
--- the events of a command that is refused for nothing, by what befalls it
-abbrev pub submitted_events : Command → Option Mishap → List Event
-submitted_events command None = submit_events command
-submitted_events command (Some no_room) = events.Submit command ∷ []
-submitted_events command (Some no_memory) = []
-submitted_events command (Some (store_fails call)) = events.Submit command ∷ fail_events call Lost
-submitted_events command (Some commit_kept) = events.Submit command ∷ fail_events Commit Kept
-submitted_events command (Some publication_fails) = unpublished_events command
+-- the events of what is refused for nothing, by what befalls it
+abbrev pub submitted_events : Event → Option Mishap → List Event
+submitted_events event None = submit_events event
+submitted_events event (Some no_room) = event ∷ []
+submitted_events event (Some no_memory) = []
+submitted_events event (Some (store_fails call)) = event ∷ fail_events (asked event) call Lost
+submitted_events event (Some commit_kept) = event ∷ fail_events (asked event) Commit Kept
+submitted_events event (Some publication_fails) = unpublished_events event
 
 abbrev pub events_by : Command → Bool → Option Refusal → Option Mishap → List Event
 events_by command true reason mishap = events.Submit command ∷ []
 events_by command false (Some reason) mishap = events.Submit command ∷ []
-events_by command false None mishap = submitted_events command mishap
+events_by command false None mishap = submitted_events (events.Submit command) mishap
 
 -- the events of a turn
 abbrev pub desk_events : DeskState → Command → Option Mishap → List Event
 desk_events desk command mishap = events_by command desk.closed (refusal desk.published command) mishap
+
+-- of commands together: memory may be refused before the one that is refused is read
+abbrev pub list_events_by : List Command → Bool → Option Refusal → Option Mishap → List Event
+list_events_by commands true reason mishap = events.SubmitAll commands ∷ []
+list_events_by commands false (Some reason) (Some no_memory) = []
+list_events_by commands false (Some reason) mishap = events.SubmitAll commands ∷ []
+list_events_by commands false None mishap = submitted_events (events.SubmitAll commands) mishap
+
+abbrev pub list_events : DeskState → List Command → Option Mishap → List Event
+list_events desk commands mishap = list_events_by commands desk.closed (refusal_all desk.published commands) mishap
 
 -- the world has room where the command is to find some, and none where it is to find none
 abbrev pub HasRoomFor : World → Option Mishap → Type 0
@@ -79,19 +90,23 @@ abbrev pub Weaves : List Event → List Event → Type 0
 Weaves [] all = own all ≡ []
 Weaves (event ∷ list) all = (more : List Event) × (all ≡ event ∷ more) × (own more ≡ list)
 
--- what the last outcome is as a reply
-abbrev pub reply_by : Reply → Outcome → Reply
-reply_by before (outcomes.Acknowledged number) = Accepted number
-reply_by before (outcomes.Refused reason) = Refused reason
-reply_by before outcome = before
+-- what the last outcome tells of the commands: the number of the last, or why none is made
+abbrev pub result_by : Result ℕ Refusal → Outcome → Result ℕ Refusal
+result_by before (outcomes.Acknowledged number) = Ok number
+result_by before (outcomes.Refused reason) = Err reason
+result_by before outcome = before
 
-abbrev pub reply_after : Reply → List Outcome → Reply
-reply_after before [] = before
-reply_after before (outcome ∷ outcomes) = reply_after (reply_by before outcome) outcomes
+abbrev pub result_after : Result ℕ Refusal → List Outcome → Result ℕ Refusal
+result_after before [] = before
+result_after before (outcome ∷ outcomes) = result_after (result_by before outcome) outcomes
 
--- the reply of what was shown: where nothing was, memory was refused
+-- and all that was shown: where nothing was, memory was refused
+abbrev pub shown_result : List Outcome → Result ℕ Refusal
+shown_result outcomes = result_after (Err NoMemory) outcomes
+
+-- as a reply
 abbrev pub shown_reply : List Outcome → Reply
-shown_reply outcomes = reply_after (Refused NoMemory) outcomes
+shown_reply outcomes = reply_of (shown_result outcomes)
 
 -- the acknowledgement that a reply is
 abbrev pub reply_acks : Command → Reply → List Ack
@@ -104,6 +119,19 @@ TurnIsSteps = (desk : DeskState) (w : World) (command : Command) (mishap : Optio
     → (all : List Event) → Weaves (desk_events desk command mishap) all
     → (shown_reply (own_outcomes w all) ≡ (command_turn desk command mishap).reply) × IsDeskOf (command_turn desk command mishap).desk (run_from w all)
     × ((run_from w all).acks ≡ w.acks ++ reply_acks command (command_turn desk command mishap).reply)
+
+-- the acknowledgements that a result is
+abbrev pub result_acks : List Command → Result ℕ Refusal → List Ack
+result_acks commands (Ok last) = acks_to last commands
+result_acks commands (Err reason) = []
+
+-- So is each turn of commands that are made together or not at all: where the result is a number each of them is acknowledged, under its own.
+abbrev pub ListIsSteps : Type 0
+ListIsSteps = (desk : DeskState) (w : World) (commands : List Command) (mishap : Option Mishap) → 1 ≤ length commands → IsDeskOf desk w
+    → (desk.closed ≡ false → refusal_all desk.published commands ≡ None → HasRoomFor w mishap)
+    → (all : List Event) → Weaves (list_events desk commands mishap) all
+    → (shown_result (own_outcomes w all) ≡ (commands_turn desk commands mishap).result) × IsDeskOf (commands_turn desk commands mishap).desk (run_from w all)
+    × ((run_from w all).acks ≡ w.acks ++ result_acks commands (commands_turn desk commands mishap).result)
 
 -- ---- a script
 

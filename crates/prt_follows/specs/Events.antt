@@ -1,11 +1,11 @@
 -- The events of a publisher's calls, apart from those of lookers.
-use Rattle.std.specs.Prelude.{ℕ, ◌++◌, Bool, true, false, not, if◌then◌else◌, List, [], ◌∷◌, filter}
+use Rattle.std.specs.Prelude.{ℕ, ◌≤◌, ◌-◌, ◌++◌, Bool, true, false, not, if◌then◌else◌, List, [], ◌∷◌, filter, length}
 use Rattle.prt_addr.specs.declared.refusal.Refusal.TheVariants as refusals
 use Rattle.prt_addr.specs.declared.refusal.StoreCall.{StoreCall}
 use Rattle.prt_addr.specs.declared.refusal.StoreCall.TheVariants as calls
 use Rattle.prt_command.specs.declared.request.Command.{Command}
 use Rattle.prt_front.specs.Line.{Line, line_state}
-use Rattle.prt_world.specs.World.{World, step}
+use Rattle.prt_world.specs.World.{Ack, World, step}
 use Rattle.prt_world.specs.declared.event.Event.{Event}
 use Rattle.prt_world.specs.declared.event.Event.TheVariants as events
 use Rattle.prt_world.specs.declared.event.Fate.{Fate}
@@ -15,9 +15,20 @@ use Rattle.prt_world.specs.declared.outcome.Outcome.TheVariants as outcomes
 
 -- ---- the events of lookers, and the publisher's own
 
+-- the commands that an event submits
+abbrev pub asked : Event → List Command
+asked (events.Submit command) = command ∷ []
+asked (events.SubmitAll commands) = commands
+asked event = []
+
+-- it submits one command, or those of a file
+abbrev pub AsksSome : Event → Type 0
+AsksSome event = 1 ≤ length (asked event)
+
 -- an event of a looker, or a reclaim
 abbrev pub is_lookers : Event → Bool
 is_lookers (events.Submit command) = false
+is_lookers (events.SubmitAll commands) = false
 is_lookers events.Call = false
 is_lookers (events.Fail fate) = false
 is_lookers events.Publish = false
@@ -55,24 +66,41 @@ own_outcomes w (event ∷ list) = if is_lookers event then own_outcomes (step w 
 
 -- ---- the events of each call, and what they show
 
-abbrev pub commit_events : List Event
-commit_events = events.Call ∷ events.Call ∷ events.Call ∷ events.Call ∷ []
+-- the rows of each command are written
+abbrev pub write_events : List Command → List Event
+write_events [] = []
+write_events (command ∷ commands) = events.Call ∷ write_events commands
 
-abbrev pub commit_outcomes : List Outcome
-commit_outcomes = outcomes.Called calls.Begin ∷ outcomes.Called calls.Write ∷ outcomes.Called calls.Count ∷ outcomes.Called calls.Commit ∷ []
+abbrev pub write_outcomes : List Command → List Outcome
+write_outcomes [] = []
+write_outcomes (command ∷ commands) = outcomes.Called calls.Write ∷ write_outcomes commands
 
--- the calls before the one that fails
-abbrev pub fail_events : StoreCall → Fate → List Event
-fail_events calls.Begin fate = events.Fail fate ∷ []
-fail_events calls.Write fate = events.Call ∷ events.Fail fate ∷ []
-fail_events calls.Count fate = events.Call ∷ events.Call ∷ events.Fail fate ∷ []
-fail_events calls.Commit fate = events.Call ∷ events.Call ∷ events.Call ∷ events.Fail fate ∷ []
+-- the calls before this one: of the writes before the first
+abbrev pub events_before : List Command → StoreCall → List Event
+events_before commands calls.Begin = []
+events_before commands calls.Write = events.Call ∷ []
+events_before commands calls.Count = events.Call ∷ write_events commands
+events_before commands calls.Commit = events.Call ∷ (write_events commands ++ events.Call ∷ [])
 
-abbrev pub fail_outcomes : StoreCall → List Outcome
-fail_outcomes calls.Begin = outcomes.Refused (refusals.StoreFailed calls.Begin) ∷ []
-fail_outcomes calls.Write = outcomes.Called calls.Begin ∷ outcomes.Refused (refusals.StoreFailed calls.Write) ∷ []
-fail_outcomes calls.Count = outcomes.Called calls.Begin ∷ outcomes.Called calls.Write ∷ outcomes.Refused (refusals.StoreFailed calls.Count) ∷ []
-fail_outcomes calls.Commit = outcomes.Called calls.Begin ∷ outcomes.Called calls.Write ∷ outcomes.Called calls.Count ∷ outcomes.Refused (refusals.StoreFailed calls.Commit) ∷ []
+abbrev pub outcomes_before : List Command → StoreCall → List Outcome
+outcomes_before commands calls.Begin = []
+outcomes_before commands calls.Write = outcomes.Called calls.Begin ∷ []
+outcomes_before commands calls.Count = outcomes.Called calls.Begin ∷ write_outcomes commands
+outcomes_before commands calls.Commit = outcomes.Called calls.Begin ∷ (write_outcomes commands ++ outcomes.Called calls.Count ∷ [])
+
+-- all of them
+abbrev pub commit_events : List Command → List Event
+commit_events commands = events_before commands calls.Commit ++ events.Call ∷ []
+
+abbrev pub commit_outcomes : List Command → List Outcome
+commit_outcomes commands = outcomes_before commands calls.Commit ++ outcomes.Called calls.Commit ∷ []
+
+-- The calls before the one that fails. Which of the writes fails is not told: nothing is kept whichever it is, and the first is taken.
+abbrev pub fail_events : List Command → StoreCall → Fate → List Event
+fail_events commands call fate = events_before commands call ++ events.Fail fate ∷ []
+
+abbrev pub fail_outcomes : List Command → StoreCall → List Outcome
+fail_outcomes commands call = outcomes_before commands call ++ outcomes.Refused (refusals.StoreFailed call) ∷ []
 
 -- whether it reclaims before it tests for room
 abbrev pub reclaim_events : Bool → List Event
@@ -86,17 +114,11 @@ abbrev pub note_outcomes : Line → List Outcome
 note_outcomes told = outcomes.Noted (line_state told).count ∷ outcomes.Acknowledged (line_state told).count ∷ []
 
 -- everything stops within this store call
-abbrev pub stop_events : StoreCall → Fate → List Event
-stop_events calls.Begin fate = events.Stop fate ∷ []
-stop_events calls.Write fate = events.Call ∷ events.Stop fate ∷ []
-stop_events calls.Count fate = events.Call ∷ events.Call ∷ events.Stop fate ∷ []
-stop_events calls.Commit fate = events.Call ∷ events.Call ∷ events.Call ∷ events.Stop fate ∷ []
+abbrev pub stop_events : List Command → StoreCall → Fate → List Event
+stop_events commands call fate = events_before commands call ++ events.Stop fate ∷ []
 
-abbrev pub stop_outcomes : StoreCall → List Outcome
-stop_outcomes calls.Begin = outcomes.Stopped ∷ []
-stop_outcomes calls.Write = outcomes.Called calls.Begin ∷ outcomes.Stopped ∷ []
-stop_outcomes calls.Count = outcomes.Called calls.Begin ∷ outcomes.Called calls.Write ∷ outcomes.Stopped ∷ []
-stop_outcomes calls.Commit = outcomes.Called calls.Begin ∷ outcomes.Called calls.Write ∷ outcomes.Called calls.Count ∷ outcomes.Stopped ∷ []
+abbrev pub stop_outcomes : List Command → StoreCall → List Outcome
+stop_outcomes commands call = outcomes_before commands call ++ outcomes.Stopped ∷ []
 
 -- ---- the calls with a domain
 
@@ -106,16 +128,21 @@ publish_events = events.Publish ∷ note_events
 abbrev pub publish_outcomes : ℕ → List Outcome
 publish_outcomes number = outcomes.Published number ∷ outcomes.Noted number ∷ outcomes.Acknowledged number ∷ []
 
--- a command that is acknowledged
-abbrev pub submit_events : Command → List Event
-submit_events command = events.Submit command ∷ (commit_events ++ publish_events)
+-- commands that are acknowledged, from the event that submits them
+abbrev pub submit_events : Event → List Event
+submit_events event = event ∷ (commit_events (asked event) ++ publish_events)
 
-abbrev pub submit_outcomes : ℕ → List Outcome
-submit_outcomes number = outcomes.Prepared number ∷ (commit_outcomes ++ publish_outcomes number)
+abbrev pub submit_outcomes : List Command → ℕ → List Outcome
+submit_outcomes commands number = outcomes.Prepared number ∷ (commit_outcomes commands ++ publish_outcomes number)
 
--- one that is stored, and whose publication is refused
-abbrev pub unpublished_events : Command → List Event
-unpublished_events command = events.Submit command ∷ (commit_events ++ events.PublishFail ∷ [])
+-- those that are stored, and whose publication is refused
+abbrev pub unpublished_events : Event → List Event
+unpublished_events event = event ∷ (commit_events (asked event) ++ events.PublishFail ∷ [])
 
-abbrev pub unpublished_outcomes : ℕ → List Outcome
-unpublished_outcomes number = outcomes.Prepared number ∷ (commit_outcomes ++ outcomes.Refused refusals.NotPublished ∷ [])
+abbrev pub unpublished_outcomes : List Command → ℕ → List Outcome
+unpublished_outcomes commands number = outcomes.Prepared number ∷ (commit_outcomes commands ++ outcomes.Refused refusals.NotPublished ∷ [])
+
+-- the acknowledgements of commands of which the last has this number
+abbrev pub acks_to : ℕ → List Command → List Ack
+acks_to last [] = []
+acks_to last (command ∷ commands) = record { number = last - length commands; command = command } ∷ acks_to last commands

@@ -1,5 +1,5 @@
 -- Which worlds a publisher stands for.
-use Rattle.std.specs.Prelude.{◌≡◌, true, List, Option, Some, None}
+use Rattle.std.specs.Prelude.{◌≡◌, true, List, [], ◌∷◌}
 use Rattle.sqlite.specs.Held.{Held}
 use Rattle.sqlite.specs.Store.{Ghosts}
 use Rattle.prt_addr.specs.declared.refusal.StoreCall.TheVariants as calls
@@ -9,37 +9,33 @@ use Rattle.prt_publisher.specs.Standing.{Standing}
 use Rattle.prt_publisher.specs.declared.phase.Phase.{Phase}
 use Rattle.prt_publisher.specs.declared.phase.Phase.TheVariants.{Ready, Admitted, Prepared, Committed, Published, Closed}
 use Rattle.prt_version.specs.State.{State}
-use Rattle.prt_world.specs.World.{World, has_room, run_from}
+use Rattle.prt_world.specs.World as world
+use Rattle.prt_world.specs.World.{Phase as Moment, World, has_room, run_from}
 use Rattle.prt_world.specs.declared.event.Event.{Event}
 use Rattle.prt_world.specs.declared.outcome.Outcome.{Outcome}
-use Rattle.prt_world.specs.declared.phase.Phase.{Phase as Moment}
-use Rattle.prt_world.specs.declared.phase.Phase.TheVariants as moments
 use Rattle.prt_follows.specs.Registries.{IsRegistryOf}
 use Rattle.prt_grace.specs.Registry.{RegistryState}
 use Rattle.prt_follows.specs.Spots.{IsAt}
 use Rattle.prt_follows.specs.Events.{own, own_outcomes}
 
--- how far the world is with the publisher's command
-abbrev pub moment_of : Phase → Option Command → Option Moment
-moment_of Ready command = Some moments.Ready
-moment_of Admitted command = Some moments.Ready
-moment_of Prepared None = None
-moment_of Prepared (Some command) = Some (moments.Prepared command calls.Begin)
-moment_of Committed None = None
-moment_of Committed (Some command) = Some (moments.Committed command)
-moment_of Published None = None
-moment_of Published (Some command) = Some (moments.Published command)
-moment_of Closed command = Some moments.Closed
+-- how far the world is with the publisher's commands
+abbrev pub moment_of : Phase → List Command → Moment
+moment_of Ready commands = world.Ready
+moment_of Admitted commands = world.Ready
+moment_of Prepared commands = world.Prepared commands 0 calls.Begin
+moment_of Committed commands = world.Committed commands
+moment_of Published commands = world.Published commands
+moment_of Closed commands = world.Closed
 
 -- the world's disk is what is stored; after a failed commit it is a state that a crash may leave
-abbrev pub HasDisk : {S : Type 0} → Ghosts S → Phase → Option Command → Held S → State → Type 0
-HasDisk g Ready command tables disk = IsStored g tables disk
-HasDisk g Admitted command tables disk = IsStored g tables disk
-HasDisk g Prepared command tables disk = IsStored g tables disk
-HasDisk g Committed command tables disk = IsStored g tables disk
-HasDisk g Published command tables disk = IsStored g tables disk
-HasDisk g Closed None tables disk = MayLeave g tables disk
-HasDisk g Closed (Some command) tables disk = IsStored g tables disk
+abbrev pub HasDisk : {S : Type 0} → Ghosts S → Phase → List Command → Held S → State → Type 0
+HasDisk g Ready commands tables disk = IsStored g tables disk
+HasDisk g Admitted commands tables disk = IsStored g tables disk
+HasDisk g Prepared commands tables disk = IsStored g tables disk
+HasDisk g Committed commands tables disk = IsStored g tables disk
+HasDisk g Published commands tables disk = IsStored g tables disk
+HasDisk g Closed [] tables disk = MayLeave g tables disk
+HasDisk g Closed (command ∷ commands) tables disk = IsStored g tables disk
 
 -- an admitted command has room for one more retired version
 abbrev pub SawRoom : Phase → World → Type 0
@@ -51,10 +47,8 @@ SawRoom Published w = Unit {0}
 SawRoom Closed w = Unit {0}
 
 pub record IsPublisherOf {S : Type 0} (g : Ghosts S) (p : Standing (Held S)) (w : World) : Type 0 where
-  pub moment : Moment
-  pub is : Some moment ≡ moment_of p.phase p.command
-  pub place : IsAt (record { line = p.line; disk = w.disk; moment = moment }) w
-  pub stored : IsKnown g p.ours_first p.tables → HasDisk g p.phase p.command p.tables w.disk
+  pub place : IsAt (record { line = p.line; disk = w.disk; moment = moment_of p.phase p.commands }) w
+  pub stored : IsKnown g p.ours_first p.tables → HasDisk g p.phase p.commands p.tables w.disk
   pub room : SawRoom p.phase w
 
 -- Whatever lookers do between these events: they show this, and lead to a world that the publisher stands for.

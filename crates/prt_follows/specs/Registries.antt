@@ -5,13 +5,12 @@ use Rattle.prt_grace.specs.Registry.{RegistryState, announced, noted_by, reclaim
 use Rattle.prt_grace.specs.declared.limits.TheConstants.{MOST_RETIRED}
 use Rattle.prt_grace.specs.declared.place.PlaceState.TheVariants as places
 use Rattle.prt_version.specs.State.{State}
-use Rattle.prt_world.specs.World.{LookerState, World, announced_by, has_room, is_stopped, looker_state, offline, online, published_version, step}
+use Rattle.prt_world.specs.World as world
+use Rattle.prt_world.specs.World.{LookerState, Phase as Moment, World, announced_by, has_room, is_stopped, looker_state, offline, online, published_version, step}
 use Rattle.prt_world.specs.declared.event.Event.{Event}
 use Rattle.prt_world.specs.declared.event.Event.TheVariants as events
 use Rattle.prt_follows.specs.Events.{is_going}
 use Rattle.prt_follows.specs.Spots.{IsReached}
-use Rattle.prt_world.specs.declared.phase.Phase.{Phase as Moment}
-use Rattle.prt_world.specs.declared.phase.Phase.TheVariants as moments
 
 -- The registry has noted the world's number. Its versions are those that the world keeps, but for one that is published and not noted. Its places announce what the world's lookers do.
 pub record IsRegistryOf (r : RegistryState) (w : World) : Type 0 where
@@ -39,7 +38,7 @@ taken_offline r looker (online announced held) = with_place r looker places.Offl
 
 -- the published version is noted, where that is the publisher's next step
 abbrev pub noted_at : RegistryState → State → Moment → RegistryState
-noted_at r version (moments.Published command) = noted_by r version
+noted_at r version (world.Published commands) = noted_by r version
 noted_at r version moment = r
 
 -- what an event makes of the registry: only lookers' calls, a reclaim and the note concern it

@@ -1,5 +1,5 @@
 -- Lists of exits of a publisher's calls, whatever lookers do between them, beside the world's events.
-use Rattle.std.specs.Prelude.{◌≡◌, ◌⊎◌, ℕ, ◌++◌, Bool, true, false, List, [], ◌∷◌, map, Some, None, slice_index_or}
+use Rattle.std.specs.Prelude.{◌≡◌, ◌⊎◌, ℕ, ◌++◌, Bool, true, false, List, [], ◌∷◌, map, None, slice_index_or}
 use Rattle.std.specs.List.{AllByRecursion as Each}
 use Rattle.sqlite.specs.Held.{Held, state}
 use Rattle.sqlite.specs.Store.{Ghosts}
@@ -12,7 +12,7 @@ use Rattle.prt_front.specs.Line.{Line, line_state}
 use Rattle.prt_grace.specs.Registry.{RegistryState, announced, new_registry, with_place}
 use Rattle.prt_grace.specs.declared.place.PlaceState.{PlaceState}
 use Rattle.prt_grace.specs.declared.place.PlaceState.TheVariants.{Free}
-use Rattle.prt_publisher.specs.Exits.{Takes}
+use Rattle.prt_publisher.specs.Exits.{TakesAll}
 use Rattle.prt_publisher.specs.Standing.{Standing, Stands}
 use Rattle.prt_publisher.specs.declared.phase.Phase.TheVariants.{Closed, Committed, Published}
 use Rattle.prt_store.specs.Exits.{IsKnown, Spells}
@@ -26,8 +26,8 @@ use Rattle.prt_rule.specs.declared.packet.Packet.{Packet}
 use Rattle.prt_version.specs.declared.answer.Answer.{Answer}
 use Rattle.prt_world.specs.declared.event.Fate.{Fate}
 use Rattle.prt_world.specs.declared.event.Fate.TheVariants.{Lost}
-use Rattle.prt_follows.specs.Events.{commit_events, fail_events, is_lookers, own, publish_events, reclaim_events, stop_events, without_fate}
-use Rattle.prt_follows.specs.Laws.{Admits, AdoptsAgain, BeginsAt, Commits, DeclinesBy, FailsBy, FailsToCommit, IsCutShort, Notes, PlansBy, PlansNot, Prepares, Publishes, PublishesNot, Refuses, Shows, StopsBy, SubmitFails, SubmitFailsBy, SubmitUnpublished, Submits}
+use Rattle.prt_follows.specs.Events.{AsksSome, acks_to, asked, commit_events, fail_events, is_lookers, own, publish_events, reclaim_events, stop_events, without_fate}
+use Rattle.prt_follows.specs.Laws.{Admits, AdmitsAll, AdoptsAgain, BeginsAt, Commits, DeclinesBy, FailsBy, FailsToCommit, IsCutShort, Notes, PlansBy, PlansNot, Prepares, Publishes, PublishesNot, Refuses, Shows, StopsBy, SubmitFails, SubmitFailsBy, SubmitUnpublished, Submits}
 use Rattle.prt_follows.specs.Registries.{registry_after, registry_through}
 use Rattle.prt_follows.specs.Publishers.{AreBothOf}
 
@@ -40,23 +40,25 @@ pub data Act : Type 0 where
   -- a place that announces nothing is taken or given up
   seated : (looker : ℕ) → (place : PlaceState) → Act
   admitted : Act
-  declined : (command : Command) → (why : Refusal) → (reclaims : Bool) → Act
-  planned : (command : Command) → Act
+  declined : (event : Event) → (why : Refusal) → (reclaims : Bool) → Act
+  planned : (event : Event) → Act
   unplanned : Act
+  -- commands that were planned are admitted
+  taken : (event : Event) → Act
   committed : (all : List Event) → Act
   failed : (call : StoreCall) → (fate : Fate) → (left : State) → (all : List Event) → Act
   shown : Act
   unshown : Act
   -- with the events that come after the note: the acknowledgement, and what lookers do around it
-  noted : (command : Command) → (told : Line) → (more : List Event) → Act
-  -- the calls with a domain
-  prepared : (command : Command) → Act
-  published : (command : Command) → (told : Line) → (all : List Event) → Act
+  noted : (commands : List Command) → (told : Line) → (more : List Event) → Act
+  -- the calls with a domain, for what an event submits: one command, or those of a file
+  prepared : (event : Event) → Act
+  published : (commands : List Command) → (told : Line) → (all : List Event) → Act
   -- the one of a whole submission, with the events that come after its first
-  submitted : (command : Command) → (told : Line) → (more : List Event) → Act
-  refused : (command : Command) → (why : Refusal) → Act
-  submit_failed : (command : Command) → (call : StoreCall) → (fate : Fate) → (left : State) → (more : List Event) → Act
-  submit_unpublished : (command : Command) → (more : List Event) → Act
+  submitted : (event : Event) → (told : Line) → (more : List Event) → Act
+  refused : (event : Event) → (why : Refusal) → Act
+  submit_failed : (event : Event) → (call : StoreCall) → (fate : Fate) → (left : State) → (more : List Event) → Act
+  submit_unpublished : (event : Event) → (more : List Event) → Act
   -- everything stops between store calls, and a file with these trees is adopted
   adopted : (trees : Trees) → Act
   -- everything stops within this store call, and what that leaves is adopted
@@ -68,20 +70,21 @@ act_events (beside event) = event ∷ []
 act_events (looked looker packet answer) = events.Look looker packet ∷ []
 act_events (seated looker place) = []
 act_events admitted = events.Reclaim ∷ []
-act_events (declined command why reclaims) = reclaim_events reclaims ++ events.Submit command ∷ []
-act_events (planned command) = events.Submit command ∷ []
+act_events (declined event why reclaims) = reclaim_events reclaims ++ event ∷ []
+act_events (planned event) = event ∷ []
 act_events unplanned = []
+act_events (taken event) = events.Reclaim ∷ event ∷ []
 act_events (committed all) = all
 act_events (failed call fate left all) = all
 act_events shown = events.Publish ∷ []
 act_events unshown = events.PublishFail ∷ []
-act_events (noted command told more) = events.Note ∷ more
-act_events (prepared command) = events.Submit command ∷ []
-act_events (published command told all) = all
-act_events (submitted command told more) = events.Submit command ∷ more
-act_events (refused command why) = events.Submit command ∷ []
-act_events (submit_failed command call fate left more) = events.Submit command ∷ more
-act_events (submit_unpublished command more) = events.Submit command ∷ more
+act_events (noted commands told more) = events.Note ∷ more
+act_events (prepared event) = event ∷ []
+act_events (published commands told all) = all
+act_events (submitted event told more) = event ∷ more
+act_events (refused event why) = event ∷ []
+act_events (submit_failed event call fate left more) = event ∷ more
+act_events (submit_unpublished event more) = event ∷ more
 act_events (adopted trees) = events.Stop Lost ∷ events.Reopen ∷ []
 act_events (stopped call fate all) = all ++ events.Reopen ∷ []
 
@@ -89,11 +92,11 @@ abbrev pub events_of : List Act → List Event
 events_of [] = []
 events_of (act ∷ acts) = act_events act ++ events_of acts
 
--- the receipts that were given, with their commands
+-- the receipts that were given, for each of their commands
 abbrev pub act_receipts : Act → List Ack
-act_receipts (noted command told more) = record { number = (line_state told).count; command = command } ∷ []
-act_receipts (published command told all) = record { number = (line_state told).count; command = command } ∷ []
-act_receipts (submitted command told more) = record { number = (line_state told).count; command = command } ∷ []
+act_receipts (noted commands told more) = acks_to (line_state told).count commands
+act_receipts (published commands told all) = acks_to (line_state told).count commands
+act_receipts (submitted event told more) = acks_to (line_state told).count (asked event)
 act_receipts act = []
 
 abbrev pub receipts_of : List Act → List Ack
@@ -117,9 +120,13 @@ pub record SameButFates (again acts : List Act) : Type 0 where
 
 -- the five steps of a command that is acknowledged
 abbrev pub step_acts : Command → Line → List Act
-step_acts command told = admitted ∷ planned command ∷ committed commit_events ∷ shown ∷ noted command told (events.Ack ∷ []) ∷ []
+step_acts command told = admitted ∷ planned (events.Submit command) ∷ committed (commit_events (command ∷ [])) ∷ shown ∷ noted (command ∷ []) told (events.Ack ∷ []) ∷ []
 
--- What a crash leaves is on disk in this world. It is a beginning of the accepted commands that lacks one at most. It has each command of a receipt under its number, and the version by which each of these answers was given. So it has that of every answer of the world, also of one that was given while a call was under way.
+-- and the four of commands together, once they are planned
+abbrev pub step_acts_all : List Command → Line → List Act
+step_acts_all commands told = taken (events.SubmitAll commands) ∷ committed (commit_events commands) ∷ shown ∷ noted commands told (events.Ack ∷ []) ∷ []
+
+-- What a crash leaves is on disk in this world. It is a beginning of the accepted commands that lacks at most those that were accepted last together. It has each command of a receipt under its number, and the version by which each of these answers was given. So it has that of every answer of the world, also of one that was given while a call was under way.
 pub record HoldsAll (w : World) (receipts : List Ack) (answers : List Lookup) (left : State) : Type 0 where
   pub is : w.disk ≡ left
   pub durable : IsDurable w
@@ -130,7 +137,7 @@ pub record HoldsAll (w : World) (receipts : List Ack) (answers : List Lookup) (l
 module _ {S : Type 0} (g : Ghosts S) where
   -- A crash may leave these trees of a file that is known. After a failed commit they spell the state that was chosen for the world.
   abbrev pub LeavesFile : Standing (Held S) → World → Trees → Type 0
-  LeavesFile old w trees = IsKnown g old.ours_first old.tables × (state g old.tables).may_leave trees × (old.phase ≡ Closed → old.command ≡ None → Spells trees w.disk)
+  LeavesFile old w trees = IsKnown g old.ours_first old.tables × (state g old.tables).may_leave trees × (old.phase ≡ Closed → old.commands ≡ [] → Spells trees w.disk)
 
   -- The law of the call that has this exit. The registry changes under its lock alone: by a step that is handed it, by a looker's call, or where a place is taken or given up.
   abbrev pub Acts : Standing (Held S) → RegistryState → World → Act → Standing (Held S) → RegistryState → Type 0
@@ -138,22 +145,23 @@ module _ {S : Type 0} (g : Ghosts S) where
   Acts old r w (looked looker packet answer) new after = (new ≡ old) × (after ≡ r) × ((step w (events.Look looker packet)).outcome ≡ outcomes.Answered answer)
   Acts old r w (seated looker place) new after = (announced (slice_index_or r.places looker Free) ≡ None) × (announced place ≡ None) × (new ≡ old) × (after ≡ with_place r looker place)
   Acts old r w admitted new after = Admits g old new r after
-  Acts old r w (declined command why reclaims) new after = DeclinesBy g old new reclaims r after command why
-  Acts old r w (planned command) new after = (after ≡ r) × PlansBy g old new command
+  Acts old r w (declined event why reclaims) new after = AsksSome event × DeclinesBy g old new reclaims r after event why
+  Acts old r w (planned event) new after = AsksSome event × (after ≡ r) × PlansBy g old new event
   Acts old r w unplanned new after = (after ≡ r) × PlansNot g old new NoMemory
-  Acts old r w (committed all) new after = (own all ≡ commit_events) × (after ≡ registry_through r w all) × Commits g old new
-  Acts old r w (failed call fate left all) new after = (own all ≡ fail_events call fate) × (after ≡ registry_through r w all) × FailsBy g old new call fate left × FailsToCommit g old new (StoreFailed call)
+  Acts old r w (taken event) new after = AsksSome event × AdmitsAll g old new r after event
+  Acts old r w (committed all) new after = (own all ≡ commit_events old.commands) × (after ≡ registry_through r w all) × Commits g old new
+  Acts old r w (failed call fate left all) new after = (own all ≡ fail_events old.commands call fate) × (after ≡ registry_through r w all) × FailsBy g old new call fate left × FailsToCommit g old new (StoreFailed call)
   Acts old r w shown new after = (after ≡ r) × Shows g old new
   Acts old r w unshown new after = (after ≡ r) × (old.phase ≡ Committed) × PublishesNot g old new NotPublished
-  Acts old r w (noted command told more) new after = (old.phase ≡ Published) × (old.command ≡ Some command) × (own more ≡ events.Ack ∷ []) × (mid : RegistryState) × (after ≡ registry_through mid (step w events.Note).world more) × Notes g old new r mid told
-  Acts old r w (prepared command) new after = (has_room w ≡ true) × (after ≡ r) × Prepares g old new command
-  Acts old r w (published command told all) new after = (own all ≡ publish_events) × (old.phase ≡ Committed) × (old.command ≡ Some command) × (after ≡ registry_through r w all) × Publishes g old new told
-  Acts old r w (submitted command told more) new after = (own more ≡ commit_events ++ publish_events) × (has_room w ≡ true) × (after ≡ registry_through r w (events.Submit command ∷ more)) × Takes old command × Submits g old new command told
-  Acts old r w (refused command why) new after = (why ≡ Busy → has_room w ≡ false) × (after ≡ r) × Refuses g old new command why
-  Acts old r w (submit_failed command call fate left more) new after = (own more ≡ fail_events call fate) × (has_room w ≡ true) × (after ≡ registry_through r w (events.Submit command ∷ more)) × SubmitFailsBy g old new command call fate left × SubmitFails g old new command (StoreFailed call)
-  Acts old r w (submit_unpublished command more) new after = (own more ≡ commit_events ++ events.PublishFail ∷ []) × (has_room w ≡ true) × (after ≡ registry_through r w (events.Submit command ∷ more)) × SubmitUnpublished g old new command NotPublished
+  Acts old r w (noted commands told more) new after = (old.phase ≡ Published) × (old.commands ≡ commands) × (own more ≡ events.Ack ∷ []) × (mid : RegistryState) × (after ≡ registry_through mid (step w events.Note).world more) × Notes g old new r mid told
+  Acts old r w (prepared event) new after = AsksSome event × (has_room w ≡ true) × (after ≡ r) × Prepares g old new event
+  Acts old r w (published commands told all) new after = (own all ≡ publish_events) × (old.phase ≡ Committed) × (old.commands ≡ commands) × (after ≡ registry_through r w all) × Publishes g old new told
+  Acts old r w (submitted event told more) new after = AsksSome event × (own more ≡ commit_events (asked event) ++ publish_events) × (has_room w ≡ true) × (after ≡ registry_through r w (event ∷ more)) × TakesAll old (asked event) × Submits g old new event told
+  Acts old r w (refused event why) new after = AsksSome event × (why ≡ Busy → has_room w ≡ false) × (after ≡ r) × Refuses g old new event why
+  Acts old r w (submit_failed event call fate left more) new after = AsksSome event × (own more ≡ fail_events (asked event) call fate) × (has_room w ≡ true) × (after ≡ registry_through r w (event ∷ more)) × SubmitFailsBy g old new event call fate left × SubmitFails g old new event (StoreFailed call)
+  Acts old r w (submit_unpublished event more) new after = AsksSome event × (own more ≡ commit_events (asked event) ++ events.PublishFail ∷ []) × (has_room w ≡ true) × (after ≡ registry_through r w (event ∷ more)) × SubmitUnpublished g old new event NotPublished
   Acts old r w (adopted trees) new after = (after ≡ new_registry (line_state new.line)) × LeavesFile old w trees × AdoptsAgain g trees new
-  Acts old r w (stopped call fate all) new after = (own all ≡ stop_events call fate) × (after ≡ new_registry (line_state new.line)) × StopsBy g old new call fate
+  Acts old r w (stopped call fate all) new after = (own all ≡ stop_events old.commands call fate) × (after ≡ new_registry (line_state new.line)) × StopsBy g old new call fate
 
   -- one after the other
   abbrev pub ActsAll : Standing (Held S) → RegistryState → World → List Act → Standing (Held S) → RegistryState → Type 0
@@ -169,10 +177,22 @@ module _ {S : Type 0} (g : Ghosts S) where
   -- One that is not is refused at once, or after a reclaim; or it has no memory; or it is stored, and its publication fails; or its commit fails.
   abbrev pub TakesNot : Standing (Held S) → RegistryState → Command → Refusal → Standing (Held S) → RegistryState → Type 0
   TakesNot old r command why new after = (w : World) → AreBothOf g old r w →
-      ((reclaims : Bool) × ActsAll old r w (declined command why reclaims ∷ []) new after)
+      ((reclaims : Bool) × ActsAll old r w (declined (events.Submit command) why reclaims ∷ []) new after)
       ⊎ (((why ≡ NoMemory) × ActsAll old r w (admitted ∷ unplanned ∷ []) new after)
-      ⊎ (((why ≡ NotPublished) × ActsAll old r w (admitted ∷ planned command ∷ committed commit_events ∷ unshown ∷ []) new after)
-      ⊎ ((mid : Standing (Held S)) × ActsAll old r w (admitted ∷ planned command ∷ []) mid after × FailsToCommit g mid new why)))
+      ⊎ (((why ≡ NotPublished) × ActsAll old r w (admitted ∷ planned (events.Submit command) ∷ committed (commit_events (command ∷ [])) ∷ unshown ∷ []) new after)
+      ⊎ ((mid : Standing (Held S)) × ActsAll old r w (admitted ∷ planned (events.Submit command) ∷ []) mid after × FailsToCommit g mid new why)))
+
+  -- Commands together that are acknowledged are their four steps.
+  abbrev pub AcknowledgesAll : Standing (Held S) → RegistryState → List Command → Line → Standing (Held S) → RegistryState → Type 0
+  AcknowledgesAll old r commands told new after = (w : World) → AreBothOf g old r w → ActsAll old r w (step_acts_all commands told) new after
+
+  -- Those that are not had no memory and changed nothing; or are refused at once, or after a reclaim; or all are stored, and their publication fails; or their commit fails, of all of them.
+  abbrev pub TakesNone : Standing (Held S) → RegistryState → List Command → Refusal → Standing (Held S) → RegistryState → Type 0
+  TakesNone old r commands why new after = (w : World) → AreBothOf g old r w →
+      ((why ≡ NoMemory) × (new ≡ old) × (after ≡ r))
+      ⊎ (((reclaims : Bool) × ActsAll old r w (declined (events.SubmitAll commands) why reclaims ∷ []) new after)
+      ⊎ (((why ≡ NotPublished) × ActsAll old r w (taken (events.SubmitAll commands) ∷ committed (commit_events commands) ∷ unshown ∷ []) new after)
+      ⊎ ((mid : Standing (Held S)) × ActsAll old r w (taken (events.SubmitAll commands) ∷ []) mid after × FailsToCommit g mid new why)))
 
   -- ---- the laws of every run
 
@@ -197,4 +217,4 @@ module _ {S : Type 0} (g : Ghosts S) where
   abbrev pub EveryStopLeaves : Type 0
   EveryStopLeaves = (acts : List Act) (old mid : Standing (Held S)) (after : RegistryState) → BeginsAt g old start → ActsAll old (new_registry (line_state old.line)) start acts mid after
       → Stands g mid → (call : StoreCall) (now : Held S) → IsCutShort g mid call now → IsKnown g mid.ours_first now → (trees : Trees) → (state g now).may_leave trees
-      → (left : State) × Spells trees left × (fate : Fate) × ((all : List Event) → own all ≡ stop_events call fate → HoldsAll (run_from start (events_of acts ++ all)) (receipts_of acts) (answers_of acts) left)
+      → (left : State) × Spells trees left × (fate : Fate) × ((all : List Event) → own all ≡ stop_events mid.commands call fate → HoldsAll (run_from start (events_of acts ++ all)) (receipts_of acts) (answers_of acts) left)

@@ -1,29 +1,28 @@
--- Worlds that some list of events leads to, by how far they are with a command.
+-- Worlds that some list of events leads to, by how far they are with commands.
 use Rattle.std.specs.Prelude.{◌≡◌, ℕ, ◌≤◌, ◌++◌, take, true, List}
 use Rattle.prt_command.specs.declared.request.Command.{Command}
 use Rattle.prt_front.specs.Line.{Line, line_state}
 use Rattle.prt_version.specs.State.{State}
 use Rattle.prt_world.specs.Durability.{state_after}
-use Rattle.prt_world.specs.World.{World, has_room, published_version, run_from, start}
+use Rattle.prt_world.specs.World as world
+use Rattle.prt_world.specs.World.{Phase as Moment, World, has_room, published_version, run_from, start}
 use Rattle.prt_world.specs.declared.event.Event.{Event}
-use Rattle.prt_world.specs.declared.phase.Phase.{Phase as Moment}
-use Rattle.prt_world.specs.declared.phase.Phase.TheVariants as moments
 
 -- some list of events leads there from a new database
 abbrev pub IsReached : World → Type 0
 IsReached w = (list : List Event) × (w ≡ run_from start list)
 
--- from its preparation to its note a command has room for one more retired version
+-- from their preparation to their note commands have room for one more retired version
 abbrev pub HasRoom : World → Moment → Type 0
-HasRoom w moments.Ready = Unit {0}
-HasRoom w (moments.Prepared command call) = has_room w ≡ true
-HasRoom w (moments.Committed command) = has_room w ≡ true
-HasRoom w (moments.Published command) = has_room w ≡ true
-HasRoom w (moments.Noted command) = Unit {0}
-HasRoom w moments.Closed = Unit {0}
-HasRoom w moments.Stopped = Unit {0}
+HasRoom w world.Ready = Unit {0}
+HasRoom w (world.Prepared commands done call) = has_room w ≡ true
+HasRoom w (world.Committed commands) = has_room w ≡ true
+HasRoom w (world.Published commands) = has_room w ≡ true
+HasRoom w (world.Noted commands) = Unit {0}
+HasRoom w world.Closed = Unit {0}
+HasRoom w world.Stopped = Unit {0}
 
--- what is published, what is on disk, and how far the world is with a command
+-- what is published, what is on disk, and how far the world is with commands
 pub record Spot : Type 0 where
   pub line : Line
   pub disk : State

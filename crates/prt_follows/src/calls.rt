@@ -1,5 +1,5 @@
 //! The publisher's calls, with what they are in the world.
-ghost use Rattle.std.specs.Prelude.{◌≡◌, [], Some, IfErr, IfOk, IsTrue, OnOk};
+ghost use Rattle.std.specs.Prelude.{◌≡◌, [], ◌∷◌, IfErr, IfOk, IsTrue, OnOk};
 ghost use Rattle.sqlite.specs.Held.{state};
 ghost use Rattle.sqlite.specs.State.{HasCleanDisk};
 ghost use Rattle.prt_command.specs.Storable.{IsStorable};
@@ -10,6 +10,7 @@ ghost use Rattle.prt_rows.specs.Effects.{AreEmpty};
 ghost use Rattle.prt_store.specs.Exits.{IsKnown, MayLeave};
 ghost use Rattle.prt_version.specs.State.{State};
 ghost use Rattle.prt_world.specs.World.{run_from, start};
+ghost use Rattle.prt_world.specs.declared.event.Event.TheVariants.{Submit};
 ghost use Rattle.prt_follows.specs.Laws.{Admits, AdoptsAgain, AdoptsStopped, BeginsAt, Commits, Declines, FailsToCommit, Notes, Plans, PlansNot, Prepares, PreparesNot, Publishes, PublishesNot, Shows, Submits, SubmitsNot};
 ghost use Rattle.prt_follows.specs.Runs.{Acknowledges, HoldsAll, TakesNot, events_of, receipts_of, step_acts};
 
@@ -33,8 +34,8 @@ pub fn admit<S: Alter + Drop, R: Wait + Drop>(
     requires quiet { IsQuiet publisher.old.phase }
     requires storable { IsStorable command.now }
     ensures ok { OnOk result (Admits S.Store publisher.old publisher.new registry.old registry.new) }
-    ensures then { OnOk result ((publisher.new.phase ≡ Phase.Admitted) × (publisher.new.command ≡ Some command.now)) }
-    ensures err { IfErr result (λ why. Declines S.Store publisher.old publisher.new registry.old registry.new command.now why) }
+    ensures then { OnOk result ((publisher.new.phase ≡ Phase.Admitted) × (publisher.new.commands ≡ command.now ∷ [])) }
+    ensures err { IfErr result (λ why. Declines S.Store publisher.old publisher.new registry.old registry.new (Submit command.now) why) }
 {
     match publisher.admit(registry, command) {
         Ok(()) => Ok(()),
@@ -50,7 +51,7 @@ pub fn admit<S: Alter + Drop, R: Wait + Drop>(
 pub fn plan<S: Alter + Drop, R: Wait + Drop>(publisher: &mut Publisher<S, R>) -> Result<(), Refusal>
     requires { publisher.old.phase ≡ Phase.Admitted }
     ensures ok { OnOk result (Plans S.Store publisher.old publisher.new) }
-    ensures then { OnOk result ((publisher.new.phase ≡ Phase.Prepared) × (publisher.new.command ≡ publisher.old.command)) }
+    ensures then { OnOk result ((publisher.new.phase ≡ Phase.Prepared) × (publisher.new.commands ≡ publisher.old.commands)) }
     ensures err { IfErr result (λ why. PlansNot S.Store publisher.old publisher.new why) }
 {
     match publisher.plan() {
@@ -59,7 +60,7 @@ pub fn plan<S: Alter + Drop, R: Wait + Drop>(publisher: &mut Publisher<S, R>) ->
     }
 }
 
-/// Commits the prepared command: the four store calls.
+/// Commits the prepared commands: a store call for each, and three more.
 ///
 /// # Errors
 ///
@@ -70,7 +71,7 @@ pub fn commit<S: Alter + Drop, R: Wait + Drop>(
 ) -> Result<(), Refusal>
     requires { publisher.old.phase ≡ Phase.Prepared }
     ensures ok { OnOk result (Commits S.Store publisher.old publisher.new) }
-    ensures then { OnOk result ((publisher.new.phase ≡ Phase.Committed) × (publisher.new.command ≡ publisher.old.command)) }
+    ensures then { OnOk result ((publisher.new.phase ≡ Phase.Committed) × (publisher.new.commands ≡ publisher.old.commands)) }
     ensures err { IfErr result (λ why. FailsToCommit S.Store publisher.old publisher.new why) }
 {
     match publisher.commit() {
@@ -79,7 +80,7 @@ pub fn commit<S: Alter + Drop, R: Wait + Drop>(
     }
 }
 
-/// Shows the version of the committed command.
+/// Shows the version of the committed commands.
 ///
 /// # Errors
 ///
@@ -87,7 +88,7 @@ pub fn commit<S: Alter + Drop, R: Wait + Drop>(
 pub fn show<S: Alter + Drop, R: Wait + Drop>(publisher: &mut Publisher<S, R>) -> Result<(), Refusal>
     requires { publisher.old.phase ≡ Phase.Committed }
     ensures ok { OnOk result (Shows S.Store publisher.old publisher.new) }
-    ensures then { OnOk result ((publisher.new.phase ≡ Phase.Published) × (publisher.new.command ≡ publisher.old.command)) }
+    ensures then { OnOk result ((publisher.new.phase ≡ Phase.Published) × (publisher.new.commands ≡ publisher.old.commands)) }
     ensures err { IfErr result (λ why. PublishesNot S.Store publisher.old publisher.new why) }
 {
     match publisher.show() {
@@ -96,7 +97,7 @@ pub fn show<S: Alter + Drop, R: Wait + Drop>(publisher: &mut Publisher<S, R>) ->
     }
 }
 
-/// Notes the published version, and acknowledges its command.
+/// Notes the published version, and acknowledges its commands.
 pub fn note<S: Alter + Drop, R: Wait + Drop>(
     publisher: &mut Publisher<S, R>,
     registry: &mut Registry,
@@ -176,8 +177,8 @@ pub fn prepare<S: Alter + Drop, R: Wait + Drop, W: Wait>(
 ) -> Result<(), Refusal>
     requires quiet { IsQuiet publisher.old.phase }
     requires storable { IsStorable command.now }
-    ensures ok { OnOk result (Prepares S.Store publisher.old publisher.new command.now) }
-    ensures err { IfErr result (λ why. PreparesNot S.Store publisher.old publisher.new command.now why) }
+    ensures ok { OnOk result (Prepares S.Store publisher.old publisher.new (Submit command.now)) }
+    ensures err { IfErr result (λ why. PreparesNot S.Store publisher.old publisher.new (Submit command.now) why) }
 {
     match publisher.prepare(rt, domain, command) {
         Ok(()) => Ok(()),
@@ -185,7 +186,7 @@ pub fn prepare<S: Alter + Drop, R: Wait + Drop, W: Wait>(
     }
 }
 
-/// Publishes the committed command, with the domain.
+/// Publishes the committed commands, with the domain.
 ///
 /// # Errors
 ///
@@ -218,8 +219,8 @@ pub fn submit<S: Alter + Drop, R: Wait + Drop, W: Wait>(
 ) -> Result<Receipt, Refusal>
     requires quiet { IsQuiet publisher.old.phase }
     requires storable { IsStorable command.now }
-    ensures ok { IfOk result (λ told. Submits S.Store publisher.old publisher.new command.now told) }
-    ensures err { IfErr result (λ why. SubmitsNot S.Store publisher.old publisher.new command.now why) }
+    ensures ok { IfOk result (λ told. Submits S.Store publisher.old publisher.new (Submit command.now) told) }
+    ensures err { IfErr result (λ why. SubmitsNot S.Store publisher.old publisher.new (Submit command.now) why) }
 {
     match publisher.submit(rt, domain, command) {
         Ok(receipt) => Ok(receipt),

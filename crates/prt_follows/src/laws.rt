@@ -1,5 +1,5 @@
 //! Laws of the definitions, which no program calls.
-ghost use Rattle.prt_follows.specs.Desks.{DeskHasRoom, DeskHoldsAll, ReopenedDesk, ScriptIsRun, SessionsHold, TurnIsSteps};
+ghost use Rattle.prt_follows.specs.Desks.{DeskHasRoom, DeskHoldsAll, ListIsSteps, ReopenedDesk, ScriptIsRun, SessionsHold, TurnIsSteps};
 ghost use Rattle.prt_follows.specs.Lookers.{EveryLookersEvent};
 ghost use Rattle.prt_follows.specs.Registries.{EveryEventKeepsRegistry, RoomIsRoom};
 ghost use Rattle.prt_follows.specs.Runs.{EveryRunGoesOn, EveryRunLeaves, EveryRunStands, EveryStopLeaves};
@@ -11,14 +11,15 @@ use sqlite::Alter;
 ///
 /// * the publisher and the registry stand for the world of the list's events, which has acknowledged each receipt and
 ///   nothing else (`stands`);
-/// * on a new file, whatever a crash leaves spells a beginning of the accepted commands that lacks one at most. It has
-///   each command of a receipt under its number, and the version by which each answer was given, also of one that was
-///   given while a call was under way (`leaves`);
+/// * on a new file, whatever a crash leaves spells a beginning of the accepted commands, which lacks at most the command,
+///   or the commands of the file, that were accepted last. It has each command of a receipt under its number, and the
+///   version by which each answer was given, also of one that was given while a call was under way (`leaves`);
 /// * that holds of what a stop within a store call leaves, too (`stopped`);
 /// * whichever file is left at an exit and adopted, the list goes on (`goes_on`). After a call that was cut short it goes
 ///   on by `calls::adopt` (`stopped`).
 ///
-/// A failed commit leaves open whether its command is durable: what is found later shows which fate it had.
+/// A failed commit leaves open whether its commands are durable, all of them or none: what is found later shows which fate
+/// it had.
 ///
 /// Premises:
 ///
@@ -35,10 +36,12 @@ pub fn every_run_of_calls<S: Alter>()
 {}
 
 /// Each turn of a command at a desk, whatever befalls it, is the world's events: they show its reply, lead to a world of
-/// the desk that it leaves, and acknowledge the command where the reply does. In such a world what is stored holds all
-/// that was acknowledged.
+/// the desk that it leaves, and acknowledge the command where the reply does (`turn`). So is each turn of commands that
+/// are made together or not at all: each of them is acknowledged under its own number, or none (`list`). In such a world
+/// what is stored holds all that was acknowledged (`holds`).
 pub fn turn_is_steps()
     ensures turn { TurnIsSteps }
+    ensures list { ListIsSteps }
     ensures holds { DeskHoldsAll }
 {}
 

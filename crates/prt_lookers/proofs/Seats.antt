@@ -74,6 +74,7 @@ same_lookers i state w s is h = subst (λ (ls : List LookerState). (i < length l
 
 other : (i : ℕ) (state : LookerState) (w : World) (event : Event) → is_others i event ≡ true → At i state w → At i state (step w event).world
 other i state w (events.Submit command) is h = same_lookers i state w (step w (events.Submit command)) (event_seats w (events.Submit command) refl) h
+other i state w (events.SubmitAll commands) is h = same_lookers i state w (step w (events.SubmitAll commands)) (event_seats w (events.SubmitAll commands) refl) h
 other i state w events.Call is h = same_lookers i state w (step w events.Call) (event_seats w events.Call refl) h
 other i state w (events.Fail fate) is h = same_lookers i state w (step w (events.Fail fate)) (event_seats w (events.Fail fate) refl) h
 other i state w events.Publish is h = same_lookers i state w (step w events.Publish) (event_seats w events.Publish refl) h
