@@ -37,7 +37,7 @@ is_closed_at Closed = true
 abbrev pub is_shut : {T : Type 0} → Standing T → Bool
 is_shut desk = is_closed_at desk.phase
 
--- No command is under way. While a desk is open, its state is stored; once it is closed, whatever a crash leaves spells that state or the one after commands more that it accepts.
+-- No command is under way. While a desk is open, its state is stored; once it is closed, whatever a crash leaves spells that state or the one after one submission more, always the same one.
 abbrev pub IsKept : {S : Type 0} → Ghosts S → Standing (Held S) → Type 0
 IsKept g desk = IsQuiet desk.phase × Stands g desk
 

@@ -1,5 +1,5 @@
 //! The writer of a front.
-ghost use Rattle.std.specs.Prelude.{◌≡◌, ◌+◌, ◌<◌, ◌^◌, [], All, length, IfErr, IfOk, MatchResult, OnOk};
+ghost use Rattle.std.specs.Prelude.{◌≡◌, ◌+◌, ◌≤◌, ◌<◌, ◌^◌, [], All, length, IfErr, IfOk, MatchResult, OnOk};
 ghost use Rattle.std.specs.Arc.{arc_value};
 ghost use Rattle.prt_version.specs.Accepted.{IsAccepted};
 ghost use Rattle.prt_version.specs.Change.{fold};
@@ -94,6 +94,7 @@ impl<R: Wait + Drop> Front<R> {
         commands: &Vec<Command>,
         version: Arc<Version>,
     ) -> Result<Told, Refusal>
+        requires some { 1 ≤ length commands.now.items }
         requires stamp { stamp.number ≡ self.old.base.count + length self.old.list + length commands.now.items }
         requires accepted { IsAccepted (line_state self.old) commands.now.items }
         requires next { arc_value version ≡ fold (line_state self.old) commands.now.items }

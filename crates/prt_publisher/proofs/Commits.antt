@@ -24,7 +24,7 @@ use Rattle.prt_version.specs.State.{State}
 use Rattle.prt_version.specs.declared.change.Change.{Change}
 use Rattle.prt_front.specs.Line.{line_state}
 use Rattle.prt_publisher.specs.Exits.{HaveCommitted}
-use Rattle.prt_publisher.specs.Standing.{Agrees, IsLeft, IsMore, Standing}
+use Rattle.prt_publisher.specs.Standing.{Agrees, IsLeft, Standing}
 use Rattle.prt_publisher.specs.Step.{IsPlan, IsStep, commands_of, phase_of}
 use Rattle.prt_publisher.specs.declared.phase.Phase.TheVariants.{Closed}
 use Rattle.prt_publisher.specs.declared.plan.Plan.{Plan}
@@ -96,16 +96,18 @@ module _ {S : Type 0} (g : Ghosts S) (old new : Held S) (published after : State
       | inr more ↦ inr (more.0, more.1 ∙ is_after)
     ]
 
-    some_more : (stored : State) → MayLeave g new stored → IsMore published stored
-    some_more stored may = elim (either_left stored may) [
-      | inl is ↦ ([], tt, is)
-      | inr more ↦ (commands, accepted, more.1)
+    before_or_after : (stored : State) → MayLeave g new stored → (stored ≡ published) ⊎ (stored ≡ fold published commands)
+    before_or_after stored may = elim (either_left stored may) [
+      | inl is ↦ inl is
+      | inr more ↦ inr more.1
     ]
 
     pub left_after : ((trees : Trees) → (state g new).may_leave trees → (left : State) × Spells trees left) → IsLeft g new published
     left_after spells = record {
       now = still_stored;
-      durable = λ trees may. let left = spells trees may in (left.0, left.1, some_more left.0 (trees, may, left.1));
+      commands = commands;
+      accepted = accepted;
+      durable = λ trees may. let left = spells trees may in (left.0, left.1, before_or_after left.0 (trees, may, left.1));
     }
 
 -- what ran were the changes of the commands under way

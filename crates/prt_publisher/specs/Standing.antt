@@ -1,5 +1,5 @@
 -- What contracts see of a publisher.
-use Rattle.std.specs.Prelude.{◌≡◌, ℕ, IsTrue, Bool, List, [], ◌∷◌, length, refl}
+use Rattle.std.specs.Prelude.{◌≡◌, ◌⊎◌, ℕ, IsTrue, Bool, List, [], ◌∷◌, length, refl}
 use Rattle.std.specs.Coded.{Coded, code_by, coded×, coded_bool, coded_list}
 use Rattle.sqlite.specs.Held.{Held, state}
 use Rattle.sqlite.specs.Store.{Ghosts}
@@ -17,7 +17,7 @@ use Rattle.prt_version.specs.Accepted.{IsAccepted}
 use Rattle.prt_version.specs.Change.{fold}
 use Rattle.prt_version.specs.State.{State}
 
--- The phase, the published list, the commands that are under way together or, once it is closed, those that are stored and not published, whether the tables were found to be the first of their file, in format 1, and the connection to them.
+-- The phase, the published list, the commands that are under way together or, once it is closed, those that are stored and not published, whether the tables were found to be the first of their file, in format 2, and the connection to them.
 pub record Standing (T : Type 0) : Type 0 where
   pub phase : Phase
   pub line : Line
@@ -52,14 +52,12 @@ unnoted Closed commands = 0
 
 -- ---- the tables beside the published state
 
--- the state after commands more, perhaps none, each of which it refuses for nothing
-abbrev pub IsMore : State → State → Type 0
-IsMore published stored = (commands : List Command) × IsAccepted published commands × (stored ≡ fold published commands)
-
--- What a failed commit leaves: the tables spell the published state while they can be seen, and whatever a crash leaves spells it or the one after the commands under way.
+-- What a failed commit leaves: the tables spell the published state while they can be seen. Whatever a crash leaves spells it or the one after the commands that were under way, the same ones each time, which it refuses for nothing.
 pub record IsLeft {S : Type 0} (g : Ghosts S) (tables : Held S) (published : State) : Type 0 where
   pub now : IsTrue (state g tables).is_open → Stores (state g tables).now published
-  pub durable : (trees : Trees) → (state g tables).may_leave trees → (stored : State) × Spells trees stored × IsMore published stored
+  pub commands : List Command
+  pub accepted : IsAccepted published commands
+  pub durable : (trees : Trees) → (state g tables).may_leave trees → (stored : State) × Spells trees stored × ((stored ≡ published) ⊎ (stored ≡ fold published commands))
 
 -- what the tables hold, and what a crash leaves of them: the published state; from the commit on the one after the commands
 abbrev pub Agrees : {S : Type 0} → Ghosts S → Phase → List Command → State → Held S → Type 0

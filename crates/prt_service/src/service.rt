@@ -121,8 +121,8 @@ impl<S: Alter + Drop, R: Wait + Drop, J: Naming> Service<S, R, J> {
     }
 
     /// Ends the service, and gives the connection back, with its tables as the lock keeps them. Of a file that is known,
-    /// a ready publisher's tables hold the published state, and those of a closed one that or the state after commands
-    /// more that it accepts; a crash leaves no other.
+    /// a ready publisher's tables hold the published state, and those of a closed one that or the state after one
+    /// submission more, the same one whatever a crash leaves; a crash leaves no other.
     pub fn release(self) -> Connection<S>
         ensures { (s : Standing (Held S)) × (s.tables ≡ result) × IsQuiet s.phase × (s.line.book ≡ J.book) × (s.line.base ≡ J.base) × Stands S.Store s }
     {

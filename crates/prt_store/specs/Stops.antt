@@ -72,7 +72,7 @@ pub record MakesAllCalls {S : Type 0} (g : Ghosts S) (changes : List Change) (nu
   pub count : Counts g number written counted
   pub commit : MayCommit g counted new × ((state g new).committed ≡ (state g counted).now)
 
--- the same as StoppedIn, of several changes
+-- the same of several changes; in the call that writes, of the writes before nothing is said but that they committed nothing
 abbrev pub AllStoppedIn : {S : Type 0} → Ghosts S → List Change → ℕ → Held S → StoreCall → Held S → Type 0
 AllStoppedIn g changes number old Begin left = left ≡ old
 AllStoppedIn g changes number old Write left = CommitsNothing g (begun_from old) left

@@ -1,6 +1,6 @@
 //! The store as a type.
 
-ghost use Rattle.std.specs.Prelude.{◌≡◌, ◌⊎◌, ◌↔◌, IfErr, IfOk, IsTrue, None, OnErr, OnOk, Err};
+ghost use Rattle.std.specs.Prelude.{◌≡◌, ◌≤◌, ◌⊎◌, ◌↔◌, IfErr, IfOk, IsTrue, None, OnErr, OnOk, Err, length};
 ghost use Rattle.sqlite.specs.Effect.{IsDatabase};
 ghost use Rattle.sqlite.specs.Held.{state};
 ghost use Rattle.sqlite.specs.State.{HasCleanDisk, IsUnchanged};
@@ -31,7 +31,7 @@ use sqlite::{Alter, Connection, Error};
 use std::alloc::Global;
 use std::slice;
 
-/// Says that the command of this number was committed. A commit alone makes one.
+/// Says that the commands up to this number were committed. A commit alone makes one.
 #[derive(Debug, Drop)]
 pub struct Stamp {
     number: u64,
@@ -155,7 +155,8 @@ impl<S: Alter + Drop> Store<S> {
     /// were, if the connection is still open; a crash leaves what it could leave before or, only where the commit
     /// failed, possibly what it leaves after `Ok`: all of the changes or none. `failure` then gives the library's error.
     pub fn commit_all(&mut self, changes: &[Change], number: u64) -> Result<Stamp, Refusal>
-        requires { (before : State) × AreNext before changes.now number }
+        requires some { 1 ≤ length changes.now }
+        requires next { (before : State) × AreNext before changes.now number }
         ensures stamp { IfOk result (λ stamp. stamp.number ≡ number) }
         ensures reason { IfErr result (λ reason. (call : FailedCall) × (reason ≡ StoreFailed call)) }
         ensures clean { HasCleanDisk (state S.Store self.new.conn) → HasCleanDisk (state S.Store self.old.conn) }

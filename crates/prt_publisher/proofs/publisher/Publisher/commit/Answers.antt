@@ -1,4 +1,4 @@
-use Rattle.std.proofs.Common.{◌≡◌, ◌+◌, ap, sym, ◌∙◌, subst}
+use Rattle.std.proofs.Common.{◌≡◌, ◌+◌, ap, sym, ◌∙◌, subst, length, arith}
 use Rattle.std.specs.Arc.{arc_value}
 use Rattle.sqlite.specs.Held.{Held, state}
 use Rattle.prt_store.proofs.Exits.{keeps_after, spares_after}
@@ -11,11 +11,24 @@ use Rattle.prt_publisher.specs.Standing.{Standing, unnoted}
 use Rattle.prt_publisher.specs.Step.{IsPlan, IsStep, commands_of, phase_of}
 use Rattle.prt_publisher.specs.declared.publisher.Step.{Step}
 use Rattle.prt_publisher.specs.declared.publisher.Step.TheVariants as step
-use Rattle.prt_publisher.proofs.Commits.{CanCommit, can_commit, either_left, have_committed, left_after}
+use Rattle.prt_publisher.proofs.Commits.{CanCommit, as_many, can_commit, either_left, have_committed, left_after}
 use Rattle.prt_publisher.proofs.publisher.Publisher.commit.Goals as goal
 
-pub commit_all-requires : goal.commit_all-requires
-commit_all-requires g c =
+pub commit_all-requires-clause-some : goal.commit_all-requires-clause-some
+commit_all-requires-clause-some g c =
+    let plan = c.in-Prepared.plan in
+    let is : c.self.inside.step ≡ step.Prepared plan = sym c.replace.ensures.value ∙ c.in-Prepared.is in
+    let s = line_state c.self.inside.front in
+    let conn = c.self.inside.store.conn in
+    let number = c.number-number.result in
+    let changes = c.as_slice.result.now in
+    let planned : IsPlan s plan = subst (IsStep s) is c.self.invariant.3 in
+    let numbered : number ≡ (fold s plan.commands.items).count = c.number-number.ensures.value ∙ (ap (λ (v : State). v.count) c.deref.ensures ∙ ap (λ (v : State). v.count) planned.next) in
+    let can : CanCommit g.S.Store c.self.inside.ours_first conn s plan changes number = can_commit g.S.Store c.self.inside.ours_first conn s c.self.inside.step plan changes number c.as_slice.ensures.value is numbered c.self.invariant.3 c.self.invariant.4 in
+    omega (arith, planned.some, ap length can.are, as_many s plan.commands.items planned.accepted)
+
+pub commit_all-requires-clause-next : goal.commit_all-requires-clause-next
+commit_all-requires-clause-next g c =
     let plan = c.in-Prepared.plan in
     let is : c.self.inside.step ≡ step.Prepared plan = sym c.replace.ensures.value ∙ c.in-Prepared.is in
     let s = line_state c.self.inside.front in

@@ -20,6 +20,14 @@ publish_all-requires-clause-stamp g c =
     let kept : IsStep (line_state old) (step.Committed plan c.in-Committed.stamp) = subst (IsStep (line_state old)) is c.self.invariant.3 in
     number_next old c.in-Committed.stamp.number (length plan.commands.items) c.self.invariant.2 kept.1
 
+pub publish_all-requires-clause-some : goal.publish_all-requires-clause-some
+publish_all-requires-clause-some g c =
+    let old = c.self.inside.front in
+    let plan = c.in-Committed.plan in
+    let is : c.self.inside.step ≡ step.Committed plan c.in-Committed.stamp = sym c.replace.ensures.value ∙ c.in-Committed.is in
+    let kept : IsStep (line_state old) (step.Committed plan c.in-Committed.stamp) = subst (IsStep (line_state old)) is c.self.invariant.3 in
+    kept.0.some
+
 pub publish_all-requires-clause-accepted : goal.publish_all-requires-clause-accepted
 publish_all-requires-clause-accepted g c =
     let old = c.self.inside.front in

@@ -13,8 +13,8 @@ use Rattle.prt_store.specs.Openings.{HasDone}
 use Rattle.prt_store.specs.Stops.{AllStoppedIn, MakesAllCalls}
 use Rattle.prt_store.proofs.store.Store.commit.Goals as goal
 
-pub commit_all-requires : goal.commit_all-requires
-commit_all-requires g c = (c.requires.0, subst (λ (changes : List Change). AreNext c.requires.0 changes c.args.number) (sym c.from_ref.ensures.value) (next_one c.requires.0 c.args.change.now c.args.number c.requires.1))
+pub commit_all-requires-clause-next : goal.commit_all-requires-clause-next
+commit_all-requires-clause-next g c = (c.requires.0, subst (λ (changes : List Change). AreNext c.requires.0 changes c.args.number) (sym c.from_ref.ensures.value) (next_one c.requires.0 c.args.change.now c.args.number c.requires.1))
 
 pub returns-clause-ok : goal.returns-clause-ok
 returns-clause-ok g c clean =

@@ -11,10 +11,10 @@ use Rattle.prt_store.specs.Stops.{AllStoppedIn}
 use Rattle.prt_store.proofs.store.Store.commit_all.Goals as goal
 
 pub make_changes-requires-clause-ids : goal.make_changes-requires-clause-ids
-make_changes-requires-clause-ids g c = small_ids_all c.requires.0 c.args.changes.now c.requires.1.sound c.requires.1.made
+make_changes-requires-clause-ids g c = small_ids_all c.requires.next.0 c.args.changes.now c.requires.next.1.sound c.requires.next.1.made
 
 pub make_changes-requires-clause-number : goal.make_changes-requires-clause-number
-make_changes-requires-clause-number g c = small_numbers c.requires.0 c.args.changes.now c.args.number c.requires.1
+make_changes-requires-clause-number g c = small_numbers c.requires.next.0 c.args.changes.now c.args.number c.requires.next.1
 
 pub returns-in-Ok-clause-ok : goal.returns-in-Ok-clause-ok
 returns-in-Ok-clause-ok g c clean before next held =
