@@ -22,7 +22,7 @@ use Rattle.prt_desk.specs.Stops.{LeavesAState, StopsIn}
 pub leaves_a_state : {S : Type 0} (g : Ghosts S) → LeavesAState g
 leaves_a_state g desk kept is known left = (
   left_open g desk kept is known left,
-  λ commands call now storable stops known may.
+  λ commands call now storable stops known_then may.
       let before = published desk in
       let changes = changes_of before commands in
       let number = before.count + length commands in
@@ -30,5 +30,5 @@ leaves_a_state g desk kept is known left = (
       let made = are_made before commands storable stops.0 in
       let next : AreNext before changes number = record { sound = stored.now.fits.sound; made = made.0; counts = omega (arith, as_many before commands stops.0) } in
       subst (λ (after : State). (left ≡ before) ⊎ ((call ≡ Commit) × (left ≡ after))) made.1
-      (stopped_leaves g before desk.ours_first desk.tables now changes number call (λ known. stored_open g desk kept is known) next stops.1 known left may),
+      (stopped_leaves g before desk.ours_first desk.tables now changes number call (λ known. stored_open g desk kept is known) next stops.1 known_then left may),
 )
