@@ -24,5 +24,8 @@ module _ (P : Event → Type 0) (one : P events.Call) where
   pub only_calls : (commands : List Command) (call : StoreCall) → Each P (events_before commands call)
   only_calls commands call = subst (λ (xs : List Event). Each P xs) (append-nil (events_before commands call)) (calls_then commands call [] tt)
 
+  pub only_committed : (commands : List Command) → Each P (commit_events commands)
+  only_committed commands = calls_then commands calls.Commit (events.Call ∷ []) (one, tt)
+
   pub committed_then : (commands : List Command) (rest : List Event) → Each P rest → Each P (commit_events commands ++ rest)
   committed_then commands rest each = subst (λ (xs : List Event). Each P xs) (sym (append_assoc (events_before commands calls.Commit) (events.Call ∷ []) rest)) (calls_then commands calls.Commit (events.Call ∷ rest) (one, each))

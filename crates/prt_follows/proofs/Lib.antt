@@ -11,6 +11,7 @@ pub mod Headline
 pub mod Joined
 pub mod Planned
 pub mod Submitted
+pub mod Together
 pub mod Acks
 pub mod Through
 pub mod Answered

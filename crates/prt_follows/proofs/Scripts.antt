@@ -3,6 +3,7 @@ use Rattle.std.proofs.Common.{◌≡◌, inl, inr, ℕ, Bool, true, false, not, 
 use Rattle.std.specs.Prelude.{codes, filter, nat_lt}
 use Rattle.std.specs.List.{AllByRecursion as Each, list_any}
 use Rattle.std.proofs.lemmas.List.{append-nil, append_assoc}
+use Rattle.prt_addr.proofs.Each.{each_implies}
 use Rattle.prt_addr.specs.declared.refusal.Refusal.{Refusal}
 use Rattle.prt_addr.specs.declared.refusal.Refusal.TheVariants.{Busy, NoMemory}
 use Rattle.prt_addr.specs.declared.refusal.StoreCall.TheVariants as calls
@@ -51,7 +52,7 @@ use Rattle.prt_follows.proofs.Keeping.{Keeps, is_storing, storing_keeps}
 use Rattle.prt_follows.proofs.Looking.{runs}
 use Rattle.prt_follows.proofs.Opening.{reopens, stops}
 use Rattle.prt_follows.proofs.Steps.{holds_of, line_at, placed, reached_run, run_more}
-use Rattle.prt_follows.proofs.Woven.{own_asked, own_by}
+use Rattle.prt_follows.proofs.Woven.{own_all, own_asked}
 
 -- ---- a desk's events leave lookers as they are
 
@@ -122,8 +123,7 @@ abbrev IsPlain : List Event → Type 0
 IsPlain list = Each (λ event. is_command event ≡ true) list × Weaves list list × (own list ≡ list)
 
 commands_own : (list : List Event) → Each (λ event. is_command event ≡ true) list → own list ≡ list
-commands_own [] all = refl
-commands_own (event ∷ list) all = own_by event list false (command_own event all.0) ∙ ap (λ xs. event ∷ xs) (commands_own list all.1)
+commands_own list all = own_all list (each_implies (λ event. is_command event ≡ true) (λ event. is_lookers event ≡ false) command_own list all)
 
 -- what an event submits, and events of a command after it
 plain_with : (event : Event) (list : List Event) → AsksSome event → Each (λ event. is_command event ≡ true) list → IsPlain (event ∷ list)

@@ -1,5 +1,5 @@
 -- Commands that are prepared, published or submitted with a domain: their steps, one after the other.
-use Rattle.std.proofs.Common.{◌≡◌, inl, inr, ℕ, ◌+◌, ◌≤◌, true, List, [], ◌∷◌, ◌++◌, length, Option, Some, None, refl, sym, ap, ◌∙◌, subst, arith}
+use Rattle.std.proofs.Common.{◌≡◌, ◌⊎◌, inl, inr, ℕ, ◌+◌, ◌≤◌, true, List, [], ◌∷◌, ◌++◌, length, Option, Some, None, refl, sym, ap, ◌∙◌, subst, arith}
 use Rattle.sqlite.specs.Held.{Held}
 use Rattle.sqlite.specs.Store.{Ghosts}
 use Rattle.prt_addr.specs.declared.refusal.Refusal.{Refusal}
@@ -16,16 +16,18 @@ use Rattle.prt_version.proofs.Folds.{count_fold}
 use Rattle.prt_version.specs.Accepted.{IsAccepted, IsRefusedFor, or_later, refusal_all}
 use Rattle.prt_version.specs.Change.{fold}
 use Rattle.prt_version.specs.State.{State}
+use Rattle.prt_world.specs.World as world
 use Rattle.prt_world.specs.World.{World, has_room, step}
 use Rattle.prt_world.specs.declared.event.Event.{Event}
 use Rattle.prt_world.specs.declared.event.Event.TheVariants as events
 use Rattle.prt_world.specs.declared.outcome.Outcome.TheVariants as outcomes
 use Rattle.prt_follows.specs.Events.{AsksSome, asked, commit_events, commit_outcomes, fail_events, fail_outcomes, note_events, note_outcomes, publish_events, publish_outcomes, submit_events, submit_outcomes}
-use Rattle.prt_follows.specs.Laws.{PlansNot, Prepares, PreparesNot, Publishes, Refuses, SubmitFails, SubmitUnpublished, Submits, SubmitsNot}
-use Rattle.prt_follows.specs.Publishers.{Leads, IsPublisherOf}
-use Rattle.prt_follows.proofs.Exits.{as_it_was, committed, failed, not_published, noted_on, place_in, planned, published, stands, stored_in}
+use Rattle.prt_follows.specs.Laws.{PlansNone, PlansNot, Prepares, PreparesNot, Publishes, Refuses, SubmitFails, SubmitUnpublished, Submits, SubmitsNot}
+use Rattle.prt_follows.specs.Publishers.{Leads, SawRoom, IsPublisherOf, moment_of}
+use Rattle.prt_follows.specs.Spots.{IsAt}
+use Rattle.prt_follows.proofs.Exits.{spot, as_it_was, committed, failed, not_published, noted_on, place_in, planned, published, stands, stored_in}
 use Rattle.prt_follows.proofs.Joined.{idle, leads_by, leads_then, leads_then_to}
-use Rattle.prt_follows.proofs.Steps.{busy, refuses, shut}
+use Rattle.prt_follows.proofs.Steps.{Moves, busy, refuses, shut}
 
 module _ {S : Type 0} (g : Ghosts S) where
   -- ---- the phases between
@@ -95,16 +97,29 @@ module _ {S : Type 0} (g : Ghosts S) where
     refused_for : (why : Refusal) → old.phase ≡ Ready → IsRefusedFor (line_state old.line) (asked event) why → PreparesNot g old new event why
     refused_for why ready refused = elim refused [ inl reason ↦ inr (refuses_for why ready reason) | inr memory ↦ inl (no_memory why ready memory) ]
 
-    pub plans_none : (why : Refusal) → IsQuiet old.phase → AreNotPlanned old.phase (line_state old.line) (asked event) why → PreparesNot g old new event why
-    plans_none why quiet refused = by old.phase refl quiet refused
+    -- outside the lock
+    pub plans_none : (why : Refusal) → IsQuiet old.phase → AreNotPlanned old.phase (line_state old.line) (asked event) why → PlansNone g old new event why
+    plans_none why quiet refused = (is, by old.phase refl quiet refused)
       where
-        by : (phase : Phase) → old.phase ≡ phase → IsQuiet phase → AreNotPlanned phase (line_state old.line) (asked event) why → PreparesNot g old new event why
-        by Ready ready quiet refused = refused_for why ready refused
+        -- the world refuses it, with room or without
+        at : (phase : Phase) → old.phase ≡ phase → ((u : World) → SawRoom phase u) → ((w : World) → IsAt (spot old.line w.disk (moment_of phase old.commands)) w → Moves w event (outcomes.Refused why) (spot old.line w.disk (moment_of phase old.commands)))
+            → (w : World) → IsPublisherOf g old w → ((step w event).outcome ≡ outcomes.Refused why) × IsPublisherOf g new (step w event).world
+        at phase is_in saw moves w s =
+            let m = moves w (place_in g old new w s phase is_in) in
+            (m.0, as_it_was g old new is event some w (step w event).world s phase is_in saw m.1)
+
+        by : (phase : Phase) → old.phase ≡ phase → IsQuiet phase → AreNotPlanned phase (line_state old.line) (asked event) why
+            → (why ≡ refusals.NoMemory) ⊎ ((w : World) → IsPublisherOf g old w → ((step w event).outcome ≡ outcomes.Refused why) × IsPublisherOf g new (step w event).world)
+        by Ready ready quiet refused = elim refused [
+          | inl reason ↦ inr (at Ready ready (λ u. tt) (λ w place. refuses old.line w.disk w event why some reason place))
+          | inr memory ↦ inl memory
+        ]
         by Admitted at quiet refused = absurd quiet
         by Prepared at quiet refused = absurd quiet
         by Committed at quiet refused = absurd quiet
         by Published at quiet refused = absurd quiet
-        by Closed closed quiet refused = inr (refuses_shut why closed refused)
+        by Closed closed quiet refused =
+            inr (at Closed closed (λ u. tt) (λ w place. subst (λ (r : Refusal). Moves w event (outcomes.Refused r) (spot old.line w.disk world.Closed)) (sym refused) (shut old.line w.disk w event some place)))
 
     pub prepares_none : (why : Refusal) → IsQuiet old.phase → AreNotPrepared old.phase (line_state old.line) (asked event) why → PreparesNot g old new event why
     prepares_none why quiet refused = by old.phase refl quiet refused

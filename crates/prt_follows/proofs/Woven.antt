@@ -1,11 +1,14 @@
 -- Lists of a publisher's events, whatever lookers do between them.
 use Rattle.std.proofs.Common.{◌≡◌, Bool, true, false, not, List, [], ◌∷◌, refl, sym, ap, ◌∙◌, subst, cond, arith}
+use Rattle.std.specs.List.{AllByRecursion as Each}
+use Rattle.prt_command.specs.declared.request.Command.{Command}
 use Rattle.prt_world.specs.World.{World, run_from, step}
 use Rattle.prt_world.specs.declared.event.Event.{Event}
 use Rattle.prt_world.specs.declared.event.Event.TheVariants as events
 use Rattle.prt_world.specs.declared.outcome.Outcome.{Outcome}
 use Rattle.prt_follows.specs.Spots.{IsAt, Spot}
-use Rattle.prt_follows.specs.Events.{AsksSome, is_lookers, own, own_outcomes}
+use Rattle.prt_follows.specs.Events.{AsksSome, commit_events, is_lookers, own, own_outcomes}
+use Rattle.prt_follows.proofs.Calling.{only_committed}
 use Rattle.prt_follows.proofs.Between.{stays_there}
 use Rattle.prt_follows.proofs.Steps.{Moves}
 
@@ -46,6 +49,14 @@ asks_own event some = absurd (omega (arith, some))
 -- what an event submits comes first
 pub own_asked : (event : Event) (all : List Event) → AsksSome event → own (event ∷ all) ≡ event ∷ own all
 own_asked event all some = own_by event all false (asks_own event some)
+
+-- a list of the publisher's own events
+pub own_all : (list : List Event) → Each (λ event. is_lookers event ≡ false) list → own list ≡ list
+own_all [] all = refl
+own_all (event ∷ list) all = own_by event list false all.0 ∙ ap (λ xs. event ∷ xs) (own_all list all.1)
+
+pub own_commit : (commands : List Command) → own (commit_events commands) ≡ commit_events commands
+own_commit commands = own_all (commit_events commands) (only_committed (λ event. is_lookers event ≡ false) refl commands)
 
 pub heads : (event first : Event) (all list : List Event) → event ∷ all ≡ first ∷ list → first ≡ event
 heads event first all list is = cc

@@ -1,22 +1,23 @@
 //! The publisher's calls, with what they are in the world.
-ghost use Rattle.std.specs.Prelude.{◌≡◌, [], ◌∷◌, IfErr, IfOk, IsTrue, OnOk};
+ghost use Rattle.std.specs.Prelude.{◌≡◌, ◌≤◌, [], ◌∷◌, All, length, true, IfErr, IfOk, IsTrue, OnOk};
 ghost use Rattle.sqlite.specs.Held.{state};
 ghost use Rattle.sqlite.specs.State.{HasCleanDisk};
 ghost use Rattle.prt_command.specs.Storable.{IsStorable};
 ghost use Rattle.prt_front.specs.Line.{line_state};
 ghost use Rattle.prt_grace.specs.Registry.{new_registry};
 ghost use Rattle.prt_publisher.specs.Standing.{IsQuiet};
+ghost use Rattle.prt_publisher.specs.Step.{IsPlan};
 ghost use Rattle.prt_rows.specs.Effects.{AreEmpty};
 ghost use Rattle.prt_store.specs.Exits.{IsKnown, MayLeave};
 ghost use Rattle.prt_version.specs.State.{State};
 ghost use Rattle.prt_world.specs.World.{run_from, start};
-ghost use Rattle.prt_world.specs.declared.event.Event.TheVariants.{Submit};
-ghost use Rattle.prt_follows.specs.Laws.{Admits, AdoptsAgain, AdoptsStopped, BeginsAt, Commits, Declines, FailsToCommit, Notes, Plans, PlansNot, Prepares, PreparesNot, Publishes, PublishesNot, Shows, Submits, SubmitsNot};
-ghost use Rattle.prt_follows.specs.Runs.{Acknowledges, HoldsAll, TakesNot, events_of, receipts_of, step_acts};
+ghost use Rattle.prt_world.specs.declared.event.Event.TheVariants.{Submit, SubmitAll};
+ghost use Rattle.prt_follows.specs.Laws.{Admits, AdmitsAll, AdoptsAgain, AdoptsStopped, BeginsAt, Commits, Declines, DeclinesBy, FailsToCommit, Notes, Plans, PlansNone, PlansNot, Prepares, PreparesNot, Publishes, PublishesNot, Shows, Submits, SubmitsNot};
+ghost use Rattle.prt_follows.specs.Runs.{Acknowledges, AcknowledgesAll, HoldsAll, TakesNone, TakesNot, events_of, receipts_of, step_acts, step_acts_all};
 
 use prt_command::{Command, Refusal};
 use prt_grace::{Domain, Registry};
-use prt_publisher::{Phase, Publisher, Receipt};
+use prt_publisher::{Phase, Plan, Publisher, Receipt};
 use sqlite::{Alter, Connection};
 use std::alloc::Global;
 use std::sync::Wait;
@@ -55,6 +56,50 @@ pub fn plan<S: Alter + Drop, R: Wait + Drop>(publisher: &mut Publisher<S, R>) ->
     ensures err { IfErr result (λ why. PlansNot S.Store publisher.old publisher.new why) }
 {
     match publisher.plan() {
+        Ok(()) => Ok(()),
+        Err(reason) => Err(reason),
+    }
+}
+
+/// Makes what commands need to be published, outside the lock: no event.
+///
+/// # Errors
+///
+/// Those of `Publisher::plan_all`. The world refuses the commands for the same reason; of `NoMemory` it has no event.
+pub fn plan_all<S: Alter + Drop, R: Wait + Drop>(
+    publisher: &Publisher<S, R>,
+    commands: &Vec<Command>,
+) -> Result<Plan, Refusal>
+    requires quiet { IsQuiet publisher.now.phase }
+    requires some { 1 ≤ length commands.now.items }
+    requires storable { All IsStorable commands.now.items }
+    ensures ok { IfOk result (λ plan. IsPlan (line_state publisher.now.line) plan × (plan.commands.items ≡ commands.now.items)) }
+    ensures ready { OnOk result (publisher.now.phase ≡ Phase.Ready) }
+    ensures err { IfErr result (λ why. PlansNone S.Store publisher.now publisher.now (SubmitAll commands.now.items) why) }
+{
+    match publisher.plan_all(commands) {
+        Ok(plan) => Ok(plan),
+        Err(reason) => Err(reason),
+    }
+}
+
+/// Sees that there is room for planned commands, under the lock of the registry: then they are prepared.
+///
+/// # Errors
+///
+/// `Busy`: the world refuses the commands for want of room, after a reclaim.
+pub fn admit_all<S: Alter + Drop, R: Wait + Drop>(
+    publisher: &mut Publisher<S, R>,
+    registry: &mut Registry,
+    plan: Plan,
+) -> Result<(), Refusal>
+    requires ready { publisher.old.phase ≡ Phase.Ready }
+    requires plan { IsPlan (line_state publisher.old.line) plan }
+    ensures ok { OnOk result (AdmitsAll S.Store publisher.old publisher.new registry.old registry.new (SubmitAll plan.commands.items)) }
+    ensures then { OnOk result ((publisher.new.phase ≡ Phase.Prepared) × (publisher.new.commands ≡ plan.commands.items)) }
+    ensures err { IfErr result (λ why. DeclinesBy S.Store publisher.old publisher.new true registry.old registry.new (SubmitAll plan.commands.items) why) }
+{
+    match publisher.admit_all(registry, plan) {
         Ok(()) => Ok(()),
         Err(reason) => Err(reason),
     }
@@ -163,6 +208,63 @@ pub fn first_command<S: Alter + Drop, R: Wait + Drop>(
     }
 }
 
+/// Submits commands together by the steps that `Publisher::submit_all` makes, in one registry.
+///
+/// # Errors
+///
+/// Those of the steps.
+pub fn submit_all_by_steps<S: Alter + Drop, R: Wait + Drop>(
+    publisher: &mut Publisher<S, R>,
+    registry: &mut Registry,
+    commands: &Vec<Command>,
+) -> Result<Receipt, Refusal>
+    requires quiet { IsQuiet publisher.old.phase }
+    requires some { 1 ≤ length commands.now.items }
+    requires storable { All IsStorable commands.now.items }
+    ensures ok { IfOk result (λ told. AcknowledgesAll S.Store publisher.old registry.old commands.now.items told publisher.new registry.new) }
+    ensures err { IfErr result (λ why. TakesNone S.Store publisher.old registry.old commands.now.items why publisher.new registry.new) }
+{
+    let plan = match plan_all(publisher, commands) {
+        Ok(plan) => plan,
+        Err(reason) => return Err(reason),
+    };
+    if let Err(reason) = admit_all(publisher, registry, plan) {
+        return Err(reason);
+    }
+    if let Err(reason) = commit(publisher) {
+        return Err(reason);
+    }
+    if let Err(reason) = show(publisher) {
+        return Err(reason);
+    }
+    let receipt = note(publisher, registry);
+    Ok(receipt)
+}
+
+/// Submits the first commands of a new file together, with the registry of its domain. What a crash leaves then holds each
+/// of them, under its own number, of which the receipt tells the last.
+///
+/// # Errors
+///
+/// Those of the steps.
+pub fn first_commands<S: Alter + Drop, R: Wait + Drop>(
+    publisher: &mut Publisher<S, R>,
+    registry: &mut Registry,
+    commands: &Vec<Command>,
+) -> Result<Receipt, Refusal>
+    requires quiet { IsQuiet publisher.old.phase }
+    requires some { 1 ≤ length commands.now.items }
+    requires storable { All IsStorable commands.now.items }
+    requires registry { registry.old ≡ new_registry (line_state publisher.old.line) }
+    ensures { IfOk result (λ told. BeginsAt S.Store publisher.old start → IsKnown S.Store publisher.new.ours_first publisher.new.tables → (left : State) → MayLeave S.Store publisher.new.tables left →
+        HoldsAll (run_from start (events_of (step_acts_all commands.now.items told))) (receipts_of (step_acts_all commands.now.items told)) [] left) }
+{
+    match submit_all_by_steps(publisher, registry, commands) {
+        Ok(receipt) => Ok(receipt),
+        Err(reason) => Err(reason),
+    }
+}
+
 /// Prepares a command, with the domain.
 ///
 /// # Errors
@@ -181,6 +283,30 @@ pub fn prepare<S: Alter + Drop, R: Wait + Drop, W: Wait>(
     ensures err { IfErr result (λ why. PreparesNot S.Store publisher.old publisher.new (Submit command.now) why) }
 {
     match publisher.prepare(rt, domain, command) {
+        Ok(()) => Ok(()),
+        Err(reason) => Err(reason),
+    }
+}
+
+/// Prepares commands together, with the domain.
+///
+/// # Errors
+///
+/// Those of `Publisher::prepare_all`. The world refuses the commands for the same reason, for want of room where it has
+/// none; of `NoMemory` it has no event.
+pub fn prepare_all<S: Alter + Drop, R: Wait + Drop, W: Wait>(
+    publisher: &mut Publisher<S, R>,
+    rt: &W,
+    domain: &Domain,
+    commands: &Vec<Command>,
+) -> Result<(), Refusal>
+    requires quiet { IsQuiet publisher.old.phase }
+    requires some { 1 ≤ length commands.now.items }
+    requires storable { All IsStorable commands.now.items }
+    ensures ok { OnOk result (Prepares S.Store publisher.old publisher.new (SubmitAll commands.now.items)) }
+    ensures err { IfErr result (λ why. PreparesNot S.Store publisher.old publisher.new (SubmitAll commands.now.items) why) }
+{
+    match publisher.prepare_all(rt, domain, commands) {
         Ok(()) => Ok(()),
         Err(reason) => Err(reason),
     }
@@ -223,6 +349,29 @@ pub fn submit<S: Alter + Drop, R: Wait + Drop, W: Wait>(
     ensures err { IfErr result (λ why. SubmitsNot S.Store publisher.old publisher.new (Submit command.now) why) }
 {
     match publisher.submit(rt, domain, command) {
+        Ok(receipt) => Ok(receipt),
+        Err(reason) => Err(reason),
+    }
+}
+
+/// Submits commands together, with the domain: in a world that has room all of their events, one after the other.
+///
+/// # Errors
+///
+/// Those of `Publisher::submit_all`, each with its events: all of the commands are stored, or none.
+pub fn submit_all<S: Alter + Drop, R: Wait + Drop, W: Wait>(
+    publisher: &mut Publisher<S, R>,
+    rt: &W,
+    domain: &Domain,
+    commands: &Vec<Command>,
+) -> Result<Receipt, Refusal>
+    requires quiet { IsQuiet publisher.old.phase }
+    requires some { 1 ≤ length commands.now.items }
+    requires storable { All IsStorable commands.now.items }
+    ensures ok { IfOk result (λ told. Submits S.Store publisher.old publisher.new (SubmitAll commands.now.items) told) }
+    ensures err { IfErr result (λ why. SubmitsNot S.Store publisher.old publisher.new (SubmitAll commands.now.items) why) }
+{
+    match publisher.submit_all(rt, domain, commands) {
         Ok(receipt) => Ok(receipt),
         Err(reason) => Err(reason),
     }
