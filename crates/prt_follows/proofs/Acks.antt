@@ -27,7 +27,7 @@ is_ack event = false
 
 -- ---- their numbers
 
-acks_from : (commands : List Command) (n last : ℕ) → last ≡ n + length commands → acks_after n commands ≡ acks_to last commands
+pub acks_from : (commands : List Command) (n last : ℕ) → last ≡ n + length commands → acks_after n commands ≡ acks_to last commands
 acks_from [] n last is = refl
 acks_from (command ∷ commands) n last is =
     let number : n + 1 ≡ last - length commands = omega (arith, is) in

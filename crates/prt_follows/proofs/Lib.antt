@@ -1,6 +1,5 @@
 pub mod Steps
 pub mod Calling
-pub mod Cut
 pub mod Between
 pub mod Woven
 pub mod Keeping
@@ -20,4 +19,5 @@ pub mod Fates
 pub mod Fitting
 pub mod Desks
 pub mod Scripts
+pub mod Files
 pub mod Looking

@@ -38,7 +38,7 @@ use Rattle.prt_follows.proofs.Registering.{registers_opened, registers_started}
 use Rattle.prt_store.proofs.Exits.{next_spelled}
 use Rattle.prt_store.proofs.Several.{makes_all_next}
 use Rattle.prt_store.specs.Next.{AreNext, put_all}
-use Rattle.prt_follows.proofs.Cut.{all_left_by}
+use Rattle.prt_store.proofs.Stops.{left_by}
 use Rattle.prt_grace.specs.Registry.{new_registry}
 use Rattle.prt_store.proofs.Adoptions.{opening_stored}
 use Rattle.prt_world.specs.declared.event.Fate.{Fate}
@@ -190,7 +190,7 @@ module _ {S : Type 0} (g : Ghosts S) where
       let number = published.count + length commands in
       let made = are_made published commands was.storable was.accepted in
       let many = as_many published commands was.accepted in
-      let survives = all_left_by g changes number old.tables now call was.stops in
+      let survives = left_by g changes number old.tables now call was.stops in
       let before : HasCleanDisk (state g old.tables) = omega (arith, survives.clean, known.1) in
       let stored : IsStored g old.tables published = subst (λ (p : Phase). Agrees g p commands published old.tables) was.prepared (stood (known.0, before)) in
       let follows : AreNext published changes number = record { sound = stored.now.fits.sound; made = made.0; counts = omega (arith, many) } in

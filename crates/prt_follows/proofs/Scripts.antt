@@ -1,5 +1,5 @@
 -- The lines of a script are a list of the world's events.
-use Rattle.std.proofs.Common.{◌≡◌, inl, inr, ℕ, Bool, true, false, not, ◌&&◌, List, [], ◌∷◌, ◌++◌, Option, Some, None, Result, Ok, Err, get_or, length, map, replicate, set, refl, sym, ap, ◌∙◌, subst, cond, arith}
+use Rattle.std.proofs.Common.{◌≡◌, inl, inr, ℕ, ◌≤◌, Bool, true, false, not, ◌&&◌, List, [], ◌∷◌, ◌++◌, Option, Some, None, Result, Ok, Err, get_or, length, map, replicate, set, refl, sym, ap, ◌∙◌, subst, cond, arith}
 use Rattle.std.specs.Prelude.{codes, filter, nat_lt}
 use Rattle.std.specs.List.{AllByRecursion as Each, list_any}
 use Rattle.std.proofs.lemmas.List.{append-nil, append_assoc}
@@ -25,9 +25,8 @@ use Rattle.prt_session.specs.Session.{Exchange, Turn, turn_on}
 use Rattle.prt_session.specs.declared.reply.Reply.{Reply}
 use Rattle.prt_session.specs.declared.reply.Reply.TheVariants.{Answered, Refused, Silent}
 use Rattle.prt_version.specs.Change.{refusal}
-use Rattle.prt_version.specs.State.{State, opening_state}
+use Rattle.prt_version.specs.State.{State}
 use Rattle.prt_version.specs.declared.answer.Answer.{Answer}
-use Rattle.prt_world.specs.Durability.{IsAnswered}
 use Rattle.prt_world.specs.World as world
 use Rattle.prt_world.specs.World.{Phase as Moment, Ack, LookerState, Lookup, Step, World, announced_by, has_room, looker_state, offline, online, outcomes_from, published_version, run_from, start, step}
 use Rattle.prt_world.specs.declared.event.Event.{Event}
@@ -35,23 +34,21 @@ use Rattle.prt_world.specs.declared.event.Event.TheVariants as events
 use Rattle.prt_world.specs.declared.event.Fate.TheVariants.{Kept, Lost}
 use Rattle.prt_world.specs.declared.outcome.Outcome.{Outcome}
 use Rattle.prt_world.specs.declared.outcome.Outcome.TheVariants as outcomes
-use Rattle.prt_world.proofs.Claims.{answered_of}
 use Rattle.prt_world.proofs.History.{stays}
 use Rattle.prt_world.proofs.KeptVersions.{each_replicate}
-use Rattle.prt_follows.specs.Desks.{AllTell, AnswersOrNot, AreOffline, DeskHasRoom, HasRoomFor, IsDeskOf, Lines, ReopenedDesk, ScriptIsRun, Sessions, SessionsHold, ShowsAnswer, ShowsReply, ShowsTurn, Tells, Weaves, accepted_by, accepted_in, desk_events, events_by, joined, lookup_events, lookup_outcomes, moment_between, reply_acks, request_acks, submitted_events}
+use Rattle.prt_follows.specs.Desks.{AllTell, AnswersOrNot, AreOffline, DeskHasRoom, HasRoomFor, IsDeskOf, Lines, ReopenedDesk, ScriptIsRun, ShowsAnswer, ShowsReply, ShowsTurn, Tells, Weaves, accepted_in, desk_events, events_by, joined, list_events_by, lookup_events, lookup_outcomes, moment_between, reply_acks, request_acks, submitted_events}
 use Rattle.prt_follows.specs.Events.{AsksSome, asked, commit_events, fail_events, is_lookers, own, publish_events}
-use Rattle.prt_follows.specs.Spots.{HasRoom, IsAt, IsReached}
+use Rattle.prt_follows.specs.Spots.{HasRoom, IsAt}
 use Rattle.prt_follows.proofs.Acks.{event_keeps}
 use Rattle.prt_follows.proofs.Answered.{list_had, unless_shows}
 use Rattle.prt_follows.proofs.Between.{stays_there}
 use Rattle.prt_follows.proofs.Calling.{calls_then, committed_then}
 use Rattle.prt_follows.proofs.Desks.{desk_of, turn_is_steps}
 use Rattle.prt_follows.proofs.Exits.{spot}
-use Rattle.prt_follows.proofs.Headline.{holds_all}
 use Rattle.prt_follows.proofs.Keeping.{Keeps, is_storing, storing_keeps}
 use Rattle.prt_follows.proofs.Looking.{runs}
 use Rattle.prt_follows.proofs.Opening.{reopens, stops}
-use Rattle.prt_follows.proofs.Steps.{holds_of, line_at, placed, reached_run, run_more}
+use Rattle.prt_follows.proofs.Steps.{line_at, placed, reached_run, run_more}
 use Rattle.prt_follows.proofs.Woven.{own_all, own_asked}
 
 -- ---- a desk's events leave lookers as they are
@@ -119,7 +116,7 @@ list_seats (event ∷ list) all w = list_seats list all.1 (step w event).world �
 -- ---- the events of a turn, with no looker between
 
 -- they are a command's, and in turn
-abbrev IsPlain : List Event → Type 0
+abbrev pub IsPlain : List Event → Type 0
 IsPlain list = Each (λ event. is_command event ≡ true) list × Weaves list list × (own list ≡ list)
 
 commands_own : (list : List Event) → Each (λ event. is_command event ≡ true) list → own list ≡ list
@@ -143,6 +140,16 @@ plain : (command : Command) (shuts : Bool) (reason : Option Refusal) (mishap : O
 plain command true reason mishap = plain_with (events.Submit command) [] (omega arith) tt
 plain command false (Some why) mishap = plain_with (events.Submit command) [] (omega arith) tt
 plain command false None mishap = plain_submitted (events.Submit command) mishap (omega arith)
+
+pub plain_list : (commands : List Command) (shuts : Bool) (reason : Option Refusal) (mishap : Option Mishap) → 1 ≤ length commands → IsPlain (list_events_by commands shuts reason mishap)
+plain_list commands true reason mishap some = plain_with (events.SubmitAll commands) [] some tt
+plain_list commands false (Some why) None some = plain_with (events.SubmitAll commands) [] some tt
+plain_list commands false (Some why) (Some no_room) some = plain_with (events.SubmitAll commands) [] some tt
+plain_list commands false (Some why) (Some no_memory) some = (tt, refl, refl)
+plain_list commands false (Some why) (Some (store_fails call)) some = plain_with (events.SubmitAll commands) [] some tt
+plain_list commands false (Some why) (Some commit_kept) some = plain_with (events.SubmitAll commands) [] some tt
+plain_list commands false (Some why) (Some publication_fails) some = plain_with (events.SubmitAll commands) [] some tt
+plain_list commands false None mishap some = plain_submitted (events.SubmitAll commands) mishap some
 
 -- ---- a reclaim where no looker is online
 
@@ -222,7 +229,7 @@ between_there w desk h = placed w (moment_between desk.closed) h.reached h.betwe
     asked false = tt
 
 -- some events that show this lead to a world of that desk, without lookers, and acknowledge these
-abbrev Reaches : World → (List Event → Type 0) → DeskState → List Ack → Type 0
+abbrev pub Reaches : World → (List Event → Type 0) → DeskState → List Ack → Type 0
 Reaches w Part desk acks = (list : List Event) × Part list × IsDeskOf desk (run_from w list) × AreOffline (run_from w list) × ((run_from w list).acks ≡ w.acks ++ acks)
 
 -- those of a command's turn
@@ -230,11 +237,11 @@ abbrev Turned : World → Command → Option Mishap → Turn DeskState → Type 
 Turned w command mishap turn = Reaches w (λ list. ShowsTurn w list command mishap turn.reply) turn.desk (reply_acks command turn.reply)
 
 module _ (w : World) (desk : DeskState) (h : IsDeskOf desk w) (all : AreOffline w) where
-  nothing_done : (Part : List Event → Type 0) → Part [] → Reaches w Part desk []
+  pub nothing_done : (Part : List Event → Type 0) → Part [] → Reaches w Part desk []
   nothing_done Part part = ([], part, h, all, sym (append-nil w.acks))
 
   -- a reclaim leaves the desk's world as it is, with room
-  reclaimed : IsDeskOf desk (step w events.Reclaim).world × AreOffline (step w events.Reclaim).world × (has_room (step w events.Reclaim).world ≡ true)
+  pub reclaimed : IsDeskOf desk (step w events.Reclaim).world × AreOffline (step w events.Reclaim).world × (has_room (step w events.Reclaim).world ≡ true)
   reclaimed =
       let moment = moment_between desk.closed in
       let runs : world.is_stopped w.phase ≡ false = ap world.is_stopped h.between ∙ going desk.closed in
@@ -381,46 +388,10 @@ module _ (P : Lookup → Type 0) where
   line_tells w part (Ok (Some (requests.Command command))) mishap reply shows all = tt
   line_tells w part (Ok (Some (requests.Query query))) mishap reply shows all = query_or_not w part query mishap reply shows all
 
-  lines_tell : (xs : List (Exchange Mishap)) (w : World) (parts : List (List Event)) → Lines w xs parts → Each P (run_from w (joined parts)).answers → AllTell P xs
+  pub lines_tell : (xs : List (Exchange Mishap)) (w : World) (parts : List (List Event)) → Lines w xs parts → Each P (run_from w (joined parts)).answers → AllTell P xs
   lines_tell [] w parts lines all = tt
   lines_tell (x ∷ xs) w [] lines all = absurd lines
   lines_tell (x ∷ xs) w (part ∷ parts) lines all =
       let v : World = run_from w part in
       let there : Each P (run_from v (joined parts)).answers = subst (λ (u : World). Each P u.answers) (run_more w part (joined parts)) all in
       (line_tells w part (reading x.line) x.mishap x.reply lines.0 (list_had P (joined parts) v there), lines_tell xs v parts lines.1 there)
-
--- ---- scripts on one file
-
--- some events lead to a world with this on disk, which acknowledged what replies do and gave the answers that they tell
-abbrev Holding : World → List (List (Exchange Mishap)) → State → Type 0
-Holding w sessions left = (v : World) × (list : List Event) × (v ≡ run_from w list) × (v.disk ≡ left) × (v.acks ≡ w.acks ++ accepted_by sessions) × Each (AllTell (IsAnswered v)) sessions
-
-sessions_from : (sessions : List (List (Exchange Mishap))) (stored left : State) (w : World) → IsDeskOf (settled stored) w → AreOffline w → Sessions stored sessions left → Holding w sessions left
-sessions_from [] stored left w h all is = (w, [], refl, h.stored ∙ sym is, sym (append-nil w.acks), tt)
-sessions_from (xs ∷ sessions) stored left w h all s =
-    let desk : DeskState = s.0 in
-    let run = script_is_run xs (settled stored) desk w h all s.1 in
-    let u : World = run_from w (joined run.0) in
-    let again = reopened_desk desk u run.2 in
-    let opening = events.Stop Lost ∷ events.Reopen ∷ [] in
-    let rest = sessions_from sessions desk.stored left (run_from u opening) again.0 again.1 s.2 in
-    let v : World = rest.0 in
-    let list = opening ++ rest.1 in
-    let more : v ≡ run_from u list = rest.2 ∙ sym (run_more u opening rest.1) in
-    let whole : v ≡ run_from w (joined run.0 ++ list) = more ∙ sym (run_more w (joined run.0) list) in
-    let reached : IsReached v = subst IsReached (sym whole) (reached_run w (joined run.0 ++ list) h.reached) in
-    let had : Each (IsAnswered v) u.answers = list_had (IsAnswered v) list u (subst (λ (x : World). Each (IsAnswered v) x.answers) more (answered_of v (holds_of v reached))) in (
-      v,
-      joined run.0 ++ list,
-      whole,
-      rest.3,
-      rest.4 ∙ ap (λ acks. acks ++ accepted_by sessions) (again.2 ∙ run.4) ∙ append_assoc w.acks (accepted_in xs) (accepted_by sessions),
-      (lines_tell (IsAnswered v) xs w run.0 run.1 had, rest.5),
-    )
-
-pub sessions_hold : SessionsHold
-sessions_hold sessions left s =
-    let there = sessions_from sessions opening_state left start (record { reached = ([], refl); between = refl; published = refl; stored = refl }) refl s in
-    let v : World = there.0 in
-    let reached : IsReached v = (there.1, there.2) in
-    (v, reached, there.3, there.4, holds_all v [] (accepted_by sessions) v.answers left (holds_of v reached) (sym there.3) there.4 (λ all. all), there.5)

@@ -1,5 +1,5 @@
 -- Commands together in one registry: they are planned outside its lock, and admitted under it.
-use Rattle.std.proofs.Common.{◌≡◌, ◌⊎◌, inl, inr, ◌<◌, ◌≤◌, false, true, List, [], ◌∷◌, length, refl, ap, sym, subst}
+use Rattle.std.proofs.Common.{◌≡◌, ◌⊎◌, inl, inr, ◌<◌, ◌≤◌, false, true, List, [], ◌∷◌, length, refl, ap, subst}
 use Rattle.std.specs.List.{AllByRecursion as Each}
 use Rattle.sqlite.specs.Held.{Held}
 use Rattle.sqlite.specs.Store.{Ghosts}

@@ -1,5 +1,5 @@
 -- The turns of a desk's definition, beside the world's events.
-use Rattle.std.specs.Prelude.{ℕ, ◌≤◌, length, ◌≡◌, ◌⊎◌, ◌++◌, Bool, true, false, List, [], ◌∷◌, replicate, Option, Some, None, Result, Ok, Err, codes, ⊤}
+use Rattle.std.specs.Prelude.{find, ℕ, ◌≤◌, length, ◌≡◌, ◌⊎◌, ◌++◌, Bool, true, false, List, [], ◌∷◌, replicate, Option, Some, None, Result, Ok, Err, codes, ⊤}
 use Rattle.std.specs.List.{AllByRecursion as Each}
 use Rattle.prt_addr.specs.declared.refusal.Refusal.{Refusal}
 use Rattle.prt_addr.specs.declared.refusal.Refusal.TheVariants.{Busy, NoMemory}
@@ -14,8 +14,10 @@ use Rattle.prt_grace.specs.declared.limits.TheConstants.{PLACES}
 use Rattle.prt_listing.specs.AnswerText.{answer_text}
 use Rattle.prt_listing.specs.QueryText.{query_text}
 use Rattle.prt_rule.specs.declared.packet.Packet.{Packet}
+use Rattle.prt_session.specs.Atomic.{atomic_output, collected, list_replies}
 use Rattle.prt_session.specs.Desk.{Befalls, DeskState, Mishap, command_turn, commands_turn, commit_kept, no_memory, no_room, publication_fails, request_turn, settled, store_fails}
-use Rattle.prt_session.specs.Session.{Exchange, Path}
+use Rattle.prt_session.specs.Reply.{is_refused}
+use Rattle.prt_session.specs.Session.{Exchange, Input, Path, replies}
 use Rattle.prt_session.specs.Steps.{reply_of}
 use Rattle.prt_session.specs.declared.reply.Reply.{Reply}
 use Rattle.prt_session.specs.declared.reply.Reply.TheVariants.{Accepted, Answered, Refused, Silent}
@@ -198,6 +200,42 @@ ScriptIsRun = (xs : List (Exchange Mishap)) (before after : DeskState) (w : Worl
     → (parts : List (List Event)) × Lines w xs parts
     × IsDeskOf after (run_from w (joined parts)) × AreOffline (run_from w (joined parts)) × ((run_from w (joined parts)).acks ≡ w.acks ++ accepted_in xs)
 
+-- ---- an atomic file
+
+-- The events of commands together, by what befalls them, show how they end. Only a refusal as busy is none, for lack of a looker: then nothing is done.
+abbrev pub ShowsList : World → List Event → List Command → Option Mishap → Result ℕ Refusal → Type 0
+ShowsList w part commands mishap result =
+    ((closed : Bool) × (w.phase ≡ moment_between closed) × (own part ≡ list_events_by commands closed (refusal_all (published_version w) commands) mishap) × (shown_result (own_outcomes w part) ≡ result))
+    ⊎ ((mishap ≡ Some no_room) × (result ≡ Err Busy) × (part ≡ []))
+
+-- A file whose reading was refused does nothing, and neither does one without a command.
+abbrev pub ShowsFile : DeskState → World → List Event → Option Reply → List Command → Option Mishap → List Reply → Type 0
+ShowsFile desk w part (Some refused) commands mishap told = (part ≡ []) × (told ≡ refused ∷ [])
+ShowsFile desk w part None [] mishap told = (part ≡ []) × (told ≡ [])
+ShowsFile desk w part None (command ∷ commands) mishap told = (result : Result ℕ Refusal) × ShowsList w part (command ∷ commands) mishap result × (told ≡ list_replies desk (command ∷ commands) result)
+
+-- the commands that the replies acknowledge, with the numbers that they tell
+abbrev pub replies_acks : List Command → List Reply → List Ack
+replies_acks [] replies = []
+replies_acks (command ∷ commands) [] = []
+replies_acks (command ∷ commands) (reply ∷ replies) = reply_acks command reply ++ replies_acks commands replies
+
+-- how its reading was refused, and what it collected
+abbrev pub reading_refused : Input → List (Option Mishap) → Option Reply
+reading_refused input mishaps = find is_refused (replies (collected input mishaps))
+
+abbrev pub read_commands : Input → List (Option Mishap) → List Command
+read_commands input mishaps = (collected input mishaps).desk
+
+-- An atomic file is a list of events too, which shows its replies: those of its commands together, or none. They lead to a world of the desk after it, and acknowledge what the replies do.
+abbrev pub FileIsRun : Type 0
+FileIsRun = (desk : DeskState) (w : World) (input : Input) (mishaps : List (Option Mishap)) (mishap : Option Mishap) → IsDeskOf desk w → AreOffline w
+    → (part : List Event) × ShowsFile desk w part (reading_refused input mishaps) (read_commands input mishaps) mishap (atomic_output desk input mishaps mishap).replies
+    × IsDeskOf (atomic_output desk input mishaps mishap).desk (run_from w part) × AreOffline (run_from w part)
+    × ((run_from w part).acks ≡ w.acks ++ replies_acks (read_commands input mishaps) (atomic_output desk input mishaps mishap).replies)
+
+-- ---- between them
+
 -- Such a world has room once it has reclaimed: it refuses no command as busy.
 abbrev pub DeskHasRoom : Type 0
 DeskHasRoom = (desk : DeskState) (w : World) → IsDeskOf desk w → AreOffline w → has_room (step w events.Reclaim).world ≡ true
@@ -211,17 +249,30 @@ ReopenedDesk = (desk : DeskState) (w : World) → IsDeskOf desk w → IsDeskOf (
 abbrev pub DeskHoldsAll : Type 0
 DeskHoldsAll = (desk : DeskState) (w : World) → IsDeskOf desk w → HoldsAll w w.acks w.answers desk.stored
 
--- ---- scripts on one file
+-- ---- scripts and atomic files on one database
 
--- Each script begins at an open desk on what the one before left stored.
-abbrev pub Sessions : State → List (List (Exchange Mishap)) → State → Type 0
+-- What a run of the program does: a script, or an atomic file, with what befalls it and what it replies.
+pub data Work : Type 0 where
+  script : (xs : List (Exchange Mishap)) → Work
+  file : (input : Input) → (mishaps : List (Option Mishap)) → (mishap : Option Mishap) → (told : List Reply) → Work
+
+abbrev pub Does : DeskState → Work → DeskState → Type 0
+Does before (script xs) after = Exchanges before xs after
+Does before (file input mishaps mishap told) after = (told ≡ (atomic_output before input mishaps mishap).replies) × (after ≡ (atomic_output before input mishaps mishap).desk)
+
+-- Each begins at an open desk on what the one before left stored.
+abbrev pub Sessions : State → List Work → State → Type 0
 Sessions stored [] left = left ≡ stored
-Sessions stored (xs ∷ sessions) left = (desk : DeskState) × Exchanges (settled stored) xs desk × Sessions desk.stored sessions left
+Sessions stored (work ∷ works) left = (desk : DeskState) × Does (settled stored) work desk × Sessions desk.stored works left
 
--- the commands that their replies acknowledge
-abbrev pub accepted_by : List (List (Exchange Mishap)) → List Ack
+-- the commands that its replies acknowledge
+abbrev pub work_acks : Work → List Ack
+work_acks (script xs) = accepted_in xs
+work_acks (file input mishaps mishap told) = replies_acks (read_commands input mishaps) told
+
+abbrev pub accepted_by : List Work → List Ack
 accepted_by [] = []
-accepted_by (xs ∷ sessions) = accepted_in xs ++ accepted_by sessions
+accepted_by (work ∷ works) = work_acks work ++ accepted_by works
 
 -- where the reply answers a `route get`, this holds of the packet and the answer that it tells
 abbrev pub Tells : (Lookup → Type 0) → Result (Option Request) Refusal → Reply → Type 0
@@ -231,7 +282,12 @@ Tells P request reply = Unit {0}
 abbrev pub AllTell : (Lookup → Type 0) → List (Exchange Mishap) → Type 0
 AllTell P xs = Each (λ x. Tells P (reading x.line) x.reply) xs
 
--- What any number of scripts on a new file leave is on disk in a world that acknowledged what their replies do: it holds all of that, and the version by which each `route get` was answered.
+-- an atomic file has no query
+abbrev pub WorkTells : (Lookup → Type 0) → Work → Type 0
+WorkTells P (script xs) = AllTell P xs
+WorkTells P (file input mishaps mishap told) = Unit {0}
+
+-- What any number of scripts and atomic files on a new database leave is on disk in a world that acknowledged what their replies do: it holds all of that, and the version by which each `route get` was answered.
 abbrev pub SessionsHold : Type 0
-SessionsHold = (sessions : List (List (Exchange Mishap))) (left : State) → Sessions opening_state sessions left → (v : World) × IsReached v × (v.disk ≡ left) × (v.acks ≡ accepted_by sessions)
-    × HoldsAll v (accepted_by sessions) v.answers left × Each (AllTell (IsAnswered v)) sessions
+SessionsHold = (works : List Work) (left : State) → Sessions opening_state works left → (v : World) × IsReached v × (v.disk ≡ left) × (v.acks ≡ accepted_by works)
+    × HoldsAll v (accepted_by works) v.answers left × Each (WorkTells (IsAnswered v)) works

@@ -231,11 +231,11 @@ pub fn submit_all_by_steps<S: Alter + Drop, R: Wait + Drop>(
     if let Err(reason) = admit_all(publisher, registry, plan) {
         return Err(reason);
     }
-    if let Err(reason) = commit(publisher) {
-        return Err(reason);
+    if let Err(failed) = commit(publisher) {
+        return Err(failed);
     }
-    if let Err(reason) = show(publisher) {
-        return Err(reason);
+    if let Err(unshown) = show(publisher) {
+        return Err(unshown);
     }
     let receipt = note(publisher, registry);
     Ok(receipt)

@@ -1,5 +1,5 @@
 //! Laws of the definitions, which no program calls.
-ghost use Rattle.prt_follows.specs.Desks.{DeskHasRoom, DeskHoldsAll, ListIsSteps, ReopenedDesk, ScriptIsRun, SessionsHold, TurnIsSteps};
+ghost use Rattle.prt_follows.specs.Desks.{DeskHasRoom, DeskHoldsAll, FileIsRun, ListIsSteps, ReopenedDesk, ScriptIsRun, SessionsHold, TurnIsSteps};
 ghost use Rattle.prt_follows.specs.Lookers.{EveryLookersEvent};
 ghost use Rattle.prt_follows.specs.Registries.{EveryEventKeepsRegistry, RoomIsRoom};
 ghost use Rattle.prt_follows.specs.Runs.{EveryRunGoesOn, EveryRunLeaves, EveryRunStands, EveryStopLeaves};
@@ -50,13 +50,17 @@ pub fn turn_is_steps()
 /// published version, without an event. The lists lead to a world of the desk that the script leaves, and acknowledge
 /// what the replies do (`run`).
 ///
+/// So is an atomic file: where its reading was refused, or it has no command, that is no event; otherwise it has those of
+/// its commands together, and they show its replies (`file`).
+///
 /// No looker is online between lines, so that world has room for each command: a refusal as busy is no event (`room`). A
 /// desk whose stored state is opened again is such a world too, stopped and reopened (`reopened`).
 ///
-/// So what any number of scripts on one file leave holds each command that a reply acknowledged, under the number that
-/// the reply tells, and the version of each answer to a `route get` (`sessions`).
+/// So what any number of scripts and atomic files on one database leave holds each command that a reply acknowledged,
+/// under the number that the reply tells, and the version of each answer to a `route get` (`sessions`).
 pub fn script_is_run()
     ensures run { ScriptIsRun }
+    ensures file { FileIsRun }
     ensures room { DeskHasRoom }
     ensures reopened { ReopenedDesk }
     ensures sessions { SessionsHold }

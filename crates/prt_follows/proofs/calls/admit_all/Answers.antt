@@ -1,6 +1,3 @@
-use Rattle.std.proofs.Common.{ap}
-use Rattle.sqlite.specs.Held.{Held}
-use Rattle.prt_publisher.specs.Standing.{Standing}
 use Rattle.prt_follows.proofs.Together.{declines_plan, takes_plan}
 use Rattle.prt_follows.proofs.calls.admit_all.Goals as goal
 

@@ -1,5 +1,4 @@
 use Rattle.std.proofs.Common.{◌≡◌, List, false, true, inl, inr, refl, ap, sym, ◌∙◌, subst}
-use Rattle.sqlite.specs.Held.{Held}
 use Rattle.prt_addr.specs.declared.refusal.Refusal.{Refusal}
 use Rattle.prt_command.specs.declared.request.Command.{Command}
 use Rattle.prt_world.specs.World.{step}
