@@ -1,7 +1,9 @@
 //! Scripts over desks, whose databases are opened again.
 
 use prt_desk::StoreDesk;
-use prt_session::{Desk, ListDesk, OnRefusal, Refusal, ScriptEnd, Unobserved, run_script};
+use prt_session::{
+    Desk, ListDesk, OnRefusal, Refusal, ScriptEnd, Unobserved, run_atomic, run_script,
+};
 use sqlite::{Alter, Connection, Error};
 use std::alloc::Global;
 use std::sync::Wait;
@@ -25,6 +27,14 @@ pub fn run<D: Desk>(alloc: Global, desk: &mut D, script: &str) -> (Vec<u8>, Scri
         OnRefusal::GoOn,
         &mut Unobserved,
     );
+    (text, end)
+}
+
+/// Gives the replies of a desk to an atomic file, and how it ended.
+pub fn run_together<D: Desk>(alloc: Global, desk: &mut D, file: &str) -> (Vec<u8>, ScriptEnd) {
+    let mut text = Vec::new(alloc);
+    let mut lines = file.as_bytes();
+    let end = run_atomic(alloc, desk, &mut lines, &mut text, &mut Unobserved);
     (text, end)
 }
 

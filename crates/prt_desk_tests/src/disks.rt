@@ -1,6 +1,6 @@
 //! Runs over the two files of a database, which come back also where they can't be opened.
 
-use crate::desks::run;
+use crate::desks::{run, run_together};
 use prt_desk::StoreDesk;
 use prt_fault_disks::FailOnce;
 use prt_session::{Refusal, ScriptEnd};
@@ -41,6 +41,13 @@ impl Faults {
     };
 }
 
+/// How a script is run: its commands one after the other, or together as an atomic file.
+#[derive(Clone, Copy)]
+pub enum Mode {
+    InTurn,
+    Together,
+}
+
 /// How a script ran over a database.
 #[derive(Drop)]
 pub struct Ran {
@@ -77,10 +84,14 @@ fn run_over<D: Disk + Drop, H: Wait + Copy + Drop>(
     alloc: Global,
     connection: Connection<FileStore<D>>,
     script: &str,
+    mode: Mode,
 ) -> (Result<Ran, Refusal>, Files<D>) {
     match StoreDesk::open(rt, alloc, connection) {
         Ok(mut desk) => {
-            let (replies, end) = run(alloc, &mut desk, script);
+            let (replies, end) = match mode {
+                Mode::InTurn => run(alloc, &mut desk, script),
+                Mode::Together => run_together(alloc, &mut desk, script),
+            };
             let failure = desk.failure();
             let ran = Ran {
                 replies,
@@ -99,12 +110,13 @@ pub fn run_in<D: Disk + Drop, H: Wait + Copy + Drop>(
     alloc: Global,
     files: Files<D>,
     script: &str,
+    mode: Mode,
 ) -> (Result<Ran, Refusal>, Files<D>) {
     if !files.may_be_used() {
         return (Err(Refusal::OpenFailed), files);
     }
     match Connection::open_files(alloc, files, OPTIONS) {
-        Ok(connection) => run_over(rt, alloc, connection, script),
+        Ok(connection) => run_over(rt, alloc, connection, script, mode),
         Err((_, left)) => (Err(Refusal::OpenFailed), left.into_files()),
     }
 }

@@ -1,6 +1,6 @@
 //! A script over files of which each call in turn is the last that works, or the only one that fails.
 
-use crate::disks::{Faults, Ran, calls_made, copies, new_files, run_in};
+use crate::disks::{Faults, Mode, Ran, calls_made, copies, new_files, run_in};
 use prt_addr::StoreCall;
 use prt_session::Refusal;
 use std::alloc::Global;
@@ -22,10 +22,10 @@ const REPLIES: [&str; 6] = [
 ];
 
 /// What shows the whole state.
-const LISTINGS: &str = "route get 10.1.2.3\nroute show table all\nrule show\n";
+pub const LISTINGS: &str = "route get 10.1.2.3\nroute show table all\nrule show\n";
 
 /// The replies to that after so many of the five commands.
-const HELD: [&str; 6] = [
+pub const HELD: [&str; 6] = [
     "answer 0 none\nend 0\n0:\tfrom all lookup local\n32766:\tfrom all lookup main\n32767:\tfrom all lookup default\nend 3\n",
     "answer 1 rule 32766 table main 10.0.0.0/8 via 192.0.2.1\n10.0.0.0/8 via 192.0.2.1\nend 1\n0:\tfrom all lookup local\n32766:\tfrom all lookup main\n32767:\tfrom all lookup default\nend 3\n",
     "answer 2 rule 32766 table main blackhole 10.0.0.0/8\nblackhole 10.0.0.0/8\nend 1\n0:\tfrom all lookup local\n32766:\tfrom all lookup main\n32767:\tfrom all lookup default\nend 3\n",
@@ -40,7 +40,7 @@ fn place_of(texts: &[&str; 6], text: &[u8]) -> Option<usize> {
 }
 
 /// Tells whether a desk gave the library's error where a commit failed, and nowhere else.
-fn is_told(ran: &Result<Ran, Refusal>) -> bool {
+pub fn is_told(ran: &Result<Ran, Refusal>) -> bool {
     match ran {
         Ok(ran) => {
             let has_failed = matches!(ran.end.fault, Some(Refusal::StoreFailed(_)));
@@ -76,16 +76,16 @@ fn is_right_with<H: Wait + Copy + Drop>(
     alloc: Global,
     faults: Faults,
 ) -> Result<(bool, bool), Fail> {
-    let (ran, files) = run_in(rt, alloc, new_files(alloc, faults), CHURN);
+    let (ran, files) = run_in(rt, alloc, new_files(alloc, faults), CHURN, Mode::InTurn);
     let has_failed = files.log.has_failed() || files.db.has_failed();
-    let (again, _files) = run_in(rt, alloc, copies(alloc, &files, Faults::NONE)?, LISTINGS);
+    let (again, _files) = run_in(rt, alloc, copies(alloc, &files, Faults::NONE)?, LISTINGS, Mode::InTurn);
     let is_right = is_told(&ran) && may_leave(&ran, again?.replies.as_slice());
     Ok((is_right, has_failed))
 }
 
 /// Tells how many calls of the log, and of the database's file, the script makes where none fails.
 fn calls_of_script<H: Wait + Copy + Drop>(rt: H, alloc: Global) -> (u64, u64) {
-    calls_made(&run_in(rt, alloc, new_files(alloc, Faults::NONE), CHURN).1)
+    calls_made(&run_in(rt, alloc, new_files(alloc, Faults::NONE), CHURN, Mode::InTurn).1)
 }
 
 /// Tells whether the first command fails where the log takes so many calls, each later command is refused as closed, and
@@ -95,7 +95,7 @@ fn answers_when_closed<H: Wait + Copy + Drop>(rt: H, alloc: Global, calls: u64) 
         log_stop: calls,
         ..Faults::NONE
     };
-    let (ran, _files) = run_in(rt, alloc, new_files(alloc, faults), CHURN);
+    let (ran, _files) = run_in(rt, alloc, new_files(alloc, faults), CHURN, Mode::InTurn);
     match ran {
         Ok(ran) => place_of(&REPLIES, ran.replies.as_slice()) == Some(0),
         Err(_) => false,

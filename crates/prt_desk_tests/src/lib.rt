@@ -2,6 +2,8 @@
 #![tactic(auto)]
 
 #[cfg(test)]
+mod atomic;
+#[cfg(test)]
 mod desks;
 #[cfg(test)]
 mod disks;

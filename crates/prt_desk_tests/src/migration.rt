@@ -1,6 +1,6 @@
 //! A file of format 1, which its opening migrates, also where it is stopped at any call.
 
-use crate::disks::{Faults, Faulty, OPTIONS, calls_made, closed, copies, new_files, run_in};
+use crate::disks::{Faults, Faulty, Mode, OPTIONS, calls_made, closed, copies, new_files, run_in};
 use prt_session::Refusal;
 use sqlite::{Connection, Files};
 use sqlite_disk::Disk;
@@ -47,8 +47,8 @@ fn is_migrated_with<H: Wait + Copy + Drop>(
     former: &Files<Faulty>,
     faults: Faults,
 ) -> Result<bool, Fail> {
-    let (_ran, files) = run_in(rt, alloc, copies(alloc, former, faults)?, "");
-    let (again, files) = run_in(rt, alloc, copies(alloc, &files, Faults::NONE)?, LISTINGS);
+    let (_ran, files) = run_in(rt, alloc, copies(alloc, former, faults)?, "", Mode::InTurn);
+    let (again, files) = run_in(rt, alloc, copies(alloc, &files, Faults::NONE)?, LISTINGS, Mode::InTurn);
     let (rows, _files) = changed_in(alloc, files, "", "DELETE FROM meta WHERE format = 2")?;
     Ok(again?.replies.as_slice() == HELD && rows == 1)
 }
@@ -63,7 +63,7 @@ fn former_files(alloc: Global) -> Result<Files<Faulty>, Fail> {
 fn migration_goes_on_after_each_stop(rt: HostRuntime) -> Result<(), Fail> {
     let alloc = rt.alloc();
     let former = former_files(alloc)?;
-    let (_ran, whole) = run_in(rt, alloc, copies(alloc, &former, Faults::NONE)?, "");
+    let (_ran, whole) = run_in(rt, alloc, copies(alloc, &former, Faults::NONE)?, "", Mode::InTurn);
     let (log, db) = calls_made(&whole);
     for calls in 0..=log.max(db) {
         let of_log = Faults {

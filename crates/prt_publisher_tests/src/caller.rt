@@ -49,6 +49,22 @@ pub fn submit_one<S: Alter + Drop, R: Wait + Drop, H: Wait>(
     }
 }
 
+/// Submits two flushes of the rules together, and gives the number of their receipt.
+pub fn submit_two_together<S: Alter + Drop, R: Wait + Drop, H: Wait>(
+    rt: &H,
+    alloc: Global,
+    publisher: &mut Publisher<S, R>,
+    domain: &Domain,
+) -> Result<u64, Refusal>
+    requires { IsQuiet publisher.old.phase }
+{
+    let commands = Vec::from_slice(alloc, &[Command::RuleFlush, Command::RuleFlush])?;
+    match publisher.submit_all(rt, domain, &commands) {
+        Ok(receipt) => Ok(receipt.number()),
+        Err(reason) => Err(reason),
+    }
+}
+
 /// Prepares a flush of the rules.
 pub fn prepare_one<S: Alter + Drop, R: Wait + Drop, H: Wait>(
     rt: &H,

@@ -10,7 +10,6 @@ use prt_version::Version;
 use prt_version::owners::first_owner;
 use sqlite::{Alter, Connection};
 use std::alloc::Global;
-use std::snapshot::Snapshot;
 use std::sync::Wait;
 use std::test::Fail;
 
@@ -59,7 +58,8 @@ fn look_around<S: Alter + Drop, H: Wait + Drop>(
         return Ok(None);
     };
     let before = first.fetch()?.number();
-    let told = front.publish(stamp, Snapshot::of(&command), first_owner(alloc, next)?)?;
+    let commands = Vec::from_slice(alloc, &[command])?;
+    let told = front.publish_all(stamp, &commands, first_owner(alloc, next)?)?;
     second.learn(&told);
     Ok(Some(Found {
         before,

@@ -1,6 +1,6 @@
 //! Each call of a publisher, and its end in each phase.
 
-use crate::caller::{adopted, prepare_one, stored_number, submit_one};
+use crate::caller::{adopted, prepare_one, stored_number, submit_one, submit_two_together};
 use prt_command::{Command, Refusal};
 use prt_front::READERS;
 use prt_publisher::Phase;
@@ -85,5 +85,27 @@ fn publishes_two_commands(rt: HostRuntime) -> Result<(), Fail> {
     let alloc = rt.alloc();
     let connection = Connection::open_in_memory(alloc)?;
     assert_eq!(rt; publish_two(rt, alloc, connection)?, (1, 2, READERS));
+    Ok(())
+}
+
+/// Submits two commands together. Gives the number that is published before, those of the receipt and of what is published
+/// after, and how many versions nobody can hold then.
+fn publish_together<S: Alter + Drop, H: Wait + Copy + Drop>(
+    rt: H,
+    alloc: Global,
+    connection: Connection<S>,
+) -> Result<(u64, u64, u64, usize), Refusal> {
+    let (mut publisher, domain) = adopted(rt, alloc, connection)?;
+    let before = publisher.published().number();
+    let receipt = submit_two_together(&rt, alloc, &mut publisher, &domain)?;
+    let after = publisher.published().number();
+    Ok((before, receipt, after, domain.reclaim(&rt)))
+}
+
+#[test]
+fn publishes_one_version_of_two_commands(rt: HostRuntime) -> Result<(), Fail> {
+    let alloc = rt.alloc();
+    let connection = Connection::open_in_memory(alloc)?;
+    assert_eq!(rt; publish_together(rt, alloc, connection)?, (0, 2, 2, 1));
     Ok(())
 }

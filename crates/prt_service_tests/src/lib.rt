@@ -7,3 +7,5 @@ mod caller;
 mod learning;
 #[cfg(test)]
 mod retention;
+#[cfg(test)]
+mod together;

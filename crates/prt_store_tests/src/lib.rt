@@ -17,6 +17,8 @@ mod restarts;
 mod rows;
 #[cfg(test)]
 mod steps;
+#[cfg(test)]
+mod together;
 
 pub use caller::submit;
 pub use reopening::reopened;

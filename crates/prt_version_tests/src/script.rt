@@ -1,6 +1,6 @@
 //! Versions and answers, by lines of the command language.
 
-use prt_command::{Query, Refusal, Request, read_line};
+use prt_command::{Command, Query, Refusal, Request, read_line};
 use prt_listing::{TablePart, answer_text, route_text, rule_text};
 use prt_version::Version;
 use std::alloc::Global;
@@ -24,6 +24,18 @@ pub fn version_after(alloc: Global, script: &str) -> Result<Version, Refusal> {
         version = next_version(&version, line)?;
     }
     Ok(version)
+}
+
+/// Gives the commands of a script's lines.
+pub fn commands_of(alloc: Global, script: &str) -> Result<Vec<Command>, Refusal> {
+    let mut commands = Vec::new(alloc);
+    for line in script.lines() {
+        match read_line(line.as_bytes())? {
+            Some(Request::Command(command)) => commands.push(command)?,
+            _ => return Err(Refusal::UnknownVerb),
+        }
+    }
+    Ok(commands)
 }
 
 /// Gives the texts that answer the query of a line, with a line feed after each.

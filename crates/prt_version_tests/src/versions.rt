@@ -1,7 +1,7 @@
-use crate::script::{answer, next_version, version_after};
+use crate::script::{answer, commands_of, next_version, version_after};
 use prt_command::Refusal;
 use prt_listing::refusal_text;
-use prt_version::Version;
+use prt_version::{Change, Version, opening_rules};
 use std::alloc::Global;
 use std::test::Fail;
 
@@ -144,5 +144,19 @@ fn refuses_commands(rt: HostRuntime) -> Result<(), Fail> {
     let mut out = Vec::from_slice(rt.alloc(), b"1: ")?;
     refusal_text(&mut out, &Refusal::NoSuch)?;
     assert!(rt; out.as_slice() == b"1: error 22 NoSuch".as_slice());
+    Ok(())
+}
+
+#[test]
+fn makes_commands_together(rt: HostRuntime) -> Result<(), Fail> {
+    let alloc = rt.alloc();
+    let opening = Version::opening(alloc)?;
+    let commands = commands_of(alloc, "route add 10/8 dev a1\nrule add table 7")?;
+    let (changes, last) = opening.after_all(&commands)?;
+    assert!(rt; changes.len() == 2 && last.number() == 2);
+    assert!(rt; matches!(changes.last(), Some(Change::RulePut(rule)) if rule.id == 5));
+    let refused = commands_of(alloc, "route add 10/8 dev a1\nroute add 10/8 dev a2")?;
+    assert!(rt; opening.after_all(&refused).err() == Some(Refusal::Exists));
+    assert!(rt; opening.number() == 0 && opening.rules() == opening_rules().as_slice());
     Ok(())
 }

@@ -1,0 +1,6 @@
+use Rattle.std.specs.Prelude.{All}
+use Rattle.prt_command.specs.Storable.{IsStorable}
+use Rattle.prt_store_tests.proofs.together.commands_of.Given as goal
+
+abbrev pub invariant-loop : goal.invariant-loop
+invariant-loop l = All IsStorable l.commands.items
