@@ -71,7 +71,7 @@ events_by command false None mishap = submitted_events (events.Submit command) m
 abbrev pub desk_events : DeskState → Command → Option Mishap → List Event
 desk_events desk command mishap = events_by command desk.closed (refusal desk.published command) mishap
 
--- of commands together: memory may be refused before the one that is refused is read
+-- of commands together: where memory is refused at the one that is refused, or at one before it, nothing is submitted
 abbrev pub list_events_by : List Command → Bool → Option Refusal → Option Mishap → List Event
 list_events_by commands true reason mishap = events.SubmitAll commands ∷ []
 list_events_by commands false (Some reason) (Some no_memory) = []
@@ -227,7 +227,7 @@ reading_refused input mishaps = find is_refused (replies (collected input mishap
 abbrev pub read_commands : Input → List (Option Mishap) → List Command
 read_commands input mishaps = (collected input mishaps).desk
 
--- An atomic file is a list of events too, which shows its replies: those of its commands together, or none. They lead to a world of the desk after it, and acknowledge what the replies do.
+-- An atomic file is a list of events too, which shows its replies: that of its commands together, or none. It leads to a world of the desk after the file, and acknowledges what the replies do.
 abbrev pub FileIsRun : Type 0
 FileIsRun = (desk : DeskState) (w : World) (input : Input) (mishaps : List (Option Mishap)) (mishap : Option Mishap) → IsDeskOf desk w → AreOffline w
     → (part : List Event) × ShowsFile desk w part (reading_refused input mishaps) (read_commands input mishaps) mishap (atomic_output desk input mishaps mishap).replies
@@ -287,7 +287,7 @@ abbrev pub WorkTells : (Lookup → Type 0) → Work → Type 0
 WorkTells P (script xs) = AllTell P xs
 WorkTells P (file input mishaps mishap told) = Unit {0}
 
--- What any number of scripts and atomic files on a new database leave is on disk in a world that acknowledged what their replies do: it holds all of that, and the version by which each `route get` was answered.
+-- What any number of scripts and atomic files on a new database leave is on disk in a world that acknowledged what their replies do. It holds all of that, and the version by which each `route get` was answered.
 abbrev pub SessionsHold : Type 0
 SessionsHold = (works : List Work) (left : State) → Sessions opening_state works left → (v : World) × IsReached v × (v.disk ≡ left) × (v.acks ≡ accepted_by works)
     × HoldsAll v (accepted_by works) v.answers left × Each (WorkTells (IsAnswered v)) works

@@ -59,7 +59,7 @@ module _ {S : Type 0} (g : Ghosts S) (old new : Standing (Held S)) where
   abbrev pub PlansNot : Refusal → Type 0
   PlansNot why = (why ≡ NoMemory) × (new.phase ≡ Ready) × ((w : World) → IsPublisherOf g old w → Leads g w [] [] new)
 
-  -- commands are not planned: memory was refused, of which the world has no event; or the world refuses what this event submits, with room or without; the publisher is as it was
+  -- Commands are not planned, and the publisher is as it was. Memory was refused, of which the world has no event; or the world refuses what this event submits, with room or without.
   abbrev pub PlansNone : Event → Refusal → Type 0
   PlansNone event why = (new ≡ old) × ((why ≡ NoMemory) ⊎ ((w : World) → IsPublisherOf g old w → ((step w event).outcome ≡ outcomes.Refused why) × IsPublisherOf g new (step w event).world))
 

@@ -186,7 +186,7 @@ module _ {S : Type 0} (g : Ghosts S) where
   abbrev pub AcknowledgesAll : Standing (Held S) → RegistryState → List Command → Line → Standing (Held S) → RegistryState → Type 0
   AcknowledgesAll old r commands told new after = (w : World) → AreBothOf g old r w → ActsAll old r w (step_acts_all commands told) new after
 
-  -- Those that are not had no memory and changed nothing; or are refused at once, or after a reclaim; or all are stored, and their publication fails; or their commit fails, of all of them.
+  -- Those that are not had no memory, and nothing changed; or they are refused, at once or after a reclaim. Or all of them are stored, and their publication fails; or their commit fails.
   abbrev pub TakesNone : Standing (Held S) → RegistryState → List Command → Refusal → Standing (Held S) → RegistryState → Type 0
   TakesNone old r commands why new after = (w : World) → AreBothOf g old r w →
       ((why ≡ NoMemory) × (new ≡ old) × (after ≡ r))

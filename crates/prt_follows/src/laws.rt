@@ -11,9 +11,9 @@ use sqlite::Alter;
 ///
 /// * the publisher and the registry stand for the world of the list's events, which has acknowledged each receipt and
 ///   nothing else (`stands`);
-/// * on a new file, whatever a crash leaves spells a beginning of the accepted commands, which lacks at most the command,
-///   or the commands of the file, that were accepted last. It has each command of a receipt under its number, and the
-///   version by which each answer was given, also of one that was given while a call was under way (`leaves`);
+/// * on a new file, whatever a crash leaves spells a beginning of the accepted commands. It lacks at most the command, or
+///   the commands of the file, that were accepted last. It has each command of a receipt under its number, and the version
+///   by which each answer was given, also of one that was given while a call was under way (`leaves`);
 /// * that holds of what a stop within a store call leaves, too (`stopped`);
 /// * whichever file is left at an exit and adopted, the list goes on (`goes_on`). After a call that was cut short it goes
 ///   on by `calls::adopt` (`stopped`).
