@@ -35,7 +35,11 @@ fn may_leave(ran: &Result<Ran, Refusal>, held: &[u8]) -> bool {
 
 /// Runs the file over new files with these faults. Tells whether the error of a failed commit was given, and the files hold
 /// what it may have left once they work again.
-fn is_right_with<H: Wait + Copy + Drop>(rt: H, alloc: Global, faults: Faults) -> Result<bool, Fail> {
+fn is_right_with<H: Wait + Copy + Drop>(
+    rt: H,
+    alloc: Global,
+    faults: Faults,
+) -> Result<bool, Fail> {
     let (ran, files) = run_in(rt, alloc, new_files(alloc, faults), FIVE, Mode::Together);
     let works = copies(alloc, &files, Faults::NONE)?;
     let (again, _files) = run_in(rt, alloc, works, LISTINGS, Mode::InTurn);
@@ -67,7 +71,13 @@ fn faults_at(calls: u64) -> [Faults; 4] {
 #[test]
 fn atomic_file_leaves_all_or_none(rt: HostRuntime) -> Result<(), Fail> {
     let alloc = rt.alloc();
-    let (_ran, whole) = run_in(rt, alloc, new_files(alloc, Faults::NONE), FIVE, Mode::Together);
+    let (_ran, whole) = run_in(
+        rt,
+        alloc,
+        new_files(alloc, Faults::NONE),
+        FIVE,
+        Mode::Together,
+    );
     let (log, db) = calls_made(&whole);
     for calls in 0..=log.max(db) {
         for faults in faults_at(calls) {

@@ -78,14 +78,29 @@ fn is_right_with<H: Wait + Copy + Drop>(
 ) -> Result<(bool, bool), Fail> {
     let (ran, files) = run_in(rt, alloc, new_files(alloc, faults), CHURN, Mode::InTurn);
     let has_failed = files.log.has_failed() || files.db.has_failed();
-    let (again, _files) = run_in(rt, alloc, copies(alloc, &files, Faults::NONE)?, LISTINGS, Mode::InTurn);
+    let (again, _files) = run_in(
+        rt,
+        alloc,
+        copies(alloc, &files, Faults::NONE)?,
+        LISTINGS,
+        Mode::InTurn,
+    );
     let is_right = is_told(&ran) && may_leave(&ran, again?.replies.as_slice());
     Ok((is_right, has_failed))
 }
 
 /// Tells how many calls of the log, and of the database's file, the script makes where none fails.
 fn calls_of_script<H: Wait + Copy + Drop>(rt: H, alloc: Global) -> (u64, u64) {
-    calls_made(&run_in(rt, alloc, new_files(alloc, Faults::NONE), CHURN, Mode::InTurn).1)
+    calls_made(
+        &run_in(
+            rt,
+            alloc,
+            new_files(alloc, Faults::NONE),
+            CHURN,
+            Mode::InTurn,
+        )
+        .1,
+    )
 }
 
 /// Tells whether the first command fails where the log takes so many calls, each later command is refused as closed, and

@@ -48,7 +48,13 @@ fn is_migrated_with<H: Wait + Copy + Drop>(
     faults: Faults,
 ) -> Result<bool, Fail> {
     let (_ran, files) = run_in(rt, alloc, copies(alloc, former, faults)?, "", Mode::InTurn);
-    let (again, files) = run_in(rt, alloc, copies(alloc, &files, Faults::NONE)?, LISTINGS, Mode::InTurn);
+    let (again, files) = run_in(
+        rt,
+        alloc,
+        copies(alloc, &files, Faults::NONE)?,
+        LISTINGS,
+        Mode::InTurn,
+    );
     let (rows, _files) = changed_in(alloc, files, "", "DELETE FROM meta WHERE format = 2")?;
     Ok(again?.replies.as_slice() == HELD && rows == 1)
 }
@@ -63,7 +69,13 @@ fn former_files(alloc: Global) -> Result<Files<Faulty>, Fail> {
 fn migration_goes_on_after_each_stop(rt: HostRuntime) -> Result<(), Fail> {
     let alloc = rt.alloc();
     let former = former_files(alloc)?;
-    let (_ran, whole) = run_in(rt, alloc, copies(alloc, &former, Faults::NONE)?, "", Mode::InTurn);
+    let (_ran, whole) = run_in(
+        rt,
+        alloc,
+        copies(alloc, &former, Faults::NONE)?,
+        "",
+        Mode::InTurn,
+    );
     let (log, db) = calls_made(&whole);
     for calls in 0..=log.max(db) {
         let of_log = Faults {
