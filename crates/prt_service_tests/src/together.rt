@@ -52,7 +52,6 @@ fn serve<J: Naming, S: Alter + Drop, H: Wait + Copy + Drop>(
     let before = seen(&rt, &service, &mut looker)?;
     let number = service.submit_all(&rt, &commands)?.number();
     let after = seen(&rt, &service, &mut looker)?;
-    looker.leave(&rt, &service);
     Ok(Some((before, number, after)))
 }
 
