@@ -2,6 +2,7 @@
 use Rattle.std.proofs.Common.{◌≡◌, ◌⊎◌, inl, inr, ℕ, suc, ◌+◌, ◌≤◌, Bool, List, [], ◌∷◌, length, None, Result, Ok, Err, refl, sym, ap, subst, ◌∙◌, arith}
 use Rattle.std.proofs.lemmas.List.Elements.{All-head, All-tail}
 use Rattle.std.specs.Prelude.{All, IsTrue}
+use Rattle.std.specs.Arc.{arc_value}
 use Rattle.std.specs.Result.{result_err}
 use Rattle.sqlite.specs.Effect.{Database}
 use Rattle.sqlite.specs.Held.{Held, state}
@@ -66,15 +67,15 @@ pub record CanCommit {S : Type 0} (g : Ghosts S) (ours_first : Bool) (tables : H
   pub after : put_all published changes ≡ fold published plan.commands.items
   pub kept : IsKnown g ours_first tables → IsStored g tables published
 
-pub can_commit : {S : Type 0} (g : Ghosts S) (ours_first : Bool) (tables : Held S) (published : State) (at : Step) (plan : Plan) (changes : List Change) (number : ℕ) → changes ≡ plan.changes.items → at ≡ step.Prepared plan → number ≡ (fold published plan.commands.items).count → IsStep published at
+pub can_commit : {S : Type 0} (g : Ghosts S) (ours_first : Bool) (tables : Held S) (published : State) (at : Step) (plan : Plan) (changes : List Change) (number : ℕ) (after : State) → changes ≡ plan.changes.items → at ≡ step.Prepared plan → number ≡ after.count → after ≡ arc_value plan.next → IsStep published at
     → (IsKnown g ours_first tables → Agrees g (phase_of at) (commands_of at) published tables) → CanCommit g ours_first tables published plan changes number
-can_commit g ours_first tables published at plan changes number same is numbered kept agrees =
+can_commit g ours_first tables published at plan changes number after same is numbered after_is kept agrees =
     let planned : IsPlan published plan = subst (IsStep published) is kept in
     let commands = plan.commands.items in
     let are : changes ≡ changes_of published commands = same ∙ planned.changes in
     let made = are_made published commands planned.storable planned.accepted in
     let many = as_many published commands planned.accepted in
-    let counted : number ≡ published.count + length commands = numbered ∙ count_fold published commands planned.accepted in
+    let counted : number ≡ published.count + length commands = numbered ∙ (ap (λ (state : State). state.count) (after_is ∙ planned.next) ∙ count_fold published commands planned.accepted) in
     record {
       planned = planned;
       counted = counted;
