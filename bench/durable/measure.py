@@ -27,9 +27,8 @@ CREATE TABLE route (tbl INTEGER NOT NULL, net INTEGER NOT NULL, len INTEGER NOT 
 CREATE TABLE meta (id INTEGER PRIMARY KEY NOT NULL, format INTEGER NOT NULL, count INTEGER NOT NULL) STRICT;
 INSERT INTO meta VALUES (1, 2, 0);
 """
-PUT = """
+ADD = """
 INSERT INTO route (tbl, net, len, metric, kind, via, dev, src, proto, scope) VALUES (?1, ?2, ?3, ?4, ?5, ?6, ?7, ?8, ?9, ?10)
-ON CONFLICT (tbl, net, len, metric) DO UPDATE SET kind = ?5, via = ?6, dev = ?7, src = ?8, proto = ?9, scope = ?10
 """
 
 
@@ -52,7 +51,7 @@ def by_python(folder, prefixes):
     start, before = time.monotonic(), time.process_time()
     for number, (bits, length) in enumerate(prefixes, 1):
         database.execute("BEGIN")
-        database.execute(PUT, (254, bits, length, 0, 1, 3221225985, "eth0", -1, 3, 0))
+        database.execute(ADD, (254, bits, length, 0, 1, 3221225985, "eth0", -1, 3, 0))
         database.execute("UPDATE meta SET count = ?1", (number,))
         database.execute("COMMIT")
     times = time.monotonic() - start, time.process_time() - before

@@ -1,4 +1,4 @@
-// Puts routes into a database file as `prt batch --db` does: a transaction and a reply for each. With the word `together`
+// Adds routes to a database file as `prt batch --db` does: a transaction and a reply for each. With the word `together`
 // it does as `prt batch --atomic --db`: one transaction for all, and then the replies.
 // usage: transactions PATH [together] <ROUTES, in which each line has the address and the length of a destination in main
 #include <sqlite3.h>
@@ -53,22 +53,21 @@ int main(int argc, char **argv)
     int together = argc > 2;
     open_database(argv[1]);
     sqlite3_stmt *begin = prepare("BEGIN");
-    sqlite3_stmt *put = prepare(
+    sqlite3_stmt *add = prepare(
         "INSERT INTO route (tbl, net, len, metric, kind, via, dev, src, proto, scope)"
-        " VALUES (254, ?1, ?2, 0, 1, 3221225985, 'eth0', -1, 3, 0)"
-        " ON CONFLICT (tbl, net, len, metric) DO UPDATE SET kind = 1, via = 3221225985, dev = 'eth0', src = -1, proto = 3, scope = 0");
+        " VALUES (254, ?1, ?2, 0, 1, 3221225985, 'eth0', -1, 3, 0)");
     sqlite3_stmt *count = prepare("UPDATE meta SET count = ?1");
     sqlite3_stmt *commit = prepare("COMMIT");
     long long net, length, number = 0;
     if (together)
         run(begin);
     while (scanf("%lld %lld", &net, &length) == 2) {
-        sqlite3_bind_int64(put, 1, net);
-        sqlite3_bind_int64(put, 2, length);
+        sqlite3_bind_int64(add, 1, net);
+        sqlite3_bind_int64(add, 2, length);
         sqlite3_bind_int64(count, 1, ++number);
         if (!together)
             run(begin);
-        run(put);
+        run(add);
         if (!together) {
             run(count);
             run(commit);

@@ -20,7 +20,7 @@ FILL = (
 
 
 def statement(sources, file, begins):
-    """The statement that stands in a file of the store."""
+    """The first statement of a file of the store that begins so."""
     with open(os.path.join(sources, file)) as source:
         return re.search(f'"({begins}[^"]*)"', source.read())[1]
 
@@ -52,17 +52,20 @@ def filled(sources, database, routes):
 
 def commits(sources, database, routes, calls):
     """The microseconds of a commit of each kind: begin, write, count, commit."""
-    put = statement(sources, "statements.rt", "INSERT INTO route")
-    delete = statement(sources, "statements.rt", "DELETE FROM route WHERE tbl")
+    texts = {
+        "add": statement(sources, "statements.rt", r'INSERT INTO route [^"]*\?10\)(?=")'),
+        "replace": statement(sources, "statements.rt", 'INSERT INTO route [^"]*ON CONFLICT'),
+        "del": statement(sources, "statements.rt", "DELETE FROM route WHERE tbl"),
+    }
     count = statement(sources, "statements.rt", "UPDATE meta")
     number = routes
     for verb in VERBS:
-        writes = [(delete, row(place)[:4]) if verb == "del" else (put, row(place)) for place in range(calls)]
+        writes = [row(place)[:4] if verb == "del" else row(place) for place in range(calls)]
         start = time.perf_counter()
-        for sql, values in writes:
+        for values in writes:
             number += 1
             database.execute("BEGIN")
-            database.execute(sql, values)
+            database.execute(texts[verb], values)
             database.execute(count, (number,))
             database.execute("COMMIT")
         yield verb, micros_since(start) / calls

@@ -7,7 +7,7 @@ use Rattle.prt_addr.specs.declared.refusal.Refusal.TheVariants.{CountFull, Exist
 use Rattle.prt_addr.specs.declared.refusal.StoreCall.TheVariants.{Commit}
 use Rattle.prt_command.specs.declared.request.Command.{Command}
 use Rattle.prt_front.specs.Line.{grown_by, line_state}
-use Rattle.prt_publisher.proofs.Refused.{IsOfState, all_refused_by, refused_by}
+use Rattle.prt_version.proofs.Refused.{IsOfState, all_refused_by, refused_by}
 use Rattle.prt_publisher.specs.Exits.{AreNotPrepared, AreNotPublished, AreNotStored, IsNotPrepared}
 use Rattle.prt_publisher.specs.Standing.{Agrees, IsQuiet, Standing, Stands}
 use Rattle.prt_publisher.specs.declared.phase.Phase.{Phase}

@@ -1,13 +1,13 @@
 -- What a stop leaves that falls into the commit of commands.
-use Rattle.std.proofs.Common.{◌≡◌, ◌⊎◌, ◌+◌, List, length, subst, arith}
+use Rattle.std.proofs.Common.{◌≡◌, ◌⊎◌, ◌+◌, List, length, refl, subst}
 use Rattle.sqlite.specs.Held.{Held}
 use Rattle.sqlite.specs.Store.{Ghosts}
 use Rattle.prt_addr.specs.declared.refusal.StoreCall.{StoreCall}
 use Rattle.prt_addr.specs.declared.refusal.StoreCall.TheVariants.{Commit}
 use Rattle.prt_command.specs.Storable.{IsStorable}
 use Rattle.prt_command.specs.declared.request.Command.{Command}
-use Rattle.prt_publisher.proofs.Commits.{are_made, as_many}
 use Rattle.prt_publisher.specs.Standing.{Standing}
+use Rattle.prt_store.proofs.Accepted.{are_made, are_next}
 use Rattle.prt_store.proofs.StoppedCommits.{stopped_leaves}
 use Rattle.prt_store.specs.Exits.{IsKnown, IsStored}
 use Rattle.prt_store.specs.Next.{AreNext}
@@ -28,7 +28,7 @@ leaves_a_state g desk kept is known left = (
       let number = before.count + length commands in
       let stored : IsStored g desk.tables before = stored_open g desk kept is known in
       let made = are_made before commands storable stops.0 in
-      let next : AreNext before changes number = record { sound = stored.now.fits.sound; made = made.0; counts = omega (arith, as_many before commands stops.0) } in
+      let next : AreNext before changes number = are_next before commands number stored.now.fits.sound storable stops.0 refl in
       subst (λ (after : State). (left ≡ before) ⊎ ((call ≡ Commit) × (left ≡ after))) made.1
       (stopped_leaves g before desk.ours_first desk.tables now changes number call (λ known. stored_open g desk kept is known) next stops.1 known_then left may),
 )

@@ -178,14 +178,14 @@ keeps_all p (x ∷ xs) fails = ap (λ b. cond (not b) (x ∷ filter (λ x. not (
 abbrev Differs : Route → Route → Type 0
 Differs route other = has_same_key other route ≡ false
 
-add_route : (count : ℕ) (rules : List Rule) (placed : List Route) (route : Route) → Each (Differs route) placed → length placed < MOST_ROUTES → count < MOST_COMMANDS → check (state_of count rules placed) (RouteAdd route) ≡ Ok (change.Route (Put route))
+add_route : (count : ℕ) (rules : List Rule) (placed : List Route) (route : Route) → Each (Differs route) placed → length placed < MOST_ROUTES → count < MOST_COMMANDS → check (state_of count rules placed) (RouteAdd route) ≡ Ok (change.RouteAdd route)
 add_route count rules placed route each room counts =
-    let made : Change = change.Route (Put route) in
+    let made : Change = change.RouteAdd route in
     ap (λ b. unless_count_full count (if b then Err Exists else if_room (length placed) MOST_ROUTES made)) (any_none (λ other. is_same_key (key_of other) (key_of route)) placed each)
     ∙ ap (λ b. unless_count_full count (if b then Ok made else Err Full)) (has_room (length placed) MOST_ROUTES room)
     ∙ ap (λ b. if b then Ok made else Err CountFull) (has_room count MOST_COMMANDS counts)
 
-route_put : (count : ℕ) (rules : List Rule) (placed : List Route) (route : Route) → Each (Differs route) placed → put_if (state_of count rules placed) (Ok (change.Route (Put route))) ≡ state_of (count + 1) rules (insert_by is_listed_before route placed)
+route_put : (count : ℕ) (rules : List Rule) (placed : List Route) (route : Route) → Each (Differs route) placed → put_if (state_of count rules placed) (Ok (change.RouteAdd route)) ≡ state_of (count + 1) rules (insert_by is_listed_before route placed)
 route_put count rules placed route each = ap (λ routes. state_of (count + 1) rules (insert_by is_listed_before route routes)) (keeps_all (λ other. is_same_key (key_of other) (key_of route)) placed each)
 
 -- these routes with more put in, each at its place
@@ -197,7 +197,7 @@ all_routes : (todo placed : List Route) (count : ℕ) (rules : List Rule) → Is
 unfolding IsDistinct
 all_routes [] placed count rules apart differ room counts = nothing_more _ _ (ap (λ n. state_of n rules placed) {x = count} {y = count + length {A = Route} []} (omega arith))
 all_routes (route ∷ todo) placed count rules apart differ room counts =
-    let made = made_by (state_of count rules placed) (RouteAdd route) (change.Route (Put route)) (add_route count rules placed route differ.0 (omega (arith, room)) (omega (arith, counts))) in
+    let made = made_by (state_of count rules placed) (RouteAdd route) (change.RouteAdd route) (add_route count rules placed route differ.0 (omega (arith, room)) (omega (arith, counts))) in
     let next : List Route = insert_by is_listed_before route placed in
     let later : Each (λ x. Each (Differs x) next) todo =
     each_both (λ x. has_same_key route x ≡ false) (λ x. Each (Differs x) placed) (λ x. Each (Differs x) next) (λ x unlike others. each_inserted (Differs x) is_listed_before route placed unlike others) todo apart.0 differ.1 in

@@ -7,9 +7,9 @@ use Rattle.prt_addr.specs.declared.refusal.StoreCall.{StoreCall}
 use Rattle.prt_addr.specs.declared.refusal.StoreCall.TheVariants as calls
 use Rattle.prt_command.specs.declared.request.Command.{Command}
 use Rattle.prt_front.specs.Line.{Line, line_state}
+use Rattle.prt_store.proofs.Accepted.{are_made, are_next}
 use Rattle.prt_store.specs.Exits.{IsKnown, IsStored, MayLeave, Spells}
 use Rattle.prt_publisher.specs.Standing.{Agrees, Standing, Stands}
-use Rattle.prt_publisher.proofs.Commits.{are_made, as_many}
 use Rattle.prt_publisher.specs.declared.phase.Phase.{Phase}
 use Rattle.prt_publisher.specs.declared.phase.Phase.TheVariants.{Ready, Admitted, Prepared, Committed, Published, Closed}
 use Rattle.prt_store.proofs.Spelled.{spelled_once, stored_once}
@@ -189,11 +189,10 @@ module _ {S : Type 0} (g : Ghosts S) where
       let next : State = put_all published changes in
       let number = published.count + length commands in
       let made = are_made published commands was.storable was.accepted in
-      let many = as_many published commands was.accepted in
       let survives = left_by g changes number old.tables now call was.stops in
       let before : HasCleanDisk (state g old.tables) = omega (arith, survives.clean, known.1) in
       let stored : IsStored g old.tables published = subst (λ (p : Phase). Agrees g p commands published old.tables) was.prepared (stood (known.0, before)) in
-      let follows : AreNext published changes number = record { sound = stored.now.fits.sound; made = made.0; counts = omega (arith, many) } in
+      let follows : AreNext published changes number = are_next published commands number stored.now.fits.sound was.storable was.accepted refl in
       elim (survives.crash known.1 trees may) [
         | inl found ↦ (published, stored.durable trees found, inl refl)
         | inr it ↦

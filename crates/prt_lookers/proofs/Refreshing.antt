@@ -7,6 +7,7 @@ use Rattle.prt_command.specs.declared.request.Command.{Command}
 use Rattle.prt_front.specs.Line.{Begins, Line, line_state}
 use Rattle.prt_rule.specs.declared.packet.Packet.{Packet}
 use Rattle.prt_service.specs.Look.{Look}
+use Rattle.prt_version.proofs.Folds.{put_count}
 use Rattle.prt_version.specs.Change.{apply, check, fold, put, put_if}
 use Rattle.prt_version.specs.Select.{select}
 use Rattle.prt_version.specs.State.{State, opening_state}
@@ -84,14 +85,8 @@ made look none untold i w within off = seated_at look i w (untold ∙ sym (ap he
 
 -- ---- look
 
-counted_change : (state : State) (made : Change) → (put state made).count ≤ state.count + 1
-counted_change state (change.Route edit) = omega arith
-counted_change state (change.RulePut rule) = omega arith
-counted_change state (change.RuleDrop id) = omega arith
-counted_change state change.RuleFlush = omega arith
-
 counted_by : (state : State) (r : Result Change Refusal) → (put_if state r).count ≤ state.count + 1
-counted_by state (Ok made) = counted_change state made
+counted_by state (Ok made) = omega (arith, put_count state made)
 counted_by state (Err reason) = omega arith
 
 -- the count rises by one a command at most

@@ -13,8 +13,10 @@ use Rattle.prt_addr.specs.declared.refusal.Refusal.TheVariants.{StoreFailed}
 use Rattle.prt_addr.specs.declared.refusal.StoreCall.TheVariants.{Commit}
 use Rattle.prt_command.specs.Storable.{IsStorable}
 use Rattle.prt_command.specs.declared.request.Command.{Command}
+use Rattle.prt_store.proofs.Accepted.{are_made, are_next, as_many}
 use Rattle.prt_store.specs.Exits.{IsKnown, IsStored, MayLeave, Spells}
 use Rattle.prt_store.specs.Made.{MakesChanges}
+use Rattle.prt_store.specs.declared.store.Stamp.{Stamp}
 use Rattle.prt_store.specs.Next.{AreMade, AreNext, put_all}
 use Rattle.prt_store.specs.Openings.{HasDone}
 use Rattle.prt_store.specs.Stored.{Stores}
@@ -32,32 +34,6 @@ use Rattle.prt_publisher.specs.declared.plan.Plan.{Plan}
 use Rattle.prt_publisher.specs.declared.publisher.Step.{Step}
 use Rattle.prt_publisher.specs.declared.publisher.Step.TheVariants as step
 
--- ---- the changes of commands
-
--- the first change, then those after it
-made_first : (state : State) (command : Command) (r : Result Change Refusal) (rest : List Change) → result_err r ≡ None → (made : Change) × (r ≡ Ok made) × (with_made r rest ≡ made ∷ rest)
-made_first state command (Ok made) rest allowed = (made, refl, refl)
-made_first state command (Err reason) rest allowed = absurd (cc allowed)
-
--- changes of accepted commands are those that a store takes, and lead to the state after the commands
-pub are_made : (published : State) (commands : List Command) → All IsStorable commands → IsAccepted published commands → AreMade published (changes_of published commands) × (put_all published (changes_of published commands) ≡ fold published commands)
-are_made published [] storable accepted = (tt, refl)
-are_made published (command ∷ commands) storable accepted =
-    let mine : IsStorable command = All-head IsStorable command commands storable in
-    let others : All IsStorable commands = All-tail IsStorable command commands storable in
-    let first = made_first published command (check published command) (changes_of (apply published command) commands) accepted.0 in
-    let after : put published first.0 ≡ apply published command = sym (ap (put_if published) first.1) in
-    let rest = are_made (apply published command) commands others accepted.1 in
-    subst (λ (changes : List Change). AreMade published changes × (put_all published changes ≡ fold (apply published command) commands)) (sym first.2)
-    (subst (λ (state : State). (((c : Command) × IsStorable c × (check published c ≡ Ok first.0)) × AreMade state (changes_of (apply published command) commands)) × (put_all state (changes_of (apply published command) commands) ≡ fold (apply published command) commands)) (sym after)
-    (((command, mine, first.1), rest.0), rest.1))
-
-pub as_many : (published : State) (commands : List Command) → IsAccepted published commands → length (changes_of published commands) ≡ length commands
-as_many published [] accepted = refl
-as_many published (command ∷ commands) accepted =
-    let first = made_first published command (check published command) (changes_of (apply published command) commands) accepted.0 in
-    ap length first.2 ∙ ap suc (as_many (apply published command) commands accepted.1)
-
 -- What is known of prepared commands when they are committed under the number of the state after them.
 pub record CanCommit {S : Type 0} (g : Ghosts S) (ours_first : Bool) (tables : Held S) (published : State) (plan : Plan) (changes : List Change) (number : ℕ) : Type 0 where
   pub planned : IsPlan published plan
@@ -74,16 +50,19 @@ can_commit g ours_first tables published at plan changes number after same is nu
     let commands = plan.commands.items in
     let are : changes ≡ changes_of published commands = same ∙ planned.changes in
     let made = are_made published commands planned.storable planned.accepted in
-    let many = as_many published commands planned.accepted in
     let counted : number ≡ published.count + length commands = numbered ∙ (ap (λ (state : State). state.count) (after_is ∙ planned.next) ∙ count_fold published commands planned.accepted) in
     record {
       planned = planned;
       counted = counted;
       are = are;
-      next = subst (λ (list : List Change). AreNext published list number) (sym are) (record { sound = planned.sound; made = made.0; counts = omega (arith, counted, many) });
+      next = subst (λ (list : List Change). AreNext published list number) (sym are) (are_next published commands number planned.sound planned.storable planned.accepted counted);
       after = subst (λ (list : List Change). put_all published list ≡ fold published commands) (sym are) made.1;
       kept = λ known. subst (λ (x : Step). Agrees g (phase_of x) (commands_of x) published tables) is (agrees known);
     }
+
+-- What is known of commands that were committed, once their step was taken out.
+pub was_committed : (published : State) (at : Step) (plan : Plan) (stamp : Stamp) (taken : Step) → taken ≡ at → taken ≡ step.Committed plan stamp → IsStep published at → IsStep published (step.Committed plan stamp)
+was_committed published at plan stamp taken same is kept = subst (IsStep published) (sym same ∙ is) kept
 
 module _ {S : Type 0} (g : Ghosts S) (old new : Held S) (published after : State) (commands : List Command) (reason : Refusal) (is_after : after ≡ fold published commands) (accepted : IsAccepted published commands) (held : Stores (state g old).now published)
     (same : IsTrue (state g new).is_open → (state g new).now ≡ (state g old).now) where

@@ -5,10 +5,11 @@ use Rattle.prt_rows.proofs.Counting.{sets_count}
 use Rattle.prt_rows.proofs.Insertion.{adds_length, adds_rule}
 use Rattle.prt_rows.proofs.Migrating.{sets_format}
 use Rattle.prt_rows.proofs.Putting.{puts_route}
+use Rattle.prt_rows.proofs.RouteInsertion.{adds_route}
 use Rattle.prt_rows.proofs.Statements.{deletes_route, deletes_routes, deletes_rule, flushes_rules}
-use Rattle.prt_rows.specs.Changing.{AddsLength, AddsRule, DeletesRows, DeletesTheRules, PutsRoute, SetsCount, SetsFormat}
+use Rattle.prt_rows.specs.Changing.{AddsLength, AddsRoute, AddsRule, DeletesRows, DeletesTheRules, PutsRoute, SetsCount, SetsFormat}
 use Rattle.prt_rows.specs.Meanings.{has_id, has_key, has_priority, is_flushed}
-use Rattle.prt_rows.specs.Statements.{delete_route, delete_rule, flush_routes, flush_rules, insert_rule, insert_suppress, migrate, put_route, set_count}
+use Rattle.prt_rows.specs.Statements.{delete_route, delete_rule, flush_routes, flush_rules, insert_route, insert_rule, insert_suppress, migrate, put_route, set_count}
 use Rattle.prt_rows.specs.Tables.{route_table}
 
 module _ {S : Type 0} (g : Ghosts S) where
@@ -26,6 +27,9 @@ module _ {S : Type 0} (g : Ghosts S) where
 
   pub route_put : PutsRoute g put_route
   route_put old new route ran routes keyed = let t = ran.0 in puts_route t.tables t.indexes t.views t.others t.free (state g old) (state g new) route ran.1.0 t.is routes keyed ran.1.1
+
+  pub route_added : AddsRoute g insert_route
+  route_added old new route ran routes keyed = let t = ran.0 in adds_route t.tables t.indexes t.views t.others t.free (state g old) (state g new) route ran.1.0 t.is routes keyed ran.1.1
 
   pub rule_added : AddsRule g insert_rule
   rule_added old new rule ran = let t = ran.0 in adds_rule t.tables t.indexes t.views t.others (state g old) (state g new) rule ran.1.0 t.is ran.1.1

@@ -1,29 +1,19 @@
 -- The rows of `suppress` that go are those of the rules that go.
-use Rattle.std.proofs.Common.{◌≡◌, inl, inr, ℤ, Bool, true, false, not, ◌&&◌, List, [], ◌∷◌, map, refl, sym, ap, subst, ◌∙◌, true≢false}
-use Rattle.std.proofs.lemmas.Bool.{and_from, and_parts, false_from_ne_true, not-true}
-use Rattle.std.proofs.lemmas.Cmp.{tied_itself}
-use Rattle.std.specs.List.{list_any}
-use Rattle.std.specs.Ordering.{is_eq}
-use Rattle.std.specs.Prelude.{find, unwrap_or}
-use Rattle.sqlite.specs.Edit.{id_in, without_all}
-use Rattle.sqlite.specs.Tree.{Trees, has_rowid, rowid}
+use Rattle.std.proofs.Common.{◌≡◌, inl, inr, ℤ, Bool, true, false, not, ◌&&◌, List, [], ◌∷◌, refl, sym, ap, ◌∙◌}
+use Rattle.std.proofs.lemmas.Bool.{and_from, and_parts, not-true}
+use Rattle.sqlite.specs.Tree.{Trees, rowid}
 use Rattle.sqlite.specs.declared.types.Value.TheVariants.{Int}
 use Rattle.sqlite_rules.proofs.ActionLemmas.{no_heir}
 use Rattle.sqlite_rules.proofs.ListLemmas.{some_from, some_has}
-use Rattle.sqlite_rules.proofs.ProbeLemmas.{has_mapped, mapped_has}
-use Rattle.sqlite_rules.proofs.TableLemmas.{int_is}
 use Rattle.sqlite_rules.specs.Action.{AreChildren, is_child_of, loses, pairs}
-use Rattle.sqlite_rules.specs.Edit.{row_at}
 use Rattle.sqlite_rules.specs.Lists.{Has}
 use Rattle.sqlite_schema.specs.Rules.{agree}
-use Rattle.sqlite_value.proofs.OrderLemmas.{value_cmp_total}
 use Rattle.sqlite_value.specs.Keys.{first_key}
-use Rattle.sqlite_value.specs.Order.{Row, value_cmp}
+use Rattle.sqlite_value.specs.Order.{Row}
 use Rattle.prt_rows.proofs.Cascade.{is_due, work_on}
 use Rattle.prt_rows.proofs.Foreign.{order}
-use Rattle.prt_rows.proofs.Keyed.{alone, equal_is}
 use Rattle.prt_rows.proofs.RouteKeys.{eq_ints}
-use Rattle.prt_rows.specs.Effects.{IsKeyed, has_same_rowid}
+use Rattle.prt_rows.specs.Effects.{has_same_rowid}
 
 -- the rowids of the two rows are equal, as SQL has it
 abbrev pub same_id : Row → Row → Bool

@@ -1,5 +1,5 @@
 -- Which actions a change of rows of ours sets off: the deletion of rules takes lengths along, and nothing else does.
-use Rattle.std.proofs.Common.{◌≡◌, ℕ, false, true, List, [], ◌∷◌, length, flat_map, Option, Some, None, inl, inr, refl, sym, ap, ◌∙◌}
+use Rattle.std.proofs.Common.{◌≡◌, ℕ, false, List, [], ◌∷◌, length, flat_map, Option, Some, None, inl, inr, refl, sym, ap, ◌∙◌}
 use Rattle.std.specs.Prelude.{◌==◌, find, option_and_then, option_map}
 use Rattle.std.specs.List.{filter_map}
 use Rattle.sqlite.specs.Schema.{Schema}

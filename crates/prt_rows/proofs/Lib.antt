@@ -34,3 +34,5 @@ pub mod Cascade
 pub mod Children
 pub mod RuleDeletions
 pub mod Migrating
+pub mod OneKey
+pub mod RouteInsertion

@@ -1,6 +1,6 @@
 -- A route that is put is a new row, or takes the place of the row with its key.
-use Rattle.std.proofs.Common.{◌≡◌, ◌⊎◌, inl, inr, ℤ, true, false, List, [], ◌∷◌, ◌++◌, ◌&&◌, map, drop, Some, Equal, refl, sym, ap, subst, ◌∙◌, true≢false}
-use Rattle.std.proofs.lemmas.Bool.{and_from, and_parts, false_from_ne_true, not-true}
+use Rattle.std.proofs.Common.{◌≡◌, ◌⊎◌, inl, inr, ℤ, true, false, List, [], ◌∷◌, ◌++◌, map, drop, Some, Equal, refl, sym, ap, subst, ◌∙◌, true≢false}
+use Rattle.std.proofs.lemmas.Bool.{and_from, and_parts, false_from_ne_true}
 use Rattle.std.proofs.lemmas.Cmp.{tied_back}
 use Rattle.std.specs.List.{list_all}
 use Rattle.std.specs.Ordering.{is_eq}
@@ -13,15 +13,12 @@ use Rattle.sqlite.specs.Term.{eval_all, holds}
 use Rattle.sqlite.specs.Tree.{Trees, has_rowid, rowid}
 use Rattle.sqlite.specs.declared.types.Value.{Value}
 use Rattle.sqlite.specs.declared.types.Value.TheVariants.{Int}
-use Rattle.sqlite_rules.proofs.ListLemmas.{all_has, some_from}
 use Rattle.sqlite_rules.proofs.PlaceLemmas.{given}
 use Rattle.sqlite_rules.proofs.ProbeLemmas.{has_mapped, mapped_has}
 use Rattle.sqlite_rules.proofs.TableLemmas.{int_is, put_all_adds, put_all_has, put_all_keeps}
 use Rattle.sqlite_rules.specs.Calls.{ids_of}
 use Rattle.sqlite_rules.specs.Keys.{AreConflicts, conflicts}
 use Rattle.sqlite_rules.specs.Lists.{Has}
-use Rattle.sqlite_schema.specs.Rules.{agree, clashes, differ}
-use Rattle.sqlite_schema.specs.declared.schema.Constraint.TheVariants.{Unique}
 use Rattle.sqlite_schema.specs.declared.schema.Index.{Index}
 use Rattle.sqlite_schema.specs.declared.schema.Keys.TheVariants.{Enforced}
 use Rattle.sqlite_schema.specs.declared.schema.View.{View}
@@ -31,7 +28,8 @@ use Rattle.prt_route.specs.declared.route.Route.{Route}
 use Rattle.prt_rows.proofs.Casts.{cast_int, cast_route}
 use Rattle.prt_rows.proofs.Found.{Finds, has_left, left_has}
 use Rattle.prt_rows.proofs.Keyed.{alone, equal_is, keyed-put_all, keyed-without_all}
-use Rattle.prt_rows.proofs.RouteKeys.{agree_is, conflict_is, equal_if_int, keys_equal, row_has_key, same_back, same_key, split, tied_if_equal, tied_if_same}
+use Rattle.prt_rows.proofs.OneKey.{one_rowid}
+use Rattle.prt_rows.proofs.RouteKeys.{conflict_is, equal_if_int, keys_equal, row_has_key, same_key, split, tied_if_equal}
 use Rattle.prt_rows.specs.Effects.{AreRouteRows, IsKeyed, has_key_of}
 use Rattle.prt_rows.specs.Kept.{kept_route}
 use Rattle.prt_rows.specs.Meanings.{replaced_terms, same_rowid}
@@ -142,18 +140,8 @@ module _ (tables : List Table) (indexes : List Index) (views : List View) (free 
       | inr left ↦ id_of x (left_has (ids_of found) (db 1) x left).0
     ]
 
-    -- of two rows with one key, the other has the same rowid
     tied : (x : Row) → Has (next 1) x → (p : Route) → drop 1 x ≡ route_row p → same_key p route ≡ true → value_cmp (rowid new) (rowid x) ≡ Equal
-    tied x h p spells key =
-        let rules = (step.fits.rules Unique (λ e. absurd (let no = e in cc))).1.0 in
-        let row = all_has _ (next 1) x rules h in
-        let clash : clashes (record { digits = 0 }) key_places (next 1) x ≡ false = not-true _ (and_parts _ _ row).0 in
-        let agrees : agree (record { digits = 0 }) key_places new key_places x ≡ true =
-        ap (λ y. agree (record { digits = 0 }) key_places new key_places y) (split x p spells) ∙ agree_is (rowid old) (rowid x) route p ∙ same_back p route key in
-        let apart : differ (rowid new) (rowid x) ≡ false = false_from_ne_true _ (λ differs. absurd (
-        let met = some_from (λ other. agree (record { digits = 0 }) key_places other key_places x && differ (rowid other) (rowid x)) (next 1) new there_now (and_from _ _ agrees differs) in
-        true≢false (sym met ∙ clash))) in
-        tied_if_same (rowid new) (rowid x) _ _ (id_of old there) (id_now x h) apart
+    tied x h p spells key = one_rowid tables indexes views next step.fits new x _ _ route p there_now h (id_of old there) (id_now x h) refl spells key
 
     pub puts_in_place : PutsRow
     puts_in_place = record {

@@ -14,8 +14,8 @@ use Rattle.sqlite_schema.specs.declared.schema.Index.{Index}
 use Rattle.sqlite_schema.specs.declared.schema.View.{View}
 use Rattle.sqlite_tied.specs.Compute.{everything}
 use Rattle.prt_addr.specs.Word.{Word}
-use Rattle.prt_rows.specs.Meanings.{flush_routes_command, insert_meta_command, delete_route_command, delete_rule_command, flush_rules_command, insert_rule_command, insert_suppress_command, look_at, migrate_command, put_route_command, read_meta_command, read_routes_command, read_rules_command, read_suppress_command, set_count_command}
-use Rattle.prt_rows.specs.Statements.{flush_routes, insert_meta, create_meta, create_route, create_rule, create_suppress, delete_route, delete_rule, flush_rules, insert_rule, insert_suppress, look_at_meta, look_at_routes, look_at_rules, look_at_suppress, migrate, put_route, read_meta, read_routes, read_rules, read_suppress, set_count}
+use Rattle.prt_rows.specs.Meanings.{flush_routes_command, insert_meta_command, insert_route_command, delete_route_command, delete_rule_command, flush_rules_command, insert_rule_command, insert_suppress_command, look_at, migrate_command, put_route_command, read_meta_command, read_routes_command, read_rules_command, read_suppress_command, set_count_command}
+use Rattle.prt_rows.specs.Statements.{flush_routes, insert_meta, insert_route, create_meta, create_route, create_rule, create_suppress, delete_route, delete_rule, flush_rules, insert_rule, insert_suppress, look_at_meta, look_at_routes, look_at_rules, look_at_suppress, migrate, put_route, read_meta, read_routes, read_rules, read_suppress, set_count}
 use Rattle.prt_rows.specs.Tables.{meta_table, route_table, rule_table, schema_with, suppress_table}
 
 -- the text is understood as the command, without more
@@ -94,6 +94,10 @@ module _ (tables : List Table) (indexes : List Index) (views : List View) where
   pub migrate_is : Means schema migrate migrate_command
   unfolding everything
   migrate_is = means schema migrate migrate_command (refl, (refl, refl))
+
+  pub insert_route_is : Means schema insert_route insert_route_command
+  unfolding everything
+  insert_route_is = means schema insert_route insert_route_command (refl, (refl, refl))
 
   pub put_route_is : Means schema put_route put_route_command
   unfolding everything

@@ -9,7 +9,7 @@ use Rattle.sqlite_value.specs.Order.{Row}
 use Rattle.prt_addr.specs.Word.{Word}
 use Rattle.prt_route.specs.declared.route.Route.{Route}
 use Rattle.prt_rule.specs.declared.rule.Rule.{Rule}
-use Rattle.prt_rows.specs.Effects.{Adds, AreRouteRows, Deletes, DeletesRules, IsKeyed, Puts, Sets}
+use Rattle.prt_rows.specs.Effects.{Adds, AreRouteRows, Deletes, DeletesRules, IsKeyed, Puts, PutsBeside, Sets}
 use Rattle.prt_rows.specs.Format.{IsFormat2}
 use Rattle.prt_rows.specs.Kept.{count_values, kept_count, kept_count_1, kept_length, kept_rule}
 use Rattle.prt_rows.specs.RouteRow.{route_row}
@@ -35,6 +35,11 @@ DeletesTheRules {S = S} g text tests = (old new : Held S) (params : Row) → Run
 abbrev pub PutsRoute : {S : Type 0} → Ghosts S → Word → Type 0
 PutsRoute {S = S} g text = (old new : Held S) (route : Route) → RunsIn g text (route_row route) old new → AreRouteRows ((state g old).now.trees route_table.tree) → IsKeyed ((state g old).now.trees route_table.tree)
     → Puts route (state g old).now (state g new).now
+
+-- the route's row is there beside the others, none of which has its key
+abbrev pub AddsRoute : {S : Type 0} → Ghosts S → Word → Type 0
+AddsRoute {S = S} g text = (old new : Held S) (route : Route) → RunsIn g text (route_row route) old new → AreRouteRows ((state g old).now.trees route_table.tree) → IsKeyed ((state g old).now.trees route_table.tree)
+    → PutsBeside route (state g old).now (state g new).now
 
 -- the rule's row is there beside the others
 abbrev pub AddsRule : {S : Type 0} → Ghosts S → Word → Type 0

@@ -115,6 +115,15 @@ AreRouteRows rows = (x : Row) → Has rows x → (route : Route) × (drop 1 x �
 abbrev pub has_key_of : Route → Row → Bool
 has_key_of route x = passes has_key (key_values (key_of route)) x
 
+-- the route's row is there beside the others, none of which has its key
+pub record PutsBeside (route : Route) (old new : Database) : Type 0 where
+  pub only : ChangesOnly route_table old new
+  pub sound : (x : Row) → Has (new.trees 1) x → (drop 1 x ≡ route_row route) ⊎ Has (old.trees 1) x
+  pub here : (x : Row) × Has (new.trees 1) x × (drop 1 x ≡ route_row route)
+  pub complete : (x : Row) → Has (old.trees 1) x → Has (new.trees 1) x
+  pub apart : (x : Row) → Has (old.trees 1) x → has_key_of route x ≡ false
+  pub keyed : IsKeyed (new.trees 1)
+
 -- the route's row is there, in the place of the one that had its key
 pub record Puts (route : Route) (old new : Database) : Type 0 where
   pub only : ChangesOnly route_table old new

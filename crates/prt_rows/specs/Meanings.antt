@@ -95,6 +95,9 @@ flush_rules_command = deletion 0 0 has_priority
 abbrev pub route_terms : List Term
 route_terms = lit Null ∷ col 0 0 ∷ col 0 1 ∷ col 0 2 ∷ col 0 3 ∷ col 0 4 ∷ col 0 5 ∷ col 0 6 ∷ col 0 7 ∷ col 0 8 ∷ col 0 9 ∷ []
 
+abbrev pub insert_route_command : Command
+insert_route_command = Insert 1 (Values route_terms 11)
+
 -- the parameters as a row whose first is the rowid
 abbrev pub rule_terms : List Term
 rule_terms = col 0 0 ∷ lit Null ∷ col 0 1 ∷ col 0 2 ∷ col 0 3 ∷ col 0 4 ∷ col 0 5 ∷ col 0 6 ∷ col 0 7 ∷ col 0 8 ∷ col 0 9 ∷ col 0 10 ∷ col 0 11 ∷ []

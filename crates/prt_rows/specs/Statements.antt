@@ -39,6 +39,9 @@ read_meta = codes "SELECT id, format, count FROM meta ORDER BY id"
 abbrev pub read_suppress : Word
 read_suppress = codes "SELECT rule, len FROM suppress ORDER BY rule"
 
+abbrev pub insert_route : Word
+insert_route = codes "INSERT INTO route (tbl, net, len, metric, kind, via, dev, src, proto, scope) VALUES (?1, ?2, ?3, ?4, ?5, ?6, ?7, ?8, ?9, ?10)"
+
 abbrev pub put_route : Word
 put_route = codes "INSERT INTO route (tbl, net, len, metric, kind, via, dev, src, proto, scope) VALUES (?1, ?2, ?3, ?4, ?5, ?6, ?7, ?8, ?9, ?10) ON CONFLICT (tbl, net, len, metric) DO UPDATE SET kind = ?5, via = ?6, dev = ?7, src = ?8, proto = ?9, scope = ?10"
 

@@ -9,7 +9,7 @@ ghost use Rattle.prt_route.specs.declared.choice.Selector.{Selector};
 ghost use Rattle.prt_route.specs.declared.route.Route.{Route};
 ghost use Rattle.prt_route.specs.declared.route.RouteKey.{RouteKey};
 ghost use Rattle.prt_rule.specs.declared.rule.Rule.{Rule};
-ghost use Rattle.prt_rows.specs.Changing.{AddsLength, AddsRule, DeletesRows, DeletesTheRules, PutsRoute, SetsCount, SetsFormat};
+ghost use Rattle.prt_rows.specs.Changing.{AddsLength, AddsRoute, AddsRule, DeletesRows, DeletesTheRules, PutsRoute, SetsCount, SetsFormat};
 ghost use Rattle.prt_rows.specs.Decodes.{ReadsBack};
 ghost use Rattle.prt_rows.specs.Effects.{passes};
 ghost use Rattle.prt_rows.specs.Kept.{id_values, kept_route, kept_rule, key_values};
@@ -18,7 +18,7 @@ ghost use Rattle.prt_rows.specs.MetaRow.{IsCount, meta_rows};
 ghost use Rattle.prt_rows.specs.RouteRow.{IsInRange, route_row};
 ghost use Rattle.prt_rows.specs.RuleRow.{IsRule, rule_row};
 ghost use Rattle.prt_rows.specs.Selecting.{IsSelector, selector_row};
-ghost use Rattle.prt_rows.specs.Statements.{delete_route, delete_rule, flush_routes, flush_rules, insert_rule, insert_suppress, migrate, put_route, set_count};
+ghost use Rattle.prt_rows.specs.Statements.{delete_route, delete_rule, flush_routes, flush_rules, insert_route, insert_rule, insert_suppress, migrate, put_route, set_count};
 ghost use Rattle.prt_rows.specs.SuppressRow.{IsLength, suppress_row};
 ghost use Rattle.prt_rows.specs.Tables.{route_table};
 
@@ -51,6 +51,7 @@ pub fn statements_write<S: Alter>()
     ensures flush_routes { DeletesRows S.Store flush_routes route_table is_flushed }
     ensures delete_rule { DeletesTheRules S.Store delete_rule has_id }
     ensures flush_rules { DeletesTheRules S.Store flush_rules has_priority }
+    ensures insert_route { AddsRoute S.Store insert_route }
     ensures put_route { PutsRoute S.Store put_route }
     ensures insert_rule { AddsRule S.Store insert_rule }
     ensures insert_suppress { AddsLength S.Store insert_suppress }

@@ -6,7 +6,7 @@ use Rattle.prt_addr.specs.declared.refusal.Refusal.{Refusal}
 use Rattle.prt_addr.specs.declared.refusal.Refusal.TheVariants.{CountFull, Exists, Full, NoSuch}
 use Rattle.prt_command.specs.declared.request.Command.{Command}
 use Rattle.prt_front.specs.Line.{line_state}
-use Rattle.prt_publisher.proofs.Refused.{IsOfState, all_refused_by, refused_by}
+use Rattle.prt_version.proofs.Refused.{IsOfState, all_refused_by, refused_by}
 use Rattle.prt_publisher.specs.Exits.{AreNotAcknowledged, AreNotPrepared, IsNotAcknowledged, IsNotPrepared}
 use Rattle.prt_publisher.specs.Standing.{Standing}
 use Rattle.prt_publisher.specs.declared.phase.Phase.{Phase}

@@ -39,20 +39,21 @@ not_published reason e low = let h : 28 ≤ 26 = subst (λ r. code_of r ≤ 26) 
 
 -- ---- a list
 
-turn_made : (desk : DeskState) (commands : List Command) (mishap : Option Mishap) (closed : Bool) (first : Option Refusal) → refusal_all desk.published commands ≡ first → AllMade desk commands (from_turn desk commands (commands_or_refusal desk commands closed first mishap)) ⊎ NoneMade desk (from_turn desk commands (commands_or_refusal desk commands closed first mishap))
-turn_made desk commands mishap true first is = inr (_, refl, refl)
-turn_made desk commands None false (Some reason) is = inr (_, refl, refl)
-turn_made desk commands (Some no_room) false (Some reason) is = inr (_, refl, refl)
-turn_made desk commands (Some no_memory) false (Some reason) is = inr (_, refl, refl)
-turn_made desk commands (Some (store_fails call)) false (Some reason) is = inr (_, refl, refl)
-turn_made desk commands (Some commit_kept) false (Some reason) is = inr (_, refl, refl)
-turn_made desk commands (Some publication_fails) false (Some reason) is = inr (_, refl, refl)
-turn_made desk commands None false None is = inl (accepted_all desk.published commands is, refl, refl)
-turn_made desk commands (Some no_room) false None is = inr (_, refl, refl)
-turn_made desk commands (Some no_memory) false None is = inr (_, refl, refl)
-turn_made desk commands (Some (store_fails call)) false None is = inr (_, refl, refl)
-turn_made desk commands (Some commit_kept) false None is = inr (_, refl, refl)
-turn_made desk commands (Some publication_fails) false None is = inr (_, refl, refl)
+turn_made : (desk : DeskState) (command : Command) (more : List Command) (mishap : Option Mishap) (closed : Bool) (first : Option Refusal) → refusal_all desk.published (command ∷ more) ≡ first
+    → AllMade desk (command ∷ more) (from_turn desk (command ∷ more) (commands_or_refusal desk (command ∷ more) closed first mishap)) ⊎ NoneMade desk (command ∷ more) (from_turn desk (command ∷ more) (commands_or_refusal desk (command ∷ more) closed first mishap))
+turn_made desk command more mishap true first is = inr (_, refl, refl, inl refl)
+turn_made desk command more None false (Some reason) is = inr (_, refl, refl, inl refl)
+turn_made desk command more (Some no_room) false (Some reason) is = inr (_, refl, refl, inl refl)
+turn_made desk command more (Some no_memory) false (Some reason) is = inr (_, refl, refl, inl refl)
+turn_made desk command more (Some (store_fails call)) false (Some reason) is = inr (_, refl, refl, inl refl)
+turn_made desk command more (Some commit_kept) false (Some reason) is = inr (_, refl, refl, inl refl)
+turn_made desk command more (Some publication_fails) false (Some reason) is = inr (_, refl, refl, inl refl)
+turn_made desk command more None false None is = inl (accepted_all desk.published (command ∷ more) is, refl, refl)
+turn_made desk command more (Some no_room) false None is = inr (_, refl, refl, inl refl)
+turn_made desk command more (Some no_memory) false None is = inr (_, refl, refl, inl refl)
+turn_made desk command more (Some (store_fails call)) false None is = inr (_, refl, refl, inr (inl (call, refl, refl)))
+turn_made desk command more (Some commit_kept) false None is = inr (_, refl, refl, inr (inr (inl refl, accepted_all desk.published (command ∷ more) is, refl)))
+turn_made desk command more (Some publication_fails) false None is = inr (_, refl, refl, inr (inr (inr refl, accepted_all desk.published (command ∷ more) is, refl)))
 
 turn_unchanged : (desk : DeskState) (commands : List Command) (mishap : Option Mishap) (closed : Bool) (first : Option Refusal) (reason : Refusal) → list_replies desk commands (commands_or_refusal desk commands closed first mishap).result ≡ Refused reason ∷ [] → code_of reason ≤ 26 → (commands_or_refusal desk commands closed first mishap).desk ≡ desk
 turn_unchanged desk commands mishap true first reason e low = refl
@@ -71,12 +72,12 @@ turn_unchanged desk commands (Some publication_fails) false None reason e low = 
 
 -- ---- a file
 
-file_made : (desk : DeskState) (refusal : Option Reply) (commands : List Command) (mishap : Option Mishap) → (refusal ≡ None) ⊎ ((reason : Refusal) × (refusal ≡ Some (Refused reason))) → AllMade desk commands (after_reading desk refusal commands mishap) ⊎ NoneMade desk (after_reading desk refusal commands mishap)
-file_made desk refusal commands mishap (inr refused) = rw refused.1 (inr (refused.0, refl, refl))
+file_made : (desk : DeskState) (refusal : Option Reply) (commands : List Command) (mishap : Option Mishap) → (refusal ≡ None) ⊎ ((reason : Refusal) × (refusal ≡ Some (Refused reason))) → AllMade desk commands (after_reading desk refusal commands mishap) ⊎ NoneMade desk commands (after_reading desk refusal commands mishap)
+file_made desk refusal commands mishap (inr refused) = rw refused.1 (inr (refused.0, refl, refl, inl refl))
 file_made desk refusal [] mishap (inl none) = rw none (inl (tt, refl, refl))
-file_made desk refusal (command ∷ commands) mishap (inl none) = rw none (turn_made desk (command ∷ commands) mishap desk.closed (refusal_all desk.published (command ∷ commands)) refl)
+file_made desk refusal (command ∷ commands) mishap (inl none) = rw none (turn_made desk command commands mishap desk.closed (refusal_all desk.published (command ∷ commands)) refl)
 
-pub all_made_or_none : (desk : DeskState) (input : Input) (mishaps : List (Option Mishap)) (mishap : Option Mishap) → AllMade desk (collected input mishaps).desk (atomic_output desk input mishaps mishap) ⊎ NoneMade desk (atomic_output desk input mishaps mishap)
+pub all_made_or_none : (desk : DeskState) (input : Input) (mishaps : List (Option Mishap)) (mishap : Option Mishap) → AllMade desk (collected input mishaps).desk (atomic_output desk input mishaps mishap) ⊎ NoneMade desk (collected input mishaps).desk (atomic_output desk input mishaps mishap)
 all_made_or_none desk input mishaps mishap = file_made desk _ (collected input mishaps).desk mishap (found (replies (collected input mishaps)) (collected_told input mishaps))
 
 file_unchanged : (desk : DeskState) (refusal : Option Reply) (commands : List Command) (mishap : Option Mishap) (reason : Refusal) → (after_reading desk refusal commands mishap).replies ≡ Refused reason ∷ [] → code_of reason ≤ 26 → (after_reading desk refusal commands mishap).desk ≡ desk

@@ -1,23 +1,16 @@
 -- The refusals that no run over the plain desk replies.
-use Rattle.std.proofs.Common.{◌≡◌, ◌≤◌, ℕ, Bool, true, false, List, length, Option, Some, None, IfErr, Result, Ok, Err, refl, subst, arith}
+use Rattle.std.proofs.Common.{◌≡◌, ◌≤◌, ℕ, Bool, true, false, List, length, Option, IfErr, Result, Ok, Err, refl, arith}
 use Rattle.std.proofs.lemmas.List.Elements.{All-weaker}
 use Rattle.std.specs.List.{All, list_all}
-use Rattle.std.specs.Option.{ok_or}
-use Rattle.std.specs.Prelude.{if◌then◌else◌, nat_lt, not, option_map}
-use Rattle.std.specs.Result.{result_err}
+use Rattle.std.specs.Prelude.{nat_lt, not}
 use Rattle.prt_addr.specs.Refusal.{code_of}
 use Rattle.prt_addr.specs.declared.refusal.Refusal.{Refusal}
-use Rattle.prt_addr.specs.declared.refusal.Refusal.TheVariants.{LineTooLong, NotAscii, Closed, NoSuch, Full, CountFull, Busy, StoreFailed, NotPublished, NotFetched, Damaged, OpenFailed, WriteFault}
-use Rattle.prt_route.specs.Edit.{has_key}
-use Rattle.prt_route.specs.Route.{key_of}
-use Rattle.prt_route.specs.RouteChoice.{chosen_route}
+use Rattle.prt_addr.specs.declared.refusal.Refusal.TheVariants.{LineTooLong, NotAscii, Exists, Closed, NoSuch, Full, CountFull, Busy, StoreFailed, NotPublished, NotFetched, Damaged, OpenFailed, WriteFault}
 use Rattle.prt_command.proofs.Faults.{Fine, fine_err, fine_ok, then_fine}
 use Rattle.prt_command.proofs.Stored.{text_is}
 use Rattle.prt_command.specs.Lines.{longest_line}
 use Rattle.prt_command.specs.Reading.{before_comment, is_text_byte, line_words, reading, words, words_request}
 use Rattle.prt_command.specs.Requests.{refuse_if}
-use Rattle.prt_command.specs.declared.request.Command.{Command}
-use Rattle.prt_command.specs.declared.request.Command.TheVariants.{RouteAdd, RouteChange, RouteReplace, RouteDel, RouteFlush, RuleAdd, RuleDel, RuleFlush}
 use Rattle.prt_command.specs.declared.request.Request.{Request}
 use Rattle.prt_session.proofs.ListReplies.{list_replies}
 use Rattle.prt_session.specs.Desk.{Befalls, DeskState, IsNoMemory, Mishap, request_turn, settled}
@@ -26,10 +19,8 @@ use Rattle.prt_session.specs.Session.{Input, Path, replies, session}
 use Rattle.prt_session.specs.declared.reply.Reply.{Reply}
 use Rattle.prt_session.specs.declared.reply.Reply.TheVariants.{Refused}
 use Rattle.prt_addr.specs.declared.on_refusal.OnRefusal.{OnRefusal}
-use Rattle.prt_version.specs.Change.{change_of, check, has_rule, if_room, named_rule, rule_of, unless_count_full}
+use Rattle.prt_version.proofs.Refused.{IsOfState, refused_by}
 use Rattle.prt_version.specs.State.{State}
-use Rattle.prt_version.specs.declared.change.Change.{Change}
-use Rattle.prt_version.specs.declared.limits.TheConstants.{MOST_COMMANDS, MOST_ROUTES, MOST_RULES}
 
 -- ---- a line
 
@@ -62,45 +53,19 @@ line_within OpenFailed low = absurd (omega arith)
 line_within WriteFault low = absurd (omega arith)
 line_within _ low = refl
 
--- ---- a command
-
-abbrev IsWithin : Result Change Refusal → Type 0
-IsWithin r = IfErr r (λ reason. is_beyond_lists reason ≡ false)
-
-if_within : (b : Bool) (r s : Result Change Refusal) → IsWithin r → IsWithin s → IsWithin (if b then r else s)
-if_within true r s then_so else_so = then_so
-if_within false r s then_so else_so = else_so
-
-room_within : (count most : ℕ) (made : Change) → IsWithin (if_room count most made)
-room_within count most made = if_within (nat_lt count most) (Ok made) (Err Full) tt refl
-
-found_within : {X : Type 0} (make : X → Change) (found : Option X) → IsWithin (ok_or (option_map make found) NoSuch)
-found_within make None = refl
-found_within make (Some x) = tt
-
-change_within : (state : State) (command : Command) → IsWithin (change_of state command)
-change_within state (RouteAdd route) = if_within (has_key (key_of route) state.routes) _ _ refl (room_within (length state.routes) MOST_ROUTES _)
-change_within state (RouteChange route) = if_within (has_key (key_of route) state.routes) _ _ tt refl
-change_within state (RouteReplace route) = if_within (has_key (key_of route) state.routes) _ _ tt (room_within (length state.routes) MOST_ROUTES _)
-change_within state (RouteDel choice) = found_within _ (chosen_route choice state.routes)
-change_within state (RouteFlush selector) = tt
-change_within state (RuleAdd new) = if_within (has_rule (rule_of state new) state.rules) _ _ refl (room_within (length state.rules) MOST_RULES _)
-change_within state (RuleDel choice) = found_within _ (named_rule choice state.rules)
-change_within state RuleFlush = tt
-
-count_within : (count : ℕ) (r : Result Change Refusal) → IsWithin r → IsWithin (unless_count_full count r)
-count_within count (Ok made) within = if_within (nat_lt count MOST_COMMANDS) (Ok made) (Err CountFull) tt refl
-count_within count (Err reason) within = within
-
-err_within : (r : Result Change Refusal) (reason : Refusal) → IsWithin r → result_err r ≡ Some reason → is_beyond_lists reason ≡ false
-err_within (Ok made) reason within is = absurd (cc)
-err_within (Err e) reason within is = let same : e ≡ reason = cc in subst (λ (x : Refusal). is_beyond_lists x ≡ false) same within
+-- no refusal by a state is one of them
+state_within : (reason : Refusal) → IsOfState reason → is_beyond_lists reason ≡ false
+state_within Exists is = refl
+state_within NoSuch is = refl
+state_within Full is = refl
+state_within CountFull is = refl
+state_within _ is = absurd is
 
 -- ---- a run
 
 refusal_within : (reason : Refusal) → IsListRefusal reason → is_beyond_lists reason ≡ false
 refusal_within reason (of_line line is) = line_within reason ((reading_fine line).number reason is)
-refusal_within reason (of_command state command is) = err_within (check state command) reason (count_within state.count (change_of state command) (change_within state command)) is
+refusal_within reason (of_command state command is) = state_within reason (refused_by state command reason is)
 refusal_within reason (of_memory is) = rw is refl
 refusal_within reason (of_reader is) = rw is refl
 refusal_within reason (of_line_length is) = rw is refl

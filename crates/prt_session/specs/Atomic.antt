@@ -3,10 +3,12 @@ use Rattle.std.specs.Prelude.{◌≡◌, ◌≢◌, ◌⊎◌, ℕ, zero, suc, �
 use Rattle.std.specs.Io.KnownBytes.{Appends}
 use Rattle.prt_addr.specs.declared.on_refusal.OnRefusal.TheVariants.{Stop}
 use Rattle.prt_addr.specs.declared.refusal.Refusal.{Refusal}
-use Rattle.prt_addr.specs.declared.refusal.Refusal.TheVariants.{NoMemory, TooManyCommands, UnknownVerb, WriteFault}
+use Rattle.prt_addr.specs.declared.refusal.Refusal.TheVariants.{NoMemory, NotPublished, StoreFailed, TooManyCommands, UnknownVerb, WriteFault}
+use Rattle.prt_addr.specs.declared.refusal.StoreCall.{StoreCall}
+use Rattle.prt_addr.specs.declared.refusal.StoreCall.TheVariants.{Commit}
 use Rattle.prt_command.specs.declared.request.Command.{Command}
 use Rattle.prt_command.specs.declared.request.Request.TheVariants as requests
-use Rattle.prt_session.specs.Desk.{DeskState, IsNoMemory, Mishap, commands_turn}
+use Rattle.prt_session.specs.Desk.{DeskState, IsNoMemory, Mishap, commands_turn, settled, shut}
 use Rattle.prt_session.specs.Reply.{is_refused, replies_text}
 use Rattle.prt_session.specs.Run.{fault_in, refused_in}
 use Rattle.prt_session.specs.Session.{Input, Mishaps, Path, Session, Turn, TurnsOf, end_of_input, replies, session}
@@ -73,13 +75,25 @@ atomic_output desk input mishaps mishap = after_reading desk (find is_refused (r
 
 -- ---- all or none
 
--- all commands are accepted, and each has a number of its own
-abbrev pub AllMade : DeskState → List Command → Outcome → Type 0
-AllMade desk commands made = IsAccepted desk.published commands × (made.replies ≡ accepted_after desk.published.count (length commands)) × (made.desk.published ≡ fold desk.published commands)
+-- the desk after commands that were made; where there are none, it stays as it was
+abbrev pub desk_after : DeskState → List Command → DeskState
+desk_after desk [] = desk
+desk_after desk (command ∷ commands) = settled (fold desk.published (command ∷ commands))
 
--- a refusal is the only reply, and queries are answered as before
-abbrev pub NoneMade : DeskState → Outcome → Type 0
-NoneMade desk made = (reason : Refusal) × (made.replies ≡ Refused reason ∷ []) × (made.desk.published ≡ desk.published)
+-- all commands are accepted, stored and published, each with a number of its own
+abbrev pub AllMade : DeskState → List Command → Outcome → Type 0
+AllMade desk commands made = IsAccepted desk.published commands × (made.replies ≡ accepted_after desk.published.count (length commands)) × (made.desk ≡ desk_after desk commands)
+
+-- A refused list leaves the desk as it was, or closes it. After a failed store call nothing more is stored; after a failed commit perhaps all commands are, and after a refused publication they are.
+abbrev pub IsDeskAfter : DeskState → List Command → Refusal → DeskState → Type 0
+IsDeskAfter desk commands reason after =
+    (after ≡ desk)
+    ⊎ (((call : StoreCall) × (reason ≡ StoreFailed call) × (after ≡ shut desk desk.stored))
+    ⊎ (((reason ≡ StoreFailed Commit) ⊎ (reason ≡ NotPublished)) × IsAccepted desk.published commands × (after ≡ shut desk (fold desk.published commands))))
+
+-- a refusal is the only reply, queries are answered as before, and all or none of the commands are stored
+abbrev pub NoneMade : DeskState → List Command → Outcome → Type 0
+NoneMade desk commands made = (reason : Refusal) × (made.replies ≡ Refused reason ∷ []) × (made.desk.published ≡ desk.published) × IsDeskAfter desk commands reason made.desk
 
 -- ---- a run
 

@@ -36,11 +36,13 @@ pub fn closed_replies()
         (session request_turn desk input mode mishaps).desk ≡ desk }
 {}
 
-/// Of an atomic file all commands are made, in the order of their lines and each with a number of its own, or none is, and
-/// one refusal is its only reply. A refusal with a number up to that of `NoMemory` leaves the desk as it was.
+/// Of an atomic file all commands are made, stored and published, in the order of their lines and each with a number of its
+/// own. Or one refusal is the only reply, and queries are answered as before. What is stored then is what was or, where a
+/// commit or a publication failed, perhaps what all of them make. A refusal with a number up to that of `NoMemory` leaves
+/// the desk as it was.
 pub fn all_or_none()
     ensures made { (desk : DeskState) (input : Input) (mishaps : List (Option Mishap)) (mishap : Option Mishap) →
-        AllMade desk (collected input mishaps).desk (atomic_output desk input mishaps mishap) ⊎ NoneMade desk (atomic_output desk input mishaps mishap) }
+        AllMade desk (collected input mishaps).desk (atomic_output desk input mishaps mishap) ⊎ NoneMade desk (collected input mishaps).desk (atomic_output desk input mishaps mishap) }
     ensures unchanged { (desk : DeskState) (input : Input) (mishaps : List (Option Mishap)) (mishap : Option Mishap) (reason : Refusal) →
         (atomic_output desk input mishaps mishap).replies ≡ Refused reason ∷ [] → code_of reason ≤ 26 → (atomic_output desk input mishaps mishap).desk ≡ desk }
 {}

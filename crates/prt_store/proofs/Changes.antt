@@ -26,17 +26,18 @@ use Rattle.prt_rows.proofs.Found.{has_permuted}
 use Rattle.prt_rows.proofs.Insertion.{adds_length, adds_rule}
 use Rattle.prt_rows.proofs.Keyed.{keyed-permutation}
 use Rattle.prt_rows.proofs.Putting.{puts_route}
+use Rattle.prt_rows.proofs.RouteInsertion.{adds_route, puts_beside}
 use Rattle.prt_rows.proofs.RouteKeys.{row_has_key, split}
 use Rattle.prt_rows.proofs.RowTests.{passes_id, passes_key, passes_priority}
 use Rattle.prt_rows.proofs.Selecting.{passes_selector}
 use Rattle.prt_rows.proofs.Statements.{deletes_route, deletes_routes, deletes_rule, flushes_rules}
-use Rattle.prt_rows.specs.Effects.{Adds, ChangesOnly, ChangesTwo, DeletesRules, IsKeyed, IsOfNone, has_same_rowid, passes}
+use Rattle.prt_rows.specs.Effects.{Adds, AreRouteRows, ChangesOnly, ChangesTwo, DeletesRules, IsKeyed, IsOfNone, Puts, has_same_rowid, passes}
 use Rattle.prt_rows.specs.Kept.{id_values, kept_length, kept_rule, key_values}
 use Rattle.prt_rows.specs.Meanings.{has_id, has_key, has_priority, is_flushed}
 use Rattle.prt_rows.specs.RouteRow.{route_row}
 use Rattle.prt_rows.specs.RuleRow.{rule_row}
 use Rattle.prt_rows.specs.Selecting.{IsSelector, selector_row}
-use Rattle.prt_rows.specs.Statements.{delete_route, delete_rule, flush_routes, flush_rules, insert_rule, insert_suppress, put_route}
+use Rattle.prt_rows.specs.Statements.{delete_route, delete_rule, flush_routes, flush_rules, insert_route, insert_rule, insert_suppress, put_route}
 use Rattle.prt_rows.specs.SuppressRow.{suppress_row}
 use Rattle.prt_rows.specs.declared.suppress_row.RuleLength.{RuleLength}
 use Rattle.prt_rows.specs.Format.{IsFormat2}
@@ -274,13 +275,24 @@ module _ (old mid : Conn) (state : State) (held : Holds old.now state) (count : 
       (λ row there. elim (made.sound row there) [ inl is ↦ inl is | inr was ↦ inr (was, refl) ]) (kept_rule rule, made.here, refl) in
       subst (λ rules. Covers IsRuleRow (mid.now.trees 0) (insert_by is_before rule rules)) (filter_all state.rules) placed
 
-  puts : (route : Route) → Executes put_route (route_row route) old mid (Ok count) → IsChanged old.now mid.now (put state (change.Route (Put route)))
-  puts route ran =
-      let t = held.tables in
-      let made = puts_route t.tables t.indexes t.views t.others t.free old mid route count t.is (λ row there. let was = held.routes.sound row there in (was.0, was.2)) held.routes_keyed ran in
+  route_rows : AreRouteRows (old.now.trees 1)
+  route_rows row there = let was = held.routes.sound row there in (was.0, was.2)
+
+  route_placed : (route : Route) → Puts route old.now mid.now → IsChanged old.now mid.now (put state (change.Route (Put route)))
+  route_placed route made =
       routes_changed (put state (change.Route (Put route))) refl made.only made.keyed
       (covers_placed IsRouteRow (old.now.trees 1) (mid.now.trees 1) state.routes held.routes (passes has_key (key_values (key_of route))) (λ other. not (is_same_key (key_of other) (key_of route)))
       (λ other row there is. row_has_key row other route is ∙ not_not _) made.complete is_listed_before route made.sound made.here)
+
+  puts : (route : Route) → Executes put_route (route_row route) old mid (Ok count) → IsChanged old.now mid.now (put state (change.Route (Put route)))
+  puts route ran =
+      let t = held.tables in
+      route_placed route (puts_route t.tables t.indexes t.views t.others t.free old mid route count t.is route_rows held.routes_keyed ran)
+
+  joins : (route : Route) → Executes insert_route (route_row route) old mid (Ok count) → IsChanged old.now mid.now (put state (change.RouteAdd route))
+  joins route ran =
+      let t = held.tables in
+      route_placed route (puts_beside route old.now mid.now (adds_route t.tables t.indexes t.views t.others t.free old mid route count t.is route_rows held.routes_keyed ran))
 
   removes : (key : RouteKey) → Executes delete_route (key_values key) old mid (Ok count) → IsChanged old.now mid.now (put state (change.Route (Remove key)))
   removes key ran =
@@ -334,6 +346,7 @@ module _ (old mid : Conn) (state : State) (held : Holds old.now state) (count : 
   changed (change.Route (Put route)) none typed ran = puts route ran
   changed (change.Route (Remove key)) none typed ran = removes key ran
   changed (change.Route (Flush selector)) none typed ran = selects selector typed ran
+  changed (change.RouteAdd route) none typed ran = joins route ran
   changed (change.RulePut rule) none typed ran = inserts rule none ran
   changed (change.RuleDrop id) none typed ran = drops id ran
   changed change.RuleFlush none typed ran = flushes ran
@@ -361,6 +374,7 @@ pub changed_by : {S : Type 0} (g : Ghosts S) (made : Change) (old mid : Held S) 
 changed_by g (change.Route (Put route)) old mid now held typed ran = changed (state g old) (state g mid) now held ran.0 (change.Route (Put route)) refl typed ran.1
 changed_by g (change.Route (Remove key)) old mid now held typed ran = changed (state g old) (state g mid) now held ran.0 (change.Route (Remove key)) refl typed ran.1
 changed_by g (change.Route (Flush selector)) old mid now held typed ran = changed (state g old) (state g mid) now held ran.0 (change.Route (Flush selector)) refl typed ran.1
+changed_by g (change.RouteAdd route) old mid now held typed ran = changed (state g old) (state g mid) now held ran.0 (change.RouteAdd route) refl typed ran.1
 changed_by g (change.RuleDrop id) old mid now held typed ran = changed (state g old) (state g mid) now held ran.0 (change.RuleDrop id) refl typed ran.1
 changed_by g change.RuleFlush old mid now held typed ran = changed (state g old) (state g mid) now held ran.0 change.RuleFlush refl typed ran.1
 changed_by {S = S} g (change.RulePut rule) old mid now held typed ran = go (length_of rule) refl ran

@@ -21,3 +21,4 @@ pub mod StoppedCommits
 pub mod Anywhere
 pub mod Several
 pub mod Ones
+pub mod Accepted

@@ -8,7 +8,7 @@ use Rattle.prt_addr.specs.declared.refusal.Refusal.TheVariants.{Exists, NoSuch, 
 use Rattle.prt_command.specs.Storable.{IsStorable}
 use Rattle.prt_command.specs.declared.request.Command.{Command}
 use Rattle.prt_command.specs.declared.request.Command.TheVariants.{RouteAdd, RouteChange, RouteReplace, RouteDel, RouteFlush, RuleAdd, RuleDel, RuleFlush}
-use Rattle.prt_route.specs.Edit.{has_key}
+use Rattle.prt_route.specs.Edit.{after_edit, has_key}
 use Rattle.prt_route.specs.Route.{is_listed_before, is_same_key, key_of}
 use Rattle.prt_route.specs.RouteChoice.{chosen_route, is_selected}
 use Rattle.prt_route.specs.Storable.{is_storable_route}
@@ -20,6 +20,7 @@ use Rattle.prt_rule.specs.Rule.{is_before}
 use Rattle.prt_rule.specs.RuleChoice.{is_named}
 use Rattle.prt_rule.specs.Storable.{is_storable_rule}
 use Rattle.prt_rule.specs.declared.rule.Rule.{Rule}
+use Rattle.prt_version.proofs.Folds.{put_count}
 use Rattle.prt_version.proofs.Successor.{next_sound}
 use Rattle.prt_version.specs.Change.{change_of, check, has_rule, named_rule, put, rule_of, unless_count_full}
 use Rattle.prt_version.specs.Sound.{IsSound}
@@ -46,6 +47,7 @@ IsStorableRoute route = IsTrue (is_storable_route route)
 -- what a storable command puts may be stored, under the next id, and what it drops is there
 abbrev Suits : State → Change → Type 0
 Suits state (change.Route (Put route)) = IsStorableRoute route
+Suits state (change.RouteAdd route) = IsStorableRoute route
 Suits state (change.RulePut rule) = IsStorableRule rule × (rule.id ≡ state.count + 4)
 Suits state (change.RuleDrop id) = (rule : Rule) × Has state.rules rule × (rule.id ≡ id)
 Suits state _ = Unit {0}
@@ -58,6 +60,7 @@ PutsRule P _ = Unit {0}
 -- the route that is put, if one is
 abbrev PutsRoute : (Route → Type 0) → Change → Type 0
 PutsRoute P (change.Route (Put route)) = P route
+PutsRoute P (change.RouteAdd route) = P route
 PutsRoute P _ = Unit {0}
 
 if_either : (P : Change → Type 0) (b : Bool) (x y : Result Change Refusal) → IfOk x P → IfOk y P → IfOk (cond b x y) P
@@ -73,7 +76,7 @@ drop_suits state None there = tt
 drop_suits state (Some rule) there = (rule, there rule refl, refl)
 
 asked_suits : (state : State) (command : Command) → IsStorable command → IfOk (change_of state command) (Suits state)
-asked_suits state (RouteAdd route) storable = if_either (Suits state) (has_key (key_of route) state.routes) (Err Exists) _ tt (if_either (Suits state) _ (Ok (change.Route (Put route))) (Err Full) storable tt)
+asked_suits state (RouteAdd route) storable = if_either (Suits state) (has_key (key_of route) state.routes) (Err Exists) _ tt (if_either (Suits state) _ (Ok (change.RouteAdd route)) (Err Full) storable tt)
 asked_suits state (RouteChange route) storable = if_either (Suits state) (has_key (key_of route) state.routes) (Ok (change.Route (Put route))) (Err NoSuch) storable tt
 asked_suits state (RouteReplace route) storable = if_either (Suits state) (has_key (key_of route) state.routes) (Ok (change.Route (Put route))) _ storable (if_either (Suits state) _ (Ok (change.Route (Put route))) (Err Full) storable tt)
 asked_suits state (RouteDel choice) storable = removal_suits state (chosen_route choice state.routes)
@@ -95,19 +98,13 @@ module _ (state : State) (made : Change) (number : ℕ) (next : IsNext state mad
   suits : Suits state made
   suits = subst (λ asked. IfOk asked (Suits state)) next.makes (counted_suits state state.count (change_of state next.command) (asked_suits state next.command next.storable))
 
-  put_count : (made : Change) → (put state made).count ≡ state.count + 1
-  put_count (change.Route edit) = refl
-  put_count (change.RulePut rule) = refl
-  put_count (change.RuleDrop id) = refl
-  put_count change.RuleFlush = refl
-
   pub number_is : number ≡ (put state made).count
-  number_is = next.counts ∙ sym (put_count made)
+  number_is = next.counts ∙ sym (put_count state made)
 
   pub next_is_sound : IsSound (put state made)
   next_is_sound =
       let parts = next_sound state state made (put state made).rules (put state made).routes refl next.sound (record { command = next.command; makes = next.makes }) refl refl in
-      subst (λ n. IsSound (record { count = n; rules = (put state made).rules; routes = (put state made).routes })) (sym (put_count made)) parts
+      subst (λ n. IsSound (record { count = n; rules = (put state made).rules; routes = (put state made).routes })) (sym (put_count state made)) parts
 
   number_fits : number ≤ MOST_COMMANDS
   number_fits = subst (λ n. n ≤ MOST_COMMANDS) (sym number_is) next_is_sound.count_fits
@@ -124,6 +121,7 @@ module _ (state : State) (made : Change) (number : ℕ) (next : IsNext state mad
 
       by_change : (made : Change) → Suits state made → HasStorableIds made
       by_change (change.Route edit) fits = tt
+      by_change (change.RouteAdd route) fits = tt
       by_change (change.RulePut rule) fits = omega (arith, fits.1, before)
       by_change (change.RuleDrop id) fits =
           let least : fits.0.id ≤ state.count + 3 = all_has (λ rule. rule.id ≤ state.count + 3) state.rules fits.0 next.sound.ids fits.1 in
@@ -133,6 +131,7 @@ module _ (state : State) (made : Change) (number : ℕ) (next : IsNext state mad
   -- what holds of each rule, and of the one that is put, holds of each rule of the next state
   rules_after : (P : Rule → Type 0) (made : Change) → PutsRule P made → ((rule : Rule) → Has state.rules rule → P rule) → (rule : Rule) → Has (put state made).rules rule → P rule
   rules_after P (change.Route edit) new each rule there = each rule there
+  rules_after P (change.RouteAdd route) new each rule there = each rule there
   rules_after P (change.RulePut put_rule) new each rule there = elim (inserted_has is_before put_rule state.rules rule there) [
     | inl is ↦ subst P (sym is) new
     | inr was ↦ each rule was
@@ -141,13 +140,17 @@ module _ (state : State) (made : Change) (number : ℕ) (next : IsNext state mad
   rules_after P change.RuleFlush new each rule there = each rule (has_filtered (λ rule. rule.priority == 0) state.rules rule there).0
 
   -- the same of routes
-  routes_after : (P : Route → Type 0) (made : Change) → PutsRoute P made → ((route : Route) → Has state.routes route → P route) → (route : Route) → Has (put state made).routes route → P route
-  routes_after P (change.Route (Put put_route)) new each route there = elim (inserted_has is_listed_before put_route _ route there) [
+  put_after : (P : Route → Type 0) (added : Route) → P added → ((route : Route) → Has state.routes route → P route) → (route : Route) → Has (after_edit (Put added) state.routes) route → P route
+  put_after P added new each route there = elim (inserted_has is_listed_before added _ route there) [
     | inl is ↦ subst P (sym is) new
-    | inr was ↦ each route (has_filtered (λ other. not (is_same_key (key_of other) (key_of put_route))) state.routes route was).0
+    | inr was ↦ each route (has_filtered (λ other. not (is_same_key (key_of other) (key_of added))) state.routes route was).0
   ]
+
+  routes_after : (P : Route → Type 0) (made : Change) → PutsRoute P made → ((route : Route) → Has state.routes route → P route) → (route : Route) → Has (put state made).routes route → P route
+  routes_after P (change.Route (Put added)) new each route there = put_after P added new each route there
   routes_after P (change.Route (Remove key)) new each route there = each route (has_filtered (λ other. not (is_same_key (key_of other) key)) state.routes route there).0
   routes_after P (change.Route (Flush selector)) new each route there = each route (has_filtered (λ other. not (is_selected selector other)) state.routes route there).0
+  routes_after P (change.RouteAdd added) new each route there = put_after P added new each route there
   routes_after P (change.RulePut rule) new each route there = each route there
   routes_after P (change.RuleDrop id) new each route there = each route there
   routes_after P change.RuleFlush new each route there = each route there
@@ -155,6 +158,7 @@ module _ (state : State) (made : Change) (number : ℕ) (next : IsNext state mad
   -- what is put is in range, and a table may hold it
   rule_in_range : (made : Change) → Suits state made → IsTyped made → PutsRule (λ rule. IsRule (state.count + 1 + 3) (plain rule)) made
   rule_in_range (change.Route edit) fits typed = tt
+  rule_in_range (change.RouteAdd route) fits typed = tt
   rule_in_range (change.RulePut new) fits typed = up_to new.id (state.count + 1 + 3) (plain new) (omega (arith, fits.1)) (typed (omega (arith, fits.1)))
   rule_in_range (change.RuleDrop id) fits typed = tt
   rule_in_range change.RuleFlush fits typed = tt
@@ -163,12 +167,14 @@ module _ (state : State) (made : Change) (number : ℕ) (next : IsNext state mad
   route_in_range (change.Route (Put route)) typed = typed
   route_in_range (change.Route (Remove key)) typed = tt
   route_in_range (change.Route (Flush selector)) typed = tt
+  route_in_range (change.RouteAdd route) typed = typed
   route_in_range (change.RulePut rule) typed = tt
   route_in_range (change.RuleDrop id) typed = tt
   route_in_range change.RuleFlush typed = tt
 
   rule_storable : (made : Change) → Suits state made → PutsRule IsStorableRule made
   rule_storable (change.Route edit) fits = tt
+  rule_storable (change.RouteAdd route) fits = tt
   rule_storable (change.RulePut rule) fits = fits.0
   rule_storable (change.RuleDrop id) fits = tt
   rule_storable change.RuleFlush fits = tt
@@ -177,6 +183,7 @@ module _ (state : State) (made : Change) (number : ℕ) (next : IsNext state mad
   route_storable (change.Route (Put route)) fits = fits
   route_storable (change.Route (Remove key)) fits = tt
   route_storable (change.Route (Flush selector)) fits = tt
+  route_storable (change.RouteAdd route) fits = fits
   route_storable (change.RulePut rule) fits = tt
   route_storable (change.RuleDrop id) fits = tt
   route_storable change.RuleFlush fits = tt
@@ -188,7 +195,7 @@ module _ (state : State) (made : Change) (number : ℕ) (next : IsNext state mad
     pub next_storable : FitsTables (put state made)
     next_storable = record {
       sound = next_is_sound;
-      rules = λ rule there. subst (λ n. IsRule (n + 3) (plain rule)) (sym (put_count made)) (rules_after (λ r. IsRule (state.count + 1 + 3) (plain r)) made (rule_in_range made suits typed) older_rules rule there);
+      rules = λ rule there. subst (λ n. IsRule (n + 3) (plain rule)) (sym (put_count state made)) (rules_after (λ r. IsRule (state.count + 1 + 3) (plain r)) made (rule_in_range made suits typed) older_rules rule there);
       routes = routes_after IsInRange made (route_in_range made typed) storable.routes;
       storable = record {
         rules = all_from IsStorableRule (put state made).rules (rules_after IsStorableRule made (rule_storable made suits) (λ rule there. all_has IsStorableRule state.rules rule storable.storable.rules there));

@@ -11,7 +11,7 @@ use Rattle.prt_rows.specs.Kept.{id_values, key_values}
 use Rattle.prt_rows.specs.RouteRow.{IsInRange, route_row}
 use Rattle.prt_rows.specs.RuleRow.{IsRule, rule_row}
 use Rattle.prt_rows.specs.Selecting.{IsSelector, selector_row}
-use Rattle.prt_rows.specs.Statements.{delete_route, delete_rule, flush_routes, flush_rules, insert_rule, put_route}
+use Rattle.prt_rows.specs.Statements.{delete_route, delete_rule, flush_routes, flush_rules, insert_route, insert_rule, put_route}
 use Rattle.prt_rows.specs.declared.suppress_row.RuleLength.{RuleLength}
 use Rattle.prt_version.specs.declared.change.Change.{Change}
 use Rattle.prt_version.specs.declared.change.Change.TheVariants as change
@@ -22,6 +22,7 @@ abbrev pub text_of : Change → Word
 text_of (change.Route (Put route)) = put_route
 text_of (change.Route (Remove key)) = delete_route
 text_of (change.Route (Flush selector)) = flush_routes
+text_of (change.RouteAdd route) = insert_route
 text_of (change.RulePut rule) = insert_rule
 text_of (change.RuleDrop id) = delete_rule
 text_of change.RuleFlush = flush_rules
@@ -31,6 +32,7 @@ abbrev pub values_of : Change → Row
 values_of (change.Route (Put route)) = route_row route
 values_of (change.Route (Remove key)) = key_values key
 values_of (change.Route (Flush selector)) = selector_row selector
+values_of (change.RouteAdd route) = route_row route
 values_of (change.RulePut rule) = rule_row rule
 values_of (change.RuleDrop id) = id_values id
 values_of change.RuleFlush = []
@@ -54,9 +56,10 @@ HasStorableIds (change.RulePut rule) = rule.id < 2 ^ 63
 HasStorableIds (change.RuleDrop id) = id < 2 ^ 63
 HasStorableIds _ = Unit {0}
 
--- what the types of its fields say of a route or rule that is put, and of a selector
+-- what the types of its fields say of a route that is put or added, of a rule, and of a selector
 abbrev pub IsTyped : Change → Type 0
 IsTyped (change.Route (Put route)) = IsInRange route
 IsTyped (change.Route (Flush selector)) = IsSelector selector
+IsTyped (change.RouteAdd route) = IsInRange route
 IsTyped (change.RulePut rule) = 1 ≤ rule.id → IsRule rule.id (plain rule)
 IsTyped _ = Unit {0}

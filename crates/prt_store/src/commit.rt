@@ -15,8 +15,8 @@ ghost use Rattle.prt_store.specs.Stops.{AllStoppedIn, MakesAllCalls};
 ghost use Rattle.prt_store.specs.Written.{HasStorableIds, IsTyped};
 
 use crate::statements::{
-    delete_route, delete_rule, flush_routes, flush_rules, insert_length, insert_rule, put_route,
-    set_count,
+    delete_route, delete_rule, flush_routes, flush_rules, insert_length, insert_route, insert_rule,
+    put_route, set_count,
 };
 use prt_addr::StoreCall;
 use prt_route::RouteEdit;
@@ -66,6 +66,7 @@ fn write<S: Alter>(tx: &mut Transaction<'_, S>, change: &Change) -> Result<usize
 {
     match change {
         Change::Route(edit) => edit_routes(tx, edit),
+        Change::RouteAdd(route) => insert_route(tx, route),
         Change::RulePut(rule) => add_rule(tx, rule),
         Change::RuleDrop(id) => delete_rule(tx, *id),
         Change::RuleFlush => flush_rules(tx),

@@ -6,7 +6,7 @@ ghost use Rattle.prt_rows.specs.Kept.{count_values, id_values, key_values};
 ghost use Rattle.prt_rows.specs.RouteRow.{IsInRange, route_row};
 ghost use Rattle.prt_rows.specs.RuleRow.{IsRule, rule_row};
 ghost use Rattle.prt_rows.specs.Selecting.{IsSelector, selector_row};
-ghost use Rattle.prt_rows.specs.Statements.{delete_route, delete_rule, flush_routes, flush_rules, insert_rule, insert_suppress, put_route, set_count};
+ghost use Rattle.prt_rows.specs.Statements.{delete_route, delete_rule, flush_routes, flush_rules, insert_route, insert_rule, insert_suppress, put_route, set_count};
 ghost use Rattle.prt_rows.specs.SuppressRow.{suppress_row};
 ghost use Rattle.prt_store.specs.Lengths.{plain};
 ghost use Rattle.prt_store.specs.Written.{CommitsNothing, RunsInside};
@@ -17,6 +17,23 @@ use prt_rows::{RuleLength, length_values, route_values, rule_values, selector_va
 use prt_rule::Rule;
 use sqlite::types::ValueRef;
 use sqlite::{Alter, Error, Transaction, params};
+
+/// Inserts a route. Where its key is there, the statement is refused.
+pub(crate) fn insert_route<S: Alter>(
+    tx: &mut Transaction<'_, S>,
+    route: &Route,
+) -> Result<usize, Error>
+    ensures same_reference { tx.new.conn.ghost_name ≡ tx.old.conn.ghost_name }
+    ensures runs { RunsInside S.Store insert_route (route_row route.now) tx.old.conn.now tx.new.conn.now result }
+    ensures survives { CommitsNothing S.Store tx.old.conn.now tx.new.conn.now }
+    ensures typed { IsInRange route.now }
+{
+    recall_route(route);
+    tx.execute(
+        "INSERT INTO route (tbl, net, len, metric, kind, via, dev, src, proto, scope) VALUES (?1, ?2, ?3, ?4, ?5, ?6, ?7, ?8, ?9, ?10)",
+        &route_values(route),
+    )
+}
 
 /// Puts a route in the place of the one that has its key, or beside the others.
 pub(crate) fn put_route<S: Alter>(

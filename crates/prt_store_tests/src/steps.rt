@@ -14,8 +14,7 @@ pub const OPENING: Contents = Contents {
     routes: "end 0\n",
 };
 
-/// One command for each statement, and one that puts a route in the place of another; with each, what the tables then
-/// spell.
+/// One command for each statement, and a second route beside the first; with each, what the tables then spell.
 pub const STEPS: [(&str, Contents); 8] = [
     (
         "route add 10.1/16 via 192.0.2.1 dev eth0 src 192.0.2.10 metric 5",

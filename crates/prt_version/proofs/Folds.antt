@@ -13,8 +13,10 @@ pub fold_push : (state : State) (commands : List Command) (command : Command) �
 fold_push state [] command = refl
 fold_push state (first ∷ commands) command = fold_push (apply state first) commands command
 
-put_count : (state : State) (made : Change) → (put state made).count ≡ state.count + 1
+-- each change is counted
+pub put_count : (state : State) (made : Change) → (put state made).count ≡ state.count + 1
 put_count state (change.Route edit) = refl
+put_count state (change.RouteAdd route) = refl
 put_count state (change.RulePut rule) = refl
 put_count state (change.RuleDrop id) = refl
 put_count state change.RuleFlush = refl

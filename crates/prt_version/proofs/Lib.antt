@@ -10,3 +10,4 @@ pub mod Rules
 pub mod Runs
 pub mod SortedRows
 pub mod Successor
+pub mod Refused

@@ -25,6 +25,7 @@ use Rattle.prt_version.specs.State.{State, opening_rules, opening_state, table_r
 use Rattle.prt_version.specs.declared.change.Change.{Change}
 use Rattle.prt_version.specs.declared.change.Change.TheVariants as change
 use Rattle.prt_version.specs.declared.limits.TheConstants.{MOST_COMMANDS, MOST_ROUTES, MOST_RULES}
+use Rattle.prt_version.proofs.Folds.{put_count}
 use Rattle.prt_version.proofs.RuleOrder.{put_ids, put_rises, put_unlike}
 
 -- ---- what an accepted change shows
@@ -151,8 +152,8 @@ fit_after p xs most fit = filtered_fit p xs most fit
 
 change_sound : (state : State) (command : Command) (made : Change) → IsSound state → state.count + 1 ≤ MOST_COMMANDS → change_of state command ≡ Ok made → IsSound (put state made)
 change_sound state (RouteAdd route) made sound room h =
-    let a : IsAddition (has_key (key_of route) state.routes) (length state.routes) MOST_ROUTES (change.Route (Put route)) made = addition_of (has_key (key_of route) state.routes) (length state.routes) MOST_ROUTES (change.Route (Put route)) made h in
-    as_made state (change.Route (Put route)) made a.has_room.is (edit_sound state (Put route) sound room (one_more route state.routes a.has_room.room))
+    let a : IsAddition (has_key (key_of route) state.routes) (length state.routes) MOST_ROUTES (change.RouteAdd route) made = addition_of (has_key (key_of route) state.routes) (length state.routes) MOST_ROUTES (change.RouteAdd route) made h in
+    as_made state (change.RouteAdd route) made a.has_room.is (edit_sound state (Put route) sound room (one_more route state.routes a.has_room.room))
 change_sound state (RouteChange route) made sound room h =
     let t : IsThere (has_key (key_of route) state.routes) (change.Route (Put route)) made = change_there (has_key (key_of route) state.routes) (change.Route (Put route)) made h in
     as_made state (change.Route (Put route)) made t.is (edit_sound state (Put route) sound room (in_place route state.routes t.present sound.routes_fit))
@@ -201,12 +202,6 @@ opens_sound first second third rules routes local main default are none =
     let with_rules : IsSound (record { count = 0; rules = rules; routes = [] }) = subst (λ x. IsSound (record { count = 0; rules = x; routes = [] })) (sym rules_are) opening_sound in
     subst (λ x. IsSound (record { count = 0; rules = rules; routes = x })) (sym none) with_rules
 
-put_count : (state : State) (made : Change) → (put state made).count ≡ state.count + 1
-put_count state (change.Route edit) = refl
-put_count state (change.RulePut rule) = refl
-put_count state (change.RuleDrop id) = refl
-put_count state change.RuleFlush = refl
-
 with_count : (count : ℕ) (state : State) → state.count ≡ count → IsSound state → IsSound (record { count = count; rules = state.rules; routes = state.routes })
 with_count count state is sound = subst (λ n. IsSound (record { count = n; rules = state.rules; routes = state.routes })) is sound
 
@@ -220,10 +215,10 @@ next_sound inside state made rules routes same sound checked rules_are routes_ar
     subst (λ x. IsSound (record { count = inside.count + 1; rules = rules; routes = x })) (sym (routes_are ∙ ap (λ s. s.routes) put_is)) with_rules
 
 -- a change that was checked leaves no more routes than there is room for
-pub edit_fits : (inside state : State) (made : Change) (edit : RouteEdit) (routes : List Route) → inside ≡ state → IsSound inside → IsChecked state made → made ≡ change.Route edit → routes ≡ inside.routes → length (after_edit edit routes) ≤ MOST_ROUTES
-edit_fits inside state made edit routes same sound checked is routes_are =
-    let checked_inside : IsChecked inside (change.Route edit) = subst (IsChecked inside) is (subst (λ s. IsChecked s made) (sym same) checked) in
-    subst (λ rs. length (after_edit edit rs) ≤ MOST_ROUTES) (sym routes_are) (put_sound inside (change.Route edit) sound checked_inside).routes_fit
+pub routes_fit : (inside state : State) (checked made : Change) → inside ≡ state → IsSound inside → IsChecked state checked → checked ≡ made → length (put state made).routes ≤ MOST_ROUTES
+routes_fit inside state checked made same sound is_checked is =
+    let checked_inside : IsChecked inside made = subst (IsChecked inside) is (subst (λ s. IsChecked s checked) (sym same) is_checked) in
+    subst (λ s. length (put s made).routes ≤ MOST_ROUTES) same (put_sound inside made sound checked_inside).routes_fit
 
 -- what holds of a value holds of the one that is owned
 pub of_owner : {X Y F : Type 0} (P : X → Type 0) (value : Y → X) (made : X) (owned : Result Y F) → P made → IfOk owned (λ owner. value owner ≡ made) → IfOk owned (λ owner. P (value owner))

@@ -42,7 +42,7 @@ if_room count most made = if nat_lt count most then Ok made else Err Full
 
 -- the change that a command asks for, if what is there allows it
 abbrev pub change_of : State → Command → Result Change Refusal
-change_of state (RouteAdd route) = if has_key (key_of route) state.routes then Err Exists else if_room (length state.routes) MOST_ROUTES (change.Route (Put route))
+change_of state (RouteAdd route) = if has_key (key_of route) state.routes then Err Exists else if_room (length state.routes) MOST_ROUTES (change.RouteAdd route)
 change_of state (RouteChange route) = if has_key (key_of route) state.routes then Ok (change.Route (Put route)) else Err NoSuch
 change_of state (RouteReplace route) = if has_key (key_of route) state.routes then Ok (change.Route (Put route)) else if_room (length state.routes) MOST_ROUTES (change.Route (Put route))
 change_of state (RouteDel choice) = ok_or (option_map (λ route. change.Route (Remove (key_of route))) (chosen_route choice state.routes)) NoSuch
@@ -68,6 +68,7 @@ refusal state command = result_err (check state command)
 
 abbrev pub put : State → Change → State
 put state (change.Route edit) = record { count = state.count + 1; rules = state.rules; routes = after_edit edit state.routes }
+put state (change.RouteAdd route) = record { count = state.count + 1; rules = state.rules; routes = after_edit (Put route) state.routes }
 put state (change.RulePut rule) = record { count = state.count + 1; rules = insert_by is_before rule state.rules; routes = state.routes }
 put state (change.RuleDrop id) = record { count = state.count + 1; rules = filter (λ rule. not (rule.id == id)) state.rules; routes = state.routes }
 put state change.RuleFlush = record { count = state.count + 1; rules = filter (λ rule. rule.priority == 0) state.rules; routes = state.routes }

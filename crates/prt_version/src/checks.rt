@@ -39,8 +39,7 @@ fn route_addition(version: &Version, route: &Route) -> Result<Change, Refusal>
     if routes.holds(&route.key()) {
         return Err(Refusal::Exists);
     }
-    let change = Change::Route(RouteEdit::Put(*route));
-    if_room(routes.len(), MOST_ROUTES, change)
+    if_room(routes.len(), MOST_ROUTES, Change::RouteAdd(*route))
 }
 
 /// Gives the change of `change` of a route.

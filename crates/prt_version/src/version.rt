@@ -1,6 +1,7 @@
-ghost use Rattle.std.specs.Prelude.{◌≡◌, ◌⊎◌, IfErr, IfOk, None, OnOk};
+ghost use Rattle.std.specs.Prelude.{◌≡◌, ◌≤◌, ◌⊎◌, IfErr, IfOk, None, OnOk, length};
 ghost use Rattle.std.specs.Arc.{arc_value};
 ghost use Rattle.prt_addr.specs.declared.refusal.Refusal.TheVariants.{Damaged, NoMemory};
+ghost use Rattle.prt_route.specs.Edit.{after_edit};
 ghost use Rattle.prt_rule.specs.Sound.{IsInOrder};
 ghost use Rattle.prt_version.specs.Accepted.{IsAccepted, IsRefusedFor, changes_of};
 ghost use Rattle.prt_version.specs.Change.{IsChecked, check, fold, put, rule_of};
@@ -9,6 +10,7 @@ ghost use Rattle.prt_version.specs.RowsSpell.{RowsSpell, RowsSpellNone};
 ghost use Rattle.prt_version.specs.Select.{select};
 ghost use Rattle.prt_version.specs.Sound.{IsSound};
 ghost use Rattle.prt_version.specs.State.{opening_rules, opening_state, table_rule};
+ghost use Rattle.prt_version.specs.declared.limits.TheConstants.{MOST_ROUTES};
 
 use crate::checks::change_of;
 use crate::from_rows::{ordered_routes, ordered_rules};
@@ -20,7 +22,7 @@ use crate::tables::Tables;
 use crate::{
     Action, Answer, Change, Command, MOST_COMMANDS, NewRule, Packet, Refusal, Route, Rule,
 };
-use prt_route::{DEFAULT_TABLE, LOCAL_TABLE, MAIN_TABLE, Prefix, Selector};
+use prt_route::{DEFAULT_TABLE, LOCAL_TABLE, MAIN_TABLE, Prefix, RouteEdit, Selector};
 use prt_rule::auto_priority;
 use std::alloc::{AllocError, Global};
 use std::marker::Model;
@@ -221,12 +223,21 @@ impl Version {
     {
         let alloc = *self.rules.allocator();
         let rules = match change {
-            Change::Route(_) => return Arc::try_clone(&self.rules),
+            Change::Route(_) | Change::RouteAdd(_) => return Arc::try_clone(&self.rules),
             Change::RulePut(rule) => with_rule(alloc, &self.rules, rule)?,
             Change::RuleDrop(id) => without_rule(alloc, &self.rules, *id)?,
             Change::RuleFlush => flushed_rules(alloc, &self.rules)?,
         };
         Ok(Arc::new(alloc, rules)?)
+    }
+
+    /// Gives the routes after an edit.
+    fn routes_with(&self, edit: &RouteEdit) -> Result<Arc<Tables>, AllocError>
+        requires { length (after_edit edit.now self.now.routes) ≤ MOST_ROUTES }
+        ensures { IfOk result (λ routes. arc_value routes ≡ after_edit edit.now self.now.routes) }
+    {
+        let routes = self.routes.with_edit(edit)?;
+        Ok(Arc::new(*self.rules.allocator(), routes)?)
     }
 
     /// Gives the routes after a change.
@@ -235,10 +246,8 @@ impl Version {
         ensures { IfOk result (λ routes. arc_value routes ≡ (put self.now change.now).routes) }
     {
         match change {
-            Change::Route(edit) => {
-                let routes = self.routes.with_edit(edit)?;
-                Ok(Arc::new(*self.rules.allocator(), routes)?)
-            }
+            Change::Route(edit) => self.routes_with(edit),
+            Change::RouteAdd(route) => self.routes_with(&RouteEdit::Put(*route)),
             Change::RulePut(_) | Change::RuleDrop(_) | Change::RuleFlush => {
                 Arc::try_clone(&self.routes)
             }

@@ -154,6 +154,7 @@ fn makes_commands_together(rt: HostRuntime) -> Result<(), Fail> {
     let commands = commands_of(alloc, "route add 10/8 dev a1\nrule add table 7")?;
     let (changes, last) = opening.after_all(&commands)?;
     assert!(rt; changes.len() == 2 && last.number() == 2);
+    assert!(rt; matches!(changes.first(), Some(Change::RouteAdd(_))));
     assert!(rt; matches!(changes.last(), Some(Change::RulePut(rule)) if rule.id == 5));
     let refused = commands_of(alloc, "route add 10/8 dev a1\nroute add 10/8 dev a2")?;
     assert!(rt; opening.after_all(&refused).err() == Some(Refusal::Exists));

@@ -58,7 +58,7 @@ pub record Lookup : Type 0 where
 pub record World : Type 0 where
   -- the commands that were accepted, in order
   pub accepted : List Command
-  -- the commands that were accepted last, together
+  -- the commands that were accepted last, together; [] after an opening, until there are some
   pub last : List Command
   pub disk : State
   -- what the open transaction holds; the same as the disk where none is open

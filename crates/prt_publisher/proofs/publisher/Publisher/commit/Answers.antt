@@ -1,6 +1,7 @@
 use Rattle.std.proofs.Common.{◌≡◌, ◌+◌, ap, sym, ◌∙◌, subst, length, arith}
 use Rattle.std.specs.Arc.{arc_value}
 use Rattle.sqlite.specs.Held.{Held, state}
+use Rattle.prt_store.proofs.Accepted.{as_many}
 use Rattle.prt_store.proofs.Exits.{keeps_after, spares_after}
 use Rattle.prt_store.specs.Exits.{IsStored, SparesOthers}
 use Rattle.prt_store.specs.Next.{put_all}
@@ -9,7 +10,7 @@ use Rattle.prt_publisher.specs.Standing.{Standing, unnoted}
 use Rattle.prt_publisher.specs.Step.{commands_of, phase_of}
 use Rattle.prt_publisher.specs.declared.publisher.Step.{Step}
 use Rattle.prt_publisher.specs.declared.publisher.Step.TheVariants as step
-use Rattle.prt_publisher.proofs.Commits.{as_many, can_commit, either_left, have_committed, left_after}
+use Rattle.prt_publisher.proofs.Commits.{can_commit, either_left, have_committed, left_after}
 use Rattle.prt_publisher.proofs.publisher.Publisher.commit.Goals as goal
 
 pub commit_all-requires-clause-some : goal.commit_all-requires-clause-some

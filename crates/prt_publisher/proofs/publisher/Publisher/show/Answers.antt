@@ -5,10 +5,11 @@ use Rattle.prt_version.specs.Change.{fold}
 use Rattle.prt_version.specs.State.{State}
 use Rattle.prt_store.specs.Exits.{IsStored}
 use Rattle.prt_publisher.specs.Standing.{Agrees, unnoted}
-use Rattle.prt_publisher.specs.Step.{IsStep, commands_of, phase_of}
+use Rattle.prt_publisher.specs.Step.{commands_of, phase_of}
 use Rattle.prt_publisher.specs.declared.publisher.Step.{Step}
 use Rattle.prt_publisher.specs.declared.publisher.Step.TheVariants as step
 use Rattle.prt_version.proofs.Folds.{count_fold}
+use Rattle.prt_publisher.proofs.Commits.{was_committed}
 use Rattle.prt_publisher.proofs.Lists.{number_next, state_grown}
 use Rattle.prt_publisher.proofs.publisher.Publisher.show.Goals as goal
 
@@ -16,40 +17,35 @@ pub publish_all-requires-clause-stamp : goal.publish_all-requires-clause-stamp
 publish_all-requires-clause-stamp g c =
     let old = c.self.inside.front in
     let plan = c.in-Committed.plan in
-    let is : c.self.inside.step ≡ step.Committed plan c.in-Committed.stamp = sym c.replace.ensures.value ∙ c.in-Committed.is in
-    let kept : IsStep (line_state old) (step.Committed plan c.in-Committed.stamp) = subst (IsStep (line_state old)) is c.self.invariant.3 in
+    let kept = was_committed (line_state old) c.self.inside.step plan c.in-Committed.stamp _ c.replace.ensures.value c.in-Committed.is c.self.invariant.3 in
     number_next old c.in-Committed.stamp.number (length plan.commands.items) c.self.invariant.2 kept.1
 
 pub publish_all-requires-clause-some : goal.publish_all-requires-clause-some
 publish_all-requires-clause-some g c =
     let old = c.self.inside.front in
     let plan = c.in-Committed.plan in
-    let is : c.self.inside.step ≡ step.Committed plan c.in-Committed.stamp = sym c.replace.ensures.value ∙ c.in-Committed.is in
-    let kept : IsStep (line_state old) (step.Committed plan c.in-Committed.stamp) = subst (IsStep (line_state old)) is c.self.invariant.3 in
+    let kept = was_committed (line_state old) c.self.inside.step plan c.in-Committed.stamp _ c.replace.ensures.value c.in-Committed.is c.self.invariant.3 in
     kept.0.some
 
 pub publish_all-requires-clause-accepted : goal.publish_all-requires-clause-accepted
 publish_all-requires-clause-accepted g c =
     let old = c.self.inside.front in
     let plan = c.in-Committed.plan in
-    let is : c.self.inside.step ≡ step.Committed plan c.in-Committed.stamp = sym c.replace.ensures.value ∙ c.in-Committed.is in
-    let kept : IsStep (line_state old) (step.Committed plan c.in-Committed.stamp) = subst (IsStep (line_state old)) is c.self.invariant.3 in
+    let kept = was_committed (line_state old) c.self.inside.step plan c.in-Committed.stamp _ c.replace.ensures.value c.in-Committed.is c.self.invariant.3 in
     kept.0.accepted
 
 pub publish_all-requires-clause-next : goal.publish_all-requires-clause-next
 publish_all-requires-clause-next g c =
     let old = c.self.inside.front in
     let plan = c.in-Committed.plan in
-    let is : c.self.inside.step ≡ step.Committed plan c.in-Committed.stamp = sym c.replace.ensures.value ∙ c.in-Committed.is in
-    let kept : IsStep (line_state old) (step.Committed plan c.in-Committed.stamp) = subst (IsStep (line_state old)) is c.self.invariant.3 in
+    let kept = was_committed (line_state old) c.self.inside.step plan c.in-Committed.stamp _ c.replace.ensures.value c.in-Committed.is c.self.invariant.3 in
     kept.0.shown
 
 pub publish_all-requires-clause-room : goal.publish_all-requires-clause-room
 publish_all-requires-clause-room g c =
     let old = c.self.inside.front in
     let plan = c.in-Committed.plan in
-    let is : c.self.inside.step ≡ step.Committed plan c.in-Committed.stamp = sym c.replace.ensures.value ∙ c.in-Committed.is in
-    let kept : IsStep (line_state old) (step.Committed plan c.in-Committed.stamp) = subst (IsStep (line_state old)) is c.self.invariant.3 in
+    let kept = was_committed (line_state old) c.self.inside.step plan c.in-Committed.stamp _ c.replace.ensures.value c.in-Committed.is c.self.invariant.3 in
     let counted = count_fold old.base old.list c.self.invariant.2 in
     let after = count_fold (line_state old) plan.commands.items kept.0.accepted in
     let fits = c.number-most.ensures.sound.count_fits in
@@ -61,7 +57,7 @@ returns-in-Ok-clause-stands g c known =
     let old = c.self.inside.front in
     let plan = c.in-Committed.plan in
     let is : c.self.inside.step ≡ step.Committed plan c.in-Committed.stamp = sym c.replace.ensures.value ∙ c.in-Committed.is in
-    let kept : IsStep (line_state old) (step.Committed plan c.in-Committed.stamp) = subst (IsStep (line_state old)) is c.self.invariant.3 in
+    let kept = was_committed (line_state old) c.self.inside.step plan c.in-Committed.stamp _ c.replace.ensures.value c.in-Committed.is c.self.invariant.3 in
     let conn = c.self.inside.store.conn in
     let agrees : IsStored g.S.Store conn (fold (line_state old) plan.commands.items) = subst (λ (x : Step). Agrees g.S.Store (phase_of x) (commands_of x) (line_state old) conn) is (c.self.invariant.4 known) in
     subst (IsStored g.S.Store conn) (sym (state_grown old c.publish_all.new.self plan.commands.items c.in-Ok.ensures.list.0)) agrees
@@ -71,7 +67,7 @@ invariant_of-self g c =
     let old = c.self.inside.front in
     let plan = c.in-Committed.plan in
     let is : c.self.inside.step ≡ step.Committed plan c.in-Committed.stamp = sym c.replace.ensures.value ∙ c.in-Committed.is in
-    let kept : IsStep (line_state old) (step.Committed plan c.in-Committed.stamp) = subst (IsStep (line_state old)) is c.self.invariant.3 in
+    let kept = was_committed (line_state old) c.self.inside.step plan c.in-Committed.stamp _ c.replace.ensures.value c.in-Committed.is c.self.invariant.3 in
     let front : c.publish_all.new.self ≡ grown_by old plan.commands.items = c.in-Ok.ensures.list.0 in
     let next : arc_value plan.next ≡ line_state c.publish_all.new.self = kept.0.next ∙ sym (state_grown old c.publish_all.new.self plan.commands.items front) in
     let noted : arc_value plan.noted ≡ arc_value plan.next = kept.0.noted ∙ sym kept.0.next in

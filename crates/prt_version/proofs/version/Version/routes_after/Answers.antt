@@ -1,5 +1,9 @@
-use Rattle.prt_version.proofs.Successor.{edit_fits}
+use Rattle.prt_version.proofs.Successor.{routes_fit}
+use Rattle.prt_version.specs.declared.change.Change.TheVariants as change
 use Rattle.prt_version.proofs.version.Version.routes_after.Goals as goal
 
-pub with_edit-requires : goal.with_edit-requires
-with_edit-requires c = edit_fits _ _ c.args.change.now c.in-Route.edit _ c.self.view_is c.self.invariant c.requires c.in-Route.is c.deref.ensures
+pub routes_with-requires : goal.routes_with-requires
+routes_with-requires c = routes_fit _ _ c.args.change.now (change.Route c.in-Route.edit) c.self.view_is c.self.invariant c.requires c.in-Route.is
+
+pub routes_with-requires-in-RouteAdd : goal.routes_with-requires-in-RouteAdd
+routes_with-requires-in-RouteAdd c = routes_fit _ _ c.args.change.now (change.RouteAdd c.in-RouteAdd.route) c.self.view_is c.self.invariant c.requires c.in-RouteAdd.is
