@@ -1,11 +1,9 @@
 //! The durable desk: a desk over a publisher, whose commands are acknowledged once they are committed and published.
 #![tactic(auto)]
 
-mod connected;
 mod laws;
 mod reopening;
 mod store_desk;
 
-pub use connected::desk_over;
 pub use laws::stops_leave_a_state;
 pub use store_desk::StoreDesk;

@@ -159,12 +159,12 @@ impl<S: Alter + Drop, H: Wait + Drop> StoreDesk<S, H> {
 
 impl<S: Alter + Drop, H: Wait + Copy + Drop> StoreDesk<S, H> {
     /// Makes an open desk over the database of a connection on which nothing is pending. Its tables are made where they
-    /// are missing; three empty tables become those of a new database.
+    /// are missing; four empty tables become those of a new database.
     ///
     /// # Errors
     ///
     /// With the connection: `OpenFailed` where one of the tables has other columns, or a store call fails; `Damaged`
-    /// only where the tables spell no state; `NoMemory`. Some or all of the missing tables were then made, and three
+    /// only where the tables spell no state; `NoMemory`. Some or all of the missing tables were then made, and four
     /// empty ones perhaps filled; each other row is as it was, and a crash leaves no more than that. The connection is
     /// to be closed and opened again before it is used.
     ///

@@ -1,11 +1,13 @@
 -- What an opening makes of a database, and what it leaves where it is refused.
-use Rattle.std.specs.Prelude.{◌≡◌, IsTrue}
+use Rattle.std.specs.Prelude.{◌≡◌, ◌↔◌, true, IsTrue}
 use Rattle.sqlite.specs.Held.{Held, state}
 use Rattle.sqlite.specs.State.{HasCleanDisk, Survives}
 use Rattle.sqlite.specs.Store.{Ghosts}
 use Rattle.prt_addr.specs.Opening.{IsOpenRefusal}
 use Rattle.prt_addr.specs.declared.refusal.Refusal.{Refusal}
 use Rattle.prt_addr.specs.declared.refusal.Refusal.TheVariants.{Damaged}
+use Rattle.prt_front.specs.Line.{line_state}
+use Rattle.prt_publisher.specs.Standing.{Standing}
 use Rattle.prt_rows.specs.Format.{BeginsFormat2}
 use Rattle.prt_store.specs.Adopted.{Adopts, AdoptsPart, LeavesPart}
 use Rattle.prt_store.specs.Exits.{IsStored, Spells}
@@ -29,3 +31,16 @@ pub record HasRefused {S : Type 0} (g : Ghosts S) (was left : Held S) (reason : 
   pub damaged : reason ≡ Damaged → HasCleanDisk (state g left) → IsTrue (state g was).is_open → (stored : State) → Spells (state g was).now.trees stored → ⊥
   pub part : HasCleanDisk (state g left) → IsTrue (state g left).is_open → BeginsFormat2 (state g was).now.schema → AdoptsPart (state g was).now (state g left).now
   pub lasts : Lasts g was left
+
+-- a connection that was found so was opened, which made it the tables of this publisher
+pub record OpensOne {S : Type 0} (g : Ghosts S) (IsFound : Held S → Type 0) (made : Standing (Held S)) : Type 0 where
+  pub was : Held S
+  pub found : IsFound was
+  pub format : (made.ours_first ≡ true) ↔ BeginsFormat2 (state g was).now.schema
+  pub opened : HasOpened g was made.tables (line_state made.line)
+
+-- a connection that was found so was not opened, for this reason, and was left as this one
+pub record RefusesToOpen {S : Type 0} (g : Ghosts S) (IsFound : Held S → Type 0) (reason : Refusal) (left : Held S) : Type 0 where
+  pub was : Held S
+  pub found : IsFound was
+  pub refused : HasRefused g was left reason

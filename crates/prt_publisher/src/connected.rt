@@ -1,7 +1,9 @@
 //! Publishers over the database of a connection that is still to be had.
-ghost use Rattle.std.specs.Prelude.{◌≡◌, IfErr, IfOk};
+ghost use Rattle.std.specs.Prelude.{◌≡◌, Err, IfErr, IfOk, Ok};
 ghost use Rattle.prt_addr.specs.Opening.{IsOpenRefusal};
+ghost use Rattle.prt_addr.specs.declared.refusal.Refusal.TheVariants.{OpenFailed};
 ghost use Rattle.prt_front.specs.Line.{line_state};
+ghost use Rattle.prt_publisher.specs.Openings.{OpensOne, RefusesToOpen};
 ghost use Rattle.prt_publisher.specs.Standing.{IsQuiet};
 ghost use Rattle.prt_version.specs.Sound.{IsSound};
 
@@ -16,22 +18,25 @@ use std::sync::Wait;
 ///
 /// # Errors
 ///
-/// `OpenFailed` with the library's error where it gave none, and else as `Publisher::adopt`.
+/// `OpenFailed` with the library's error where it gave none, and else, with the connection, as `Publisher::adopt`.
 pub fn publisher_over<S: Alter + Drop, R: Wait + Drop>(
     rt: R,
     alloc: Global,
     conn: Result<Connection<S>, Error>,
-) -> Result<(Publisher<S, R>, Domain), (Refusal, Option<Error>)>
+) -> Result<(Publisher<S, R>, Domain), (Refusal, Result<Connection<S>, Error>)>
     ensures ready { IfOk result (λ made. made.0.phase ≡ Phase.Ready) }
     ensures quiet { IfOk result (λ made. IsQuiet made.0.phase) }
     ensures sound { IfOk result (λ made. IsSound (line_state made.0.line)) }
     ensures reason { IfErr result (λ refused. IsOpenRefusal refused.0) }
+    ensures ok { IfOk result (λ made. OpensOne S.Store (λ was. conn ≡ Ok was) made.0) }
+    ensures err { IfErr result (λ refused. IfOk refused.1 (RefusesToOpen S.Store (λ was. conn ≡ Ok was) refused.0)) }
+    ensures unopened { IfErr result (λ refused. IfErr refused.1 (λ error. (conn ≡ Err error) × (refused.0 ≡ OpenFailed))) }
 {
     match conn {
         Ok(conn) => match Publisher::adopt(rt, alloc, conn) {
             Ok(made) => Ok(made),
-            Err((refusal, _)) => Err((refusal, None)),
+            Err((refusal, conn)) => Err((refusal, Ok(conn))),
         },
-        Err(error) => Err((Refusal::OpenFailed, Some(error))),
+        Err(error) => Err((Refusal::OpenFailed, Err(error))),
     }
 }

@@ -91,7 +91,7 @@ impl<S: Alter + Drop, R: Wait + Drop> Model for Publisher<S, R> {
 
 impl<S: Alter + Drop, R: Wait + Drop> Publisher<S, R> {
     /// Opens the database of a connection on which nothing is pending, and publishes the state that is stored there. Its
-    /// tables are made where they are missing; three empty tables become those of a new database.
+    /// tables are made where they are missing; four empty tables become those of a new database.
     ///
     /// Gives the domain too, in which that state is noted. The front takes the handle, and nobody is waited for.
     ///

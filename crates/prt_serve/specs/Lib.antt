@@ -2,3 +2,4 @@ pub mod Requests
 pub mod Lists
 pub mod Growing
 pub mod Serving
+pub mod Jobs

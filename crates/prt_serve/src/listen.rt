@@ -127,7 +127,8 @@ impl<
 > Worker<'a, H, S, B, J, G, T> {
     /// Serves jobs until the channel is closed.
     fn serve(self) {
-        if let Err(reason) = work(self.rt, self.alloc, self.service, &self.jobs, self.gate) {
+        let jobs = self.jobs.iter(self.rt);
+        if let Err(reason) = work(self.rt, self.alloc, self.service, jobs, self.gate) {
             *self.refused.lock(self.rt) = Some(reason);
         }
     }

@@ -1,12 +1,14 @@
 //! Workers: each serves one session after another.
-ghost use Rattle.std.specs.Prelude.{◌≡◌, IfErr};
-ghost use Rattle.prt_front.specs.Line.{Begins};
+ghost use Rattle.std.specs.Prelude.{◌≡◌, None, IfErr, IfOk};
+ghost use Rattle.std.specs.Iterator.{IsFinite};
+ghost use Rattle.prt_front.specs.Line.{Begins, Line};
+ghost use Rattle.prt_serve.specs.Jobs.{ServesAll};
+ghost use Rattle.prt_serve.specs.Serving.{Serves};
 
 use crate::gate::Gate;
 use crate::session::serve_session;
-use crossbeam_channel::Receiver;
-use prt_service::{Looker, Naming, Service};
-use prt_session::Refusal;
+use prt_service::{Departure, Looker, Naming, Service};
+use prt_session::{Refusal, ScriptEnd};
 use sqlite::Alter;
 use std::alloc::Global;
 use std::io::{Read, Write};
@@ -21,9 +23,9 @@ pub struct Job<R: Read + Drop, W: Write + Drop> {
     pub writer: W,
 }
 
-/// Serves jobs until the channel is closed, each with all that the looker learned from those before. A fault ends its own
-/// session alone.
-fn serve_jobs<
+/// Serves the session of a job, as `serve_session` does: its lines are read from the job's own reader, and its replies go
+/// to the job's own writer.
+fn serve_job<
     H: Wait,
     S: Alter + Drop,
     B: Wait + Drop,
@@ -36,31 +38,80 @@ fn serve_jobs<
     alloc: Global,
     service: &Service<S, B, J>,
     looker: &mut Looker,
-    jobs: &Receiver<Job<R, W>>,
+    job: &mut Job<R, W>,
     gate: &G,
-)
+) -> ScriptEnd
     requires { (looker.old.known.book ≡ J.book) × (looker.old.known.base ≡ J.base) }
     ensures of { (looker.new.known.book ≡ J.book) × (looker.new.known.base ≡ J.base) }
-    ensures grows { Begins looker.old.known looker.new.known }
+    ensures offline { (looker.new.held ≡ None) × (looker.new.announced ≡ None) }
+    ensures served { Serves looker.old.known looker.new.known (R.remaining job.old.reader) (R.remaining job.new.reader)
+        (W.contents job.old.writer) (W.contents job.new.writer) result }
 {
-    for _ in rt.forever() {
-        let Ok(mut job) = jobs.recv(rt) else {
-            break;
-        };
-        serve_session(
-            rt,
-            alloc,
-            service,
-            looker,
-            job.session,
-            gate,
-            &mut job.reader,
-            &mut job.writer,
-        );
+    serve_session(
+        rt,
+        alloc,
+        service,
+        looker,
+        job.session,
+        gate,
+        &mut job.reader,
+        &mut job.writer,
+    )
+}
+
+/// Serves jobs until no more come, each with all that the looker learned from those before. A fault ends its own session
+/// alone.
+fn serve_jobs<
+    H: Wait,
+    S: Alter + Drop,
+    B: Wait + Drop,
+    J: Naming,
+    G: Gate,
+    R: Read + Drop,
+    W: Write + Drop,
+    I: Iterator<Item = Job<R, W>>,
+>(rt: &H, alloc: Global, service: &Service<S, B, J>, looker: &mut Looker, jobs: I, gate: &G)
+    requires of { (looker.old.known.book ≡ J.book) × (looker.old.known.base ≡ J.base) }
+    requires can { I.can_next jobs }
+    requires ends { IsFinite (I.remaining jobs) }
+    ensures of { (looker.new.known.book ≡ J.book) × (looker.new.known.base ≡ J.base) }
+    ensures grows { Begins looker.old.known looker.new.known }
+    ensures served { ServesAll I.next_gives R.remaining W.contents jobs looker.old.known looker.new.known }
+{
+    for mut job in jobs {
+        serve_job(rt, alloc, service, looker, &mut job, gate);
     }
 }
 
-/// Serves jobs until the channel is closed, with a looker of its own, which then leaves.
+/// Serves jobs until no more come, with a looker that then leaves. The departure has the list that it knew at the end.
+fn work_with<
+    H: Wait,
+    S: Alter + Drop,
+    B: Wait + Drop,
+    J: Naming,
+    G: Gate,
+    R: Read + Drop,
+    W: Write + Drop,
+    I: Iterator<Item = Job<R, W>>,
+>(
+    rt: &H,
+    alloc: Global,
+    service: &Service<S, B, J>,
+    mut looker: Looker,
+    jobs: I,
+    gate: &G,
+) -> Departure
+    requires of { (looker.known.book ≡ J.book) × (looker.known.base ≡ J.base) }
+    requires can { I.can_next jobs }
+    requires ends { IsFinite (I.remaining jobs) }
+    ensures served { ServesAll I.next_gives R.remaining W.contents jobs looker.known result }
+{
+    serve_jobs(rt, alloc, service, &mut looker, jobs, gate);
+    looker.leave(rt, service)
+}
+
+/// Serves jobs until no more come, with a looker of its own, which then leaves. The departure has the list that it knew at
+/// the end.
 ///
 /// # Errors
 ///
@@ -73,20 +124,22 @@ pub fn work<
     G: Gate,
     R: Read + Drop,
     W: Write + Drop,
+    I: Iterator<Item = Job<R, W>>,
 >(
     rt: &H,
     alloc: Global,
     service: &Service<S, B, J>,
-    jobs: &Receiver<Job<R, W>>,
+    jobs: I,
     gate: &G,
-) -> Result<(), Refusal>
-    ensures { IfErr result (λ reason. reason ≡ Refusal.Full) }
+) -> Result<Departure, Refusal>
+    requires can { I.can_next jobs }
+    requires ends { IsFinite (I.remaining jobs) }
+    ensures served { IfOk result (λ left. (known : Line) × (known.book ≡ J.book) × (known.base ≡ J.base) × ServesAll I.next_gives R.remaining W.contents jobs known left) }
+    ensures reason { IfErr result (λ reason. reason ≡ Refusal.Full) }
 {
-    let mut looker = match service.looker(rt) {
+    let looker = match service.looker(rt) {
         Ok(looker) => looker,
         Err(reason) => return Err(reason),
     };
-    serve_jobs(rt, alloc, service, &mut looker, jobs, gate);
-    looker.leave(rt, service);
-    Ok(())
+    Ok(work_with(rt, alloc, service, looker, jobs, gate))
 }

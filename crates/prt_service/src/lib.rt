@@ -4,6 +4,7 @@
 //! is held with no other. A looker reads the version that it holds without any.
 #![tactic(auto)]
 
+mod departure;
 mod held;
 mod looker;
 mod naming;
@@ -11,6 +12,7 @@ mod quiet;
 mod service;
 mod spare;
 
+pub use departure::Departure;
 pub use looker::Looker;
 pub use naming::Naming;
 pub use service::Service;

@@ -5,7 +5,7 @@ ghost use Rattle.prt_service.specs.Look.{Look};
 ghost use Rattle.prt_version.specs.Select.{select};
 
 use crate::held::HeldVersion;
-use crate::{Naming, Service};
+use crate::{Departure, Naming, Service};
 use prt_front::FrontReader;
 use prt_grace::Place;
 use prt_publisher::Receipt;
@@ -133,21 +133,24 @@ impl Looker {
     }
 
     /// Gives its version, then its reader, and then its place back, to the service that it is of: a looker that gets the
-    /// place finds a reader.
+    /// place finds a reader. The departure says so, with the list that it knew.
     pub fn leave<S: Alter + Drop, R: Wait + Drop, J: Naming, W: Wait>(
         self,
         rt: &W,
         service: &Service<S, R, J>,
-    )
+    ) -> Departure
         requires { (self.known.book ≡ J.book) × (self.known.base ≡ J.base) }
+        ensures { result ≡ self.known }
     {
         let Looker {
             reader,
             place,
             held,
         } = self;
+        let known = reader.known();
         drop(held);
         service.take_back(rt, reader);
         service.domain().part(rt, place);
+        Departure::new(known)
     }
 }

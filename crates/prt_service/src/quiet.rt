@@ -1,8 +1,12 @@
 //! What lies under the lock of a service.
-ghost use Rattle.std.specs.Prelude.{◌≡◌, ◌≤◌, All, IfErr, IfOk, length};
-ghost use Rattle.sqlite.specs.Held.{Held};
+ghost use Rattle.std.specs.Prelude.{◌≡◌, ◌≤◌, [], All, IfErr, IfOk, OnOk, length};
+ghost use Rattle.sqlite.specs.Held.{Held, state};
+ghost use Rattle.sqlite.specs.State.{HasCleanDisk};
 ghost use Rattle.prt_command.specs.Storable.{IsStorable};
+ghost use Rattle.prt_front.specs.Line.{grown, grown_by};
+ghost use Rattle.prt_publisher.specs.Exits.{AreNotAcknowledged, HasCommitted, HaveCommitted, IsNotAcknowledged, Spares, Takes, TakesAll};
 ghost use Rattle.prt_publisher.specs.Standing.{IsQuiet, Standing, Stands};
+ghost use Rattle.prt_publisher.specs.declared.phase.Phase.TheVariants.{Ready};
 ghost use Rattle.prt_service.specs.Service.{EndsWith, EndsWithAll, IsServiceRefusal};
 
 use crate::Naming;
@@ -46,11 +50,12 @@ impl<S: Alter + Drop, R: Wait + Drop, J: Naming> QuietPublisher<S, R, J> {
         }
     }
 
-    /// Prepares, commits and publishes a command.
+    /// Prepares, commits and publishes a command. The published list is then the one before with this command, and the
+    /// receipt is of it.
     ///
     /// # Errors
     ///
-    /// Those of `Publisher::submit`, with what each leaves.
+    /// Those of `Publisher::submit`, with what each leaves: the published list is the one before.
     pub(crate) fn submit<W: Wait>(
         &mut self,
         rt: &W,
@@ -61,6 +66,14 @@ impl<S: Alter + Drop, R: Wait + Drop, J: Naming> QuietPublisher<S, R, J> {
         ensures of { IfOk result (λ receipt. (receipt.book ≡ J.book) × (receipt.base ≡ J.base)) }
         ensures last { IfOk result (λ receipt. EndsWith receipt.list command.now) }
         ensures reason { IfErr result IsServiceRefusal }
+        ensures quiet { IsQuiet self.new.phase }
+        ensures ok { IfOk result (λ receipt. (receipt ≡ grown self.old.line command.now) × (self.new ≡ record self.old { phase = Ready; line = grown self.old.line command.now; commands = []; tables = self.new.tables })) }
+        ensures took { OnOk result (Takes self.old command.now) }
+        ensures err { IfErr result (λ reason. IsNotAcknowledged S.Store self.old command.now reason self.new) }
+        ensures clean { HasCleanDisk (state S.Store self.new.tables) → HasCleanDisk (state S.Store self.old.tables) }
+        ensures others { Spares S.Store self.old self.new }
+        ensures stands { Stands S.Store self.new }
+        ensures ran { HasCleanDisk (state S.Store self.new.tables) → OnOk result (HasCommitted S.Store self.old command.now self.new.tables) }
     {
         let receipt = match self.publisher.submit(rt, domain, command) {
             Ok(receipt) => receipt,
@@ -69,11 +82,12 @@ impl<S: Alter + Drop, R: Wait + Drop, J: Naming> QuietPublisher<S, R, J> {
         Ok(receipt)
     }
 
-    /// Prepares, commits and publishes commands together.
+    /// Prepares, commits and publishes commands together. The published list is then the one before with all of them, in
+    /// their order, and the receipt is of it.
     ///
     /// # Errors
     ///
-    /// Those of `Publisher::submit_all`, with what each leaves.
+    /// Those of `Publisher::submit_all`, with what each leaves: the published list is the one before.
     pub(crate) fn submit_all<W: Wait>(
         &mut self,
         rt: &W,
@@ -85,12 +99,20 @@ impl<S: Alter + Drop, R: Wait + Drop, J: Naming> QuietPublisher<S, R, J> {
         ensures of { IfOk result (λ receipt. (receipt.book ≡ J.book) × (receipt.base ≡ J.base)) }
         ensures last { IfOk result (λ receipt. EndsWithAll receipt.list commands.now.items) }
         ensures reason { IfErr result IsServiceRefusal }
+        ensures quiet { IsQuiet self.new.phase }
+        ensures ok { IfOk result (λ receipt. (receipt ≡ grown_by self.old.line commands.now.items) × (self.new ≡ record self.old { phase = Ready; line = grown_by self.old.line commands.now.items; commands = []; tables = self.new.tables })) }
+        ensures took { OnOk result (TakesAll self.old commands.now.items) }
+        ensures err { IfErr result (λ reason. AreNotAcknowledged S.Store self.old commands.now.items reason self.new) }
+        ensures clean { HasCleanDisk (state S.Store self.new.tables) → HasCleanDisk (state S.Store self.old.tables) }
+        ensures others { Spares S.Store self.old self.new }
+        ensures stands { Stands S.Store self.new }
+        ensures ran { HasCleanDisk (state S.Store self.new.tables) → OnOk result (HaveCommitted S.Store self.old commands.now.items self.new.tables) }
     {
-        let receipt = match self.publisher.submit_all(rt, domain, commands) {
-            Ok(receipt) => receipt,
+        let last = match self.publisher.submit_all(rt, domain, commands) {
+            Ok(last) => last,
             Err(reason) => return Err(reason),
         };
-        Ok(receipt)
+        Ok(last)
     }
 
     /// Gives the library's error of the commit that closed it, if one did.

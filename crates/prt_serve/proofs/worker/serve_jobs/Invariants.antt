@@ -1,6 +1,12 @@
 use Rattle.std.proofs.Common.{◌≡◌}
 use Rattle.prt_front.specs.Line.{Begins}
+use Rattle.prt_serve.specs.Jobs.{ServesEach}
 use Rattle.prt_serve.proofs.worker.serve_jobs.Given as goal
 
-abbrev pub invariant-loop : goal.invariant-loop
-invariant-loop g l = (goal.iterator-loop g).can_next l.iterator' × (goal.iterator-loop g).is_finite l.iterator' × (l.looker.known.book ≡ g.J.Naming.book) × (l.looker.known.base ≡ g.J.Naming.base) × Begins l.fn.looker.known l.looker.known
+abbrev pub invariant-loop-job : goal.invariant-loop-job
+invariant-loop-job g l = record {
+  of_book : l.looker.known.book ≡ g.J.Naming.book;
+  of_base : l.looker.known.base ≡ g.J.Naming.base;
+  grows : Begins l.fn.looker.known l.looker.known;
+  served : ServesEach g.R.Read.remaining g.W.Write.contents l.fn.looker.known l.yielded l.looker.known;
+}

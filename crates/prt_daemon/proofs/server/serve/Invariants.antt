@@ -1,4 +1,0 @@
-use Rattle.prt_daemon.proofs.server.serve.Given as goal
-
-abbrev pub ghosts-serve_named : goal.ghosts-serve_named
-ghosts-serve_named g a = record { book = a.publisher.line.book; base = a.publisher.line.base }

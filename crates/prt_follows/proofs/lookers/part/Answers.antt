@@ -1,6 +1,0 @@
-use Rattle.std.proofs.Common.{refl}
-use Rattle.prt_follows.proofs.Looking.{parted}
-use Rattle.prt_follows.proofs.lookers.part.Goals as goal
-
-pub returns : goal.returns
-returns c = parted c.args.registry.now c.part.new.self c.args.place c.requires c.args.place.announced refl c.part.ensures

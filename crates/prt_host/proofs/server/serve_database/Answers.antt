@@ -1,0 +1,20 @@
+use Rattle.std.proofs.Common.{inr, Option, subst}
+use Rattle.std.specs.Prelude.{IfSome}
+use Rattle.prt_host.specs.Serving.{IsFaultOfServing}
+use Rattle.prt_host.specs.declared.server.NotServed.{NotServed}
+use Rattle.prt_host.proofs.server.serve_database.Goals as goal
+
+pub returns-in-Some-clause-err : goal.returns-in-Some-clause-err
+returns-in-Some-clause-err g c =
+    let made = c.in-Ok.ensures.opened in
+    inr (
+      record {
+        between = c.open_publisher-opened.new.machine;
+        first = made.was;
+        last = c.serve_over-failure.result.1;
+        is_opened = made.found;
+        made = tt;
+        is_closed = c.close.ensures;
+      },
+      subst (λ (f : Option NotServed). IfSome f (λ failure. IsFaultOfServing failure.fault)) c.in-Some.is c.serve_over-failure.ensures,
+    )

@@ -1,0 +1,36 @@
+-- Why a server ends with a fault.
+use Rattle.std.specs.Prelude.{◌≡◌, ◌⊎◌, ℕ, List, Option, Some, None, ⊤}
+use Rattle.sqlite.specs.Held.{Held}
+use Rattle.sqlite.specs.Store.{Ghosts}
+use Rattle.prt_addr.specs.declared.refusal.Refusal.{Refusal}
+use Rattle.prt_host.specs.Closing.{IsClosedAgain, LeavesNoneOpen}
+use Rattle.prt_serve.specs.declared.listen.Accepting.{Accepting}
+use Rattle.prt_serve.specs.declared.listen.Accepting.TheVariants.{Ended, Failed}
+use Rattle.prt_serve.specs.declared.listen.ServeEnd.{ServeEnd}
+use Rattle.prt_words.specs.declared.fault.Fault.{Fault}
+use Rattle.prt_words.specs.declared.fault.Fault.TheVariants.{Listener, Opening}
+
+-- the listener failed, or else a worker was refused its looker
+abbrev pub fault_by : Accepting → Option Refusal → Option Fault
+fault_by Failed refused = Some Listener
+fault_by Ended (Some reason) = Some (Opening reason)
+fault_by Ended None = None
+
+abbrev pub fault_of : ServeEnd → Option Fault
+fault_of end = fault_by end.accepting end.refused
+
+-- the database was refused for the reason that is the fault, and is not open
+abbrev pub IsNotOpened : {M S : Type 0} → (M → M → List ℕ → Held S → Type 0) → (M → M → List ℕ → Type 0) → (M → M → Held S → Type 0) → Ghosts S → M → M → List ℕ → Fault → Type 0
+IsNotOpened opens refuses closes g old new path fault = (reason : Refusal) × (fault ≡ Opening reason) × LeavesNoneOpen opens refuses closes g reason old new path
+
+-- the fault is the listener's, or one with which serving can end
+abbrev pub IsFaultOfServing : Fault → Type 0
+IsFaultOfServing fault = (fault ≡ Listener) ⊎ ((end : ServeEnd) × (fault_of end ≡ Some fault))
+
+-- the database was opened, and is closed again
+abbrev pub IsServed : {M S : Type 0} → (M → M → List ℕ → Held S → Type 0) → (M → M → Held S → Type 0) → M → M → List ℕ → Type 0
+IsServed opens closes old new path = IsClosedAgain opens closes (λ _ _. ⊤) old new path
+
+-- the server ended with a fault: of the opening, or of serving, and the database is closed
+abbrev pub IsNotServed : {M S : Type 0} → (M → M → List ℕ → Held S → Type 0) → (M → M → List ℕ → Type 0) → (M → M → Held S → Type 0) → Ghosts S → M → M → List ℕ → Fault → Type 0
+IsNotServed opens refuses closes g old new path fault = IsNotOpened opens refuses closes g old new path fault ⊎ (IsServed opens closes old new path × IsFaultOfServing fault)

@@ -1,0 +1,91 @@
+//! The databases of a machine, as the program opens them.
+ghost use Rattle.std.specs.Prelude.{◌≡◌};
+
+use crate::cause::Cause;
+use crate::machine::Machine;
+use crate::opening::open_desk;
+use prt_desk::StoreDesk;
+use prt_program::{Databases, Refusal};
+use sqlite::{Alter, Connection};
+use std::alloc::Global;
+use std::fs::Files;
+use std::marker::PhantomData;
+use std::sync::Wait;
+
+/// The databases of a machine, each over a durable desk. The desks wait with the handle `H`.
+#[derive(Drop)]
+pub struct DatabaseFiles<
+    'a,
+    S: Alter + Drop,
+    M: Machine<Connection<S>> + Drop,
+    F: Files,
+    H: Wait + Copy + Drop,
+> {
+    pub(crate) machine: M,
+    /// Where the system is asked why a file can't be opened.
+    pub(crate) files: &'a F,
+    pub(crate) rt: H,
+    /// What keeps the rows of an open one.
+    store: PhantomData<S>,
+}
+
+impl<
+    'a,
+    S: Alter + Drop,
+    M: Machine<Connection<S>> + Drop,
+    F: Files,
+    H: Wait + Copy + Drop,
+> DatabaseFiles<'a, S, M, F, H> {
+    /// Gives the databases of a machine, of which none is open.
+    pub fn new(machine: M, files: &'a F, rt: H) -> DatabaseFiles<'a, S, M, F, H>
+        ensures { result.machine ≡ machine }
+    {
+        DatabaseFiles {
+            machine,
+            files,
+            rt,
+            store: PhantomData,
+        }
+    }
+}
+
+impl<
+    'a,
+    S: Alter + Drop,
+    M: Machine<Connection<S>> + Drop,
+    F: Files,
+    H: Wait + Copy + Drop,
+> Databases for DatabaseFiles<'a, S, M, F, H> {
+    ghost use Rattle.prt_publisher.specs.Openings.{OpensOne};
+    ghost use Rattle.prt_version.specs.Sound.{IsSound};
+
+    type Opened = StoreDesk<S, H>;
+
+    type Error = Cause;
+
+    // Which bytes a path has is not known. An opening says what it made of the connection to them.
+    ghost holds = { λ _ _ opened. IsSound opened };
+
+    ghost opens = { λ old new path desk. OpensOne S.Store (M.opens old.machine new.machine path) desk };
+
+    ghost closed = { λ old new desk. M.closes old.machine new.machine desk.tables };
+
+    fn open(
+        &mut self,
+        alloc: Global,
+        path: &str,
+    ) -> Result<StoreDesk<S, H>, (Refusal, Option<Cause>)> {
+        open_desk(&mut self.machine, self.files, self.rt, alloc, path)
+    }
+
+    fn failure(&self, desk: &StoreDesk<S, H>) -> Option<Cause> {
+        desk.failure().map(Cause::Library)
+    }
+
+    fn close(&mut self, desk: StoreDesk<S, H>) -> Result<(), Cause> {
+        match self.machine.close(desk.release()) {
+            Ok(()) => Ok(()),
+            Err(error) => Err(Cause::Library(error)),
+        }
+    }
+}

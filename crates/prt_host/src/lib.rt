@@ -1,0 +1,16 @@
+//! The program over any machine: its databases, its dumps and its server.
+#![tactic(auto)]
+
+mod cause;
+mod databases;
+mod dump;
+mod entry;
+mod machine;
+mod opening;
+mod server;
+mod serving;
+mod telling;
+
+pub use databases::DatabaseFiles;
+pub use entry::run;
+pub use machine::Machine;

@@ -1,0 +1,35 @@
+//! What the program asks of the machine that it runs on.
+ghost use Rattle.std.specs.Prelude.{IfOk, OnErr};
+
+use sqlite::Error;
+
+/// Opens and closes the database files of a machine. An open one is a connection `C`.
+pub trait Machine<C> {
+    ghost use Rattle.std.specs.Prelude.{List, ℕ};
+
+    /// What an opening of the file at a path makes of the machine, where it gives this connection.
+    ghost opens: { Self → Self → List ℕ → C → Type 0 };
+
+    /// What an opening makes of it that gives none. No database is open then.
+    ghost refuses: { Self → Self → List ℕ → Type 0 };
+
+    /// What the closing of this connection makes of it.
+    ghost closes: { Self → Self → C → Type 0 };
+
+    /// Opens the database file at a path, and makes it where there is none.
+    ///
+    /// # Errors
+    ///
+    /// The library's. No database is open then.
+    fn open(&mut self, path: &str) -> Result<C, Error>
+        ensures opened { IfOk result (λ conn. opens self.old self.new path.now conn) }
+        ensures unopened { OnErr result (refuses self.old self.new path.now) };
+
+    /// Closes a database, so that its file alone has all of it.
+    ///
+    /// # Errors
+    ///
+    /// Why its log could not be moved into the file. What was committed stays in the log beside it.
+    fn close(&mut self, conn: C) -> Result<(), Error>
+        ensures { closes self.old self.new conn };
+}

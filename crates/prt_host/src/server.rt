@@ -1,0 +1,175 @@
+//! The server: a database that is opened, served and closed.
+ghost use Rattle.std.specs.Prelude.{◌≡◌, ◌≢◌, IfErr, IfSome, OnOk};
+ghost use Rattle.prt_host.specs.Serving.{IsFaultOfServing, IsNotServed, IsServed};
+ghost use Rattle.prt_words.specs.declared.fault.Fault.{Fault};
+ghost use Rattle.prt_publisher.specs.Standing.{IsQuiet};
+
+use crate::databases::DatabaseFiles;
+use crate::machine::Machine;
+use crate::opening::open_publisher;
+use crate::serving::{fault_of, listen, serve_named};
+use crate::telling::tell_shared;
+use prt_grace::Domain;
+use prt_program::{cause_message, log_message};
+use prt_publisher::Publisher;
+use prt_words::{DONE, FAULT, Fault, Serving, report};
+use sqlite::{Alter, Connection};
+use std::alloc::Global;
+use std::fmt::Display;
+use std::fs::Files;
+use std::io::Write;
+use std::marker::Brand;
+use std::net::Net;
+use std::sync::{Mutex, Wait};
+use std::thread::Threads;
+
+/// Why nothing is served, or no more.
+#[derive(Drop)]
+struct NotServed {
+    fault: Fault,
+    /// What a person is told of the cause, if one is known.
+    message: Option<String>,
+}
+
+impl NotServed {
+    /// Gives a fault with its cause, which befell what stands at this place.
+    fn new<P: Display, D: Display>(
+        alloc: Global,
+        fault: Fault,
+        place: &P,
+        cause: Option<&D>,
+    ) -> NotServed
+        ensures { result.fault ≡ fault }
+    {
+        let message = match cause {
+            Some(cause) => cause_message(alloc, place, cause).ok(),
+            None => None,
+        };
+        NotServed { fault, message }
+    }
+}
+
+/// Listens, and serves what comes over a publisher. Gives why not all that was asked for was served, and the connection.
+fn serve_over<
+    S: Alter + Drop + Send,
+    N: Net + Threads + Wait + Drop + Send + Sync,
+    R: Wait + Drop + Send,
+    W: Write,
+    E: Write + Drop + Send,
+>(
+    rt: &N,
+    alloc: Global,
+    publisher: Publisher<S, R>,
+    domain: Domain,
+    asked: &Serving<'_>,
+    output: &mut W,
+    errors: &Mutex<E>,
+) -> (Option<NotServed>, Connection<S>)
+where
+    N::Stream: Send,
+    requires { IsQuiet publisher.phase }
+    ensures { IfSome result.0 (λ failure. IsFaultOfServing failure.fault) }
+{
+    let listener = match listen(rt, asked, output) {
+        Ok(listener) => listener,
+        Err(error) => {
+            let failure = NotServed::new(alloc, Fault::Listener, &asked.listen, Some(&error));
+            return (Some(failure), publisher.release());
+        }
+    };
+    let (end, conn) = serve_named::<Brand, _, _, _, _, _, _>(
+        rt, alloc, publisher, domain, &listener, asked, errors,
+    );
+    match fault_of(end) {
+        Some(fault) => (
+            Some(NotServed {
+                fault,
+                message: None,
+            }),
+            conn,
+        ),
+        None => (None, conn),
+    }
+}
+
+/// Opens the database that is asked for, serves it, and closes it.
+///
+/// # Errors
+///
+/// The fault that ended it, with its cause where one is known. The database is closed then too.
+fn serve_database<
+    S: Alter + Drop + Send,
+    M: Machine<Connection<S>> + Drop,
+    F: Files,
+    N: Net + Threads + Wait + Copy + Drop + Send + Sync,
+    W: Write,
+    E: Write + Drop + Send,
+>(
+    databases: &mut DatabaseFiles<'_, S, M, F, N>,
+    alloc: Global,
+    asked: &Serving<'_>,
+    output: &mut W,
+    errors: &Mutex<E>,
+) -> Result<(), NotServed>
+where
+    N::Stream: Send,
+    ensures ok { OnOk result (IsServed M.opens M.closes databases.old.machine databases.new.machine asked.now.database.now) }
+    ensures err { IfErr result (λ failure. IsNotServed M.opens M.refuses M.closes S.Store databases.old.machine databases.new.machine asked.now.database.now failure.fault) }
+{
+    let (rt, path) = (databases.rt, asked.database);
+    let opened = open_publisher(&mut databases.machine, databases.files, rt, alloc, path);
+    let (publisher, domain) = match opened {
+        Ok(made) => made,
+        Err((refusal, cause)) => {
+            let fault = Fault::Opening(refusal);
+            return Err(NotServed::new(alloc, fault, &path, cause.as_ref()));
+        }
+    };
+    let (failure, conn) = serve_over(&rt, alloc, publisher, domain, asked, output, errors);
+    if let Err(reason) = databases.machine.close(conn) {
+        tell_shared(&rt, log_message(alloc, path, &reason), errors);
+    }
+    match failure {
+        Some(failure) => Err(failure),
+        None => Ok(()),
+    }
+}
+
+/// Serves the database that is asked for, and gives the exit status. Listens once the database is open.
+///
+/// The status is 0 where as many sessions as were asked for have ended, and 3 for a fault: of opening, of the listener and
+/// what brings its connections to the workers, or of a worker that got no looker. The database is closed at the end.
+pub(crate) fn serve<
+    S: Alter + Drop + Send,
+    M: Machine<Connection<S>> + Drop,
+    F: Files,
+    N: Net + Threads + Wait + Copy + Drop + Send + Sync,
+    W: Write,
+    E: Write + Drop + Send,
+>(
+    databases: &mut DatabaseFiles<'_, S, M, F, N>,
+    alloc: Global,
+    asked: &Serving<'_>,
+    output: &mut W,
+    errors: E,
+) -> u8
+where
+    N::Stream: Send,
+    ensures done { result ≡ DONE → IsServed M.opens M.closes databases.old.machine databases.new.machine asked.now.database.now }
+    ensures fault { result ≢ DONE → result ≡ FAULT }
+    ensures why { result ≢ DONE → (fault : Fault) × IsNotServed M.opens M.refuses M.closes S.Store databases.old.machine databases.new.machine asked.now.database.now fault }
+{
+    let errors = Mutex::new(errors);
+    let served = serve_database(databases, alloc, asked, output, &errors);
+    let mut errors = errors.into_inner();
+    match served {
+        Ok(()) => DONE,
+        Err(failure) => {
+            let status = report(&failure.fault, output, &mut errors);
+            if let Some(message) = &failure.message {
+                let _ = errors.write_all(message.as_bytes());
+            }
+            status
+        }
+    }
+}

@@ -1,0 +1,243 @@
+-- Commands that are prepared, published or submitted with a domain: their steps, one after the other.
+use Rattle.std.proofs.Common.{◌≡◌, ◌⊎◌, inl, inr, ℕ, ◌+◌, ◌≤◌, true, List, [], ◌∷◌, ◌++◌, length, Option, Some, None, refl, sym, ap, ◌∙◌, subst, arith}
+use Rattle.sqlite.specs.Held.{Held}
+use Rattle.sqlite.specs.Store.{Ghosts}
+use Rattle.prt_addr.specs.declared.refusal.Refusal.{Refusal}
+use Rattle.prt_addr.specs.declared.refusal.Refusal.TheVariants as refusals
+use Rattle.prt_command.specs.declared.request.Command.{Command}
+use Rattle.prt_front.specs.Line.{Line, grown_by, line_state}
+use Rattle.prt_publisher.proofs.Lists.{state_grown}
+use Rattle.prt_publisher.specs.Exits.{AreNotAcknowledged, AreNotPlanned, AreNotPrepared, AreNotPublished, AreNotStored, IsNotAcknowledged, IsNotPrepared, TakesAll}
+use Rattle.prt_publisher.specs.Standing.{Agrees, IsQuiet, Standing, Stands}
+use Rattle.prt_publisher.specs.declared.phase.Phase.{Phase}
+use Rattle.prt_publisher.specs.declared.phase.Phase.TheVariants.{Ready, Admitted, Prepared, Committed, Published, Closed}
+use Rattle.prt_store.specs.Exits.{IsKnown, IsStored}
+use Rattle.prt_version.proofs.Folds.{count_fold}
+use Rattle.prt_version.specs.Accepted.{IsAccepted, IsRefusedFor, or_later, refusal_all}
+use Rattle.prt_version.specs.Change.{fold}
+use Rattle.prt_version.specs.State.{State}
+use Rattle.prt_world.specs.World as world
+use Rattle.prt_world.specs.World.{World, has_room, step}
+use Rattle.prt_world.specs.declared.event.Event.{Event}
+use Rattle.prt_world.specs.declared.event.Event.TheVariants as events
+use Rattle.prt_world.specs.declared.outcome.Outcome.TheVariants as outcomes
+use Rattle.prt_laws.specs.Events.{AsksSome, asked, commit_events, commit_outcomes, fail_events, fail_outcomes, note_events, note_outcomes, publish_events, publish_outcomes, submit_events, submit_outcomes}
+use Rattle.prt_laws.specs.Laws.{PlansNone, PlansNot, Prepares, PreparesNot, Publishes, Refuses, SubmitFails, SubmitUnpublished, Submits, SubmitsNot}
+use Rattle.prt_laws.specs.Publishers.{Leads, SawRoom, IsPublisherOf, moment_of}
+use Rattle.prt_laws.specs.Spots.{IsAt}
+use Rattle.prt_laws.proofs.Exits.{spot, as_it_was, committed, failed, not_published, noted_on, place_in, planned, published, stands, stored_in}
+use Rattle.prt_laws.proofs.Joined.{idle, leads_by, leads_then, leads_then_to}
+use Rattle.prt_laws.proofs.Steps.{Moves, busy, refuses, shut}
+
+module _ {S : Type 0} (g : Ghosts S) where
+  -- ---- the phases between
+
+  abbrev admitted_as : Standing (Held S) → List Command → Standing (Held S)
+  admitted_as old commands = record old { phase = Admitted; commands = commands }
+
+  abbrev prepared_as : Standing (Held S) → List Command → Standing (Held S)
+  prepared_as old commands = record old { phase = Prepared; commands = commands }
+
+  abbrev committed_as : Standing (Held S) → List Command → Held S → Standing (Held S)
+  committed_as old commands tables = record old { phase = Committed; commands = commands; tables = tables }
+
+  abbrev published_as : Standing (Held S) → List Command → Held S → Standing (Held S)
+  published_as old commands tables = record old { phase = Published; line = grown_by old.line commands; commands = commands; tables = tables }
+
+  -- a ready publisher whose world has room stands there with admitted commands, too
+  admitted_there : (old : Standing (Held S)) (commands : List Command) (w : World) → old.phase ≡ Ready → IsPublisherOf g old w → has_room w ≡ true → IsPublisherOf g (admitted_as old commands) w
+  admitted_there old commands w ready s room = stands g (admitted_as old commands) w w.disk (place_in g old old w s Ready ready) (stored_in g old old w s Ready ready) room
+
+  abbrev last_number : Standing (Held S) → Event → ℕ
+  last_number old event = (line_state old.line).count + length (asked event)
+
+  prepared_there : (old : Standing (Held S)) (event : Event) → AsksSome event → TakesAll old (asked event) → (w : World) → IsPublisherOf g old w → has_room w ≡ true
+      → Leads g w (event ∷ []) (outcomes.Prepared (last_number old event) ∷ []) (prepared_as old (asked event))
+  prepared_there old event some takes w s room =
+      leads_by g (admitted_as old (asked event)) (prepared_as old (asked event)) event (outcomes.Prepared (last_number old event))
+      (λ v t. planned g (admitted_as old (asked event)) (prepared_as old (asked event)) v t event some refl refl takes.1) w (admitted_there old (asked event) w takes.0 s room)
+
+  pub prepares : (old new : Standing (Held S)) (event : Event) → AsksSome event → new ≡ prepared_as old (asked event) → TakesAll old (asked event) → Prepares g old new event
+  prepares old new event some is takes = (
+    ap (λ (p : Standing (Held S)). p.phase) is,
+    λ w s room. subst (λ (p : Standing (Held S)). Leads g w (event ∷ []) (outcomes.Prepared (last_number old event) ∷ []) p) (sym is) (prepared_there old event some takes w s room),
+  )
+
+  -- ---- refused
+
+  module _ (old new : Standing (Held S)) (is : new ≡ old) (event : Event) (some : AsksSome event) where
+    refuses_for : (why : Refusal) → old.phase ≡ Ready → refusal_all (line_state old.line) (asked event) ≡ Some why → Refuses g old new event why
+    refuses_for why ready refused = (
+      is,
+      λ w s room.
+          let m = refuses old.line w.disk w event why some refused (place_in g old new w s Ready ready) in
+          (m.0, as_it_was g old new is event some w (step w event).world s Ready ready (λ u. tt) m.1),
+    )
+
+    refuses_full : (why : Refusal) → old.phase ≡ Ready → IsAccepted (line_state old.line) (asked event) → why ≡ refusals.Busy → Refuses g old new event why
+    refuses_full why ready allowed why_is = (
+      is,
+      λ w s room.
+          let m = busy old.line w.disk w event some allowed (room why_is) (place_in g old new w s Ready ready) in
+          (m.0 ∙ ap outcomes.Refused (sym why_is), as_it_was g old new is event some w (step w event).world s Ready ready (λ u. tt) m.1),
+    )
+
+    refuses_shut : (why : Refusal) → old.phase ≡ Closed → why ≡ refusals.Closed → Refuses g old new event why
+    refuses_shut why closed why_is = (
+      is,
+      λ w s room.
+          let m = shut old.line w.disk w event some (place_in g old new w s Closed closed) in
+          (m.0 ∙ ap outcomes.Refused (sym why_is), as_it_was g old new is event some w (step w event).world s Closed closed (λ u. tt) m.1),
+    )
+
+    -- for lack of memory nothing is done
+    no_memory : (why : Refusal) → old.phase ≡ Ready → why ≡ refusals.NoMemory → PlansNot g old new why
+    no_memory why ready memory = (memory, ap (λ (p : Standing (Held S)). p.phase) is ∙ ready, λ w s. idle g new w (subst (λ (p : Standing (Held S)). IsPublisherOf g p w) (sym is) s))
+
+    refused_for : (why : Refusal) → old.phase ≡ Ready → IsRefusedFor (line_state old.line) (asked event) why → PreparesNot g old new event why
+    refused_for why ready refused = elim refused [ inl reason ↦ inr (refuses_for why ready reason) | inr memory ↦ inl (no_memory why ready memory) ]
+
+    -- outside the lock
+    pub plans_none : (why : Refusal) → IsQuiet old.phase → AreNotPlanned old.phase (line_state old.line) (asked event) why → PlansNone g old new event why
+    plans_none why quiet refused = (is, by old.phase refl quiet refused)
+      where
+        -- the world refuses it, with room or without
+        at : (phase : Phase) → old.phase ≡ phase → ((u : World) → SawRoom phase u) → ((w : World) → IsAt (spot old.line w.disk (moment_of phase old.commands)) w → Moves w event (outcomes.Refused why) (spot old.line w.disk (moment_of phase old.commands)))
+            → (w : World) → IsPublisherOf g old w → ((step w event).outcome ≡ outcomes.Refused why) × IsPublisherOf g new (step w event).world
+        at phase is_in saw moves w s =
+            let m = moves w (place_in g old new w s phase is_in) in
+            (m.0, as_it_was g old new is event some w (step w event).world s phase is_in saw m.1)
+
+        by : (phase : Phase) → old.phase ≡ phase → IsQuiet phase → AreNotPlanned phase (line_state old.line) (asked event) why
+            → (why ≡ refusals.NoMemory) ⊎ ((w : World) → IsPublisherOf g old w → ((step w event).outcome ≡ outcomes.Refused why) × IsPublisherOf g new (step w event).world)
+        by Ready ready quiet refused = elim refused [
+          | inl reason ↦ inr (at Ready ready (λ u. tt) (λ w place. refuses old.line w.disk w event why some reason place))
+          | inr memory ↦ inl memory
+        ]
+        by Admitted at quiet refused = absurd quiet
+        by Prepared at quiet refused = absurd quiet
+        by Committed at quiet refused = absurd quiet
+        by Published at quiet refused = absurd quiet
+        by Closed closed quiet refused =
+            inr (at Closed closed (λ u. tt) (λ w place. subst (λ (r : Refusal). Moves w event (outcomes.Refused r) (spot old.line w.disk world.Closed)) (sym refused) (shut old.line w.disk w event some place)))
+
+    pub prepares_none : (why : Refusal) → IsQuiet old.phase → AreNotPrepared old.phase (line_state old.line) (asked event) why → PreparesNot g old new event why
+    prepares_none why quiet refused = by old.phase refl quiet refused
+      where
+        by : (phase : Phase) → old.phase ≡ phase → IsQuiet phase → AreNotPrepared phase (line_state old.line) (asked event) why → PreparesNot g old new event why
+        by Ready ready quiet refused = elim refused [ inl reason ↦ refused_for why ready reason | inr full ↦ inr (refuses_full why ready full.0 full.1) ]
+        by Admitted at quiet refused = absurd quiet
+        by Prepared at quiet refused = absurd quiet
+        by Committed at quiet refused = absurd quiet
+        by Published at quiet refused = absurd quiet
+        by Closed closed quiet refused = inr (refuses_shut why closed refused)
+
+  -- one command that is not prepared is a list of one
+  one_not_prepared : (phase : Phase) (published : State) (command : Command) (why : Refusal) → IsQuiet phase → IsNotPrepared phase published command why → AreNotPrepared phase published (command ∷ []) why
+  one_not_prepared Ready published command why quiet refused = elim refused [
+    | inl reason ↦ inl (inl (ap (λ (r : Option Refusal). or_later r None) reason))
+    | inr allowed ↦ elim allowed.1 [ inl full ↦ inr ((allowed.0, tt), full) | inr memory ↦ inl (inr memory) ]
+  ]
+  one_not_prepared Admitted published command why quiet refused = absurd quiet
+  one_not_prepared Prepared published command why quiet refused = absurd quiet
+  one_not_prepared Committed published command why quiet refused = absurd quiet
+  one_not_prepared Published published command why quiet refused = absurd quiet
+  one_not_prepared Closed published command why quiet refused = refused
+
+  pub prepares_not : (old new : Standing (Held S)) → new ≡ old → (command : Command) (why : Refusal) → IsQuiet old.phase → IsNotPrepared old.phase (line_state old.line) command why → PreparesNot g old new (events.Submit command) why
+  prepares_not old new is command why quiet refused = prepares_none old new is (events.Submit command) (omega arith) why quiet (one_not_prepared old.phase (line_state old.line) command why quiet refused)
+
+  -- ---- published
+
+  published_then : (old mid new : Standing (Held S)) → old.phase ≡ Committed → (mid ≡ record old { phase = Published; line = mid.line }) × (mid.line ≡ grown_by old.line old.commands) → new ≡ record mid { phase = Ready; commands = [] }
+      → (w : World) → IsPublisherOf g old w → Leads g w publish_events (publish_outcomes (line_state mid.line).count) new
+  published_then old mid new phase shown is w s =
+      let at : mid.phase ≡ Published = ap (λ (p : Standing (Held S)). p.phase) shown.0 in
+      leads_then g w mid new (events.Publish ∷ []) note_events (outcomes.Published (line_state mid.line).count ∷ []) (note_outcomes mid.line) (published g old mid w s phase shown) (λ v t. noted_on g mid new v t at is)
+
+  pub publishes_it : (old new : Standing (Held S)) (told : Line) → old.phase ≡ Committed → (new ≡ record old { phase = Ready; line = new.line; commands = [] }) × (new.line ≡ grown_by old.line old.commands) → told ≡ new.line → Publishes g old new told
+  publishes_it old new told phase ok receipt = (
+    ap (λ (p : Standing (Held S)). p.phase) ok.0,
+    λ w s.
+        let r = published_then old (record old { phase = Published; line = new.line }) new phase (refl, ok.1) ok.0 w s in
+        subst (λ (l : Line). Leads g w publish_events (publish_outcomes (line_state l).count) new) (sym receipt) r,
+  )
+
+  -- ---- submitted
+
+  module _ (old new : Standing (Held S)) (event : Event) (some : AsksSome event) (takes : TakesAll old (asked event)) where
+    -- the state after them
+    abbrev after : State
+    after = fold (line_state old.line) (asked event)
+
+    committed_there : (IsKnown g old.ours_first new.tables → IsStored g new.tables after) → (w : World) → IsPublisherOf g old w → has_room w ≡ true
+        → Leads g w (event ∷ commit_events (asked event)) (outcomes.Prepared (last_number old event) ∷ commit_outcomes (asked event)) (committed_as old (asked event) new.tables)
+    committed_there stored w s room =
+        leads_then g w (prepared_as old (asked event)) (committed_as old (asked event) new.tables) (event ∷ []) (commit_events (asked event)) (outcomes.Prepared (last_number old event) ∷ []) (commit_outcomes (asked event))
+        (prepared_there old event some takes w s room) (λ v t. committed g (prepared_as old (asked event)) (committed_as old (asked event) new.tables) v t refl refl stored)
+
+    pub submits_it : (told : Line) → told ≡ grown_by old.line (asked event) → new ≡ record old { phase = Ready; line = grown_by old.line (asked event); commands = []; tables = new.tables } → Stands g new → Submits g old new event told
+    submits_it told receipt is kept = (
+      ap (λ (p : Standing (Held S)). p.phase) is,
+      λ w s room.
+          let commands = asked event in
+          let mid = committed_as old commands new.tables in
+          let line : Line = grown_by old.line commands in
+          let held : IsKnown g old.ours_first new.tables → IsStored g new.tables (line_state line) = subst (λ (p : Standing (Held S)). IsKnown g p.ours_first new.tables → Agrees g p.phase p.commands (line_state p.line) new.tables) is kept in
+          let stored : IsKnown g old.ours_first new.tables → IsStored g new.tables after = λ known. subst (λ (state : State). IsStored g new.tables state) (state_grown old.line line commands refl) (held known) in
+          let count : (line_state line).count ≡ last_number old event = ap (λ (state : State). state.count) (state_grown old.line line commands refl) ∙ count_fold (line_state old.line) commands takes.1 in
+          let all = leads_then g w mid new (event ∷ commit_events commands) publish_events (outcomes.Prepared (last_number old event) ∷ commit_outcomes commands) (publish_outcomes (line_state line).count)
+          (committed_there stored w s room) (λ v t. published_then mid (published_as old commands new.tables) new refl (refl, refl) is v t) in
+          subst (λ (n : ℕ). Leads g w (submit_events event) (submit_outcomes commands n) new) (ap (λ (l : Line). (line_state l).count) (sym receipt))
+          (subst (λ (n : ℕ). Leads g w (submit_events event) (outcomes.Prepared n ∷ (commit_outcomes commands ++ publish_outcomes (line_state line).count)) new) (sym count) all),
+    )
+
+    pub submit_fails : (why : Refusal) → AreNotStored g old (asked event) why new → SubmitFails g old new event why
+    submit_fails why fails = (
+      ap (λ (p : Standing (Held S)). p.phase) fails.left,
+      ap (λ (p : Standing (Held S)). p.commands) fails.left,
+      fails.call,
+      fails.why_is,
+      λ known left may.
+          let mid = prepared_as old (asked event) in
+          let by = failed g mid new refl fails.left why fails.call fails.why_is fails.leaves known left may in (
+            by.0,
+            λ w s room.
+                leads_then_to g w mid new left (event ∷ []) (fail_events (asked event) fails.call by.0) (outcomes.Prepared (last_number old event) ∷ []) (fail_outcomes (asked event) fails.call) (prepared_there old event some takes w s room) by.1,
+          ),
+    )
+
+    pub submit_unpublished : (why : Refusal) → AreNotPublished g old (asked event) why new → Stands g new → SubmitUnpublished g old new event why
+    submit_unpublished why fails kept = (
+      fails.why_is,
+      ap (λ (p : Standing (Held S)). p.phase) fails.left,
+      ap (λ (p : Standing (Held S)). p.commands) fails.left,
+      λ w s room.
+          let commands = asked event in
+          let mid = committed_as old commands new.tables in
+          let held : IsKnown g old.ours_first new.tables → Agrees g Closed commands (line_state old.line) new.tables =
+          subst (λ (p : Standing (Held S)). IsKnown g p.ours_first new.tables → Agrees g p.phase p.commands (line_state p.line) new.tables) fails.left kept in
+          let stored : IsKnown g old.ours_first new.tables → IsStored g new.tables after = λ known. closed_stored commands (line_state old.line) new.tables some (held known) in
+          leads_then g w mid new (event ∷ commit_events commands) (events.PublishFail ∷ []) (outcomes.Prepared (last_number old event) ∷ commit_outcomes commands) (outcomes.Refused refusals.NotPublished ∷ [])
+          (committed_there stored w s room) (λ v t. not_published g mid new v t refl fails.left),
+    )
+      where
+        closed_stored : (commands : List Command) (published : State) (tables : Held S) → 1 ≤ length commands → Agrees g Closed commands published tables → IsStored g tables (fold published commands)
+        closed_stored [] published tables some held = absurd (omega (arith, some))
+        closed_stored (command ∷ commands) published tables some held = held
+
+  -- ---- not acknowledged
+
+  pub submits_none : (old new : Standing (Held S)) (event : Event) (why : Refusal) → AsksSome event → IsQuiet old.phase → AreNotAcknowledged g old (asked event) why new → Stands g new → SubmitsNot g old new event why
+  submits_none old new event why some quiet exit kept = elim exit [
+    | inl refused ↦ inl (prepares_none old new refused.0 event some why quiet refused.1)
+    | inr more ↦ elim more [
+      | inl fails ↦ inr (inl (submit_fails old new event some fails.takes why fails))
+      | inr fails ↦ inr (inr (submit_unpublished old new event some fails.takes why fails kept))
+    ]
+  ]
+
+  pub submits_not : (old new : Standing (Held S)) (command : Command) (why : Refusal) → IsQuiet old.phase → IsNotAcknowledged g old command why new → Stands g new → SubmitsNot g old new (events.Submit command) why
+  submits_not old new command why quiet exit kept =
+      submits_none old new (events.Submit command) why (omega arith) quiet
+      (elim exit [ inl refused ↦ inl (refused.0, one_not_prepared old.phase (line_state old.line) command why quiet refused.1) | inr more ↦ inr more ]) kept

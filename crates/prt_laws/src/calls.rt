@@ -1,0 +1,399 @@
+//! The publisher's calls, with what they are in the world.
+ghost use Rattle.std.specs.Prelude.{◌≡◌, ◌≤◌, [], ◌∷◌, All, length, true, IfErr, IfOk, IsTrue, OnOk};
+ghost use Rattle.sqlite.specs.Held.{state};
+ghost use Rattle.sqlite.specs.State.{HasCleanDisk};
+ghost use Rattle.prt_command.specs.Storable.{IsStorable};
+ghost use Rattle.prt_front.specs.Line.{line_state};
+ghost use Rattle.prt_grace.specs.Registry.{new_registry};
+ghost use Rattle.prt_publisher.specs.Standing.{IsQuiet};
+ghost use Rattle.prt_publisher.specs.Step.{IsPlan};
+ghost use Rattle.prt_rows.specs.Effects.{AreEmpty};
+ghost use Rattle.prt_store.specs.Exits.{IsKnown, MayLeave};
+ghost use Rattle.prt_version.specs.State.{State};
+ghost use Rattle.prt_world.specs.World.{run_from, start};
+ghost use Rattle.prt_world.specs.declared.event.Event.TheVariants.{Submit, SubmitAll};
+ghost use Rattle.prt_laws.specs.Laws.{Admits, AdmitsAll, AdoptsAgain, AdoptsStopped, BeginsAt, Commits, Declines, DeclinesBy, FailsToCommit, Notes, Plans, PlansNone, PlansNot, Prepares, PreparesNot, Publishes, PublishesNot, Shows, Submits, SubmitsNot};
+ghost use Rattle.prt_laws.specs.Runs.{Acknowledges, AcknowledgesAll, HoldsAll, TakesNone, TakesNot, events_of, receipts_of, step_acts, step_acts_all};
+
+use prt_command::{Command, Refusal};
+use prt_grace::{Domain, Registry};
+use prt_publisher::{Phase, Plan, Publisher, Receipt};
+use sqlite::{Alter, Connection};
+use std::alloc::Global;
+use std::sync::Wait;
+
+/// Admits a command, under the lock of the registry.
+///
+/// # Errors
+///
+/// Those of `Publisher::admit`: the world refuses the command for the same reason, after a reclaim where it is `Busy`.
+pub fn admit<S: Alter + Drop, R: Wait + Drop>(
+    publisher: &mut Publisher<S, R>,
+    registry: &mut Registry,
+    command: &Command,
+) -> Result<(), Refusal>
+    requires quiet { IsQuiet publisher.old.phase }
+    requires storable { IsStorable command.now }
+    ensures ok { OnOk result (Admits S.Store publisher.old publisher.new registry.old registry.new) }
+    ensures then { OnOk result ((publisher.new.phase ≡ Phase.Admitted) × (publisher.new.commands ≡ command.now ∷ [])) }
+    ensures err { IfErr result (λ why. Declines S.Store publisher.old publisher.new registry.old registry.new (Submit command.now) why) }
+{
+    match publisher.admit(registry, command) {
+        Ok(()) => Ok(()),
+        Err(reason) => Err(reason),
+    }
+}
+
+/// Makes the version of the admitted command, outside the lock.
+///
+/// # Errors
+///
+/// `NoMemory`, of which the world has no event.
+pub fn plan<S: Alter + Drop, R: Wait + Drop>(publisher: &mut Publisher<S, R>) -> Result<(), Refusal>
+    requires { publisher.old.phase ≡ Phase.Admitted }
+    ensures ok { OnOk result (Plans S.Store publisher.old publisher.new) }
+    ensures then { OnOk result ((publisher.new.phase ≡ Phase.Prepared) × (publisher.new.commands ≡ publisher.old.commands)) }
+    ensures err { IfErr result (λ why. PlansNot S.Store publisher.old publisher.new why) }
+{
+    match publisher.plan() {
+        Ok(()) => Ok(()),
+        Err(reason) => Err(reason),
+    }
+}
+
+/// Makes what commands need to be published, outside the lock: no event.
+///
+/// # Errors
+///
+/// Those of `Publisher::plan_all`. The world refuses the commands for the same reason; of `NoMemory` it has no event.
+pub fn plan_all<S: Alter + Drop, R: Wait + Drop>(
+    publisher: &Publisher<S, R>,
+    commands: &Vec<Command>,
+) -> Result<Plan, Refusal>
+    requires quiet { IsQuiet publisher.now.phase }
+    requires some { 1 ≤ length commands.now.items }
+    requires storable { All IsStorable commands.now.items }
+    ensures ok { IfOk result (λ plan. IsPlan (line_state publisher.now.line) plan × (plan.commands.items ≡ commands.now.items)) }
+    ensures ready { OnOk result (publisher.now.phase ≡ Phase.Ready) }
+    ensures err { IfErr result (λ why. PlansNone S.Store publisher.now publisher.now (SubmitAll commands.now.items) why) }
+{
+    match publisher.plan_all(commands) {
+        Ok(plan) => Ok(plan),
+        Err(reason) => Err(reason),
+    }
+}
+
+/// Sees that there is room for planned commands, under the lock of the registry: then they are prepared.
+///
+/// # Errors
+///
+/// `Busy`: the world refuses the commands for want of room, after a reclaim.
+pub fn admit_all<S: Alter + Drop, R: Wait + Drop>(
+    publisher: &mut Publisher<S, R>,
+    registry: &mut Registry,
+    plan: Plan,
+) -> Result<(), Refusal>
+    requires ready { publisher.old.phase ≡ Phase.Ready }
+    requires plan { IsPlan (line_state publisher.old.line) plan }
+    ensures ok { OnOk result (AdmitsAll S.Store publisher.old publisher.new registry.old registry.new (SubmitAll plan.commands.items)) }
+    ensures then { OnOk result ((publisher.new.phase ≡ Phase.Prepared) × (publisher.new.commands ≡ plan.commands.items)) }
+    ensures err { IfErr result (λ why. DeclinesBy S.Store publisher.old publisher.new true registry.old registry.new (SubmitAll plan.commands.items) why) }
+{
+    match publisher.admit_all(registry, plan) {
+        Ok(()) => Ok(()),
+        Err(reason) => Err(reason),
+    }
+}
+
+/// Commits the prepared commands: a store call for each, and three more.
+///
+/// # Errors
+///
+/// `StoreFailed`: the calls before the named one succeed, and that one fails. For each state that a crash may leave it
+/// has the fate that leaves this state.
+pub fn commit<S: Alter + Drop, R: Wait + Drop>(
+    publisher: &mut Publisher<S, R>,
+) -> Result<(), Refusal>
+    requires { publisher.old.phase ≡ Phase.Prepared }
+    ensures ok { OnOk result (Commits S.Store publisher.old publisher.new) }
+    ensures then { OnOk result ((publisher.new.phase ≡ Phase.Committed) × (publisher.new.commands ≡ publisher.old.commands)) }
+    ensures err { IfErr result (λ why. FailsToCommit S.Store publisher.old publisher.new why) }
+{
+    match publisher.commit() {
+        Ok(()) => Ok(()),
+        Err(reason) => Err(reason),
+    }
+}
+
+/// Shows the version of the committed commands.
+///
+/// # Errors
+///
+/// `NotPublished`: the publication fails.
+pub fn show<S: Alter + Drop, R: Wait + Drop>(publisher: &mut Publisher<S, R>) -> Result<(), Refusal>
+    requires { publisher.old.phase ≡ Phase.Committed }
+    ensures ok { OnOk result (Shows S.Store publisher.old publisher.new) }
+    ensures then { OnOk result ((publisher.new.phase ≡ Phase.Published) × (publisher.new.commands ≡ publisher.old.commands)) }
+    ensures err { IfErr result (λ why. PublishesNot S.Store publisher.old publisher.new why) }
+{
+    match publisher.show() {
+        Ok(()) => Ok(()),
+        Err(reason) => Err(reason),
+    }
+}
+
+/// Notes the published version, and acknowledges its commands.
+pub fn note<S: Alter + Drop, R: Wait + Drop>(
+    publisher: &mut Publisher<S, R>,
+    registry: &mut Registry,
+) -> Receipt
+    requires { publisher.old.phase ≡ Phase.Published }
+    ensures { Notes S.Store publisher.old publisher.new registry.old registry.new result }
+{
+    publisher.note(registry)
+}
+
+/// Submits a command by the steps that `Publisher::submit` makes, in one registry: so it is said that there was room, and
+/// that the version was noted.
+///
+/// # Errors
+///
+/// Those of the steps.
+pub fn submit_by_steps<S: Alter + Drop, R: Wait + Drop>(
+    publisher: &mut Publisher<S, R>,
+    registry: &mut Registry,
+    command: &Command,
+) -> Result<Receipt, Refusal>
+    requires quiet { IsQuiet publisher.old.phase }
+    requires storable { IsStorable command.now }
+    ensures ok { IfOk result (λ told. Acknowledges S.Store publisher.old registry.old command.now told publisher.new registry.new) }
+    ensures err { IfErr result (λ why. TakesNot S.Store publisher.old registry.old command.now why publisher.new registry.new) }
+{
+    if let Err(reason) = admit(publisher, registry, command) {
+        return Err(reason);
+    }
+    if let Err(reason) = plan(publisher) {
+        return Err(reason);
+    }
+    if let Err(reason) = commit(publisher) {
+        return Err(reason);
+    }
+    if let Err(reason) = show(publisher) {
+        return Err(reason);
+    }
+    let receipt = note(publisher, registry);
+    Ok(receipt)
+}
+
+/// Submits the first command of a new file, with the registry of its domain. What a crash leaves then holds it, under the
+/// number that its receipt tells.
+///
+/// # Errors
+///
+/// Those of the steps.
+pub fn first_command<S: Alter + Drop, R: Wait + Drop>(
+    publisher: &mut Publisher<S, R>,
+    registry: &mut Registry,
+    command: &Command,
+) -> Result<Receipt, Refusal>
+    requires quiet { IsQuiet publisher.old.phase }
+    requires storable { IsStorable command.now }
+    requires registry { registry.old ≡ new_registry (line_state publisher.old.line) }
+    ensures { IfOk result (λ told. BeginsAt S.Store publisher.old start → IsKnown S.Store publisher.new.ours_first publisher.new.tables → (left : State) → MayLeave S.Store publisher.new.tables left →
+        HoldsAll (run_from start (events_of (step_acts command.now told))) (receipts_of (step_acts command.now told)) [] left) }
+{
+    match submit_by_steps(publisher, registry, command) {
+        Ok(receipt) => Ok(receipt),
+        Err(reason) => Err(reason),
+    }
+}
+
+/// Submits commands together by the steps that `Publisher::submit_all` makes, in one registry.
+///
+/// # Errors
+///
+/// Those of the steps.
+pub fn submit_all_by_steps<S: Alter + Drop, R: Wait + Drop>(
+    publisher: &mut Publisher<S, R>,
+    registry: &mut Registry,
+    commands: &Vec<Command>,
+) -> Result<Receipt, Refusal>
+    requires quiet { IsQuiet publisher.old.phase }
+    requires some { 1 ≤ length commands.now.items }
+    requires storable { All IsStorable commands.now.items }
+    ensures ok { IfOk result (λ told. AcknowledgesAll S.Store publisher.old registry.old commands.now.items told publisher.new registry.new) }
+    ensures err { IfErr result (λ why. TakesNone S.Store publisher.old registry.old commands.now.items why publisher.new registry.new) }
+{
+    let plan = match plan_all(publisher, commands) {
+        Ok(plan) => plan,
+        Err(reason) => return Err(reason),
+    };
+    if let Err(reason) = admit_all(publisher, registry, plan) {
+        return Err(reason);
+    }
+    if let Err(failed) = commit(publisher) {
+        return Err(failed);
+    }
+    if let Err(unshown) = show(publisher) {
+        return Err(unshown);
+    }
+    let receipt = note(publisher, registry);
+    Ok(receipt)
+}
+
+/// Submits the first commands of a new file together, with the registry of its domain. What a crash leaves then holds each
+/// of them, under its own number, of which the receipt tells the last.
+///
+/// # Errors
+///
+/// Those of the steps.
+pub fn first_commands<S: Alter + Drop, R: Wait + Drop>(
+    publisher: &mut Publisher<S, R>,
+    registry: &mut Registry,
+    commands: &Vec<Command>,
+) -> Result<Receipt, Refusal>
+    requires quiet { IsQuiet publisher.old.phase }
+    requires some { 1 ≤ length commands.now.items }
+    requires storable { All IsStorable commands.now.items }
+    requires registry { registry.old ≡ new_registry (line_state publisher.old.line) }
+    ensures { IfOk result (λ told. BeginsAt S.Store publisher.old start → IsKnown S.Store publisher.new.ours_first publisher.new.tables → (left : State) → MayLeave S.Store publisher.new.tables left →
+        HoldsAll (run_from start (events_of (step_acts_all commands.now.items told))) (receipts_of (step_acts_all commands.now.items told)) [] left) }
+{
+    match submit_all_by_steps(publisher, registry, commands) {
+        Ok(receipt) => Ok(receipt),
+        Err(reason) => Err(reason),
+    }
+}
+
+/// Prepares a command, with the domain.
+///
+/// # Errors
+///
+/// Those of `Publisher::prepare`. The world refuses the command for the same reason, for want of room where it has none;
+/// of `NoMemory` it has no event.
+pub fn prepare<S: Alter + Drop, R: Wait + Drop, W: Wait>(
+    publisher: &mut Publisher<S, R>,
+    rt: &W,
+    domain: &Domain,
+    command: &Command,
+) -> Result<(), Refusal>
+    requires quiet { IsQuiet publisher.old.phase }
+    requires storable { IsStorable command.now }
+    ensures ok { OnOk result (Prepares S.Store publisher.old publisher.new (Submit command.now)) }
+    ensures err { IfErr result (λ why. PreparesNot S.Store publisher.old publisher.new (Submit command.now) why) }
+{
+    match publisher.prepare(rt, domain, command) {
+        Ok(()) => Ok(()),
+        Err(reason) => Err(reason),
+    }
+}
+
+/// Prepares commands together, with the domain.
+///
+/// # Errors
+///
+/// Those of `Publisher::prepare_all`. The world refuses the commands for the same reason, for want of room where it has
+/// none; of `NoMemory` it has no event.
+pub fn prepare_all<S: Alter + Drop, R: Wait + Drop, W: Wait>(
+    publisher: &mut Publisher<S, R>,
+    rt: &W,
+    domain: &Domain,
+    commands: &Vec<Command>,
+) -> Result<(), Refusal>
+    requires quiet { IsQuiet publisher.old.phase }
+    requires some { 1 ≤ length commands.now.items }
+    requires storable { All IsStorable commands.now.items }
+    ensures ok { OnOk result (Prepares S.Store publisher.old publisher.new (SubmitAll commands.now.items)) }
+    ensures err { IfErr result (λ why. PreparesNot S.Store publisher.old publisher.new (SubmitAll commands.now.items) why) }
+{
+    match publisher.prepare_all(rt, domain, commands) {
+        Ok(()) => Ok(()),
+        Err(reason) => Err(reason),
+    }
+}
+
+/// Publishes the committed commands, with the domain.
+///
+/// # Errors
+///
+/// `NotPublished`: the publication fails.
+pub fn publish<S: Alter + Drop, R: Wait + Drop, W: Wait>(
+    publisher: &mut Publisher<S, R>,
+    rt: &W,
+    domain: &Domain,
+) -> Result<Receipt, Refusal>
+    requires { publisher.old.phase ≡ Phase.Committed }
+    ensures ok { IfOk result (λ told. Publishes S.Store publisher.old publisher.new told) }
+    ensures err { IfErr result (λ why. PublishesNot S.Store publisher.old publisher.new why) }
+{
+    match publisher.publish(rt, domain) {
+        Ok(receipt) => Ok(receipt),
+        Err(reason) => Err(reason),
+    }
+}
+
+/// Submits a command, with the domain: in a world that has room all of its events, one after the other.
+///
+/// # Errors
+///
+/// Those of `Publisher::submit`, each with its events.
+pub fn submit<S: Alter + Drop, R: Wait + Drop, W: Wait>(
+    publisher: &mut Publisher<S, R>,
+    rt: &W,
+    domain: &Domain,
+    command: &Command,
+) -> Result<Receipt, Refusal>
+    requires quiet { IsQuiet publisher.old.phase }
+    requires storable { IsStorable command.now }
+    ensures ok { IfOk result (λ told. Submits S.Store publisher.old publisher.new (Submit command.now) told) }
+    ensures err { IfErr result (λ why. SubmitsNot S.Store publisher.old publisher.new (Submit command.now) why) }
+{
+    match publisher.submit(rt, domain, command) {
+        Ok(receipt) => Ok(receipt),
+        Err(reason) => Err(reason),
+    }
+}
+
+/// Submits commands together, with the domain: in a world that has room all of their events, one after the other.
+///
+/// # Errors
+///
+/// Those of `Publisher::submit_all`, each with its events: all of the commands are stored, or none.
+pub fn submit_all<S: Alter + Drop, R: Wait + Drop, W: Wait>(
+    publisher: &mut Publisher<S, R>,
+    rt: &W,
+    domain: &Domain,
+    commands: &Vec<Command>,
+) -> Result<Receipt, Refusal>
+    requires quiet { IsQuiet publisher.old.phase }
+    requires some { 1 ≤ length commands.now.items }
+    requires storable { All IsStorable commands.now.items }
+    ensures ok { IfOk result (λ told. Submits S.Store publisher.old publisher.new (SubmitAll commands.now.items) told) }
+    ensures err { IfErr result (λ why. SubmitsNot S.Store publisher.old publisher.new (SubmitAll commands.now.items) why) }
+{
+    match publisher.submit_all(rt, domain, commands) {
+        Ok(receipt) => Ok(receipt),
+        Err(reason) => Err(reason),
+    }
+}
+
+/// Adopts the database of a connection: of a new file that is the world's start, of one that was left so a stop and an
+/// opening, wherever the stop fell.
+///
+/// # Errors
+///
+/// As `Publisher::adopt`.
+pub fn adopt<S: Alter + Drop, R: Wait + Drop>(
+    rt: R,
+    alloc: Global,
+    conn: Connection<S>,
+) -> Result<(Publisher<S, R>, Domain), (Refusal, Connection<S>)>
+    ensures fresh { IfOk result (λ made. AreEmpty (state S.Store conn).now → IsKnown S.Store made.0.ours_first made.0.tables → BeginsAt S.Store made.0 start) }
+    ensures again { IfOk result (λ made. HasCleanDisk (state S.Store made.0.tables) → IsTrue (state S.Store conn).is_open → AdoptsAgain S.Store (state S.Store conn).now.trees made.0) }
+    ensures stopped { IfOk result (λ made. HasCleanDisk (state S.Store made.0.tables) → IsTrue (state S.Store conn).is_open → AdoptsStopped S.Store (state S.Store conn).now.trees made.0) }
+{
+    match Publisher::adopt(rt, alloc, conn) {
+        Ok((publisher, domain)) => Ok((publisher, domain)),
+        Err(refused) => Err(refused),
+    }
+}

@@ -1,0 +1,72 @@
+//! The calls of a looker, with what they are in the world.
+ghost use Rattle.std.specs.Prelude.{◌≡◌, IfOk, IsSome, OnErr, OnOk};
+ghost use Rattle.prt_laws.specs.Seated.{IsMade, Learns, Looks, Refreshes, RefreshesNot, Rests};
+
+use prt_publisher::Receipt;
+use prt_service::{Looker, Naming, Service};
+use prt_version::{Answer, Packet, Refusal};
+use sqlite::Alter;
+use std::sync::Wait;
+
+/// Makes a looker, offline.
+///
+/// # Errors
+///
+/// `Full`.
+pub fn looker<S: Alter + Drop, R: Wait + Drop, J: Naming, W: Wait>(
+    rt: &W,
+    service: &Service<S, R, J>,
+) -> Result<Looker, Refusal>
+    ensures { IfOk result IsMade }
+{
+    match service.looker(rt) {
+        Ok(looker) => Ok(looker),
+        Err(reason) => Err(reason),
+    }
+}
+
+/// Learns the list of a receipt: no event.
+pub fn learn(looker: &mut Looker, receipt: Receipt)
+    requires { receipt.book ≡ looker.old.known.book }
+    ensures { Learns looker.old looker.new }
+{
+    looker.learn(receipt);
+}
+
+/// Takes the published version in place of the one that the looker holds, and announces its number.
+///
+/// # Errors
+///
+/// `NotFetched`: the looker is as it was.
+pub fn refresh<S: Alter + Drop, R: Wait + Drop, J: Naming, W: Wait>(
+    looker: &mut Looker,
+    rt: &W,
+    service: &Service<S, R, J>,
+) -> Result<(), Refusal>
+    ensures ok { OnOk result (Refreshes looker.old looker.new) }
+    ensures err { OnErr result (RefreshesNot looker.old looker.new) }
+{
+    match looker.refresh(rt, service) {
+        Ok(()) => Ok(()),
+        Err(reason) => Err(reason),
+    }
+}
+
+/// Gives its version back, and takes the looker offline.
+pub fn rest<S: Alter + Drop, R: Wait + Drop, J: Naming, W: Wait>(
+    looker: &mut Looker,
+    rt: &W,
+    service: &Service<S, R, J>,
+)
+    ensures { Rests looker.old looker.new }
+{
+    looker.rest(rt, service);
+}
+
+/// Looks a packet up in the version that the looker holds.
+pub fn look(looker: &Looker, packet: &Packet) -> Answer
+    requires { IsSome looker.now.held }
+    ensures { Looks looker.now packet.now result }
+{
+    looker.look(packet)
+}

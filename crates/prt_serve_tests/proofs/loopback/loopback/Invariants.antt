@@ -1,4 +1,0 @@
-use Rattle.prt_serve_tests.proofs.loopback.loopback.Given as goal
-
-abbrev pub ghosts-converse_with : goal.ghosts-converse_with
-ghosts-converse_with g a = record { book = a.publisher.line.book; base = a.publisher.line.base }

@@ -1,4 +1,0 @@
-use Rattle.prt_serve_tests.proofs.overlap.overlapping_sessions.Given as goal
-
-abbrev pub ghosts-meet : goal.ghosts-meet
-ghosts-meet g a = record { book = a.publisher.line.book; base = a.publisher.line.base }

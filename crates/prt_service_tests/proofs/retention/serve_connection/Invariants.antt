@@ -1,4 +1,0 @@
-use Rattle.prt_service_tests.proofs.retention.serve_connection.Given as goal
-
-abbrev pub ghosts-serve : goal.ghosts-serve
-ghosts-serve g a = record { book = a.publisher.line.book; base = a.publisher.line.base }

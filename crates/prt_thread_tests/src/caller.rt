@@ -1,0 +1,100 @@
+//! Calls of a publisher and of a service, for connections and handles of any kind.
+ghost use Rattle.std.specs.Prelude.{◌≡◌, IfOk, OnOk};
+ghost use Rattle.prt_publisher.specs.Standing.{IsQuiet};
+
+use prt_command::{Addr, Command, Dev, Packet, Refusal};
+use prt_grace::Domain;
+use prt_publisher::{Phase, Publisher};
+use prt_service::{Naming, Service};
+use sqlite::{Alter, Connection};
+use std::alloc::Global;
+use std::sync::Wait;
+
+/// Makes a publisher over the database of a connection, and its domain.
+pub fn adopted<S: Alter + Drop, H: Wait + Drop>(
+    rt: H,
+    alloc: Global,
+    connection: Connection<S>,
+) -> Result<(Publisher<S, H>, Domain), Refusal>
+    ensures { IfOk result (λ made. made.0.phase ≡ Phase.Ready) }
+{
+    match Publisher::adopt(rt, alloc, connection) {
+        Ok(made) => Ok(made),
+        Err((reason, _)) => Err(reason),
+    }
+}
+
+/// Gives the number of the state that is stored in the database of a connection, and the connection.
+pub fn stored_number<S: Alter + Drop, H: Wait + Drop>(
+    rt: H,
+    alloc: Global,
+    connection: Connection<S>,
+) -> Result<(u64, Connection<S>), Refusal> {
+    let (publisher, _domain) = adopted(rt, alloc, connection)?;
+    Ok((publisher.published().number(), publisher.release()))
+}
+
+/// Submits a flush of the rules to a publisher, which is always accepted, and gives the number of its receipt.
+pub fn submit_to_publisher<S: Alter + Drop, R: Wait + Drop, H: Wait>(
+    rt: &H,
+    publisher: &mut Publisher<S, R>,
+    domain: &Domain,
+) -> Result<u64, Refusal>
+    requires { IsQuiet publisher.old.phase }
+    ensures quiet { IsQuiet publisher.new.phase }
+    ensures ready { OnOk result (publisher.new.phase ≡ Phase.Ready) }
+{
+    match publisher.submit(rt, domain, &Command::RuleFlush) {
+        Ok(receipt) => Ok(receipt.number()),
+        Err(reason) => Err(reason),
+    }
+}
+
+/// Submits two flushes of the rules together to a publisher, and gives the number of their receipt.
+pub fn submit_two_together<S: Alter + Drop, R: Wait + Drop, H: Wait>(
+    rt: &H,
+    alloc: Global,
+    publisher: &mut Publisher<S, R>,
+    domain: &Domain,
+) -> Result<u64, Refusal>
+    requires { IsQuiet publisher.old.phase }
+{
+    let commands = Vec::from_slice(alloc, &[Command::RuleFlush, Command::RuleFlush])?;
+    match publisher.submit_all(rt, domain, &commands) {
+        Ok(receipt) => Ok(receipt.number()),
+        Err(reason) => Err(reason),
+    }
+}
+
+/// Prepares a flush of the rules.
+pub fn prepare_one<S: Alter + Drop, R: Wait + Drop, H: Wait>(
+    rt: &H,
+    publisher: &mut Publisher<S, R>,
+    domain: &Domain,
+) -> Result<(), Refusal>
+    requires { IsQuiet publisher.old.phase }
+    ensures { OnOk result (publisher.new.phase ≡ Phase.Prepared) }
+{
+    publisher.prepare(rt, domain, &Command::RuleFlush)
+}
+
+/// Submits a flush of the rules to a service, which is always accepted, and gives the number of its receipt.
+pub fn submit_to_service<S: Alter + Drop, R: Wait + Drop, J: Naming, H: Wait>(
+    rt: &H,
+    service: &Service<S, R, J>,
+) -> Result<u64, Refusal> {
+    match service.submit(rt, &Command::RuleFlush) {
+        Ok(receipt) => Ok(receipt.number()),
+        Err(reason) => Err(reason),
+    }
+}
+
+/// Makes a packet to 10.1.0.0.
+pub fn packet() -> Packet {
+    Packet {
+        dst: Addr(0x0a01_0000),
+        src: Addr(0),
+        iif: Dev::loopback(),
+        mark: 0,
+    }
+}

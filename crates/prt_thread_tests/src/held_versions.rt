@@ -1,0 +1,100 @@
+//! Versions that wait for a looker.
+ghost use Rattle.std.specs.Prelude.{◌≡◌};
+ghost use Rattle.prt_publisher.specs.Standing.{IsQuiet};
+
+use crate::caller::{adopted, submit_to_publisher};
+use prt_command::Refusal;
+use prt_grace::Domain;
+use prt_publisher::{Phase, Publisher};
+use sqlite::{Alter, Connection};
+use std::alloc::Global;
+use std::sync::Wait;
+use std::test::Fail;
+
+/// What came of the commands beside a looker that announces nothing until one of them is refused, and then 64.
+#[derive(Debug, Drop, PartialEq)]
+struct Retained {
+    /// The number that the looker announced when it came online.
+    online_at: u64,
+    /// The number of the last receipt before the refusal.
+    last: u64,
+    /// Why the next command was refused, and the phase after it.
+    refused: Option<Refusal>,
+    phase: Phase,
+    /// How many versions wait then: from the oldest that the looker may hold to the noted one.
+    retired: u64,
+    /// How many versions went after the looker had announced.
+    reclaimed: usize,
+    /// The number of the receipt after that.
+    next: u64,
+}
+
+/// Submits commands until one is refused, at most 100. The number of the last receipt, and why the next was refused.
+fn submit_until_refused<S: Alter + Drop, R: Wait + Drop, H: Wait>(
+    rt: &H,
+    publisher: &mut Publisher<S, R>,
+    domain: &Domain,
+) -> (u64, Option<Refusal>)
+    requires { IsQuiet publisher.old.phase }
+    ensures { IsQuiet publisher.new.phase }
+{
+    let mut last = 0;
+    for _ in 0..100 {
+        match submit_to_publisher(rt, publisher, domain) {
+            Ok(number) => last = number,
+            Err(reason) => return (last, Some(reason)),
+        }
+    }
+    (last, None)
+}
+
+/// Runs a publisher beside a place that is online at 0 and announces nothing until it has to.
+fn retain<S: Alter + Drop, H: Wait + Copy + Drop>(
+    rt: H,
+    alloc: Global,
+    connection: Connection<S>,
+) -> Result<Option<Retained>, Refusal> {
+    let (mut publisher, domain) = adopted(rt, alloc, connection)?;
+    let Some(mut place) = domain.join(&rt) else {
+        return Ok(None);
+    };
+    let online_at = domain.online(&rt, &mut place);
+    let (last, refused) = submit_until_refused(&rt, &mut publisher, &domain);
+    let phase = publisher.phase();
+    let retired = publisher.noted().saturating_sub(online_at);
+    if last < online_at {
+        return Ok(None);
+    }
+    domain.announce(&rt, &mut place, last);
+    let reclaimed = domain.reclaim(&rt);
+    let next = submit_to_publisher(&rt, &mut publisher, &domain)?;
+    Ok(Some(Retained {
+        online_at,
+        last,
+        refused,
+        phase,
+        retired,
+        reclaimed,
+        next,
+    }))
+}
+
+#[test]
+fn retained_versions(rt: HostRuntime) -> Result<(), Fail> {
+    let alloc = rt.alloc();
+    let connection = Connection::open_in_memory(alloc)?;
+    let retained = retain(rt, alloc, connection)?;
+    assert!(rt;
+        retained
+            == Some(Retained {
+                online_at: 0,
+                last: 64,
+                refused: Some(Refusal::Busy),
+                phase: Phase::Ready,
+                retired: 64,
+                reclaimed: 64,
+                next: 65,
+            })
+    );
+    Ok(())
+}

@@ -1,0 +1,26 @@
+//! Tests of publishers and services over databases in memory, of sessions over a service, of workers and of the loop that
+//! accepts connections.
+#![tactic(auto)]
+
+#[cfg(test)]
+mod caller;
+#[cfg(test)]
+mod connections;
+#[cfg(test)]
+mod front;
+#[cfg(test)]
+mod held_versions;
+#[cfg(test)]
+mod learning;
+#[cfg(test)]
+mod loopback;
+#[cfg(test)]
+mod memory;
+#[cfg(test)]
+mod overlap;
+#[cfg(test)]
+mod phases;
+#[cfg(test)]
+mod slow_looker;
+#[cfg(test)]
+mod together;

@@ -1,0 +1,113 @@
+//! Each call of a publisher, and its end in each phase.
+
+use crate::caller::{
+    adopted, prepare_one, stored_number, submit_to_publisher, submit_two_together,
+};
+use prt_command::{Command, Refusal};
+use prt_front::READERS;
+use prt_publisher::Phase;
+use sqlite::{Alter, Connection};
+use std::alloc::Global;
+use std::sync::Wait;
+use std::test::Fail;
+
+/// Goes on to a phase, and gives the number of the published state and the connection.
+fn release_at<S: Alter + Drop, H: Wait + Copy + Drop>(
+    rt: H,
+    alloc: Global,
+    connection: Connection<S>,
+    phase: Phase,
+) -> Result<(u64, Connection<S>), Refusal> {
+    let (mut publisher, domain) = adopted(rt, alloc, connection)?;
+    if phase == Phase::Ready {
+        return Ok((publisher.published().number(), publisher.release()));
+    }
+    publisher.admit(&mut domain.lock(&rt), &Command::RuleFlush)?;
+    if phase == Phase::Admitted {
+        return Ok((publisher.published().number(), publisher.release()));
+    }
+    publisher.plan()?;
+    if phase == Phase::Prepared {
+        return Ok((publisher.published().number(), publisher.release()));
+    }
+    publisher.commit()?;
+    if phase == Phase::Committed {
+        return Ok((publisher.published().number(), publisher.release()));
+    }
+    publisher.show()?;
+    Ok((publisher.published().number(), publisher.release()))
+}
+
+#[test]
+fn releases_in_each_phase(rt: HostRuntime) -> Result<(), Fail> {
+    let alloc = rt.alloc();
+    for (phase, published, stored) in [
+        (Phase::Ready, 0, 0),
+        (Phase::Admitted, 0, 0),
+        (Phase::Prepared, 0, 0),
+        (Phase::Committed, 0, 1),
+        (Phase::Published, 1, 1),
+    ] {
+        let connection = Connection::open_in_memory(alloc)?;
+        let (shown, connection) = release_at(rt, alloc, connection, phase)?;
+        let (kept, _) = stored_number(rt, alloc, connection)?;
+        assert_eq!(rt; (shown, kept), (published, stored));
+    }
+    Ok(())
+}
+
+/// Prepares, commits and publishes one command, submits another, and gives the numbers of the receipts.
+fn publish_two<S: Alter + Drop, H: Wait + Copy + Drop>(
+    rt: H,
+    alloc: Global,
+    connection: Connection<S>,
+) -> Result<(u64, u64, usize), Refusal> {
+    let (mut publisher, domain) = adopted(rt, alloc, connection)?;
+    prepare_one(&rt, &mut publisher, &domain)?;
+    publisher.commit()?;
+    let first = publisher.publish(&rt, &domain)?.number();
+    let second = submit_to_publisher(&rt, &mut publisher, &domain)?;
+    let mut seats = publisher.seats(alloc);
+    let mut readers = 0usize;
+    for _ in 0..100 {
+        match seats.take() {
+            Some(mut reader) => {
+                if reader.fetch()?.number() == second {
+                    readers = readers.saturating_add(1);
+                }
+            }
+            None => break,
+        }
+    }
+    Ok((first, second, readers))
+}
+
+#[test]
+fn publishes_two_commands(rt: HostRuntime) -> Result<(), Fail> {
+    let alloc = rt.alloc();
+    let connection = Connection::open_in_memory(alloc)?;
+    assert_eq!(rt; publish_two(rt, alloc, connection)?, (1, 2, READERS));
+    Ok(())
+}
+
+/// Submits two commands together. Gives the number that is published before, those of the receipt and of what is published
+/// after, and how many versions nobody can hold then.
+fn publish_together<S: Alter + Drop, H: Wait + Copy + Drop>(
+    rt: H,
+    alloc: Global,
+    connection: Connection<S>,
+) -> Result<(u64, u64, u64, usize), Refusal> {
+    let (mut publisher, domain) = adopted(rt, alloc, connection)?;
+    let before = publisher.published().number();
+    let receipt = submit_two_together(&rt, alloc, &mut publisher, &domain)?;
+    let after = publisher.published().number();
+    Ok((before, receipt, after, domain.reclaim(&rt)))
+}
+
+#[test]
+fn publishes_one_version_of_two_commands(rt: HostRuntime) -> Result<(), Fail> {
+    let alloc = rt.alloc();
+    let connection = Connection::open_in_memory(alloc)?;
+    assert_eq!(rt; publish_together(rt, alloc, connection)?, (0, 2, 2, 1));
+    Ok(())
+}

@@ -1,0 +1,205 @@
+//! A looker that refreshes once, and then not again until commands are refused for it.
+ghost use Rattle.std.specs.Prelude.{◌≡◌};
+ghost use Rattle.prt_publisher.specs.Standing.{IsQuiet};
+
+use crate::caller::{adopted, packet, stored_number, submit_to_service};
+use prt_command::Refusal;
+use prt_grace::Domain;
+use prt_publisher::Publisher;
+use prt_service::{Naming, Service};
+use sqlite::{Alter, Connection};
+use std::alloc::Global;
+use std::marker::Brand;
+use std::sync::Wait;
+use std::test::Fail;
+
+/// The number of the last of some receipts, and why the command after it was refused.
+#[derive(Debug, Drop, PartialEq)]
+struct Submitted {
+    last: u64,
+    refused: Option<Refusal>,
+}
+
+/// How many lookers were there at once, and why one more was refused.
+#[derive(Debug, Drop, PartialEq)]
+struct Crowd {
+    lookers: u64,
+    refused: Option<Refusal>,
+}
+
+/// What came of the commands beside the looker.
+#[derive(Debug, Drop, PartialEq)]
+struct Beside {
+    /// The number that it looked with at first, and again after the commands that it missed.
+    first: u64,
+    missed: Submitted,
+    still: u64,
+    /// The number that it looked with when it had refreshed, and that of the next receipt.
+    refreshed: u64,
+    next: u64,
+    /// Whether it was online then, and when it rested.
+    was_online: bool,
+    is_online: bool,
+    /// The commands while it rested.
+    rested: Submitted,
+}
+
+/// Submits commands until one is refused, or so many were accepted.
+fn submit_until_refused<S: Alter + Drop, R: Wait + Drop, J: Naming, H: Wait>(
+    rt: &H,
+    service: &Service<S, R, J>,
+    most: u64,
+) -> Submitted {
+    let mut last = 0;
+    for _ in 0..most {
+        match submit_to_service(rt, service) {
+            Ok(number) => last = number,
+            Err(reason) => {
+                return Submitted {
+                    last,
+                    refused: Some(reason),
+                };
+            }
+        }
+    }
+    Submitted {
+        last,
+        refused: None,
+    }
+}
+
+/// Makes lookers until one is refused, or so many are there. Then all of them leave.
+fn gather<S: Alter + Drop, R: Wait + Drop, J: Naming, H: Wait>(
+    rt: &H,
+    service: &Service<S, R, J>,
+    most: u64,
+) -> Crowd {
+    if most == 0 {
+        return Crowd {
+            lookers: 0,
+            refused: None,
+        };
+    }
+    match service.looker(rt) {
+        Ok(looker) => {
+            let others = gather(rt, service, most - 1);
+            looker.leave(rt, service);
+            Crowd {
+                lookers: others.lookers.saturating_add(1),
+                refused: others.refused,
+            }
+        }
+        Err(reason) => Crowd {
+            lookers: 0,
+            refused: Some(reason),
+        },
+    }
+}
+
+/// Submits commands beside a looker that refreshes at first, and then when a command was refused; rests it, and submits
+/// as many as it held up, and one more.
+fn submit_beside<S: Alter + Drop, R: Wait + Drop, J: Naming, H: Wait>(
+    rt: &H,
+    service: &Service<S, R, J>,
+) -> Result<Beside, Refusal> {
+    let mut looker = service.looker(rt)?;
+    looker.refresh(rt, service)?;
+    let first = looker.look(&packet()).number;
+    let missed = submit_until_refused(rt, service, 100);
+    let still = looker.look(&packet()).number;
+    looker.refresh(rt, service)?;
+    let refreshed = looker.look(&packet()).number;
+    let next = submit_to_service(rt, service)?;
+    let was_online = looker.is_online();
+    looker.rest(rt, service);
+    let is_online = looker.is_online();
+    let rested = submit_until_refused(rt, service, 65);
+    looker.leave(rt, service);
+    Ok(Beside {
+        first,
+        missed,
+        still,
+        refreshed,
+        next,
+        was_online,
+        is_online,
+        rested,
+    })
+}
+
+/// What came of the commands, how many lookers there could be after them, once more, and beside one that was let go
+/// without leaving; and the number of the state that is stored at the end.
+#[derive(Debug, Drop, PartialEq)]
+struct Outcome {
+    beside: Beside,
+    crowds: [Crowd; 3],
+    stored: u64,
+}
+
+/// Runs a service of the named front.
+fn serve<J: Naming, S: Alter + Drop, H: Wait + Copy + Drop>(
+    rt: H,
+    alloc: Global,
+    publisher: Publisher<S, H>,
+    domain: Domain,
+) -> Result<Outcome, Refusal>
+    requires quiet { IsQuiet publisher.phase }
+    requires of { (publisher.line.book ≡ J.book) × (publisher.line.base ≡ J.base) }
+{
+    let service: Service<S, H, J> = Service::new(publisher, domain);
+    let beside = submit_beside(&rt, &service)?;
+    let first = gather(&rt, &service, 100);
+    let again = gather(&rt, &service, 100);
+    drop(service.looker(&rt)?);
+    let beside_one = gather(&rt, &service, 100);
+    let (stored, _connection) = stored_number(rt, alloc, service.release())?;
+    Ok(Outcome {
+        beside,
+        crowds: [first, again, beside_one],
+        stored,
+    })
+}
+
+/// Runs a service over the database of a connection.
+fn serve_connection<S: Alter + Drop, H: Wait + Copy + Drop>(
+    rt: H,
+    alloc: Global,
+    connection: Connection<S>,
+) -> Result<Outcome, Refusal> {
+    let (publisher, domain) = adopted(rt, alloc, connection)?;
+    serve::<Brand, S, H>(rt, alloc, publisher, domain)
+}
+
+#[test]
+fn slow_looker(rt: HostRuntime) -> Result<(), Fail> {
+    let alloc = rt.alloc();
+    let outcome = serve_connection(rt, alloc, Connection::open_in_memory(alloc)?)?;
+    let full = |lookers| Crowd {
+        lookers,
+        refused: Some(Refusal::Full),
+    };
+    assert!(rt;
+        outcome
+            == Outcome {
+                beside: Beside {
+                    first: 0,
+                    missed: Submitted {
+                        last: 64,
+                        refused: Some(Refusal::Busy),
+                    },
+                    still: 0,
+                    refreshed: 64,
+                    next: 65,
+                    was_online: true,
+                    is_online: false,
+                    rested: Submitted {
+                        last: 130,
+                        refused: None,
+                    },
+                },
+                crowds: [full(64), full(64), full(63)],
+                stored: 130,
+            }
+    );
+    Ok(())
+}
