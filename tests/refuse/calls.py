@@ -75,8 +75,13 @@ def give_none(preloaded):
 
 
 def sweeps(loopback, preloaded, is_whole):
-    """The calls of each word; those of a session have the lines of a loopback."""
-    events = text_of("examples/grace-period.replay")
-    return [refuse_word("slow_looker", "", preloaded, is_whole, slow_looker, STEP),
-            refuse_word("grace_period", events, preloaded, is_whole, grace_period),
-            refuse_word("session", loopback, preloaded, is_whole, session_over(loopback)), give_none(preloaded)]
+    """The calls that no run of `prt` shows: those of a looker that stays behind, and those that take no memory.
+
+    A whole sweep has also those of a replay and of a session, which `prt replay` and `prt serve` make too.
+    """
+    right = [refuse_word("slow_looker", "", preloaded, is_whole, slow_looker, STEP), give_none(preloaded)]
+    if is_whole:
+        events = text_of("examples/grace-period.replay")
+        right.append(refuse_word("grace_period", events, preloaded, is_whole, grace_period))
+        right.append(refuse_word("session", loopback, preloaded, is_whole, session_over(loopback)))
+    return right
