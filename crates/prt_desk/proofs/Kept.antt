@@ -9,11 +9,11 @@ use Rattle.prt_publisher.specs.declared.phase.Phase.{Phase}
 use Rattle.prt_publisher.specs.declared.phase.Phase.TheVariants.{Ready, Admitted, Prepared, Committed, Published, Closed}
 use Rattle.prt_session.specs.Desk.{DeskState}
 use Rattle.prt_store.proofs.Exits.{found_is}
-use Rattle.prt_store.proofs.Spelled.{spelled_once, stored_there}
+use Rattle.prt_store.proofs.Spelled.{spelled_once}
 use Rattle.prt_store.specs.Exits.{IsKnown, IsStored, MayLeave, Spells}
 use Rattle.prt_version.specs.Change.{fold}
 use Rattle.prt_version.specs.State.{State}
-use Rattle.prt_desk.specs.StoreDesk.{IsKept, MayBeStored, Reopens, StandsBy, StandsFor, desk_with, is_closed_at, is_shut, published}
+use Rattle.prt_desk.specs.StoreDesk.{IsKept, LeavesFound, MayBeStored, StandsBy, StandsFor, desk_with, is_closed_at, is_shut, published}
 
 abbrev with_stored : State → Phase → State → DeskState
 with_stored state phase stored = record { published = state; stored = stored; closed = is_closed_at phase }
@@ -28,15 +28,6 @@ module _ {S : Type 0} (g : Ghosts S) (ours_first : Bool) (tables : Held S) (show
   published_by Closed [] desk is = is.0
   published_by Closed (command ∷ commands) desk is = ap (λ (d : DeskState). d.published) is
 
-  shut_by : (phase : Phase) (under : List Command) (desk : DeskState) → StandsBy g ours_first tables shown phase under desk → desk.closed ≡ is_closed_at phase
-  shut_by Ready under desk is = ap (λ (d : DeskState). d.closed) is
-  shut_by Admitted under desk is = absurd is
-  shut_by Prepared under desk is = absurd is
-  shut_by Committed under desk is = absurd is
-  shut_by Published under desk is = absurd is
-  shut_by Closed [] desk is = is.1
-  shut_by Closed (command ∷ commands) desk is = ap (λ (d : DeskState). d.closed) is
-
   durable_by : (phase : Phase) (under : List Command) → IsQuiet phase → IsKnown g ours_first tables → Agrees g phase under shown tables → (trees : Trees) → (state g tables).may_leave trees
       → (stored : State) × Spells trees stored × StandsBy g ours_first tables shown phase under (with_stored shown phase stored)
   durable_by Ready under quiet known kept trees may = (shown, kept.durable trees may, refl)
@@ -48,24 +39,19 @@ module _ {S : Type 0} (g : Ghosts S) (ours_first : Bool) (tables : Held S) (show
   durable_by Closed (command ∷ commands) quiet known kept trees may = (fold shown (command ∷ commands), kept.durable trees may, refl)
 
 module _ {S : Type 0} (g : Ghosts S) (desk : Standing (Held S)) where
-  -- a state that it stands for is told by what is stored
-  pub stands_with : (before : DeskState) → StandsFor g desk before → before ≡ desk_with desk before.stored
-  stands_with before stands =
-      let shown : before.published ≡ published desk = published_by g desk.ours_first desk.tables (published desk) desk.phase desk.commands before stands in
-      let closed : before.closed ≡ is_shut desk = shut_by g desk.ours_first desk.tables (published desk) desk.phase desk.commands before stands in
-      λ i. record { published = shown i; stored = before.stored; closed = closed i }
+  -- what it stands for is published
+  pub shows : (stood : DeskState) → StandsFor g desk stood → stood.published ≡ published desk
+  shows stood stands = published_by g desk.ours_first desk.tables (published desk) desk.phase desk.commands stood stands
 
   -- whatever a crash leaves spells a state that may be stored
   pub durable_is : IsKept g desk → IsKnown g desk.ours_first desk.tables → (trees : Trees) → (state g desk.tables).may_leave trees → (stored : State) × Spells trees stored × MayBeStored g desk stored
   durable_is kept known = durable_by g desk.ours_first desk.tables (published desk) desk.phase desk.commands kept.0 known (kept.1 known)
 
-  -- and an opening gives that state
-  pub reopens : IsKept g desk → IsKnown g desk.ours_first desk.tables → Reopens g desk.tables (MayBeStored g desk)
-  reopens kept known found sound may =
-      let left = durable_is kept known found.trees may in (
-        (stored_there found left.0 sound left.1).tables,
-        λ opened opens. subst (MayBeStored g desk) (sym (found_is found opened left.0 opens sound left.1)) left.2,
-      )
+  -- and what an opening makes of it is that state
+  pub found_is_stored : IsKept g desk → (found : State) → LeavesFound g desk found → (after : DeskState) × StandsFor g desk after × (after.stored ≡ found)
+  found_is_stored kept found leaves =
+      let left = durable_is kept leaves.known leaves.file.trees leaves.left in
+      (desk_with desk found, subst (MayBeStored g desk) (sym (found_is leaves.file found left.0 leaves.opens leaves.sound left.1)) left.2, refl)
 
 -- ---- of an open desk
 

@@ -3,7 +3,6 @@ use Rattle.std.specs.Prelude.{◌≡◌, ◌⊎◌, ℕ, Bool, true, false, List
 use Rattle.sqlite.specs.Effect.{Database, IsDatabase}
 use Rattle.sqlite.specs.Held.{Held, state}
 use Rattle.sqlite.specs.Store.{Ghosts}
-use Rattle.prt_addr.specs.declared.on_refusal.OnRefusal.{OnRefusal}
 use Rattle.prt_addr.specs.declared.refusal.Refusal.{Refusal}
 use Rattle.prt_addr.specs.declared.refusal.Refusal.TheVariants.{NotPublished, StoreFailed}
 use Rattle.prt_addr.specs.declared.refusal.StoreCall.TheVariants.{Commit}
@@ -12,11 +11,7 @@ use Rattle.prt_front.specs.Line.{line_state}
 use Rattle.prt_publisher.specs.Standing.{IsQuiet, Standing, Stands}
 use Rattle.prt_publisher.specs.declared.phase.Phase.{Phase}
 use Rattle.prt_publisher.specs.declared.phase.Phase.TheVariants.{Ready, Admitted, Prepared, Committed, Published, Closed}
-use Rattle.prt_rows.specs.Format.{IsFormat2}
-use Rattle.prt_session.specs.Atomic.{AtomicIs}
-use Rattle.prt_session.specs.Desk.{Befalls, DeskState, Mishap, request_turn, settled, shut}
-use Rattle.prt_session.specs.Run.{RunIs}
-use Rattle.prt_session.specs.declared.script_end.ScriptEnd.{ScriptEnd}
+use Rattle.prt_session.specs.Desk.{DeskState, Mishap, settled, shut}
 use Rattle.prt_store.specs.Exits.{IsKnown, MayLeave, Opens}
 use Rattle.prt_version.specs.Change.{fold}
 use Rattle.prt_version.specs.State.{State}
@@ -37,7 +32,7 @@ is_closed_at Closed = true
 abbrev pub is_shut : {T : Type 0} → Standing T → Bool
 is_shut desk = is_closed_at desk.phase
 
--- No command is under way. While a desk is open, its state is stored; once it is closed, whatever a crash leaves spells that state or the one after one submission more, always the same one.
+-- No command is under way. Of a known file: while a desk is open, its state is stored; once it is closed, whatever a crash leaves spells that state or the one after one submission more, always the same submission.
 abbrev pub IsKept : {S : Type 0} → Ghosts S → Standing (Held S) → Type 0
 IsKept g desk = IsQuiet desk.phase × Stands g desk
 
@@ -66,9 +61,13 @@ desk_with desk stored = record { published = published desk; stored = stored; cl
 abbrev pub MayBeStored : {S : Type 0} → Ghosts S → Standing (Held S) → State → Type 0
 MayBeStored g desk stored = StandsFor g desk (desk_with desk stored)
 
--- what an opening makes of a database that a crash leaves spells a state of which this holds
-abbrev pub Reopens : {S : Type 0} → Ghosts S → Held S → (State → Type 0) → Type 0
-Reopens g tables Left = (found : Database) → IsDatabase found → (state g tables).may_leave found.trees → IsFormat2 found.schema × ((opened : State) → Opens found opened → Left opened)
+-- The file is known, and this is the state that an opening makes of a file which a crash may leave now.
+pub record LeavesFound {S : Type 0} (g : Ghosts S) (desk : Standing (Held S)) (found : State) : Type 0 where
+  pub known : IsKnown g desk.ours_first desk.tables
+  pub file : Database
+  pub sound : IsDatabase file
+  pub left : (state g desk.tables).may_leave file.trees
+  pub opens : Opens file found
 
 -- what may befall it: memory, room for old versions, a store call and the publication may fail
 abbrev pub IsStoreMishap : Mishap → Type 0
@@ -79,13 +78,3 @@ abbrev pub LeavesEither : Result ℕ Refusal → State → State → State → T
 LeavesEither (Ok number) before after left = left ≡ after
 LeavesEither (Err NotPublished) before after left = left ≡ after
 LeavesEither (Err reason) before after left = (left ≡ before) ⊎ ((reason ≡ StoreFailed Commit) × (left ≡ after))
-
--- the run of a session, begun on a state that may have been stored before, left this one
-abbrev pub SessionLeaves : {S : Type 0} → Ghosts S → OnRefusal → Standing (Held S) → Standing (Held S) → (reader0 reader writer0 writer : Option (List ℕ)) → ScriptEnd → State → Type 0
-SessionLeaves g mode old new reader0 reader writer0 writer end stored =
-    (before : State) × MayBeStored g old before × RunIs request_turn (Befalls IsStoreMishap) mode (desk_with old before) (desk_with new stored) reader0 reader writer0 writer end
-
--- the run of an atomic file, begun on a state that may have been stored before, left this one
-abbrev pub FileLeaves : {S : Type 0} → Ghosts S → Standing (Held S) → Standing (Held S) → (reader0 reader writer0 writer : Option (List ℕ)) → ScriptEnd → State → Type 0
-FileLeaves g old new reader0 reader writer0 writer end stored =
-    (before : State) × MayBeStored g old before × AtomicIs IsStoreMishap (desk_with old before) (desk_with new stored) reader0 reader writer0 writer end

@@ -1,8 +1,16 @@
 //! Laws of the durable desk, which no program calls.
 
+ghost use Rattle.prt_desk.specs.Files.{FilesKeep};
 ghost use Rattle.prt_desk.specs.Stops.{LeavesAState};
 
 use sqlite::Alter;
+use sqlite_disk::Disk;
+
+/// Files that a connection is closed to (`close_files`), and from which another one is opened (`open_files`), show what was
+/// left. Premise: the disk returns what was written.
+pub fn files_keep<D: Disk>()
+    ensures { FilesKeep D.Disk }
+{}
 
 /// Whichever store call of commands a stop falls into, of one or of those of a file, a crash leaves the state before them or,
 /// only where it fell into the call that commits, the one after all of them. Between the calls of commands it leaves the

@@ -2,8 +2,7 @@
 #![tactic(auto)]
 
 mod laws;
-mod reopening;
 mod store_desk;
 
-pub use laws::stops_leave_a_state;
+pub use laws::{files_keep, stops_leave_a_state};
 pub use store_desk::StoreDesk;

@@ -2,11 +2,10 @@ ghost use Rattle.std.specs.Prelude.{◌≡◌, ◌≤◌, ◌++◌, ◌↔◌, I
 ghost use Rattle.std.specs.List.{All};
 ghost use Rattle.sqlite.specs.Held.{state};
 ghost use Rattle.sqlite.specs.State.{HasCleanDisk, Survives};
-ghost use Rattle.sqlite.specs.Tree.{Trees};
 ghost use Rattle.prt_addr.specs.Opening.{IsOpenRefusal};
 ghost use Rattle.prt_addr.specs.declared.refusal.Refusal.TheVariants.{Damaged};
 ghost use Rattle.prt_desk.specs.Remains.{Remains};
-ghost use Rattle.prt_desk.specs.StoreDesk.{FileLeaves, IsKept, MayBeStored, Reopens, SessionLeaves, is_shut, published};
+ghost use Rattle.prt_desk.specs.StoreDesk.{IsKept, is_shut, published};
 ghost use Rattle.prt_publisher.specs.Standing.{IsQuiet};
 ghost use Rattle.prt_rows.specs.Format.{BeginsFormat2};
 ghost use Rattle.prt_store.specs.Adopted.{Adopts, AdoptsPart, LeavesPart};
@@ -17,14 +16,10 @@ ghost use Rattle.prt_version.specs.State.{State};
 use prt_grace::Domain;
 use prt_listing::query_text;
 use prt_publisher::{Phase, Publisher};
-use prt_session::{
-    Command, Desk, MOST_TOGETHER, Observer, OnRefusal, Query, Refusal, ScriptEnd, run_atomic,
-    run_script,
-};
+use prt_session::{Command, Desk, MOST_TOGETHER, Query, Refusal};
 use prt_version::Version;
 use sqlite::{Alter, Connection, Error};
 use std::alloc::Global;
-use std::io::{Read, Write};
 use std::marker::Model;
 use std::sync::Wait;
 
@@ -99,61 +94,6 @@ impl<S: Alter + Drop, H: Wait + Drop> StoreDesk<S, H> {
         ensures kept { IsKept S.Store self }
     {
         self.publisher.release()
-    }
-
-    /// Runs a script over this desk, as `run_script` does: nothing but memory, the store, room for old versions and the
-    /// publication can fail it.
-    ///
-    /// Whatever may be stored at its end is what the session leaves, begun on what may have been stored before. A
-    /// crash, or the end of the program, leaves a file that spells such a state, and an opening of it gives that state.
-    /// A desk that is closed stays exactly as it is, and so do the other tables of the file.
-    pub fn run_script<R: Read, W: Write, O: Observer>(
-        &mut self,
-        alloc: Global,
-        reader: &mut R,
-        writer: &mut W,
-        mode: OnRefusal,
-        observer: &mut O,
-    ) -> ScriptEnd
-        ensures run { (stored : State) → MayBeStored S.Store self.new stored →
-            SessionLeaves S.Store mode self.old self.new (R.remaining reader.old) (R.remaining reader.new) (W.contents writer.old) (W.contents writer.new) result stored }
-        ensures keeps { Remains S.Store self.old self.new }
-        ensures durable { IsKnown S.Store self.new.ours_first self.new.tables → (trees : Trees) → (state S.Store self.new.tables).may_leave trees →
-            (stored : State) × Spells trees stored × MayBeStored S.Store self.new stored }
-        ensures reopened { IsKnown S.Store self.new.ours_first self.new.tables → Reopens S.Store self.new.tables
-            (SessionLeaves S.Store mode self.old self.new (R.remaining reader.old) (R.remaining reader.new) (W.contents writer.old) (W.contents writer.new) result) }
-    {
-        let end = run_script(alloc, self, reader, writer, mode, observer);
-        // Recalls what the desk keeps.
-        let _is_closed = self.is_closed();
-        end
-    }
-
-    /// Runs an atomic file over this desk, as `run_atomic` does: nothing but memory, the store, room for old versions and
-    /// the publication can fail it.
-    ///
-    /// Whatever may be stored at its end is what the file leaves, begun on what may have been stored before: all of its
-    /// commands, or none. A crash, or the end of the program, leaves a file that spells such a state, and an opening of
-    /// it gives that state. A desk that is closed stays exactly as it is, and so do the other tables of the file.
-    pub fn run_atomic<R: Read, W: Write, O: Observer>(
-        &mut self,
-        alloc: Global,
-        reader: &mut R,
-        writer: &mut W,
-        observer: &mut O,
-    ) -> ScriptEnd
-        ensures run { (stored : State) → MayBeStored S.Store self.new stored →
-            FileLeaves S.Store self.old self.new (R.remaining reader.old) (R.remaining reader.new) (W.contents writer.old) (W.contents writer.new) result stored }
-        ensures keeps { Remains S.Store self.old self.new }
-        ensures durable { IsKnown S.Store self.new.ours_first self.new.tables → (trees : Trees) → (state S.Store self.new.tables).may_leave trees →
-            (stored : State) × Spells trees stored × MayBeStored S.Store self.new stored }
-        ensures reopened { IsKnown S.Store self.new.ours_first self.new.tables → Reopens S.Store self.new.tables
-            (FileLeaves S.Store self.old self.new (R.remaining reader.old) (R.remaining reader.new) (W.contents writer.old) (W.contents writer.new) result) }
-    {
-        let end = run_atomic(alloc, self, reader, writer, observer);
-        // Recalls what the desk keeps.
-        let _is_closed = self.is_closed();
-        end
     }
 }
 

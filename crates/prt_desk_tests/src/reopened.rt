@@ -5,7 +5,7 @@ ghost use Rattle.std.specs.Prelude.{IsTrue};
 use crate::desks::{opened, replies};
 use crate::disks::{Faults, OPTIONS, new_files};
 use prt_desk::StoreDesk;
-use prt_session::{OnRefusal, Refusal, Unobserved};
+use prt_session::{OnRefusal, Refusal, Unobserved, run_script};
 use sqlite::{Connection, FileStore, Files};
 use sqlite_disk::Disk;
 use std::alloc::Global;
@@ -42,6 +42,21 @@ fn desk_in<D: Disk + Drop, H: Wait + Copy + Drop>(
     }
 }
 
+/// Closes the database of a desk, and makes a desk over its files again.
+fn reopened<D: Disk + Drop, H: Wait + Copy + Drop>(
+    rt: H,
+    alloc: Global,
+    desk: StoreDesk<FileStore<D>, H>,
+) -> Result<StoreDesk<FileStore<D>, H>, Refusal> {
+    match desk.release().close_files() {
+        Ok(files) => desk_in(rt, alloc, files),
+        Err((_, store)) => {
+            drop(store.close());
+            Err(Refusal::OpenFailed)
+        }
+    }
+}
+
 /// Runs a script whose replies cannot be written, closes the database and opens it again, and gives why the run ended
 /// and the replies to a second script.
 fn run_unheard<D: Disk + Drop, H: Wait + Copy + Drop>(
@@ -53,14 +68,15 @@ fn run_unheard<D: Disk + Drop, H: Wait + Copy + Drop>(
 ) -> Result<(Option<Refusal>, Vec<u8>), Refusal> {
     let mut desk = desk_in(rt, alloc, files)?;
     let mut lines = script.as_bytes();
-    let end = desk.run_script(
+    let end = run_script(
         alloc,
+        &mut desk,
         &mut lines,
         &mut Shut,
         OnRefusal::GoOn,
         &mut Unobserved,
     );
-    let mut again = desk.reopen(alloc, OPTIONS)?;
+    let mut again = reopened(rt, alloc, desk)?;
     Ok((end.fault, replies(alloc, &mut again, second)))
 }
 

@@ -2,6 +2,7 @@
 ghost use Rattle.std.specs.Prelude.{◌≡◌, IfOk};
 ghost use Rattle.prt_command.specs.Storable.{IsStorable};
 ghost use Rattle.prt_publisher.specs.Standing.{IsQuiet};
+ghost use Rattle.prt_service.specs.Named.{IsNamed};
 
 use crate::output::{tell, tell_number};
 use crate::registries::{domain_keeps, registry_keeps};
@@ -103,7 +104,7 @@ fn is_served<J: Naming, S: Alter + Drop, H: Wait + Copy + Drop>(
     domain: Domain,
 ) -> bool
     requires quiet { IsQuiet publisher.phase }
-    requires of { (publisher.line.book ≡ J.book) × (publisher.line.base ≡ J.base) }
+    requires of { IsNamed J.book J.base J.ours_first publisher }
 {
     let service: Service<S, H, J> = Service::new(publisher, domain);
     let is_seen = match service.looker(&rt) {
@@ -165,7 +166,7 @@ fn serve<J: Naming, S: Alter + Drop, H: Wait + Copy + Drop, W: Write>(
     output: &mut W,
 ) -> Result<bool, Refusal>
     requires quiet { IsQuiet publisher.phase }
-    requires of { (publisher.line.book ≡ J.book) × (publisher.line.base ≡ J.base) }
+    requires of { IsNamed J.book J.base J.ours_first publisher }
 {
     let service: Service<S, H, J> = Service::new(publisher, domain);
     let looker = service.looker(&rt)?;

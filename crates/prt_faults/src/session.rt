@@ -1,6 +1,6 @@
 //! A session over a service.
-ghost use Rattle.std.specs.Prelude.{◌≡◌};
 ghost use Rattle.prt_publisher.specs.Standing.{IsQuiet};
+ghost use Rattle.prt_service.specs.Named.{IsNamed};
 
 use crate::service::adopted;
 use prt_command::Refusal;
@@ -24,7 +24,7 @@ fn serve<J: Naming, S: Alter + Drop, H: Wait + Copy + Drop, R: Read, W: Write>(
     output: &mut W,
 ) -> Result<(), Refusal>
     requires quiet { IsQuiet publisher.phase }
-    requires of { (publisher.line.book ≡ J.book) × (publisher.line.base ≡ J.base) }
+    requires of { IsNamed J.book J.base J.ours_first publisher }
 {
     let service: Service<S, H, J> = Service::new(publisher, domain);
     let mut looker = service.looker(&rt)?;

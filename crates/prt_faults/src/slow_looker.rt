@@ -4,6 +4,7 @@
 //! how many lookers there were; and why the call after it was refused.
 ghost use Rattle.std.specs.Prelude.{◌≡◌};
 ghost use Rattle.prt_publisher.specs.Standing.{IsQuiet};
+ghost use Rattle.prt_service.specs.Named.{IsNamed};
 
 use crate::output::{tell, tell_number};
 use crate::service::{adopted, command_of, look, packet, submit};
@@ -136,7 +137,7 @@ fn serve<J: Naming, S: Alter + Drop, H: Wait + Copy + Drop, W: Write>(
     output: &mut W,
 ) -> Result<(), Refusal>
     requires quiet { IsQuiet publisher.phase }
-    requires of { (publisher.line.book ≡ J.book) × (publisher.line.base ≡ J.base) }
+    requires of { IsNamed J.book J.base J.ours_first publisher }
 {
     let service: Service<S, H, J> = Service::new(publisher, domain);
     let mut looker = service.looker(&rt)?;

@@ -1,16 +1,18 @@
 -- What becomes of the databases of a machine, from an opening to the closing.
-use Rattle.std.specs.Prelude.{◌≡◌, ◌⊎◌, ℕ, List}
+use Rattle.std.specs.Prelude.{◌≡◌, ◌≢◌, ◌⊎◌, ℕ, List}
 use Rattle.sqlite.specs.Held.{Held, state}
 use Rattle.sqlite.specs.State.{HasCleanDisk, Survives}
 use Rattle.sqlite.specs.Store.{Ghosts}
 use Rattle.prt_addr.specs.declared.refusal.Refusal.{Refusal}
-use Rattle.prt_addr.specs.declared.refusal.Refusal.TheVariants.{OpenFailed}
+use Rattle.prt_addr.specs.declared.refusal.Refusal.TheVariants.{Damaged, OpenFailed}
 use Rattle.prt_publisher.specs.Openings.{HasRefused}
 use Rattle.prt_rows.specs.Format.{IsFormat2}
 
--- nothing was done to the connection, or nothing of it was committed: a crash leaves what it could leave before
-abbrev pub IsOnlyRead : {S : Type 0} → Ghosts S → Held S → Held S → Type 0
-IsOnlyRead g old new = (new ≡ old) ⊎ ((HasCleanDisk (state g old) → IsFormat2 (state g old).now.schema) → Survives (state g old) (state g new) (λ _. ⊥))
+-- A connection that was refused for this reason was not touched, but where it was damaged its rows were read: of a file whose first tables are ours a crash then leaves what it could leave before.
+abbrev pub IsOnlyRead : {S : Type 0} → Ghosts S → Refusal → Held S → Held S → Type 0
+IsOnlyRead g reason old new =
+    (reason ≢ Damaged → new ≡ old)
+    × ((new ≡ old) ⊎ ((HasCleanDisk (state g old) → IsFormat2 (state g old).now.schema) → Survives (state g old) (state g new) (λ _. ⊥)))
 
 -- The database at a path was opened as the first connection, and closed as the last, with this between them. Nothing else was done to databases.
 pub record IsClosedAgain {M S : Type 0} (opens : M → M → List ℕ → Held S → Type 0) (closes : M → M → Held S → Type 0) (Made : Held S → Held S → Type 0) (old new : M) (path : List ℕ) : Type 0 where
@@ -23,7 +25,7 @@ pub record IsClosedAgain {M S : Type 0} (opens : M → M → List ℕ → Held S
 
 -- a connection was refused for this reason, and then only read
 abbrev pub IsRefusedFor : {S : Type 0} → Ghosts S → Refusal → Held S → Held S → Type 0
-IsRefusedFor {S} g reason first last = (left : Held S) × HasRefused g first left reason × IsOnlyRead g left last
+IsRefusedFor {S} g reason first last = (left : Held S) × HasRefused g first left reason × IsOnlyRead g reason left last
 
 -- No database is open, for this reason: the machine gave none, or what it gave was refused and closed again.
 abbrev pub LeavesNoneOpen : {M S : Type 0} → (M → M → List ℕ → Held S → Type 0) → (M → M → List ℕ → Type 0) → (M → M → Held S → Type 0) → Ghosts S → Refusal → M → M → List ℕ → Type 0

@@ -1,2 +1,4 @@
 pub mod Closing
+pub mod Dumping
+pub mod Runs
 pub mod Serving

@@ -47,7 +47,7 @@ fn system_reason<F: Files>(files: &F, path: &str) -> Option<io::Error> {
 
 /// Tells which columns of a database, or else which rows, were refused so, if that is known.
 fn tables_reason<S: Alter>(conn: &mut Connection<S>, refusal: Refusal) -> Option<Reason>
-    ensures { IsOnlyRead S.Store conn.old conn.new }
+    ensures { IsOnlyRead S.Store refusal conn.old conn.new }
 {
     match refusal {
         Refusal::Damaged => match rows_reason(conn) {
@@ -66,7 +66,7 @@ pub(crate) fn close_refused<S: Alter + Drop, M: Machine<Connection<S>>>(
     mut conn: Connection<S>,
     refusal: Refusal,
 ) -> Option<Reason>
-    ensures { (last : Held S) × IsOnlyRead S.Store conn last × M.closes machine.old machine.new last }
+    ensures { (last : Held S) × IsOnlyRead S.Store refusal conn last × M.closes machine.old machine.new last }
 {
     let reason = tables_reason(&mut conn, refusal);
     let _ = machine.close(conn);

@@ -56,6 +56,8 @@ impl<
     F: Files,
     H: Wait + Copy + Drop,
 > Databases for DatabaseFiles<'a, S, M, F, H> {
+    ghost use Rattle.prt_desk.specs.StoreDesk.{IsKept, LeavesFound};
+    ghost use Rattle.prt_host.specs.Closing.{LeavesNoneOpen};
     ghost use Rattle.prt_publisher.specs.Openings.{OpensOne};
     ghost use Rattle.prt_version.specs.Sound.{IsSound};
 
@@ -68,7 +70,11 @@ impl<
 
     ghost opens = { λ old new path desk. OpensOne S.Store (M.opens old.machine new.machine path) desk };
 
-    ghost closed = { λ old new desk. M.closes old.machine new.machine desk.tables };
+    ghost closed = { λ old new desk. IsKept S.Store desk × M.closes old.machine new.machine desk.tables };
+
+    ghost refuses = { λ old new path reason. LeavesNoneOpen M.opens M.refuses M.closes S.Store reason old.machine new.machine path };
+
+    ghost leaves = { LeavesFound S.Store };
 
     fn open(
         &mut self,

@@ -1,11 +1,8 @@
 //! Printing the commands that make a database anew.
-ghost use Rattle.std.specs.Prelude.{◌≡◌, ◌≢◌, false};
+ghost use Rattle.std.specs.Prelude.{◌≡◌, ◌≢◌, ◌⊎◌, false};
 ghost use Rattle.std.specs.Io.KnownBytes.{Appends};
-ghost use Rattle.prt_dump.specs.PutBack.{dump_text};
-ghost use Rattle.prt_host.specs.Closing.{IsClosedAgain};
-ghost use Rattle.prt_publisher.specs.Openings.{HasOpened};
+ghost use Rattle.prt_host.specs.Dumping.{IsDumped, IsNotDumped};
 ghost use Rattle.prt_session.specs.Steps.{Written};
-ghost use Rattle.prt_version.specs.State.{State};
 
 use crate::databases::DatabaseFiles;
 use crate::machine::Machine;
@@ -35,7 +32,7 @@ fn none_message(
     format!(in alloc; "prt: {path}: line {row} of `{listing}`: no command can give it this name\n")
 }
 
-/// Tells why there is no dump of the database at a path, and gives the exit status for it, which is not `DONE`.
+/// Tells why there is no dump of the database at a path, and gives the exit status for it.
 fn report_none<W: Write, E: Write>(
     alloc: Global,
     path: &str,
@@ -43,7 +40,7 @@ fn report_none<W: Write, E: Write>(
     output: &mut W,
     errors: &mut E,
 ) -> u8
-    ensures status { result ≢ DONE }
+    ensures status { (result ≡ NO_LINE) ⊎ (result ≡ FAULT) }
     ensures unwritten { W.contents output.new ≡ W.contents output.old }
 {
     let (listing, place) = match reason {
@@ -59,6 +56,7 @@ fn report_none<W: Write, E: Write>(
 
 /// Writes a text, and gives the exit status for it: `DONE` where all of it was written, else `FAULT`.
 fn write_text<W: Write>(text: Vec<u8>, output: &mut W) -> u8
+    ensures status { (result ≡ DONE) ⊎ (result ≡ FAULT) }
     ensures whole { result ≡ DONE → Appends (W.contents output.old) (W.contents output.new) text.items }
     ensures part { result ≢ DONE → (result ≡ FAULT) × Written false (W.contents output.old) (W.contents output.new) text.items }
 {
@@ -87,8 +85,9 @@ pub(crate) fn dump<
     output: &mut W,
     errors: &mut E,
 ) -> u8
-    ensures whole { result ≡ DONE → IsClosedAgain M.opens M.closes (λ first last. (stored : State) × HasOpened S.Store first last stored ×
-        Appends (W.contents output.old) (W.contents output.new) (dump_text stored)) databases.old.machine databases.new.machine path.now }
+    ensures whole { result ≡ DONE → IsDumped M.opens M.closes S.Store databases.old.machine databases.new.machine path.now (W.contents output.old) (W.contents output.new) }
+    ensures status { (result ≡ DONE) ⊎ ((result ≡ NO_LINE) ⊎ (result ≡ FAULT)) }
+    ensures part { result ≢ DONE → IsNotDumped M.opens M.refuses M.closes S.Store databases.old.machine databases.new.machine path.now (W.contents output.old) (W.contents output.new) }
 {
     let opened = open_desk(
         &mut databases.machine,

@@ -1,4 +1,7 @@
 //! A run of the program over the databases of a machine.
+ghost use Rattle.prt_host.specs.Runs.{RunsPrt};
+ghost use Rattle.prt_program.specs.Program.{streams_of};
+ghost use Rattle.prt_words.specs.Invocation.{arguments, invocation};
 
 use crate::databases::DatabaseFiles;
 use crate::dump::dump;
@@ -17,7 +20,11 @@ use std::thread::Threads;
 
 /// Runs the program with these words over the databases of a machine, or serves, or dumps, and gives its exit status.
 ///
-/// `program` says what the words ask for. On `errors` stands in the end why the input or the output failed, if one did.
+/// A script, a check or a replay is run as `program` says, and no database is touched where none is asked for. Over a
+/// database the run begins with what its opening made of the connection that was found. Each state that a later opening
+/// may make of what was left then is one that the session left stored (`runs_go_on` has the premises).
+///
+/// On `errors` stands in the end why the input or the output failed, if one did.
 pub fn run<
     S: Alter + Drop + Send,
     M: Machine<Connection<S>> + Drop,
@@ -36,6 +43,8 @@ pub fn run<
 ) -> u8
 where
     N::Stream: Send,
+    ensures { RunsPrt S.Store M.opens M.refuses M.closes databases.old.machine databases.new.machine F.File.remaining (invocation (arguments words.now))
+        (streams_of (⟦<Noting<R> as Read>⟧.remaining input.old) (⟦<Noting<W> as Write>⟧.contents output.old) (⟦<Noting<W> as Write>⟧.contents output.new)) result }
 {
     let files = databases.files;
     let next = program(files, databases, alloc, words, input, output, &mut errors);

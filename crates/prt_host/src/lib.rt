@@ -5,6 +5,7 @@ mod cause;
 mod databases;
 mod dump;
 mod entry;
+mod laws;
 mod machine;
 mod opening;
 mod server;
@@ -13,4 +14,5 @@ mod telling;
 
 pub use databases::DatabaseFiles;
 pub use entry::run;
+pub use laws::runs_go_on;
 pub use machine::Machine;

@@ -3,6 +3,7 @@ ghost use Rattle.std.specs.Prelude.{◌≡◌, ◌≢◌, IfErr, IfSome, OnOk};
 ghost use Rattle.prt_host.specs.Serving.{IsFaultOfServing, IsNotServed, IsServed};
 ghost use Rattle.prt_words.specs.declared.fault.Fault.{Fault};
 ghost use Rattle.prt_publisher.specs.Standing.{IsQuiet};
+ghost use Rattle.prt_service.specs.Named.{IsReleased};
 
 use crate::databases::DatabaseFiles;
 use crate::machine::Machine;
@@ -68,7 +69,8 @@ fn serve_over<
 where
     N::Stream: Send,
     requires { IsQuiet publisher.phase }
-    ensures { IfSome result.0 (λ failure. IsFaultOfServing failure.fault) }
+    ensures fault { IfSome result.0 (λ failure. IsFaultOfServing failure.fault) }
+    ensures released { IsReleased S.Store publisher.line.book publisher.line.base publisher.ours_first result.1 }
 {
     let listener = match listen(rt, asked, output) {
         Ok(listener) => listener,
@@ -113,7 +115,7 @@ fn serve_database<
 ) -> Result<(), NotServed>
 where
     N::Stream: Send,
-    ensures ok { OnOk result (IsServed M.opens M.closes databases.old.machine databases.new.machine asked.now.database.now) }
+    ensures ok { OnOk result (IsServed M.opens M.closes S.Store databases.old.machine databases.new.machine asked.now.database.now) }
     ensures err { IfErr result (λ failure. IsNotServed M.opens M.refuses M.closes S.Store databases.old.machine databases.new.machine asked.now.database.now failure.fault) }
 {
     let (rt, path) = (databases.rt, asked.database);
@@ -155,7 +157,7 @@ pub(crate) fn serve<
 ) -> u8
 where
     N::Stream: Send,
-    ensures done { result ≡ DONE → IsServed M.opens M.closes databases.old.machine databases.new.machine asked.now.database.now }
+    ensures done { result ≡ DONE → IsServed M.opens M.closes S.Store databases.old.machine databases.new.machine asked.now.database.now }
     ensures fault { result ≢ DONE → result ≡ FAULT }
     ensures why { result ≢ DONE → (fault : Fault) × IsNotServed M.opens M.refuses M.closes S.Store databases.old.machine databases.new.machine asked.now.database.now fault }
 {

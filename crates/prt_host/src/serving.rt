@@ -2,6 +2,7 @@
 ghost use Rattle.std.specs.Prelude.{◌≡◌};
 ghost use Rattle.prt_host.specs.Serving.{fault_of};
 ghost use Rattle.prt_publisher.specs.Standing.{IsQuiet};
+ghost use Rattle.prt_service.specs.Named.{IsNamed, IsReleased};
 
 use crate::telling::Telling;
 use prt_grace::Domain;
@@ -68,7 +69,8 @@ pub(crate) fn serve_named<
     errors: &Mutex<E>,
 ) -> (ServeEnd, Connection<S>)
     requires quiet { IsQuiet publisher.phase }
-    requires of { (publisher.line.book ≡ J.book) × (publisher.line.base ≡ J.base) }
+    requires of { IsNamed J.book J.base J.ours_first publisher }
+    ensures { IsReleased S.Store J.book J.base J.ours_first result.1 }
 {
     let service: Service<S, R, J> = Service::new(publisher, domain);
     let telling = Telling {
@@ -88,6 +90,8 @@ pub(crate) fn fault_of(end: ServeEnd) -> Option<Fault>
 {
     match (end.accepting, end.refused) {
         (Accepting::Failed, _) => Some(Fault::Listener),
+        (Accepting::NoWorkers, Some(reason)) => Some(Fault::Opening(reason)),
+        (Accepting::NoWorkers, None) => Some(Fault::Listener),
         (Accepting::Ended, Some(reason)) => Some(Fault::Opening(reason)),
         (Accepting::Ended, None) => None,
     }

@@ -20,6 +20,7 @@ pub mod Fitting
 pub mod Desks
 pub mod Scripts
 pub mod Files
+pub mod Works
 pub mod Looking
 pub mod Seats
 pub mod Refreshing

@@ -7,3 +7,4 @@ pub mod Runs
 pub mod Desks
 pub mod Lookers
 pub mod Seated
+pub mod Works

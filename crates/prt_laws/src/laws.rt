@@ -3,6 +3,7 @@ ghost use Rattle.prt_laws.specs.Desks.{DeskHasRoom, DeskHoldsAll, FileIsRun, Lis
 ghost use Rattle.prt_laws.specs.Lookers.{EveryLookersEvent};
 ghost use Rattle.prt_laws.specs.Registries.{EveryEventKeepsRegistry, RoomIsRoom};
 ghost use Rattle.prt_laws.specs.Runs.{EveryRunGoesOn, EveryRunLeaves, EveryRunStands, EveryStopLeaves};
+ghost use Rattle.prt_laws.specs.Works.{FileEnds, RefusedFileDoesNothing, RunIsWork, RunsHold, StopIsWork};
 
 use sqlite::Alter;
 
@@ -64,6 +65,22 @@ pub fn script_is_run()
     ensures room { DeskHasRoom }
     ensures reopened { ReopenedDesk }
     ensures sessions { SessionsHold }
+{}
+
+/// A session that the program ran over a database is a script or an atomic file of `script_is_run` (`run`). So is a script
+/// that was stopped, also where its last command was stored and not answered (`stopped`). What is found after any number of runs on a new database, each of which began with what was found of the
+/// one before, holds each command that was answered `ok`, and the version of each answer to a `route get` (`hold`).
+pub fn runs_are_works()
+    ensures run { RunIsWork }
+    ensures stopped { StopIsWork }
+    ensures hold { RunsHold }
+{}
+
+/// The reading of an atomic file ends: it takes at most 1,000,000 lines of 65,537 bytes each, and one byte more (`ends`).
+/// Where a line was refused, or the reader failed, nothing is submitted (`nothing`).
+pub fn atomic_file_ends()
+    ensures ends { FileEnds }
+    ensures nothing { RefusedFileDoesNothing }
 {}
 
 /// Whatever a looker does, or a reclaim: a publisher and its registry stand for the world after it.

@@ -1,18 +1,25 @@
 -- A fault that was reported, and an input that was left alone.
-use Rattle.std.proofs.Common.{◌≡◌, ◌≢◌, ◌∙◌, ℕ, inl, inr, refl, List, Option, Some, None}
+use Rattle.std.proofs.Common.{◌≡◌, ◌≢◌, ◌∙◌, ℕ, inl, inr, refl, List, Option, Some, None, Result, Ok, Err}
+use Rattle.std.specs.Prelude.{OnErr}
 use Rattle.prt_addr.specs.Word.{Word}
-use Rattle.prt_program.specs.Faults.{IsFault}
+use Rattle.prt_addr.specs.declared.refusal.Refusal.{Refusal}
+use Rattle.prt_program.specs.Faults.{IsFault, database_of}
 use Rattle.prt_words.specs.Faults.{fault_status}
 use Rattle.prt_words.specs.Invocation.{Invocation, batch, check, replay}
-use Rattle.prt_program.specs.Program.{LeavesInput, LeavesInputFor, RunsNothing}
+use Rattle.prt_program.specs.Program.{IsUntouched, LeavesInput, LeavesInputFor, RunsNothing}
 use Rattle.prt_words.specs.declared.fault.Fault.{Fault}
 use Rattle.prt_words.specs.declared.fault.Fault.TheVariants.{Words, Opening, Listener}
 
-pub reported : (asked : Invocation) (fault : Fault) (status : ℕ) (writer0 writer1 writer : Option (List ℕ)) → IsFault asked fault → status ≡ fault_status fault
-    → writer1 ≡ writer0 → (status ≢ 0 → writer ≡ writer1) → RunsNothing asked writer0 writer status
-reported asked (Words error) status writer0 writer1 writer may is same kept = (inl (rw is may), λ other. kept other ∙ same)
-reported asked (Opening reason) status writer0 writer1 writer may is same kept = (inr is, λ other. kept other ∙ same)
-reported asked Listener status writer0 writer1 writer may is same kept = absurd may
+module _ {D : Type 0} (refuses : D → D → Word → Refusal → Type 0) (old new : D) where
+  pub untouched : (path : Option Word) → new ≡ old → IsUntouched refuses path old new
+  untouched None same = same
+  untouched (Some path) same = inl same
+
+  pub reported : (asked : Invocation) (fault : Fault) (status : ℕ) (writer0 writer1 writer : Option (List ℕ)) → IsFault asked fault → status ≡ fault_status fault
+      → writer1 ≡ writer0 → (status ≢ 0 → writer ≡ writer1) → IsUntouched refuses (database_of asked) old new → RunsNothing refuses old new asked writer0 writer status
+  reported asked (Words error) status writer0 writer1 writer may is same kept left = (inl (rw is may), (λ other. kept other ∙ same), left)
+  reported asked (Opening reason) status writer0 writer1 writer may is same kept left = (inr is, (λ other. kept other ∙ same), left)
+  reported asked Listener status writer0 writer1 writer may is same kept left = absurd may
 
 unread_for : (file : Option Word) (input : Option (List ℕ)) → LeavesInputFor file input input
 unread_for None input = tt
@@ -23,3 +30,8 @@ unread (batch script) input = unread_for script.file input
 unread (check file) input = unread_for file input
 unread (replay file) input = unread_for file input
 unread _ input = refl
+
+-- what holds in any case holds at a fault
+pub at_fault : {A E P : Type 0} (r : Result A E) → P → OnErr r P
+at_fault (Ok value) holds = tt
+at_fault (Err error) holds = holds

@@ -52,8 +52,12 @@ pub record RunsOn {X : Type 0} (stands : X → DeskState → Type 0) (may : Mish
   pub run : (after : DeskState) → stands desk after → SessionIs may mode (settled opened) after streams.input reader streams.output_before streams.output_after end
   pub status_is : status ≡ exit_status end
 
--- A session was run over the database at a path. The desk that was opened stood for a state that may be there, the one that was closed stands for what the session left. Nothing else was done to databases.
-pub record RunsAt {D X : Type 0} (holds : D → Word → State → Type 0) (opens : D → D → Word → X → Type 0) (closed : D → D → X → Type 0) (stands : X → DeskState → Type 0) (keeps : X → X → Type 0) (may : Mishap → Type 0)
+-- the session, which began with the opened state, left this one stored
+abbrev pub SessionLeaves : (may : Mishap → Type 0) → Mode → (opened : State) → Streams → (reader : Option (List ℕ)) → ScriptEnd → (left : State) → Type 0
+SessionLeaves may mode opened streams reader end left = (after : DeskState) × SessionIs may mode (settled opened) after streams.input reader streams.output_before streams.output_after end × (after.stored ≡ left)
+
+-- A session was run over the database at a path. The desk that was opened stood for a state that may be there, the one that was closed stands for what the session left. Each state that a later opening may find is one that the session left stored. Nothing else was done to databases.
+pub record RunsAt {D X : Type 0} (holds : D → Word → State → Type 0) (opens : D → D → Word → X → Type 0) (closed : D → D → X → Type 0) (leaves : X → State → Type 0) (stands : X → DeskState → Type 0) (keeps : X → X → Type 0) (may : Mishap → Type 0)
     (old new : D) (path : Word) (mode : Mode) (streams : Streams) (status : ℕ) : Type 0 where
   pub opened : State
   pub first : X
@@ -63,6 +67,7 @@ pub record RunsAt {D X : Type 0} (holds : D → Word → State → Type 0) (open
   pub database : OpensAndCloses opens closed old new path first last
   pub run : RunsOn stands may mode opened last streams status
   pub kept : keeps first last
+  pub durable : (left : State) → leaves last left → SessionLeaves may mode opened streams run.reader run.end left
 
 -- a fact of a session: of its mode, its streams and its exit status
 abbrev pub SessionFact : Type 1
@@ -98,9 +103,14 @@ Runs bytes RunAt (check file) streams status = RunsOver bytes RunsCheck file str
 Runs bytes RunAt (replay file) streams status = RunsOver bytes RunsReplay file streams status
 Runs bytes RunAt asked streams status = ⊥
 
+-- no database was touched, or the one at this path was refused
+abbrev pub IsUntouched : {D : Type 0} → (refuses : D → D → Word → Refusal → Type 0) → Option Word → D → D → Type 0
+IsUntouched refuses None old new = new ≡ old
+IsUntouched refuses (Some path) old new = (new ≡ old) ⊎ ((reason : Refusal) × refuses old new path reason)
+
 -- Nothing was run: the words ask for none, or there was a fault of opening. What the writer had is there alone, unless help was asked for.
-abbrev pub RunsNothing : Invocation → Option (List ℕ) → Option (List ℕ) → ℕ → Type 0
-RunsNothing asked writer0 writer status = (IsStatusOf asked status ⊎ (status ≡ 3)) × (status ≢ 0 → writer ≡ writer0)
+abbrev pub RunsNothing : {D : Type 0} → (refuses : D → D → Word → Refusal → Type 0) → D → D → Invocation → Option (List ℕ) → Option (List ℕ) → ℕ → Type 0
+RunsNothing refuses old new asked writer0 writer status = (IsStatusOf asked status ⊎ (status ≡ 3)) × (status ≢ 0 → writer ≡ writer0) × IsUntouched refuses (database_of asked) old new
 
 -- the input is read for a run over it alone
 abbrev pub LeavesInputFor : Option Word → Option (List ℕ) → Option (List ℕ) → Type 0

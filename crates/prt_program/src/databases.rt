@@ -10,7 +10,9 @@ use std::fmt::Display;
 
 /// Opens databases.
 pub trait Databases {
-    ghost use Rattle.std.specs.Prelude.{List, ℕ};
+    ghost use Rattle.std.specs.Prelude.{◌≡◌, List, ℕ};
+    ghost use Rattle.prt_addr.specs.declared.refusal.Refusal.{Refusal};
+    ghost use Rattle.prt_session.specs.Desk.{DeskState};
     ghost use Rattle.prt_version.specs.State.{State};
 
     /// A desk over an open database.
@@ -28,13 +30,19 @@ pub trait Databases {
     /// What the closing of this desk makes of the databases.
     ghost closed: { Self → Self → Self.Opened → Type 0 };
 
+    /// What a refused opening makes of the databases, for this reason. None is open then.
+    ghost refuses: { Self → Self → List ℕ → Refusal → Type 0 };
+
+    /// The states that a later opening may find of this desk, as it is handed to its closing or as a crash left it then:
+    /// as far as its file is known.
+    ghost leaves: { Self.Opened → State → Type 0 };
+
     /// Opens the database at a path, and makes it where there is none. With a refusal comes the error of the file, if
     /// that could not be opened.
     ///
     /// # Errors
     ///
-    /// `OpenFailed`, `Damaged` where it holds no state, or `NoMemory`; then no database is open. What a refused opening
-    /// makes of the databases is left open.
+    /// `OpenFailed`, `Damaged` where it holds no state, or `NoMemory`; then no database is open.
     fn open(
         &mut self,
         alloc: Global,
@@ -42,16 +50,18 @@ pub trait Databases {
     ) -> Result<Self::Opened, (Refusal, Option<Self::Error>)>
         ensures opened { IfOk result (λ desk. (opened : State) × holds self.old path.now opened × IsOpenOn Self.Opened.stands desk opened) }
         ensures opens { IfOk result (λ desk. opens self.old self.new path.now desk) }
-        ensures reason { IfErr result (λ refused. IsOpenRefusal refused.0) };
+        ensures reason { IfErr result (λ refused. IsOpenRefusal refused.0) }
+        ensures refused { IfErr result (λ refused. refuses self.old self.new path.now refused.0) };
 
     /// Gives the error that failed a commit of an open database, if one failed: it is closed to commands since then.
     fn failure(&self, desk: &Self::Opened) -> Option<Self::Error>;
 
-    /// Closes a database, so that its file alone has all of it.
+    /// Closes a database, so that its file alone has all of it. A later opening finds what the desk stands for as stored.
     ///
     /// # Errors
     ///
     /// Why its log could not be moved into the file. Nothing that was acknowledged is lost then: it stands in the log.
     fn close(&mut self, desk: Self::Opened) -> Result<(), Self::Error>
-        ensures { closed self.old self.new desk };
+        ensures closed { closed self.old self.new desk }
+        ensures left { (found : State) → leaves desk found → (after : DeskState) × Self.Opened.stands desk after × (after.stored ≡ found) };
 }

@@ -2,9 +2,10 @@
 ghost use Rattle.std.specs.Prelude.{◌≡◌, ◌≢◌, ◌⊎◌, IfErr, IfOk, MatchResult, OnErr, None, option_map};
 ghost use Rattle.std.specs.Io.Buffered.{reader_remaining};
 ghost use Rattle.prt_addr.specs.Opening.{IsOpenRefusal};
+ghost use Rattle.prt_addr.specs.declared.refusal.Refusal.{Refusal};
 ghost use Rattle.prt_addr.specs.declared.refusal.Refusal.TheVariants.{NoMemory, ReadFault};
-ghost use Rattle.prt_program.specs.Faults.{IsDatabaseFault, IsFault, IsOpening, IsScriptFault};
-ghost use Rattle.prt_program.specs.Program.{IfDump, IfExit, IfServe, LeavesDatabases, LeavesInput, LeavesInputFor, Runs, RunsAt, RunsBatch, RunsCheck, RunsNothing, RunsOn, RunsOver, RunsReplay, SessionIs, exit_status, streams_of};
+ghost use Rattle.prt_program.specs.Faults.{IsDatabaseFault, IsFault, IsOpening, IsScriptFault, database_of};
+ghost use Rattle.prt_program.specs.Program.{IfDump, IfExit, IfServe, IsUntouched, LeavesDatabases, LeavesInput, LeavesInputFor, Runs, RunsAt, RunsBatch, RunsCheck, RunsNothing, RunsOn, RunsOver, RunsReplay, SessionIs, exit_status, streams_of};
 ghost use Rattle.prt_session.specs.Open.{IsOpenOn};
 ghost use Rattle.prt_session.specs.Stands.{Explained, StandsForSome};
 ghost use Rattle.prt_version.specs.State.{State};
@@ -89,6 +90,7 @@ fn open_database<D: Databases, E: Write + Drop, K: Clock + Drop>(
     ensures opened { IfOk result (λ desk. (opened : State) × D.holds databases.old path.now opened × IsOpenOn D.Opened.stands desk opened) }
     ensures opens { IfOk result (λ desk. D.opens databases.old databases.new path.now desk) }
     ensures fault { IfErr result (IsOpening IsOpenRefusal) }
+    ensures refused { OnErr result ((reason : Refusal) × D.refuses databases.old databases.new path.now reason) }
 {
     match databases.open(alloc, path) {
         Ok(desk) => Ok(desk),
@@ -124,10 +126,11 @@ fn run_batch<H: Host, R: Read + Drop>(
     mode: Mode,
     messages: &mut Messages<'_, H::Errors, H::Clock>,
 ) -> Result<u8, Fault>
-    ensures run { IfOk result (RunsBatch (RunsAt H.Databases.holds H.Databases.opens H.Databases.closed H.Databases.Opened.stands H.Databases.Opened.keeps H.Databases.Opened.may around.old.databases.now around.new.databases.now)
+    ensures run { IfOk result (RunsBatch (RunsAt H.Databases.holds H.Databases.opens H.Databases.closed H.Databases.leaves H.Databases.Opened.stands H.Databases.Opened.keeps H.Databases.Opened.may around.old.databases.now around.new.databases.now)
         (option_map (λ path. path.now) database.entry) mode (streams_of (R.remaining input) (H.Output.contents around.old.output.now) (H.Output.contents around.new.output.now))) }
     ensures fault { IfErr result (IsOpening (IsDatabaseFault (option_map (λ path. path.now) database.entry))) }
     ensures unopened { option_map (λ path. path.now) database.entry ≡ None → around.new.databases.now ≡ around.old.databases.now }
+    ensures untouched { OnErr result (IsUntouched H.Databases.refuses (option_map (λ path. path.now) database.entry) around.old.databases.now around.new.databases.now) }
     ensures unwritten { OnErr result (H.Output.contents around.new.output.now ≡ H.Output.contents around.old.output.now) }
     ensures same { (around.new.databases.ghost_name ≡ around.old.databases.ghost_name) × (around.new.output.ghost_name ≡ around.old.output.ghost_name) }
 {
@@ -200,11 +203,12 @@ fn run_script_of<'a, H: Host, R: Read>(
     input: &mut R,
     messages: &mut Messages<'a, H::Errors, H::Clock>,
 ) -> Result<u8, Fault>
-    ensures run { IfOk result (RunsOver H.Files.File.remaining (RunsBatch (RunsAt H.Databases.holds H.Databases.opens H.Databases.closed H.Databases.Opened.stands H.Databases.Opened.keeps H.Databases.Opened.may around.old.databases.now around.new.databases.now)
+    ensures run { IfOk result (RunsOver H.Files.File.remaining (RunsBatch (RunsAt H.Databases.holds H.Databases.opens H.Databases.closed H.Databases.leaves H.Databases.Opened.stands H.Databases.Opened.keeps H.Databases.Opened.may around.old.databases.now around.new.databases.now)
         (option_map (λ path. path.now) batch.entry.database) batch.entry.mode) (option_map (λ path. path.now) batch.entry.file) (streams_of (R.remaining input.old) (H.Output.contents around.old.output.now) (H.Output.contents around.new.output.now))) }
     ensures unread { LeavesInputFor (option_map (λ path. path.now) batch.entry.file) (R.remaining input.old) (R.remaining input.new) }
     ensures fault { IfErr result (IsOpening (IsScriptFault (option_map (λ path. path.now) batch.entry.database))) }
     ensures unopened { option_map (λ path. path.now) batch.entry.database ≡ None → around.new.databases.now ≡ around.old.databases.now }
+    ensures untouched { OnErr result (IsUntouched H.Databases.refuses (option_map (λ path. path.now) batch.entry.database) around.old.databases.now around.new.databases.now) }
     ensures file_first { IfErr result (λ fault. fault ≡ Opening ReadFault → around.new.databases.now ≡ around.old.databases.now) }
     ensures unwritten { OnErr result (H.Output.contents around.new.output.now ≡ H.Output.contents around.old.output.now) }
     ensures same { (around.new.databases.ghost_name ≡ around.old.databases.ghost_name) × (around.new.output.ghost_name ≡ around.old.output.ghost_name) }
@@ -291,13 +295,14 @@ fn run_words<'a, H: Host, R: Read>(
     input: &mut R,
     messages: &mut Messages<'a, H::Errors, H::Clock>,
 ) -> Result<Next<'a>, Fault>
-    ensures run { IfOk result (IfExit (Runs H.Files.File.remaining (RunsAt H.Databases.holds H.Databases.opens H.Databases.closed H.Databases.Opened.stands H.Databases.Opened.keeps H.Databases.Opened.may around.old.databases.now around.new.databases.now)
+    ensures run { IfOk result (IfExit (Runs H.Files.File.remaining (RunsAt H.Databases.holds H.Databases.opens H.Databases.closed H.Databases.leaves H.Databases.Opened.stands H.Databases.Opened.keeps H.Databases.Opened.may around.old.databases.now around.new.databases.now)
         (invocation (arguments words.now)) (streams_of (R.remaining input.old) (H.Output.contents around.old.output.now) (H.Output.contents around.new.output.now)))) }
     ensures serve { IfOk result (IfServe (λ serving. (invocation (arguments words.now) ≡ serve) × IsServing serving × (H.Output.contents around.new.output.now ≡ H.Output.contents around.old.output.now))) }
     ensures dump { IfOk result (IfDump ((invocation (arguments words.now) ≡ dump) × (H.Output.contents around.new.output.now ≡ H.Output.contents around.old.output.now))) }
     ensures unread { LeavesInput (invocation (arguments words.now)) (R.remaining input.old) (R.remaining input.new) }
     ensures fault { IfErr result (IsFault (invocation (arguments words.now))) }
     ensures unopened { LeavesDatabases (invocation (arguments words.now)) around.old.databases.now around.new.databases.now }
+    ensures untouched { OnErr result (IsUntouched H.Databases.refuses (database_of (invocation (arguments words.now))) around.old.databases.now around.new.databases.now) }
     ensures file_first { IfErr result (λ fault. fault ≡ Opening ReadFault → around.new.databases.now ≡ around.old.databases.now) }
     ensures unwritten { OnErr result (H.Output.contents around.new.output.now ≡ H.Output.contents around.old.output.now) }
     ensures same { (around.new.databases.ghost_name ≡ around.old.databases.ghost_name) × (around.new.output.ghost_name ≡ around.old.output.ghost_name) }
@@ -329,7 +334,8 @@ fn run_words<'a, H: Host, R: Read>(
 /// written then, and no database touched.
 ///
 /// Without `--db` no database is opened. With it the one at PATH is opened, closed as the session left it, and nothing
-/// else is done to any database; what a refused opening makes of them is left open.
+/// else is done to any database. Each state that a later opening may find there is one that the session, which began with
+/// the opened state, left stored; which those are `Databases` says. A refused opening is the only thing done to databases.
 ///
 /// The status is 0 where nothing was refused and after help, 1 where a line was refused, 2 for bad words, and 3 for a
 /// fault of opening, of the store, of the reader or of the writer.
@@ -349,9 +355,9 @@ pub fn program<
     output: &mut W,
     errors: &mut E,
 ) -> Next<'a>
-    ensures run { IfExit (λ status. Runs F.File.remaining (RunsAt D.holds D.opens D.closed D.Opened.stands D.Opened.keeps D.Opened.may databases.old databases.new)
+    ensures run { IfExit (λ status. Runs F.File.remaining (RunsAt D.holds D.opens D.closed D.leaves D.Opened.stands D.Opened.keeps D.Opened.may databases.old databases.new)
         (invocation (arguments words.now)) (streams_of (R.remaining input.old) (W.contents output.old) (W.contents output.new)) status
-        ⊎ RunsNothing (invocation (arguments words.now)) (W.contents output.old) (W.contents output.new) status) result }
+        ⊎ RunsNothing D.refuses databases.old databases.new (invocation (arguments words.now)) (W.contents output.old) (W.contents output.new) status) result }
     ensures serve { IfServe (λ serving. (invocation (arguments words.now) ≡ serve) × IsServing serving × (W.contents output.new ≡ W.contents output.old)) result }
     ensures dump { IfDump ((invocation (arguments words.now) ≡ dump) × (W.contents output.new ≡ W.contents output.old)) result }
     ensures unread { LeavesInput (invocation (arguments words.now)) (R.remaining input.old) (R.remaining input.new) }

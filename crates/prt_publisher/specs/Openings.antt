@@ -1,5 +1,5 @@
 -- What an opening makes of a database, and what it leaves where it is refused.
-use Rattle.std.specs.Prelude.{◌≡◌, ◌↔◌, true, IsTrue}
+use Rattle.std.specs.Prelude.{◌≡◌, ◌↔◌, [], true, IsTrue}
 use Rattle.sqlite.specs.Held.{Held, state}
 use Rattle.sqlite.specs.State.{HasCleanDisk, Survives}
 use Rattle.sqlite.specs.Store.{Ghosts}
@@ -32,12 +32,13 @@ pub record HasRefused {S : Type 0} (g : Ghosts S) (was left : Held S) (reason : 
   pub part : HasCleanDisk (state g left) → IsTrue (state g left).is_open → BeginsFormat2 (state g was).now.schema → AdoptsPart (state g was).now (state g left).now
   pub lasts : Lasts g was left
 
--- a connection that was found so was opened, which made it the tables of this publisher
+-- a connection that was found so was opened, which made it the tables of this publisher, which has accepted no command yet
 pub record OpensOne {S : Type 0} (g : Ghosts S) (IsFound : Held S → Type 0) (made : Standing (Held S)) : Type 0 where
   pub was : Held S
   pub found : IsFound was
   pub format : (made.ours_first ≡ true) ↔ BeginsFormat2 (state g was).now.schema
   pub opened : HasOpened g was made.tables (line_state made.line)
+  pub begun : (made.commands ≡ []) × (made.line.list ≡ [])
 
 -- a connection that was found so was not opened, for this reason, and was left as this one
 pub record RefusesToOpen {S : Type 0} (g : Ghosts S) (IsFound : Held S → Type 0) (reason : Refusal) (left : Held S) : Type 0 where

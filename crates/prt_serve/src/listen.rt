@@ -35,8 +35,10 @@ pub struct Limits {
 pub enum Accepting {
     /// As many connections were accepted as were asked for.
     Ended,
-    /// The listener failed, or there was nobody to hand a connection to.
+    /// The listener failed, or a thread or the channel could not be made.
     Failed,
+    /// No worker was left to take a connection.
+    NoWorkers,
 }
 
 /// How serving ended.
@@ -86,7 +88,7 @@ pub fn accept<H: Wait, T: Read + Write + OpenStream + Drop, L: OpenListener<Stre
         };
         if let Ok(job) = connected(alloc, session, stream, limits.idle) {
             if jobs.send(rt, job).is_err() {
-                return Accepting::Failed;
+                return Accepting::NoWorkers;
             }
         }
         if session == limits.sessions {

@@ -1,2 +1,3 @@
 pub mod Look
+pub mod Named
 pub mod Service

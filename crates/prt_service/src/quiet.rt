@@ -1,12 +1,13 @@
 //! What lies under the lock of a service.
 ghost use Rattle.std.specs.Prelude.{◌≡◌, ◌≤◌, [], All, IfErr, IfOk, OnOk, length};
-ghost use Rattle.sqlite.specs.Held.{Held, state};
+ghost use Rattle.sqlite.specs.Held.{state};
 ghost use Rattle.sqlite.specs.State.{HasCleanDisk};
 ghost use Rattle.prt_command.specs.Storable.{IsStorable};
 ghost use Rattle.prt_front.specs.Line.{grown, grown_by};
 ghost use Rattle.prt_publisher.specs.Exits.{AreNotAcknowledged, HasCommitted, HaveCommitted, IsNotAcknowledged, Spares, Takes, TakesAll};
-ghost use Rattle.prt_publisher.specs.Standing.{IsQuiet, Standing, Stands};
+ghost use Rattle.prt_publisher.specs.Standing.{IsQuiet, Stands};
 ghost use Rattle.prt_publisher.specs.declared.phase.Phase.TheVariants.{Ready};
+ghost use Rattle.prt_service.specs.Named.{IsNamed};
 ghost use Rattle.prt_service.specs.Service.{EndsWith, EndsWithAll, IsServiceRefusal};
 
 use crate::Naming;
@@ -25,9 +26,9 @@ pub(crate) struct QuietPublisher<S: Alter + Drop, R: Wait + Drop, J: Naming> {
 }
 
 impl<S: Alter + Drop, R: Wait + Drop, J: Naming> Model for QuietPublisher<S, R, J> {
-    ghost use Rattle.std.specs.Prelude.{◌≡◌};
     ghost use Rattle.sqlite.specs.Held.{Held, held_code};
     ghost use Rattle.prt_publisher.specs.Standing.{IsQuiet, Standing, standing_code};
+    ghost use Rattle.prt_service.specs.Named.{IsNamed};
 
     ghost Value = { Standing (Held S) };
 
@@ -35,13 +36,13 @@ impl<S: Alter + Drop, R: Wait + Drop, J: Naming> Model for QuietPublisher<S, R, 
 
     ghost view = { λ q. q.publisher };
 
-    ghost invariant = { λ q. IsQuiet q.publisher.phase × (q.publisher.line.book ≡ J.book) × (q.publisher.line.base ≡ J.base) };
+    ghost invariant = { λ q. IsQuiet q.publisher.phase × IsNamed J.book J.base J.ours_first q.publisher };
 }
 
 impl<S: Alter + Drop, R: Wait + Drop, J: Naming> QuietPublisher<S, R, J> {
     pub(crate) fn new(publisher: Publisher<S, R>) -> QuietPublisher<S, R, J>
         requires quiet { IsQuiet publisher.phase }
-        requires of { (publisher.line.book ≡ J.book) × (publisher.line.base ≡ J.base) }
+        requires of { IsNamed J.book J.base J.ours_first publisher }
         ensures { result ≡ publisher }
     {
         QuietPublisher {
@@ -122,7 +123,10 @@ impl<S: Alter + Drop, R: Wait + Drop, J: Naming> QuietPublisher<S, R, J> {
 
     /// Gives the connection back, with its tables as they are.
     pub(crate) fn release(self) -> Connection<S>
-        ensures { (s : Standing (Held S)) × (s.tables ≡ result) × IsQuiet s.phase × (s.line.book ≡ J.book) × (s.line.base ≡ J.base) × Stands S.Store s }
+        ensures tables { result ≡ self.tables }
+        ensures quiet { IsQuiet self.phase }
+        ensures of { IsNamed J.book J.base J.ours_first self }
+        ensures stands { Stands S.Store self }
     {
         self.publisher.release()
     }

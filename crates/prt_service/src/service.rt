@@ -1,8 +1,8 @@
 //! A publisher for many threads.
 ghost use Rattle.std.specs.Prelude.{◌≡◌, ◌≤◌, All, None, IfErr, IfOk, length};
-ghost use Rattle.sqlite.specs.Held.{Held};
 ghost use Rattle.prt_command.specs.Storable.{IsStorable};
-ghost use Rattle.prt_publisher.specs.Standing.{IsQuiet, Standing, Stands};
+ghost use Rattle.prt_publisher.specs.Standing.{IsQuiet};
+ghost use Rattle.prt_service.specs.Named.{IsNamed, IsReleased};
 ghost use Rattle.prt_service.specs.Service.{EndsWith, EndsWithAll, IsServiceRefusal};
 
 use crate::quiet::QuietPublisher;
@@ -32,7 +32,7 @@ impl<S: Alter + Drop, R: Wait + Drop, J: Naming> Service<S, R, J> {
     /// out of it. Takes no memory.
     pub fn new(mut publisher: Publisher<S, R>, domain: Domain) -> Service<S, R, J>
         requires quiet { IsQuiet publisher.phase }
-        requires of { (publisher.line.book ≡ J.book) × (publisher.line.base ≡ J.base) }
+        requires of { IsNamed J.book J.base J.ours_first publisher }
     {
         let alloc = *publisher.published().shared_rules().allocator();
         let seats = publisher.seats(alloc);
@@ -124,7 +124,7 @@ impl<S: Alter + Drop, R: Wait + Drop, J: Naming> Service<S, R, J> {
     /// a ready publisher's tables hold the published state, and those of a closed one that or the state after one
     /// submission more, the same one whatever a crash leaves; a crash leaves no other.
     pub fn release(self) -> Connection<S>
-        ensures { (s : Standing (Held S)) × (s.tables ≡ result) × IsQuiet s.phase × (s.line.book ≡ J.book) × (s.line.base ≡ J.base) × Stands S.Store s }
+        ensures { IsReleased S.Store J.book J.base J.ours_first result }
     {
         self.publisher.into_inner().release()
     }

@@ -1,6 +1,6 @@
 //! What becomes of connections when something about them is refused.
-ghost use Rattle.std.specs.Prelude.{◌≡◌};
 ghost use Rattle.prt_publisher.specs.Standing.{IsQuiet};
+ghost use Rattle.prt_service.specs.Named.{IsNamed};
 
 use crate::caller::adopted;
 use crossbeam_channel::bounded;
@@ -134,7 +134,7 @@ fn nobody_takes_a_connection(rt: HostRuntime) -> Result<(), Fail> {
     let (to, from) = bounded(alloc, 64)?;
     drop(from);
     let end = accept(&rt, alloc, &listener, to, limited_to(5));
-    assert!(rt; matches!(end, Accepting::Failed));
+    assert!(rt; matches!(end, Accepting::NoWorkers));
     assert_eq!(rt; listener.accepted.load(Ordering::SeqCst), 1);
     Ok(())
 }
@@ -153,7 +153,7 @@ fn serve_without_looker<
     listener: &Queue,
 ) -> Result<Option<Refusal>, Refusal>
     requires quiet { IsQuiet publisher.phase }
-    requires of { (publisher.line.book ≡ J.book) × (publisher.line.base ≡ J.base) }
+    requires of { IsNamed J.book J.base J.ours_first publisher }
 {
     let service: Service<S, B, J> = Service::new(publisher, domain);
     let mut lookers = Vec::new(alloc);
@@ -165,8 +165,8 @@ fn serve_without_looker<
     }
     let end = serve_all(rt, alloc, &service, &OpenGate, listener, limited_to(0));
     match end.accepting {
-        Accepting::Failed => Ok(end.refused),
-        Accepting::Ended => Ok(None),
+        Accepting::NoWorkers => Ok(end.refused),
+        Accepting::Ended | Accepting::Failed => Ok(None),
     }
 }
 

@@ -1,6 +1,6 @@
 //! A looker that is told of a command.
-ghost use Rattle.std.specs.Prelude.{◌≡◌};
 ghost use Rattle.prt_publisher.specs.Standing.{IsQuiet};
+ghost use Rattle.prt_service.specs.Named.{IsNamed};
 
 use crate::caller::{adopted, packet, submit_to_service};
 use prt_command::{Addr, Refusal, Request, read_line};
@@ -38,7 +38,7 @@ fn serve<J: Naming, S: Alter + Drop, H: Wait + Copy + Drop>(
     domain: Domain,
 ) -> Result<Option<[Seen; 3]>, Refusal>
     requires quiet { IsQuiet publisher.phase }
-    requires of { (publisher.line.book ≡ J.book) × (publisher.line.base ≡ J.base) }
+    requires of { IsNamed J.book J.base J.ours_first publisher }
 {
     let Some(Request::Command(command)) = read_line(b"route add 10/8 via 192.0.2.1")? else {
         return Ok(None);

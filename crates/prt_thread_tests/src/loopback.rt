@@ -1,6 +1,6 @@
 //! A session over TCP.
-ghost use Rattle.std.specs.Prelude.{◌≡◌};
 ghost use Rattle.prt_publisher.specs.Standing.{IsQuiet};
+ghost use Rattle.prt_service.specs.Named.{IsNamed};
 
 use crate::caller::adopted;
 use prt_grace::Domain;
@@ -56,7 +56,7 @@ fn converse_with<
     lines: &[u8],
 ) -> io::Result<(Vec<u8>, bool)>
     requires quiet { IsQuiet publisher.phase }
-    requires of { (publisher.line.book ≡ J.book) × (publisher.line.base ≡ J.base) }
+    requires of { IsNamed J.book J.base J.ours_first publisher }
 {
     let service: Service<S, B, J> = Service::new(publisher, domain);
     converse(rt, alloc, &service, lines)

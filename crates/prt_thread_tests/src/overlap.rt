@@ -1,6 +1,6 @@
 //! Sessions of which one begins while the other is at its line.
-ghost use Rattle.std.specs.Prelude.{◌≡◌};
 ghost use Rattle.prt_publisher.specs.Standing.{IsQuiet};
+ghost use Rattle.prt_service.specs.Named.{IsNamed};
 
 use crate::caller::adopted;
 use prt_grace::Domain;
@@ -149,7 +149,7 @@ fn meet<
     listener: &Two<H>,
 ) -> bool
     requires quiet { IsQuiet publisher.phase }
-    requires of { (publisher.line.book ≡ J.book) × (publisher.line.base ≡ J.base) }
+    requires of { IsNamed J.book J.base J.ours_first publisher }
 {
     let service: Service<S, B, J> = Service::new(publisher, domain);
     let limits = Limits {

@@ -1,6 +1,6 @@
 //! A looker that refreshes once, and then not again until commands are refused for it.
-ghost use Rattle.std.specs.Prelude.{◌≡◌};
 ghost use Rattle.prt_publisher.specs.Standing.{IsQuiet};
+ghost use Rattle.prt_service.specs.Named.{IsNamed};
 
 use crate::caller::{adopted, packet, stored_number, submit_to_service};
 use prt_command::Refusal;
@@ -144,7 +144,7 @@ fn serve<J: Naming, S: Alter + Drop, H: Wait + Copy + Drop>(
     domain: Domain,
 ) -> Result<Outcome, Refusal>
     requires quiet { IsQuiet publisher.phase }
-    requires of { (publisher.line.book ≡ J.book) × (publisher.line.base ≡ J.base) }
+    requires of { IsNamed J.book J.base J.ours_first publisher }
 {
     let service: Service<S, H, J> = Service::new(publisher, domain);
     let beside = submit_beside(&rt, &service)?;

@@ -1,6 +1,6 @@
 //! A looker beside commands that are made together.
-ghost use Rattle.std.specs.Prelude.{◌≡◌};
 ghost use Rattle.prt_publisher.specs.Standing.{IsQuiet};
+ghost use Rattle.prt_service.specs.Named.{IsNamed};
 
 use crate::caller::{adopted, packet};
 use prt_command::{Refusal, Request, read_line};
@@ -38,7 +38,7 @@ fn serve<J: Naming, S: Alter + Drop, H: Wait + Copy + Drop>(
     domain: Domain,
 ) -> Result<Option<(Seen, u64, Seen)>, Refusal>
     requires quiet { IsQuiet publisher.phase }
-    requires of { (publisher.line.book ≡ J.book) × (publisher.line.base ≡ J.base) }
+    requires of { IsNamed J.book J.base J.ours_first publisher }
 {
     let Some(Request::Command(route)) = read_line(b"route add 10/8 dev a1")? else {
         return Ok(None);

@@ -12,6 +12,7 @@ returns-in-Ok-clause-opened g c =
       found = subst (λ (r : Result (Held _) _). IfOk r (g.M.Machine.opens c.args.machine.now c.open.new.self c.args.path.now)) made.found c.open.ensures.opened;
       format = made.format;
       opened = made.opened;
+      begun = made.begun;
     }
 
 pub returns-in-Err-default-Ok-clause-closed : goal.returns-in-Err-default-Ok-clause-closed

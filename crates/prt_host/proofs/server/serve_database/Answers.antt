@@ -1,8 +1,21 @@
 use Rattle.std.proofs.Common.{inr, Option, subst}
 use Rattle.std.specs.Prelude.{IfSome}
+use Rattle.prt_host.proofs.Served.{has_served}
 use Rattle.prt_host.specs.Serving.{IsFaultOfServing}
 use Rattle.prt_host.specs.declared.server.NotServed.{NotServed}
 use Rattle.prt_host.proofs.server.serve_database.Goals as goal
+
+pub returns-in-None-clause-ok : goal.returns-in-None-clause-ok
+returns-in-None-clause-ok g c =
+    let made = c.in-Ok.ensures.opened in
+    record {
+      between = c.open_publisher-opened.new.machine;
+      first = made.was;
+      last = c.serve_over-failure.result.1;
+      is_opened = made.found;
+      made = has_served g.S.Store _ _ _ made c.serve_over-failure.ensures.released;
+      is_closed = c.close.ensures;
+    }
 
 pub returns-in-Some-clause-err : goal.returns-in-Some-clause-err
 returns-in-Some-clause-err g c =
@@ -13,8 +26,8 @@ returns-in-Some-clause-err g c =
         first = made.was;
         last = c.serve_over-failure.result.1;
         is_opened = made.found;
-        made = tt;
+        made = has_served g.S.Store _ _ _ made c.serve_over-failure.ensures.released;
         is_closed = c.close.ensures;
       },
-      subst (λ (f : Option NotServed). IfSome f (λ failure. IsFaultOfServing failure.fault)) c.in-Some.is c.serve_over-failure.ensures,
+      subst (λ (f : Option NotServed). IfSome f (λ failure. IsFaultOfServing failure.fault)) c.in-Some.is c.serve_over-failure.ensures.fault,
     )

@@ -16,7 +16,7 @@ returns-in-Ok-adopt-clause-ok g c =
       found = λ clean is_open stored spells. let found = says.found clean is_open stored spells in (says.format.0 found.0, found.1);
       lasts = says.survives_ok;
     } in
-    record { was = c.in-Ok.conn; found = c.in-Ok.is; format = says.format; opened = opened }
+    record { was = c.in-Ok.conn; found = c.in-Ok.is; format = says.format; opened = opened; begun = (says.ready.1, says.ready.2) }
 
 pub returns-in-Err-adopt-clause-err : goal.returns-in-Err-adopt-clause-err
 returns-in-Err-adopt-clause-err g c =

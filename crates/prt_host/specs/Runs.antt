@@ -1,0 +1,84 @@
+-- What a run of the program does to the databases of a machine.
+use Rattle.std.specs.Prelude.{◌≡◌, ◌≢◌, ◌⊎◌, ℕ, List, Option}
+use Rattle.sqlite.specs.Held.{Held, state}
+use Rattle.sqlite.specs.State.{HasCleanDisk}
+use Rattle.sqlite.specs.Store.{Ghosts}
+use Rattle.prt_addr.specs.Word.{Word}
+use Rattle.prt_addr.specs.declared.refusal.Refusal.{Refusal}
+use Rattle.prt_desk.specs.Files.{IsWhatWasLeft}
+use Rattle.prt_desk.specs.Remains.{Remains}
+use Rattle.prt_desk.specs.StoreDesk.{IsKept, IsStoreMishap, LeavesFound, MayBeStored, StandsFor}
+use Rattle.prt_program.specs.Program.{LeavesDatabases, Runs, RunsAt, RunsNothing, SessionFact, SessionLeaves, Streams}
+use Rattle.prt_publisher.specs.Openings.{HasOpened, OpensOne}
+use Rattle.prt_rows.specs.Format.{BeginsFormat2}
+use Rattle.prt_store.specs.Exits.{IsKnown}
+use Rattle.prt_version.specs.Sound.{IsSound}
+use Rattle.prt_version.specs.State.{State}
+use Rattle.prt_words.specs.CommandLine.{IsServing}
+use Rattle.prt_words.specs.Invocation.{Invocation, dump, serve}
+use Rattle.prt_words.specs.declared.fault.TheConstants.{DONE, FAULT}
+use Rattle.prt_words.specs.declared.serving.Serving.{Serving}
+use Rattle.prt_words.specs.declared.task.Mode.{Mode}
+use Rattle.prt_host.specs.Closing.{LeavesNoneOpen}
+use Rattle.prt_host.specs.Dumping.{IsDumped, IsNotDumped}
+use Rattle.prt_host.specs.Serving.{HasServed, IsServed}
+use Rattle.prt_host.specs.declared.dump.TheConstants.{NO_LINE}
+
+-- A session was run over the database at a path of a machine, by a desk over the connection that was found there, and the connection was closed as the desk had it. Where its file is known, each state that an opening may make of what was left then is one that the session left stored.
+abbrev pub RunsOverMachine : {M S : Type 0} → Ghosts S → (M → M → List ℕ → Held S → Type 0) → (M → M → Held S → Type 0) → M → M → Word → SessionFact
+RunsOverMachine g opens closes old new path =
+    RunsAt (λ _ _ opened. IsSound opened) (λ old new path desk. OpensOne g (opens old new path) desk) (λ old new desk. IsKept g desk × closes old new desk.tables) (LeavesFound g)
+    (StandsFor g) (Remains g) IsStoreMishap old new path
+
+module _ {M S : Type 0} (g : Ghosts S) (opens : M → M → List ℕ → Held S → Type 0) (refuses : M → M → List ℕ → Type 0) (closes : M → M → Held S → Type 0) (old new : M) where
+  -- The database at a path was opened, served and closed; or it was refused, and no other was touched. This is the exit status.
+  pub record Serves (status : ℕ) : Type 0 where
+    pub serving : Serving
+    pub limits : IsServing serving
+    pub done : status ≡ DONE → IsServed opens closes g old new serving.database.now
+    pub why : status ≢ DONE → (status ≡ FAULT) × (((reason : Refusal) × LeavesNoneOpen opens refuses closes g reason old new serving.database.now) ⊎ IsServed opens closes g old new serving.database.now)
+
+  -- The database at a path was dumped, or in part, or it was refused. This is the exit status.
+  pub record Dumps (writer0 writer : Option (List ℕ)) (status : ℕ) : Type 0 where
+    pub path : List ℕ
+    pub status_is : (status ≡ DONE) ⊎ ((status ≡ NO_LINE) ⊎ (status ≡ FAULT))
+    pub whole : status ≡ DONE → IsDumped opens closes g old new path writer0 writer
+    pub part : status ≢ DONE → IsNotDumped opens refuses closes g old new path writer0 writer
+
+  -- What becomes of a run, with its exit status. A script, a check or a replay was run, and no database was touched where none was asked for. Or nothing was run. Or sessions were served, or a database was dumped, as the words ask.
+  pub record RunsPrt {File : Type 0} (bytes : File → Option (List ℕ)) (asked : Invocation) (streams : Streams) (status : ℕ) : Type 0 where
+    pub outcome :
+        (Runs bytes (RunsOverMachine g opens closes old new) asked streams status × LeavesDatabases asked old new)
+        ⊎ (RunsNothing (λ old new path reason. LeavesNoneOpen opens refuses closes g reason old new path) old new asked streams.output_before streams.output_after status
+        ⊎ (((asked ≡ serve) × Serves status) ⊎ ((asked ≡ dump) × Dumps streams.output_before streams.output_after status)))
+
+-- ---- an opening after it
+
+-- An opening was handed a connection that shows what was left of these tables, and made this state of it, on a disk that returns what was written.
+pub record FindsAgain {S : Type 0} (g : Ghosts S) (tables : Held S) (opened : State) : Type 0 where
+  pub was : Held S
+  pub made : Held S
+  pub left : IsWhatWasLeft g tables was
+  pub clean : HasCleanDisk (state g made)
+  pub opens : HasOpened g was made opened
+
+-- the first state of a run is what its opening made
+abbrev pub RunBegins : {M S : Type 0} → Ghosts S → (M → M → List ℕ → Held S → Type 0) → (M → M → Held S → Type 0) → Type 0
+RunBegins {M} {S} g opens closes =
+    (old new : M) (path : Word) (mode : Mode) (streams : Streams) (status : ℕ) (run : RunsOverMachine g opens closes old new path mode streams status)
+    → HasOpened g run.database.is_opened.was run.first.tables run.opened
+
+-- an opening after a run makes a state that the session of that run left
+abbrev pub RunIsFound : {M S : Type 0} → Ghosts S → (M → M → List ℕ → Held S → Type 0) → (M → M → Held S → Type 0) → Type 0
+RunIsFound {M} {S} g opens closes =
+    (old new : M) (path : Word) (mode : Mode) (streams : Streams) (status : ℕ) (run : RunsOverMachine g opens closes old new path mode streams status) (opened : State)
+    → IsKnown g run.last.ours_first run.last.tables → FindsAgain g run.last.tables opened
+    → SessionLeaves IsStoreMishap mode run.opened streams run.run.reader run.run.end opened
+
+-- after serving it makes one that the publisher may have stored at its end
+abbrev pub ServiceIsFound : {S : Type 0} → Ghosts S → Type 0
+ServiceIsFound {S} g = (first last : Held S) (served : HasServed g first last) (opened : State) → IsKnown g served.begun.ours_first last → FindsAgain g last opened → MayBeStored g served.released.last opened
+
+-- after a dump it makes the one that was dumped
+abbrev pub DumpIsFound : {S : Type 0} → Ghosts S → Type 0
+DumpIsFound {S} g = (first last : Held S) (stored opened : State) → HasOpened g first last stored → HasCleanDisk (state g last) → BeginsFormat2 (state g first).now.schema → FindsAgain g last opened → opened ≡ stored
