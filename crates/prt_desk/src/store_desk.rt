@@ -1,4 +1,4 @@
-ghost use Rattle.std.specs.Prelude.{◌≡◌, ◌≤◌, ◌++◌, ◌↔◌, IfErr, IfOk, IsTrue, OnErr, OnOk, false, length, true};
+ghost use Rattle.std.specs.Prelude.{◌≡◌, ◌≤◌, ◌++◌, ◌↔◌, IfErr, IfOk, IsErrAnd, IsTrue, OnErr, OnOk, false, length, true};
 ghost use Rattle.std.specs.List.{All};
 ghost use Rattle.sqlite.specs.Held.{state};
 ghost use Rattle.sqlite.specs.State.{HasCleanDisk, Survives};
@@ -7,9 +7,10 @@ ghost use Rattle.prt_addr.specs.declared.refusal.Refusal.TheVariants.{Damaged};
 ghost use Rattle.prt_desk.specs.Remains.{Remains};
 ghost use Rattle.prt_desk.specs.StoreDesk.{IsKept, is_shut, published};
 ghost use Rattle.prt_publisher.specs.Standing.{IsQuiet};
-ghost use Rattle.prt_rows.specs.Format.{BeginsFormat2};
+ghost use Rattle.prt_rows.specs.Format.{BeginsFormat2, SuitsFormat2};
 ghost use Rattle.prt_store.specs.Adopted.{Adopts, AdoptsPart, LeavesPart};
-ghost use Rattle.prt_store.specs.Exits.{IsKnown, IsStored, Opens, Spells};
+ghost use Rattle.prt_store.specs.Exits.{HasState, IsKnown, IsStored, Opens, Spells};
+ghost use Rattle.prt_store.specs.Shown.{ShowsState};
 ghost use Rattle.prt_version.specs.Sound.{IsSound};
 ghost use Rattle.prt_version.specs.State.{State};
 
@@ -103,12 +104,13 @@ impl<S: Alter + Drop, H: Wait + Copy + Drop> StoreDesk<S, H> {
     ///
     /// # Errors
     ///
-    /// With the connection: `OpenFailed` where one of the tables has other columns, or a store call fails; `Damaged`
-    /// only where the tables spell no state; `NoMemory`. Some or all of the missing tables were then made, and four
-    /// empty ones perhaps filled; each other row is as it was, and a crash leaves no more than that. The connection is
-    /// to be closed and opened again before it is used.
+    /// With the connection: `OpenFailed` where one of the tables has other columns, and the connection is as it was then; or
+    /// where a store call fails. `Damaged`: never of a file that is new, or whose first tables spell a state. `NoMemory`.
+    /// Some or all of the missing tables were then made, and four empty ones perhaps filled. Each other row is as it was,
+    /// and a crash leaves no more than that. The connection is to be closed and opened again before it is used.
     ///
-    /// Of a file whose first tables are others the clauses on tables and crashes say nothing.
+    /// Of a file whose first tables are others the clauses on tables and crashes say nothing. The statements which read
+    /// them show the published state.
     pub fn open(
         rt: H,
         alloc: Global,
@@ -117,8 +119,10 @@ impl<S: Alter + Drop, H: Wait + Copy + Drop> StoreDesk<S, H> {
         ensures open { IfOk result (λ desk. is_shut desk ≡ false) }
         ensures sound { IfOk result (λ desk. IsSound (published desk)) }
         ensures reason { IfErr result (λ refused. IsOpenRefusal refused.0) }
+        ensures shown { IfOk result (λ desk. HasCleanDisk (state S.Store desk.tables) → ShowsState S.Store desk.tables (published desk)) }
         ensures damaged { IfErr result (λ refused. refused.0 ≡ Damaged → HasCleanDisk (state S.Store refused.1) → IsTrue (state S.Store conn).is_open → (stored : State) →
-            Spells (state S.Store conn).now.trees stored → ⊥) }
+            HasState (state S.Store conn).now stored → ⊥) }
+        ensures other_columns { (SuitsFormat2 (state S.Store conn).now.schema → ⊥) → IsErrAnd result (λ refused. refused.1 ≡ conn) }
         ensures format { IfOk result (λ desk. (desk.ours_first ≡ true) ↔ BeginsFormat2 (state S.Store conn).now.schema) }
         ensures adopts { IfOk result (λ desk. IsKnown S.Store desk.ours_first desk.tables → Opens (state S.Store conn).now (published desk)) }
         ensures found { IfOk result (λ desk. HasCleanDisk (state S.Store desk.tables) → IsTrue (state S.Store conn).is_open → (stored : State) →

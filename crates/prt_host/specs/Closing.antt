@@ -1,18 +1,15 @@
 -- What becomes of the databases of a machine, from an opening to the closing.
 use Rattle.std.specs.Prelude.{◌≡◌, ◌≢◌, ◌⊎◌, ℕ, List}
 use Rattle.sqlite.specs.Held.{Held, state}
-use Rattle.sqlite.specs.State.{HasCleanDisk, Survives}
+use Rattle.sqlite.specs.State.{Survives}
 use Rattle.sqlite.specs.Store.{Ghosts}
 use Rattle.prt_addr.specs.declared.refusal.Refusal.{Refusal}
 use Rattle.prt_addr.specs.declared.refusal.Refusal.TheVariants.{Damaged, OpenFailed}
 use Rattle.prt_publisher.specs.Openings.{HasRefused}
-use Rattle.prt_rows.specs.Format.{IsFormat2}
 
--- A connection that was refused for this reason was not touched, but where it was damaged its rows were read: of a file whose first tables are ours a crash then leaves what it could leave before.
+-- A connection that was refused for this reason was not touched. Where it was damaged its rows were read, and a crash leaves what it could leave before.
 abbrev pub IsOnlyRead : {S : Type 0} → Ghosts S → Refusal → Held S → Held S → Type 0
-IsOnlyRead g reason old new =
-    (reason ≢ Damaged → new ≡ old)
-    × ((new ≡ old) ⊎ ((HasCleanDisk (state g old) → IsFormat2 (state g old).now.schema) → Survives (state g old) (state g new) (λ _. ⊥)))
+IsOnlyRead g reason old new = (reason ≢ Damaged → new ≡ old) × ((new ≡ old) ⊎ Survives (state g old) (state g new) (λ _. ⊥))
 
 -- The database at a path was opened as the first connection, and closed as the last, with this between them. Nothing else was done to databases.
 pub record IsClosedAgain {M S : Type 0} (opens : M → M → List ℕ → Held S → Type 0) (closes : M → M → Held S → Type 0) (Made : Held S → Held S → Type 0) (old new : M) (path : List ℕ) : Type 0 where

@@ -1,7 +1,7 @@
 //! The publisher of one database.
-ghost use Rattle.std.specs.Prelude.{◌≡◌, ◌⊎◌, ◌+◌, ◌<◌, ◌≤◌, ◌↔◌, [], ◌∷◌, All, length, IfErr, IfOk, IsTrue, OnErr, OnOk, true};
-ghost use Rattle.sqlite.specs.Held.{state};
-ghost use Rattle.sqlite.specs.State.{HasCleanDisk, Survives};
+ghost use Rattle.std.specs.Prelude.{◌≡◌, ◌⊎◌, ◌+◌, ◌<◌, ◌≤◌, ◌↔◌, [], ◌∷◌, All, length, IfErr, IfOk, IsErrAnd, IsTrue, OnErr, OnOk, true};
+ghost use Rattle.sqlite.specs.Held.{Held, state};
+ghost use Rattle.sqlite.specs.State.{HasCleanDisk, IsUnchanged, Survives};
 ghost use Rattle.prt_addr.specs.Opening.{IsOpenRefusal};
 ghost use Rattle.prt_addr.specs.declared.refusal.Refusal.TheVariants.{Busy, Closed, Damaged, NoMemory, NotPublished, StoreFailed};
 ghost use Rattle.prt_addr.specs.declared.refusal.StoreCall.{StoreCall};
@@ -13,9 +13,11 @@ ghost use Rattle.prt_grace.specs.declared.limits.TheConstants.{MOST_RETIRED};
 ghost use Rattle.prt_publisher.specs.Exits.{AreNotAcknowledged, AreNotPlanned, AreNotPrepared, HasCommitted, HaveCommitted, IsNotAcknowledged, IsNotAdmitted, IsNotPrepared, Spares, Takes, TakesAll};
 ghost use Rattle.prt_publisher.specs.Standing.{IsQuiet, Stands, unnoted};
 ghost use Rattle.prt_publisher.specs.Step.{IsPlan};
-ghost use Rattle.prt_rows.specs.Format.{BeginsFormat2};
+ghost use Rattle.prt_rows.specs.Format.{BeginsFormat2, SuitsFormat2};
 ghost use Rattle.prt_store.specs.Adopted.{Adopts, AdoptsPart, LeavesPart};
-ghost use Rattle.prt_store.specs.Exits.{IsKnown, IsStored, MayLeave, Opens, Spells};
+ghost use Rattle.prt_store.specs.Exits.{HasState, IsKnown, IsStored, MayLeave, Opens, Spells};
+ghost use Rattle.prt_store.specs.Openings.{MakesAndFills};
+ghost use Rattle.prt_store.specs.Shown.{ShowsState};
 ghost use Rattle.prt_store.specs.Stored.{Stores};
 ghost use Rattle.prt_version.specs.Accepted.{IsAccepted};
 ghost use Rattle.prt_version.specs.Change.{fold};
@@ -97,9 +99,9 @@ impl<S: Alter + Drop, R: Wait + Drop> Publisher<S, R> {
     ///
     /// # Errors
     ///
-    /// With the connection: `OpenFailed` where one of the tables has other columns, or a store call fails; `Damaged`
-    /// only where the tables spell no state; `NoMemory`. The rows are then as `Store::adopt` leaves them. The
-    /// connection is to be closed and opened again before it is used.
+    /// With the connection: `OpenFailed` where one of the tables has other columns, and the connection is as it was then; or
+    /// where a store call fails. `Damaged`: never of a file that is new, or whose first tables spell a state. `NoMemory`.
+    /// The rows are then as `Store::adopt` leaves them. The connection is to be closed and opened again before it is used.
     pub fn adopt(
         rt: R,
         alloc: Global,
@@ -107,9 +109,12 @@ impl<S: Alter + Drop, R: Wait + Drop> Publisher<S, R> {
     ) -> Result<(Publisher<S, R>, Domain), (Refusal, Connection<S>)>
         ensures ready { IfOk result (λ made. (made.0.phase ≡ Phase.Ready) × (made.0.commands ≡ []) × (made.0.line.list ≡ [])) }
         ensures sound { IfOk result (λ made. IsSound (line_state made.0.line)) }
+        ensures does { IfOk result (λ made. HasCleanDisk (state S.Store made.0.tables) → (adopted : Held S) × MakesAndFills S.Store conn adopted × IsUnchanged (state S.Store adopted) (state S.Store made.0.tables)) }
+        ensures shown { IfOk result (λ made. HasCleanDisk (state S.Store made.0.tables) → ShowsState S.Store made.0.tables (line_state made.0.line)) }
         ensures reason { IfErr result (λ refused. IsOpenRefusal refused.0) }
         ensures damaged { IfErr result (λ refused. refused.0 ≡ Damaged → HasCleanDisk (state S.Store refused.1) → IsTrue (state S.Store conn).is_open → (stored : State) →
-            Spells (state S.Store conn).now.trees stored → ⊥) }
+            HasState (state S.Store conn).now stored → ⊥) }
+        ensures other_columns { (SuitsFormat2 (state S.Store conn).now.schema → ⊥) → IsErrAnd result (λ refused. refused.1 ≡ conn) }
         ensures stands { IfOk result (λ made. Stands S.Store made.0) }
         ensures format { IfOk result (λ made. (made.0.ours_first ≡ true) ↔ BeginsFormat2 (state S.Store conn).now.schema) }
         ensures adopts { IfOk result (λ made. IsKnown S.Store made.0.ours_first made.0.tables → Opens (state S.Store conn).now (line_state made.0.line)) }

@@ -1,7 +1,6 @@
 -- What the statements that read the four tables tell.
 use Rattle.std.proofs.Common.{◌≡◌, List, [], Ok, Err, Result, sym, subst, ◌∙◌}
-use Rattle.std.specs.Prelude.{IsErrAnd}
-use Rattle.sqlite.proofs.Callers.{IsPlain}
+use Rattle.std.specs.Prelude.{IsErrAnd, IsTrue}
 use Rattle.sqlite.specs.Effect.{Database}
 use Rattle.sqlite.specs.Held.{Held, state}
 use Rattle.sqlite.specs.Listing.{understood}
@@ -10,13 +9,12 @@ use Rattle.sqlite.specs.Store.{Ghosts}
 use Rattle.sqlite.specs.State.{CommitsShowing, FailsToQuery, HasCleanDisk, Shown, State as Conn, Survives}
 use Rattle.sqlite.specs.declared.error.Error.{Error}
 use Rattle.sqlite_value.specs.Order.{Row}
-use Rattle.prt_addr.specs.Word.{Word}
 use Rattle.prt_addr.specs.declared.refusal.Refusal.{Refusal}
 use Rattle.prt_addr.specs.declared.refusal.Refusal.TheVariants.{Damaged, OpenFailed}
+use Rattle.prt_rows.proofs.Quiet.{IsQuiet, quiet_read_meta, quiet_read_routes, quiet_read_rules, quiet_read_suppress, shown_unchanged, shows_no_write}
 use Rattle.prt_rows.proofs.Reading.{reads_meta, reads_routes, reads_rules, reads_suppress}
 use Rattle.prt_rows.proofs.Shapes.{meta_is_read, routes_are_read, rules_are_read, suppress_is_read}
-use Rattle.prt_rows.specs.Format.{IsFormat2}
-use Rattle.prt_store.proofs.Loads.{commits_nothing, count_unchanged, lengths_unchanged, plain_lengths, plain_meta, plain_routes, plain_rules, reads_nothing, routes_unchanged, rules_unchanged, then_fails, then_ok, unchanged}
+use Rattle.prt_store.proofs.Loads.{reads_nothing, then_fails}
 use Rattle.prt_store.specs.Loaded.{IsReadable, Reads}
 use Rattle.prt_store.specs.Stored.{Stores}
 use Rattle.prt_version.specs.State.{State}
@@ -26,27 +24,30 @@ use Rattle.prt_reasons.specs.declared.reason.Table.TheVariants as ours
 
 -- ---- one table
 
--- the statements show no rows of a write
-plain : (table : Table) (schema : Schema) → IsFormat2 schema → IsPlain (understood schema (text table))
-plain ours.Rule = plain_rules
-plain ours.Route = plain_routes
-plain ours.Meta = plain_meta
-plain ours.Suppress = plain_lengths
+-- the statements change nothing
+quiet : (table : Table) (schema : Schema) → IsQuiet (understood schema (text table))
+quiet ours.Rule = quiet_read_rules
+quiet ours.Route = quiet_read_routes
+quiet ours.Meta = quiet_read_meta
+quiet ours.Suppress = quiet_read_suppress
+
+was_open : (table : Table) (old new : Conn) (rows : List Row) → Shown (text table) [] old new rows → IsTrue old.is_open
+was_open table old new rows shown = (shown_unchanged (text table) old new (quiet table old.now.schema) rows shown).0.was_open
 
 -- the rows that are shown are those of the table
 shows : (table : Table) (old new : Conn) → IsReadable old → (rows : List Row) → Shown (text table) [] old new rows → ShowsRows table old.now rows
 shows ours.Rule old new readable rows shown =
     let t = readable.tables in
-    rules_are_read t.tables t.indexes t.views old.now t.is (readable.live (rules_unchanged old new t rows shown).0.was_open).0 rows (reads_rules t.tables t.indexes t.views old new t.is rows shown)
+    rules_are_read t.tables t.indexes t.views old.now t.is (readable.live (was_open ours.Rule old new rows shown)).0 rows (reads_rules t.tables t.indexes t.views old new t.is rows shown)
 shows ours.Route old new readable rows shown =
     let t = readable.tables in
-    routes_are_read t.tables t.indexes t.views old.now t.is (readable.live (routes_unchanged old new t rows shown).0.was_open).0 rows (reads_routes t.tables t.indexes t.views old new t.is rows shown)
+    routes_are_read t.tables t.indexes t.views old.now t.is (readable.live (was_open ours.Route old new rows shown)).0 rows (reads_routes t.tables t.indexes t.views old new t.is rows shown)
 shows ours.Meta old new readable rows shown =
     let t = readable.tables in
-    meta_is_read t.tables t.indexes t.views old.now t.is (readable.live (count_unchanged old new t rows shown).0.was_open).0 rows (reads_meta t.tables t.indexes t.views old new t.is rows shown)
+    meta_is_read t.tables t.indexes t.views old.now t.is (readable.live (was_open ours.Meta old new rows shown)).0 rows (reads_meta t.tables t.indexes t.views old new t.is rows shown)
 shows ours.Suppress old new readable rows shown =
     let t = readable.tables in
-    suppress_is_read t.tables t.indexes t.views old.now t.is (readable.live (lengths_unchanged old new t rows shown).0.was_open).0 rows (reads_suppress t.tables t.indexes t.views old new t.is rows shown)
+    suppress_is_read t.tables t.indexes t.views old.now t.is (readable.live (was_open ours.Suppress old new rows shown)).0 rows (reads_suppress t.tables t.indexes t.views old new t.is rows shown)
 
 module _ {S X : Type 0} (g : Ghosts S) (items : X → List Row) (table : Table) (old new : Held S) (survives : Survives (state g old) (state g new) (CommitsShowing (text table) [] (state g old))) where
   pub rows_read : (rows : X) → (HasCleanDisk (state g new) → Shown (text table) [] (state g old) (state g new) (items rows)) → Reads g items (ShowsRows table) old new (Ok rows)
@@ -54,13 +55,13 @@ module _ {S X : Type 0} (g : Ghosts S) (items : X → List Row) (table : Table) 
     ok = λ clean readable. shows table (state g old) (state g new) readable (items rows) (shown clean);
     damaged = λ clean readable. tt;
     reason = tt;
-    same = λ clean tables. unchanged (text table) (state g old) (state g new) (plain table (state g old).now.schema tables) (items rows) (shown clean);
-    err = λ clean tables still_open was. tt;
-    quiet = λ tables. commits_nothing (text table) (state g old) (state g new) (λ clean. plain table (state g old).now.schema (tables clean)) survives;
+    same = λ clean. shown_unchanged (text table) (state g old) (state g new) (quiet table (state g old).now.schema) (items rows) (shown clean);
+    err = λ clean still_open was. tt;
+    quiet = shows_no_write (text table) (state g old) (state g new) (quiet table (state g old).now.schema) survives;
   }
 
   pub rows_not_read : (e : Error) → (HasCleanDisk (state g new) → FailsToQuery (text table) [] (state g old) (state g new) e) → Reads g items (ShowsRows table) old new (Err OpenFailed)
-  rows_not_read e fails = reads_nothing g old new items (ShowsRows table) (text table) (plain table (state g old).now.schema) survives e fails
+  rows_not_read e fails = reads_nothing g old new items (ShowsRows table) (text table) (quiet table (state g old).now.schema) survives e fails
 
 -- ---- one table after another
 
@@ -70,7 +71,7 @@ fails_alike g seen seen_too First Second a b reason told one = record {
   ok = λ clean readable. tt;
   damaged = λ clean readable is. absurd (let other : OpenFailed ≡ Damaged = sym told ∙ is in cc);
   reason = one.reason;
-  same = λ clean tables. tt;
+  same = λ clean. tt;
   err = one.err;
   quiet = one.quiet;
 }
@@ -97,6 +98,6 @@ seen_otherwise g seen seen_too First Second a b x y gives one = record {
   damaged = λ clean readable. tt;
   reason = tt;
   same = one.same;
-  err = λ clean tables still_open was. tt;
+  err = λ clean still_open was. tt;
   quiet = one.quiet;
 }

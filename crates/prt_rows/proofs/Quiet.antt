@@ -1,11 +1,12 @@
 -- A query changes nothing, whatever tables the file has.
-use Rattle.std.proofs.Common.{◌≡◌, List, [], Bool, true, false, None, Ok, Err, Result, true≢false, refl, sym, subst}
+use Rattle.std.proofs.Common.{◌≡◌, ◌⊎◌, inl, inr, List, [], Bool, true, false, None, Ok, Err, Result, true≢false, refl, sym, subst}
 use Rattle.std.specs.Prelude.{if◌then◌else◌}
 use Rattle.sqlite.proofs.StateLemmas.{survives_weaker}
 use Rattle.sqlite.specs.Command.{Command}
 use Rattle.sqlite.specs.Listing.{if_select, is_select, listing_schema, reads_listing, understood}
 use Rattle.sqlite.specs.Schema.{Schema}
-use Rattle.sqlite.specs.State.{CommitsShowing, IsUnchanged, Shown, State, Survives}
+use Rattle.sqlite.specs.State.{CommitsShowing, FailsToQuery, IsNotRun, IsRolledBack, IsUnchanged, Shown, State, Survives}
+use Rattle.sqlite.specs.declared.error.Error.{Error}
 use Rattle.sqlite_ast.specs.declared.Select.{Select}
 use Rattle.sqlite_ast.specs.declared.Statement.{Statement}
 use Rattle.sqlite_ast.specs.declared.Statement.TheVariants as written
@@ -17,7 +18,7 @@ use Rattle.sqlite_resolve.specs.Scope.{Name}
 use Rattle.sqlite_syntax.specs.declared.statement.Parsed.{Parsed}
 use Rattle.sqlite_tied.specs.Compute.{everything}
 use Rattle.prt_addr.specs.Word.{Word}
-use Rattle.prt_rows.specs.Statements.{look_at_meta, look_at_routes, look_at_rules, look_at_suppress, read_meta}
+use Rattle.prt_rows.specs.Statements.{look_at_meta, look_at_routes, look_at_rules, look_at_suppress, read_meta, read_routes, read_rules, read_suppress}
 
 -- if it is understood, it shows no rows of a write and does not read the time
 abbrev pub IsQuiet : Result Compiled CompileError → Type 0
@@ -70,7 +71,7 @@ pub quiet_query : (schema : Schema) (text : Word) → IsQuery (first text) → I
 unfolding understood
 quiet_query schema text query = either (reads_listing schema text) _ _ (quiet_listing (compiled listing_schema text) (quiet_compiled listing_schema text query)) (quiet_compiled schema text query)
 
--- ---- the statements that look whether a table has rows, and at the format
+-- ---- the statements that look whether a table has rows, and those that read one
 
 looks_at_rules : IsQuery (first look_at_rules)
 unfolding everything
@@ -88,9 +89,21 @@ looks_at_suppress : IsQuery (first look_at_suppress)
 unfolding everything
 looks_at_suppress = (tt, refl)
 
+reads_rules : IsQuery (first read_rules)
+unfolding everything
+reads_rules = (tt, refl)
+
+reads_routes : IsQuery (first read_routes)
+unfolding everything
+reads_routes = (tt, refl)
+
 reads_meta : IsQuery (first read_meta)
 unfolding everything
 reads_meta = (tt, refl)
+
+reads_suppress : IsQuery (first read_suppress)
+unfolding everything
+reads_suppress = (tt, refl)
 
 module _ (schema : Schema) where
   pub quiet_rules : IsQuiet (understood schema look_at_rules)
@@ -105,8 +118,17 @@ module _ (schema : Schema) where
   pub quiet_suppress : IsQuiet (understood schema look_at_suppress)
   quiet_suppress = quiet_query schema look_at_suppress looks_at_suppress
 
+  pub quiet_read_rules : IsQuiet (understood schema read_rules)
+  quiet_read_rules = quiet_query schema read_rules reads_rules
+
+  pub quiet_read_routes : IsQuiet (understood schema read_routes)
+  quiet_read_routes = quiet_query schema read_routes reads_routes
+
   pub quiet_read_meta : IsQuiet (understood schema read_meta)
   quiet_read_meta = quiet_query schema read_meta reads_meta
+
+  pub quiet_read_suppress : IsQuiet (understood schema read_suppress)
+  quiet_read_suppress = quiet_query schema read_suppress reads_suppress
 
 -- ---- what such a query does
 
@@ -116,6 +138,15 @@ module _ (sql : Word) (old new : State) (quiet : IsQuiet (understood old.now.sch
   shown_unchanged rows shown =
       let bare = subst IsQuiet shown.1.is quiet in
       (rw (bare.0) at shown.2).3
+
+  -- where it fails the connection is as it was, or without what was pending
+  pub failed_query : (e : Error) → FailsToQuery sql [] old new e → IsUnchanged old new ⊎ IsRolledBack old new
+  unfolding FailsToQuery IsNotRun
+  failed_query e (inl (inl refused)) = inl refused.1
+  failed_query e (inl (inr failed)) = inr failed.3
+  failed_query e (inr ran) =
+      let bare = subst IsQuiet ran.1.is quiet in
+      inl (rw (bare.0) at ran.2).3
 
   pub shows_no_write : Survives old new (CommitsShowing sql [] old) → Survives old new (λ _. ⊥)
   unfolding CommitsShowing

@@ -1,10 +1,14 @@
 -- Jobs that are served one after another.
-use Rattle.std.proofs.Common.{ℕ, List, [], ◌∷◌, ◌++◌, Option, refl, subst}
+use Rattle.std.proofs.Common.{◌≡◌, ℕ, List, [], ◌∷◌, ◌++◌, Option, refl, subst}
 use Rattle.prt_front.specs.Line.{Line}
 use Rattle.prt_serve.specs.Jobs.{ServesEach, ServesJob}
 use Rattle.prt_serve.specs.declared.worker.Job.{Job}
+use Rattle.prt_serve.specs.declared.worker.Served.{Served}
 
--- one job more
-pub ServesEach-more : {R W : Type 0} (remaining : R → Option (List ℕ)) (contents : W → Option (List ℕ)) (known0 : Line) (jobs : List (Job R W)) (known : Line) (job : Job R W) (next : Line) → ServesEach remaining contents known0 jobs known → ServesJob remaining contents known job next → ServesEach remaining contents known0 (jobs ++ job ∷ []) next
-ServesEach-more remaining contents known0 [] known job next is last = (next, subst (λ (l : Line). ServesJob remaining contents l job next) is last, refl)
-ServesEach-more remaining contents known0 (first ∷ jobs) known job next each last = (each.0, each.1, ServesEach-more remaining contents each.0 jobs known job next each.2 last)
+module _ {R W F : Type 0} (remaining : R → Option (List ℕ)) (contents : W → Option (List ℕ)) (takes : F → Served R W → F → Type 0) where
+  -- one job more
+  pub ServesEach-more : (known0 : Line) (after0 : F) (jobs : List (Job R W)) (known : Line) (after : F) (job : Job R W) (next : Line) (called : F) → ServesEach remaining contents takes known0 after0 jobs known after → ServesJob remaining contents takes known after job next called
+      → ServesEach remaining contents takes known0 after0 (jobs ++ job ∷ []) next called
+  ServesEach-more known0 after0 [] known after job next called is last =
+      (next, called, subst (λ (l : Line). ServesJob remaining contents takes l after0 job next called) is.0 (subst (λ (f : F). ServesJob remaining contents takes known f job next called) is.1 last), (refl, refl))
+  ServesEach-more known0 after0 (first ∷ jobs) known after job next called each last = (each.0, each.1, each.2, ServesEach-more each.0 each.1 jobs known after job next called each.3 last)

@@ -4,21 +4,21 @@ use Rattle.std.specs.Iterator.{Drains}
 use Rattle.prt_front.specs.Line.{Line}
 use Rattle.prt_serve.specs.Serving.{Serves}
 use Rattle.prt_serve.specs.declared.worker.Job.{Job}
-use Rattle.prt_session.specs.declared.script_end.ScriptEnd.{ScriptEnd}
+use Rattle.prt_serve.specs.declared.worker.Served.{Served}
 
-module _ {R W : Type 0} (remaining : R → Option (List ℕ)) (contents : W → Option (List ℕ)) where
-  -- A session served the job: its lines are what the job's reader had, and its replies came after what the job's writer had. What the two were after it are these.
-  pub record ServesJob (known0 : Line) (job : Job R W) (known : Line) : Type 0 where
-    pub reader : R
-    pub writer : W
-    pub end : ScriptEnd
-    pub served : Serves known0 known (remaining job.reader) (remaining reader) (contents job.writer) (contents writer) end
+module _ {R W F : Type 0} (remaining : R → Option (List ℕ)) (contents : W → Option (List ℕ)) (takes : F → Served R W → F → Type 0) where
+  -- A session served the job: its lines are what the job's reader had, and its replies came after what the job's writer had. What is called after each session then took the job as it was left, with how the session had ended.
+  pub record ServesJob (known0 : Line) (after0 : F) (job : Job R W) (known : Line) (after : F) : Type 0 where
+    pub left : Served R W
+    pub session : left.job.session ≡ job.session
+    pub served : Serves known0 known (remaining job.reader) (remaining left.job.reader) (contents job.writer) (contents left.job.writer) left.end
+    pub taken : takes after0 left after
 
   -- each of the jobs was served in its turn, by a looker that knew at first what it knew after the one before
-  abbrev pub ServesEach : Line → List (Job R W) → Line → Type 0
-  ServesEach known0 [] known = known ≡ known0
-  ServesEach known0 (job ∷ jobs) known = (next : Line) × ServesJob known0 job next × ServesEach next jobs known
+  abbrev pub ServesEach : Line → F → List (Job R W) → Line → F → Type 0
+  ServesEach known0 after0 [] known after = (known ≡ known0) × (after ≡ after0)
+  ServesEach known0 after0 (job ∷ jobs) known after = (next : Line) × (called : F) × ServesJob known0 after0 job next called × ServesEach next called jobs known after
 
 -- jobs came until no more did, and each was served
-abbrev pub ServesAll : {I R W : Type 0} → (I → Option (Job R W) → I → Type 0) → (R → Option (List ℕ)) → (W → Option (List ℕ)) → I → Line → Line → Type 0
-ServesAll {I} {R} {W} steps remaining contents jobs known0 known = (served : List (Job R W)) × Drains steps jobs served × ServesEach remaining contents known0 served known
+abbrev pub ServesAll : {I R W F : Type 0} → (I → Option (Job R W) → I → Type 0) → (R → Option (List ℕ)) → (W → Option (List ℕ)) → (F → Served R W → F → Type 0) → I → Line → F → Line → Type 0
+ServesAll {I} {R} {W} {F} steps remaining contents takes jobs known0 after0 known = (served : List (Job R W)) × Drains steps jobs served × ((after : F) × ServesEach remaining contents takes known0 after0 served known after)

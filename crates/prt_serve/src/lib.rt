@@ -10,4 +10,4 @@ mod worker;
 pub use gate::{Gate, OpenGate};
 pub use listen::{Accepting, Connected, Limits, ServeEnd, accept, serve_all};
 pub use session::{Visit, serve_session};
-pub use worker::{Job, work};
+pub use worker::{Job, Served, work};

@@ -1,7 +1,7 @@
 //! The loop that accepts connections, and the threads that serve them.
 
 use crate::gate::Gate;
-use crate::worker::{Job, work};
+use crate::worker::{Job, Served, work};
 use crossbeam_channel::{Receiver, Sender};
 use prt_service::{Naming, Service};
 use prt_session::Refusal;
@@ -130,7 +130,9 @@ impl<
     /// Serves jobs until the channel is closed.
     fn serve(self) {
         let jobs = self.jobs.iter(self.rt);
-        if let Err(reason) = work(self.rt, self.alloc, self.service, jobs, self.gate) {
+        // Drops each job after its session, which closes the connection.
+        let after = |_served: Served<BufReader<T>, T>| ();
+        if let Err(reason) = work(self.rt, self.alloc, self.service, jobs, self.gate, after) {
             *self.refused.lock(self.rt) = Some(reason);
         }
     }

@@ -23,6 +23,13 @@ pub struct Job<R: Read + Drop, W: Write + Drop> {
     pub writer: W,
 }
 
+/// A job whose session has ended: what its reader has left, what its writer was given, and how the session ended.
+#[derive(Drop)]
+pub struct Served<R: Read + Drop, W: Write + Drop> {
+    pub job: Job<R, W>,
+    pub end: ScriptEnd,
+}
+
 /// Serves the session of a job, as `serve_session` does: its lines are read from the job's own reader, and its replies go
 /// to the job's own writer.
 fn serve_job<
@@ -44,6 +51,7 @@ fn serve_job<
     requires { (looker.old.known.book ≡ J.book) × (looker.old.known.base ≡ J.base) }
     ensures of { (looker.new.known.book ≡ J.book) × (looker.new.known.base ≡ J.base) }
     ensures offline { (looker.new.held ≡ None) × (looker.new.announced ≡ None) }
+    ensures session { job.new.session ≡ job.old.session }
     ensures served { Serves looker.old.known looker.new.known (R.remaining job.old.reader) (R.remaining job.new.reader)
         (W.contents job.old.writer) (W.contents job.new.writer) result }
 {
@@ -60,7 +68,7 @@ fn serve_job<
 }
 
 /// Serves jobs until no more come, each with all that the looker learned from those before. A fault ends its own session
-/// alone.
+/// alone. Gives each to `after` once its session has ended.
 fn serve_jobs<
     H: Wait,
     S: Alter + Drop,
@@ -70,16 +78,27 @@ fn serve_jobs<
     R: Read + Drop,
     W: Write + Drop,
     I: Iterator<Item = Job<R, W>>,
->(rt: &H, alloc: Global, service: &Service<S, B, J>, looker: &mut Looker, jobs: I, gate: &G)
+    F: FnMut(Served<R, W>),
+>(
+    rt: &H,
+    alloc: Global,
+    service: &Service<S, B, J>,
+    looker: &mut Looker,
+    jobs: I,
+    gate: &G,
+    mut after: F,
+)
     requires of { (looker.old.known.book ≡ J.book) × (looker.old.known.base ≡ J.base) }
     requires can { I.can_next jobs }
     requires ends { IsFinite (I.remaining jobs) }
+    requires callable { F.IsAlwaysCallable after }
     ensures of { (looker.new.known.book ≡ J.book) × (looker.new.known.base ≡ J.base) }
     ensures grows { Begins looker.old.known looker.new.known }
-    ensures served { ServesAll I.next_gives R.remaining W.contents jobs looker.old.known looker.new.known }
+    ensures served { ServesAll I.next_gives R.remaining W.contents (λ to left later. F.step to left tt later) jobs looker.old.known after looker.new.known }
 {
     for mut job in jobs {
-        serve_job(rt, alloc, service, looker, &mut job, gate);
+        let end = serve_job(rt, alloc, service, looker, &mut job, gate);
+        after(Served { job, end });
     }
 }
 
@@ -93,6 +112,7 @@ fn work_with<
     R: Read + Drop,
     W: Write + Drop,
     I: Iterator<Item = Job<R, W>>,
+    F: FnMut(Served<R, W>),
 >(
     rt: &H,
     alloc: Global,
@@ -100,18 +120,20 @@ fn work_with<
     mut looker: Looker,
     jobs: I,
     gate: &G,
+    after: F,
 ) -> Departure
     requires of { (looker.known.book ≡ J.book) × (looker.known.base ≡ J.base) }
     requires can { I.can_next jobs }
     requires ends { IsFinite (I.remaining jobs) }
-    ensures served { ServesAll I.next_gives R.remaining W.contents jobs looker.known result }
+    requires callable { F.IsAlwaysCallable after }
+    ensures served { ServesAll I.next_gives R.remaining W.contents (λ to left later. F.step to left tt later) jobs looker.known after result }
 {
-    serve_jobs(rt, alloc, service, &mut looker, jobs, gate);
+    serve_jobs(rt, alloc, service, &mut looker, jobs, gate, after);
     looker.leave(rt, service)
 }
 
 /// Serves jobs until no more come, with a looker of its own, which then leaves. The departure has the list that it knew at
-/// the end.
+/// the end. Gives each job to `after` once its session has ended, and takes the next when that returns.
 ///
 /// # Errors
 ///
@@ -125,21 +147,24 @@ pub fn work<
     R: Read + Drop,
     W: Write + Drop,
     I: Iterator<Item = Job<R, W>>,
+    F: FnMut(Served<R, W>),
 >(
     rt: &H,
     alloc: Global,
     service: &Service<S, B, J>,
     jobs: I,
     gate: &G,
+    after: F,
 ) -> Result<Departure, Refusal>
     requires can { I.can_next jobs }
     requires ends { IsFinite (I.remaining jobs) }
-    ensures served { IfOk result (λ left. (known : Line) × (known.book ≡ J.book) × (known.base ≡ J.base) × ServesAll I.next_gives R.remaining W.contents jobs known left) }
+    requires callable { F.IsAlwaysCallable after }
+    ensures served { IfOk result (λ left. (known : Line) × (known.book ≡ J.book) × (known.base ≡ J.base) × ServesAll I.next_gives R.remaining W.contents (λ to left later. F.step to left tt later) jobs known after left) }
     ensures reason { IfErr result (λ reason. reason ≡ Refusal.Full) }
 {
     let looker = match service.looker(rt) {
         Ok(looker) => looker,
         Err(reason) => return Err(reason),
     };
-    Ok(work_with(rt, alloc, service, looker, jobs, gate))
+    Ok(work_with(rt, alloc, service, looker, jobs, gate, after))
 }

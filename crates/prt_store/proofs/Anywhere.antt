@@ -1,23 +1,24 @@
 -- What an opening does to a connection, whatever tables the file has.
 use Rattle.std.proofs.Common.{◌≡◌, inl, inr, ℕ, Bool, true, false, List, [], length, Option, Some, None, Ok, Err, Result, IsErr, OnOk, true≢false, refl, sym, subst, ◌∙◌, arith}
 use Rattle.std.proofs.lemmas.Result.{on_ok_weaker}
-use Rattle.std.specs.Prelude.{◌==◌, is_some}
+use Rattle.std.specs.Prelude.{◌==◌, MatchBool, is_some}
 use Rattle.sqlite.proofs.Callers.{unchanged_then}
 use Rattle.sqlite.specs.Held.{Held, state}
-use Rattle.sqlite.specs.Listing.{understood}
 use Rattle.sqlite.specs.State.{CommitsShowing, HasCleanDisk, IsUnchanged, Shown, Survives}
 use Rattle.sqlite.specs.Store.{Ghosts}
 use Rattle.sqlite_value.specs.Order.{Row}
 use Rattle.prt_addr.specs.declared.refusal.Refusal.{Refusal}
-use Rattle.prt_rows.proofs.Quiet.{IsQuiet, quiet_meta, quiet_read_meta, quiet_routes, quiet_rules, quiet_suppress, shown_unchanged, shows_no_write}
+use Rattle.prt_rows.proofs.Quiet.{quiet_read_meta, shown_unchanged, shows_no_write}
 use Rattle.prt_rows.specs.Decodes.{Decodes}
 use Rattle.prt_rows.specs.Format.{HasFormat2, has_table}
 use Rattle.prt_rows.specs.MetaRow.{IsCount, meta_rows_1}
 use Rattle.prt_rows.specs.Statements.{migrate, read_meta}
-use Rattle.prt_store.proofs.Looks.{none_found}
+use Rattle.prt_store.proofs.Looks.{none_found, quiet_look}
 use Rattle.prt_store.proofs.Openings.{on_any}
+use Rattle.prt_store.proofs.Shown.{rows_moved, shown_as}
 use Rattle.prt_store.proofs.Stops.{quiet_then}
-use Rattle.prt_store.specs.Openings.{Commits, Fills, Finds, HasDone, KeepsOrFills, KeepsOrMigrates, MakesAndFills, MakesMissing, MakesTable, MakesTables, Ran, ShowsFormat1, ShowsNoRow, look_at, table_of}
+use Rattle.prt_store.specs.Openings.{Commits, Fills, Finds, HasDone, KeepsOrFills, KeepsOrMigrates, MakesAndFills, MakesMissing, MakesTable, MakesTables, Ran, table_of}
+use Rattle.prt_store.specs.Shown.{ShowsContents, ShowsDue, ShowsFormat1, ShowsNoRow, ShowsNotDue, ShowsOtherFormat, ShowsSomeRow, look_at}
 use Rattle.prt_store.specs.declared.opening.OurTable.{OurTable}
 use Rattle.prt_store.specs.declared.opening.OurTable.TheVariants as ours
 
@@ -56,127 +57,133 @@ tables_made g a b c d e result one two three four clean =
 
 -- ---- they are looked at
 
-quiet_look : {S : Type 0} (g : Ghosts S) (table : OurTable) (conn : Held S) → IsQuiet (understood (state g conn).now.schema (look_at table))
-quiet_look g ours.Rule conn = quiet_rules (state g conn).now.schema
-quiet_look g ours.Route conn = quiet_routes (state g conn).now.schema
-quiet_look g ours.Meta conn = quiet_meta (state g conn).now.schema
-quiet_look g ours.Suppress conn = quiet_suppress (state g conn).now.schema
+either_way : {A B C D : Type 0} (b : Bool) → (A → C) → (B → D) → MatchBool b A B → MatchBool b C D
+either_way true so not_so it = so it
+either_way false so not_so it = not_so it
 
 module _ {S : Type 0} (g : Ghosts S) (table : OurTable) (old new : Held S) (survives : Survives (state g old) (state g new) (CommitsShowing (look_at table) [] (state g old))) where
-  pub look_finds_none : (reason : Refusal) → Finds g (ShowsNoRow g old table) old new (Err reason)
-  look_finds_none reason = record { ok = λ clean. tt; quiet = shows_no_write (look_at table) (state g old) (state g new) (quiet_look g table old) survives }
+  pub look_finds_none : (reason : Refusal) → Finds g (ShowsNoRow g old table) (ShowsSomeRow g old table) old new (Err reason)
+  look_finds_none reason = record { ok = λ clean. tt; quiet = shows_no_write (look_at table) (state g old) (state g new) (quiet_look table (state g old).now.schema) survives }
 
-  pub look_finds : (found : List Row) (n : ℕ) (b : Bool) → (HasCleanDisk (state g new) → Shown (look_at table) [] (state g old) (state g new) found) → n ≡ length found → b ≡ (n == 0) → Finds g (ShowsNoRow g old table) old new (Ok b)
+  pub look_finds : (found : List Row) (n : ℕ) (b : Bool) → (HasCleanDisk (state g new) → Shown (look_at table) [] (state g old) (state g new) found) → n ≡ length found → b ≡ (n == 0) → Finds g (ShowsNoRow g old table) (ShowsSomeRow g old table) old new (Ok b)
   look_finds found n b shown long is = record {
     ok = λ clean. (
-      shown_unchanged (look_at table) (state g old) (state g new) (quiet_look g table old) found (shown clean),
-      λ yes. (old, new, refl, subst (λ rows. Shown (look_at table) [] (state g old) (state g new) rows) (none_found found n b long is yes) (shown clean)),
+      shown_unchanged (look_at table) (state g old) (state g new) (quiet_look table (state g old).now.schema) found (shown clean),
+      either_way b (λ none. shown_as g old new found (look_at table) [] none (shown clean)) (λ some. (found, (old, new, refl, shown clean), some)) (none_found found n b long is),
     );
-    quiet = shows_no_write (look_at table) (state g old) (state g new) (quiet_look g table old) survives;
+    quiet = shows_no_write (look_at table) (state g old) (state g new) (quiet_look table (state g old).now.schema) survives;
   }
 
 -- what is shown of a database is shown of the same one
-moved : {S : Type 0} (g : Ghosts S) (a b : Held S) (table : OurTable) → (state g b).now ≡ (state g a).now → ShowsNoRow g b table → ShowsNoRow g a table
-moved g a b table same it = (it.0, it.1, it.2 ∙ same, it.3)
+module _ {S : Type 0} (g : Ghosts S) (a b : Held S) (same : (state g b).now ≡ (state g a).now) where
+  none_moved : (table : OurTable) → ShowsNoRow g b table → ShowsNoRow g a table
+  none_moved table = rows_moved g a b same (look_at table) []
 
-module _ {S : Type 0} (g : Ghosts S) (P Q : Type 0) (a b : Held S) where
-  pub finds_not : Finds g P a b (Ok false) → Finds g Q a b (Ok false)
-  finds_not one = record { ok = λ clean. ((one.ok clean).0, λ yes. absurd (true≢false (sym yes))); quiet = one.quiet }
+  some_moved : (table : OurTable) → ShowsSomeRow g b table → ShowsSomeRow g a table
+  some_moved table it = (it.0, rows_moved g a b same (look_at table) it.0 it.1, it.2)
 
-  pub finds_fails : (reason : Refusal) (result : Result Bool Refusal) → IsErr result → Finds g P a b (Err reason) → Finds g Q a b result
-  finds_fails reason (Ok x) bad one = absurd (true≢false (sym bad))
-  finds_fails reason (Err other) bad one = record { ok = λ clean. tt; quiet = one.quiet }
+  format_moved : ShowsFormat1 g b → ShowsFormat1 g a
+  format_moved it = (it.0, it.1, rows_moved g a b same read_meta (meta_rows_1 it.0) it.2)
 
-  pub finds_as : (result : Result Bool Refusal) → (P → Q) → Finds g P a b result → Finds g Q a b result
-  finds_as (Ok found) weaker one = record { ok = λ clean. ((one.ok clean).0, λ yes. weaker ((one.ok clean).1 yes)); quiet = one.quiet }
-  finds_as (Err reason) weaker one = record { ok = λ clean. tt; quiet = one.quiet }
+  other_moved : ShowsOtherFormat g b → ShowsOtherFormat g a
+  other_moved it = (it.0, rows_moved g a b same read_meta it.0 it.1, it.2)
+
+  due_moved : ShowsDue g b → ShowsDue g a
+  due_moved it = (format_moved it.0, none_moved ours.Suppress it.1)
+
+  not_due_moved : ShowsNotDue g b → ShowsNotDue g a
+  not_due_moved (inl other) = inl (other_moved other)
+  not_due_moved (inr some) = inr (some_moved ours.Suppress some)
+
+module _ {S : Type 0} (g : Ghosts S) (P Q No : Type 0) (a b : Held S) where
+  pub finds_not : Finds g P No a b (Ok false) → Finds g Q No a b (Ok false)
+  finds_not one = record { ok = one.ok; quiet = one.quiet }
+
+  pub finds_fails : (Other : Type 0) (reason : Refusal) (result : Result Bool Refusal) → IsErr result → Finds g P No a b (Err reason) → Finds g Q Other a b result
+  finds_fails Other reason (Ok x) bad one = absurd (true≢false (sym bad))
+  finds_fails Other reason (Err other) bad one = record { ok = λ clean. tt; quiet = one.quiet }
+
+  pub finds_as : (Other : Type 0) (result : Result Bool Refusal) → (P → Q) → (No → Other) → Finds g P No a b result → Finds g Q Other a b result
+  finds_as Other (Ok found) so not_so one = record { ok = λ clean. ((one.ok clean).0, either_way found so not_so (one.ok clean).1); quiet = one.quiet }
+  finds_as Other (Err reason) so not_so one = record { ok = λ clean. tt; quiet = one.quiet }
 
   -- the second look is asked where the first one found it so
-  finds_both : (R : Type 0) → ((state g b).now ≡ (state g a).now → Q → R) → (c : Held S) (result : Result Bool Refusal) → Finds g P a b (Ok true) → Finds g Q b c result → Finds g (P × R) a c result
-  finds_both R turn c (Ok found) one two = record {
+  finds_both : (R Else Other : Type 0) → ((state g b).now ≡ (state g a).now → Q → R) → ((state g b).now ≡ (state g a).now → No → Other) → (c : Held S) (result : Result Bool Refusal) → Finds g P Else a b (Ok true) → Finds g Q No b c result → Finds g (P × R) Other a c result
+  finds_both R Else Other so not_so c (Ok found) one two = record {
     ok = λ clean.
         let first = one.ok (omega (arith, two.quiet.clean, clean)) in
         let second = two.ok clean in
-        (unchanged_then (state g a) (state g b) (state g c) first.0 second.0, λ yes. (first.1 refl, turn first.0.0.now_is (second.1 yes)));
+        (unchanged_then (state g a) (state g b) (state g c) first.0 second.0, either_way found (λ it. (first.1, so first.0.0.now_is it)) (not_so first.0.0.now_is) second.1);
     quiet = quiet_then g a b c one.quiet two.quiet;
   }
-  finds_both R turn c (Err reason) one two = record { ok = λ clean. tt; quiet = quiet_then g a b c one.quiet two.quiet }
+  finds_both R Else Other so not_so c (Err reason) one two = record { ok = λ clean. tt; quiet = quiet_then g a b c one.quiet two.quiet }
 
--- two looks, three, and four
-module _ {S : Type 0} (g : Ghosts S) (first second : OurTable) (a b c : Held S) where
-  pub finds_two : (result : Result Bool Refusal) → Finds g (ShowsNoRow g a first) a b (Ok true) → Finds g (ShowsNoRow g b second) b c result → Finds g (ShowsNoRow g a first × ShowsNoRow g a second) a c result
-  finds_two result = finds_both g (ShowsNoRow g a first) (ShowsNoRow g b second) a b (ShowsNoRow g a second) (moved g a b second) c result
+-- the first look
+pub finds_first : {S : Type 0} (g : Ghosts S) (table : OurTable) (a b : Held S) (result : Result Bool Refusal) → Finds g (ShowsNoRow g a table) (ShowsSomeRow g a table) a b result → Finds g (ShowsNoRow g a table) (ShowsContents g a) a b result
+finds_first g table a b result = finds_as g (ShowsNoRow g a table) (ShowsNoRow g a table) (ShowsSomeRow g a table) a b (ShowsContents g a) result (λ none. none) (λ some. (table, some))
 
-  pub finds_three : (third : OurTable) (d : Held S) (result : Result Bool Refusal) → Finds g (ShowsNoRow g a first) a b (Ok true) → Finds g (ShowsNoRow g b second) b c (Ok true) → Finds g (ShowsNoRow g c third) c d result
-      → Finds g (ShowsNoRow g a first × (ShowsNoRow g a second × ShowsNoRow g a third)) a d result
-  finds_three third d result one two three =
-      let rest = finds_both g (ShowsNoRow g b second) (ShowsNoRow g c third) b c (ShowsNoRow g b third) (moved g b c third) d result two three in
-      finds_both g (ShowsNoRow g a first) (ShowsNoRow g b second × ShowsNoRow g b third) a b (ShowsNoRow g a second × ShowsNoRow g a third) (λ same it. (moved g a b second same it.0, moved g a b third same it.1)) d result one rest
-
-pub finds_four : {S : Type 0} (g : Ghosts S) (first second third fourth : OurTable) (a b c d e : Held S) (result : Result Bool Refusal) → Finds g (ShowsNoRow g a first) a b (Ok true) → Finds g (ShowsNoRow g b second) b c (Ok true)
-    → Finds g (ShowsNoRow g c third) c d (Ok true) → Finds g (ShowsNoRow g d fourth) d e result → Finds g (ShowsNoRow g a first × (ShowsNoRow g a second × (ShowsNoRow g a third × ShowsNoRow g a fourth))) a e result
-finds_four g first second third fourth a b c d e result one two three four =
-    finds_both g (ShowsNoRow g a first) (ShowsNoRow g b second × (ShowsNoRow g b third × ShowsNoRow g b fourth)) a b (ShowsNoRow g a second × (ShowsNoRow g a third × ShowsNoRow g a fourth))
-    (λ same it. (moved g a b second same it.0, (moved g a b third same it.1.0, moved g a b fourth same it.1.1))) e result one (finds_three g second third b c d fourth e result two three four)
+-- and the next, where the looks before it found no row
+pub finds_next : {S : Type 0} (g : Ghosts S) (P : Type 0) (table : OurTable) (a b c : Held S) (result : Result Bool Refusal) → Finds g P (ShowsContents g a) a b (Ok true) → Finds g (ShowsNoRow g b table) (ShowsSomeRow g b table) b c result
+    → Finds g (P × ShowsNoRow g a table) (ShowsContents g a) a c result
+finds_next g P table a b c result = finds_both g P (ShowsNoRow g b table) (ShowsSomeRow g b table) a b (ShowsNoRow g a table) (ShowsContents g a) (ShowsContents g a) (λ same. none_moved g a b same table) (λ same some. (table, some_moved g a b same table some)) c result
 
 -- so each of the four is asked
-pub asked_all : {S : Type 0} (g : Ghosts S) (conn : Held S) → ShowsNoRow g conn ours.Meta × (ShowsNoRow g conn ours.Rule × (ShowsNoRow g conn ours.Route × ShowsNoRow g conn ours.Suppress)) → (table : OurTable) → ShowsNoRow g conn table
-asked_all g conn it ours.Rule = it.1.0
-asked_all g conn it ours.Route = it.1.1.0
-asked_all g conn it ours.Meta = it.0
-asked_all g conn it ours.Suppress = it.1.1.1
+pub asked_all : {S : Type 0} (g : Ghosts S) (conn : Held S) → ((ShowsNoRow g conn ours.Meta × ShowsNoRow g conn ours.Rule) × ShowsNoRow g conn ours.Route) × ShowsNoRow g conn ours.Suppress → (table : OurTable) → ShowsNoRow g conn table
+asked_all g conn it ours.Rule = it.0.0.1
+asked_all g conn it ours.Route = it.0.1
+asked_all g conn it ours.Meta = it.0.0.0
+asked_all g conn it ours.Suppress = it.1
 
 -- ---- the format is looked at
 
 module _ {S : Type 0} (g : Ghosts S) (old new : Held S) (survives : Survives (state g old) (state g new) (CommitsShowing read_meta [] (state g old))) where
-  pub format_not_found : (reason : Refusal) → Finds g (ShowsFormat1 g old) old new (Err reason)
+  pub format_not_found : (reason : Refusal) → Finds g (ShowsFormat1 g old) (ShowsOtherFormat g old) old new (Err reason)
   format_not_found reason = record { ok = λ clean. tt; quiet = shows_no_write read_meta (state g old) (state g new) (quiet_read_meta (state g old).now.schema) survives }
 
-  pub format_found : (rows : List Row) (count : Option ℕ) (b : Bool) → (HasCleanDisk (state g new) → Shown read_meta [] (state g old) (state g new) rows) → Decodes meta_rows_1 IsCount rows count → b ≡ is_some count → Finds g (ShowsFormat1 g old) old new (Ok b)
+  pub format_found : (rows : List Row) (count : Option ℕ) (b : Bool) → (HasCleanDisk (state g new) → Shown read_meta [] (state g old) (state g new) rows) → Decodes meta_rows_1 IsCount rows count → b ≡ is_some count → Finds g (ShowsFormat1 g old) (ShowsOtherFormat g old) old new (Ok b)
   format_found rows count b shown read is = record {
-    ok = λ clean. (shown_unchanged read_meta (state g old) (state g new) (quiet_read_meta (state g old).now.schema) rows (shown clean), λ told. go count read (sym told ∙ is) (shown clean));
+    ok = λ clean. (
+      shown_unchanged read_meta (state g old) (state g new) (quiet_read_meta (state g old).now.schema) rows (shown clean),
+      subst (λ b. MatchBool b (ShowsFormat1 g old) (ShowsOtherFormat g old)) (sym is) (go count read (shown clean)),
+    );
     quiet = shows_no_write read_meta (state g old) (state g new) (quiet_read_meta (state g old).now.schema) survives;
   }
     where
-      go : (count : Option ℕ) → Decodes meta_rows_1 IsCount rows count → true ≡ is_some count → Shown read_meta [] (state g old) (state g new) rows → ShowsFormat1 g old
-      go None read told it = absurd (true≢false told)
-      go (Some n) read told it = (old, new, refl, (n, subst (λ rows. Shown read_meta [] (state g old) (state g new) rows) read.1 it))
+      go : (count : Option ℕ) → Decodes meta_rows_1 IsCount rows count → Shown read_meta [] (state g old) (state g new) rows → MatchBool (is_some count) (ShowsFormat1 g old) (ShowsOtherFormat g old)
+      go None none it = (rows, (old, new, refl, it), none)
+      go (Some n) read it = (n, read.0, shown_as g old new rows read_meta (meta_rows_1 n) read.1 it)
 
 -- the format, and then the lengths
-pub finds_format : {S : Type 0} (g : Ghosts S) (a b c : Held S) (result : Result Bool Refusal) → Finds g (ShowsFormat1 g a) a b (Ok true) → Finds g (ShowsNoRow g b ours.Suppress) b c result → Finds g (ShowsFormat1 g a × ShowsNoRow g a ours.Suppress) a c result
-finds_format g a b c result = finds_both g (ShowsFormat1 g a) (ShowsNoRow g b ours.Suppress) a b (ShowsNoRow g a ours.Suppress) (moved g a b ours.Suppress) c result
+pub finds_format : {S : Type 0} (g : Ghosts S) (a b c : Held S) (result : Result Bool Refusal) → Finds g (ShowsFormat1 g a) (ShowsOtherFormat g a) a b (Ok true) → Finds g (ShowsNoRow g b ours.Suppress) (ShowsSomeRow g b ours.Suppress) b c result → Finds g (ShowsDue g a) (ShowsNotDue g a) a c result
+finds_format g a b c result =
+    finds_both g (ShowsFormat1 g a) (ShowsNoRow g b ours.Suppress) (ShowsSomeRow g b ours.Suppress) a b (ShowsNoRow g a ours.Suppress) (ShowsOtherFormat g a) (ShowsNotDue g a) (λ same. none_moved g a b same ours.Suppress) (λ same some. inr (some_moved g a b same ours.Suppress some)) c result
 
 -- ---- the migration
 
 module _ {S : Type 0} (g : Ghosts S) (a b : Held S) where
-  pub does_not_migrate : Finds g (ShowsFormat1 g a × ShowsNoRow g a ours.Suppress) a b (Ok false) → HasCleanDisk (state g b) → KeepsOrMigrates g a b
-  does_not_migrate finds clean = inl (finds.ok clean).0
+  pub does_not_migrate : Finds g (ShowsDue g a) (ShowsNotDue g a) a b (Ok false) → HasCleanDisk (state g b) → KeepsOrMigrates g a b
+  does_not_migrate finds clean = let it = finds.ok clean in inl (it.1, it.0)
 
-  pub does_migrate : (c : Held S) (result : Result (Unit {0}) Refusal) → Finds g (ShowsFormat1 g a × ShowsNoRow g a ours.Suppress) a b (Ok true) → Commits g (Ran g migrate []) b c result → HasCleanDisk (state g c) → OnOk result (KeepsOrMigrates g a c)
+  pub does_migrate : (c : Held S) (result : Result (Unit {0}) Refusal) → Finds g (ShowsDue g a) (ShowsNotDue g a) a b (Ok true) → Commits g (Ran g migrate []) b c result → HasCleanDisk (state g c) → OnOk result (KeepsOrMigrates g a c)
   does_migrate c result finds commits clean =
       let it = finds.ok (omega (arith, commits.crash.clean, clean)) in
-      on_ok_weaker result (λ done. inr (record { found = it.1 refl; seen = b; same = it.0; set = subst (HasDone g (Ran g migrate []) b) (sym done.1.committed) done.0 })) (commits.ok clean)
+      on_ok_weaker result (λ done. inr (record { found = it.1; seen = b; same = it.0; set = done.0; settled = done.1 })) (commits.ok clean)
 
   -- what follows tables that were looked at
   migrates_later : (new : Held S) → IsUnchanged (state g a) (state g b) → KeepsOrMigrates g b new → KeepsOrMigrates g a new
-  migrates_later new same (inl kept) = inl (unchanged_then (state g a) (state g b) (state g new) same kept)
-  migrates_later new same (inr it) =
-      let format = it.found.0 in
-      inr (record {
-        found = ((format.0, format.1, format.2 ∙ same.0.now_is, format.3), moved g a b ours.Suppress same.0.now_is it.found.1);
-        seen = it.seen;
-        same = unchanged_then (state g a) (state g b) (state g it.seen) same it.same;
-        set = it.set;
-      })
+  migrates_later new same (inl kept) = inl (not_due_moved g a b same.0.now_is kept.0, unchanged_then (state g a) (state g b) (state g new) same kept.1)
+  migrates_later new same (inr it) = inr (record { found = due_moved g a b same.0.now_is it.found; seen = it.seen; same = unchanged_then (state g a) (state g b) (state g it.seen) same it.same; set = it.set; settled = it.settled })
 
 -- ---- the whole opening
 
 module _ {S : Type 0} (g : Ghosts S) (a made seen : Held S) (makes : HasCleanDisk (state g made) → MakesTables g a made) where
-  pub does_keep : (new : Held S) (result : Result (Unit {0}) Refusal) → Finds g ((table : OurTable) → ShowsNoRow g made table) made seen (Ok false) → HasCleanDisk (state g seen) → OnOk result (KeepsOrMigrates g seen new)
+  pub does_keep : (new : Held S) (result : Result (Unit {0}) Refusal) → Finds g ((table : OurTable) → ShowsNoRow g made table) (ShowsContents g made) made seen (Ok false) → HasCleanDisk (state g seen) → OnOk result (KeepsOrMigrates g seen new)
       → OnOk result (MakesAndFills g a new)
-  does_keep new result finds clean does = on_ok_weaker result (λ it. (made, makes (omega (arith, finds.quiet.clean, clean)), inl (migrates_later g made seen new (finds.ok clean).0 it))) does
+  does_keep new result finds clean does =
+      let it = finds.ok clean in
+      on_ok_weaker result (λ keeps. (made, makes (omega (arith, finds.quiet.clean, clean)), inl (it.1, migrates_later g made seen new it.0 keeps))) does
 
-  pub does_fill : (new : Held S) (result : Result (Unit {0}) Refusal) → Finds g ((table : OurTable) → ShowsNoRow g made table) made seen (Ok true) → Commits g (Fills g) seen new result → HasCleanDisk (state g new)
+  pub does_fill : (new : Held S) (result : Result (Unit {0}) Refusal) → Finds g ((table : OurTable) → ShowsNoRow g made table) (ShowsContents g made) made seen (Ok true) → Commits g (Fills g) seen new result → HasCleanDisk (state g new)
       → OnOk result (MakesAndFills g a new)
   does_fill new result finds commits clean =
       let late : HasCleanDisk (state g seen) = omega (arith, commits.crash.clean, clean) in
@@ -184,7 +191,7 @@ module _ {S : Type 0} (g : Ghosts S) (a made seen : Held S) (makes : HasCleanDis
       on_ok_weaker result (λ done. (
         made,
         makes (omega (arith, finds.quiet.clean, late)),
-        inr (record { empty = it.1 refl; seen = seen; same = it.0; filled = subst (HasDone g (Fills g) seen) (sym done.1.committed) done.0 }),
+        inr (record { empty = it.1; seen = seen; same = it.0; filled = done.0; settled = done.1 }),
       )) (commits.ok clean)
 
 -- where the tables were there, none was made

@@ -1,6 +1,6 @@
 -- Rules and the lengths up to which they suppress prefixes, apart and together.
 use Rattle.std.proofs.Common.{◌≡◌, inl, inr, ℕ, suc, ◌<◌, pos, ℤ, int_lt, Bool, true, false, cond, List, [], ◌∷◌, Option, Some, None, drop, drop-cons, get_or, length, map, ◌++◌, append_assoc, IsPermutation, ◌==◌, refl, sym, ap, subst, ◌∙◌, arith}
-use Rattle.std.proofs.lemmas.Bool.{eqb-false, eqb-true, and_parts}
+use Rattle.std.proofs.lemmas.Bool.{eqb-false, eqb-true, and_parts, ne_eqb}
 use Rattle.std.proofs.lemmas.Grind.{common_steps}
 use Rattle.std.proofs.lemmas.List.Sorted.{IsPermutation-sym}
 use Rattle.std.specs.List.{IsDistinct, cons_option}
@@ -175,18 +175,6 @@ lengths_permuted rules others distinct apart same = same_rows (map kept_length (
 
 -- ---- merging
 
-one_row : (rule : Rule) (lengths : List RuleLength) → kept_rule (merge_one rule lengths).0 ≡ kept_rule rule
-one_row rule [] = refl
-one_row rule (length ∷ lengths) = go (length.rule == rule.id)
-  where
-    go : (b : Bool) → kept_rule (cond {A = Rule × List RuleLength} b (with_len rule length.len, lengths) (rule, length ∷ lengths)).0 ≡ kept_rule rule
-    go true = refl
-    go false = refl
-
-pub merged_rows : (rules : List Rule) (lengths : List RuleLength) → map kept_rule (merged rules lengths) ≡ map kept_rule rules
-merged_rows [] lengths = refl
-merged_rows (rule ∷ rules) lengths = λ i. one_row rule lengths i ∷ merged_rows rules (merge_one rule lengths).1 i
-
 one_plain : (rule : Rule) (lengths : List RuleLength) → plain (merge_one rule lengths).0 ≡ plain rule
 one_plain rule [] = refl
 one_plain rule (length ∷ lengths) = go (length.rule == rule.id)
@@ -194,6 +182,14 @@ one_plain rule (length ∷ lengths) = go (length.rule == rule.id)
     go : (b : Bool) → plain (cond {A = Rule × List RuleLength} b (with_len rule length.len, lengths) (rule, length ∷ lengths)).0 ≡ plain rule
     go true = refl
     go false = refl
+
+-- what does not look at the lengths gives the same of merged rules
+pub merged_map : {X : Type 0} (f : Rule → X) → ((rule : Rule) → f rule ≡ f (plain rule)) → (rules : List Rule) (lengths : List RuleLength) → map f (merged rules lengths) ≡ map f rules
+merged_map f apart [] lengths = refl
+merged_map f apart (rule ∷ rules) lengths = λ i. (apart (merge_one rule lengths).0 ∙ ap f (one_plain rule lengths) ∙ sym (apart rule)) i ∷ merged_map f apart rules (merge_one rule lengths).1 i
+
+pub merged_rows : (rules : List Rule) (lengths : List RuleLength) → map kept_rule (merged rules lengths) ≡ map kept_rule rules
+merged_rows = merged_map kept_rule (λ rule. refl)
 
 -- a merged rule is one of the rules, but for its length
 pub was_merged : (rules : List Rule) (lengths : List RuleLength) (x : Rule) → Has (merged rules lengths) x → (rule : Rule) × Has rules rule × (plain x ≡ plain rule)
@@ -242,6 +238,19 @@ not_below_itself n less = grind (arith, common_steps)
 
 not_both : (m n : ℕ) → int_lt (pos m) (pos n) ≡ true → int_lt (pos n) (pos m) ≡ true → ⊥
 not_both m n less more = grind (arith, common_steps)
+
+apart_above : (m n : ℕ) → int_lt (pos m) (pos n) ≡ true → (m == n) ≡ false
+apart_above m n up = ne_eqb m n (λ same. not_below_itself n (subst (λ k. int_lt (pos k) (pos n) ≡ true) same up))
+
+-- rules whose rows rise have ids of their own
+pub ids_rise : (a : Option ℤ) (rules : List Rule) → rise_from a (map rule_row rules) ≡ true → HaveOwnIds rules
+unfolding IsDistinct
+ids_rise a [] rise = tt
+ids_rise a (rule ∷ rules) rise =
+    let later = (and_parts _ _ rise).1 in (
+      all_from (λ (other : Rule). (rule.id == other.id) ≡ false) rules (λ other there. apart_above rule.id other.id (rule_above rule.id rules later other there)),
+      ids_rise (Some (pos rule.id)) rules later,
+    )
 
 -- of lists that rise, where each length is of one of the rules, none is left
 pub none_left_over : (a b : Option ℤ) (rules : List Rule) (lengths : List RuleLength) → rise_from a (map rule_row rules) ≡ true → rise_from b (map suppress_row lengths) ≡ true → ((length : RuleLength) → Has lengths length → IsAmong rules length)

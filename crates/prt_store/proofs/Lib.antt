@@ -7,6 +7,7 @@ pub mod Commits
 pub mod Nexts
 pub mod Calls
 pub mod Loads
+pub mod Shown
 pub mod Transactions
 pub mod Failures
 pub mod Looks

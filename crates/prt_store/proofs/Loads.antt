@@ -4,16 +4,14 @@ use Rattle.std.proofs.lemmas.Bool.{and_parts}
 use Rattle.std.proofs.lemmas.Bool.Decides.{nat_tests}
 use Rattle.std.proofs.lemmas.List.Elements.{All-from_recursion, recursion_from_All}
 use Rattle.std.proofs.lemmas.List.Sorted.{IsPermutation-map, IsPermutation-sym, IsPermutation-trans}
-use Rattle.sqlite.proofs.Callers.{never_commits, one_permutation, unchanged_then}
-use Rattle.sqlite.proofs.StateLemmas.{survives_then, survives_weaker}
+use Rattle.sqlite.proofs.Callers.{one_permutation, unchanged_then}
+use Rattle.sqlite.proofs.StateLemmas.{survives_then}
 use Rattle.sqlite.specs.Effect.{Database, IsDatabase}
 use Rattle.sqlite.specs.Held.{Held, state}
 use Rattle.sqlite.specs.Listing.{understood}
 use Rattle.sqlite.specs.Store.{Ghosts}
-use Rattle.sqlite.specs.Schema.{Schema}
 use Rattle.sqlite.specs.Tree.{rowid}
-use Rattle.sqlite.specs.State.{CommitsShowing, FailsToQuery, HasCleanDisk, IsLive, IsNotRun, IsRolledBack, IsUnchanged, Shown, State as Conn, Survives}
-use Rattle.sqlite.proofs.Callers.{IsPlain}
+use Rattle.sqlite.specs.State.{CommitsShowing, FailsToQuery, HasCleanDisk, IsLive, IsRolledBack, IsUnchanged, Shown, State as Conn, Survives}
 use Rattle.sqlite.specs.declared.error.Error.{Error}
 use Rattle.sqlite_rules.proofs.ListLemmas.{all_from, all_has, any_has}
 use Rattle.sqlite_rules.proofs.ProbeLemmas.{has_mapped, mapped_has}
@@ -27,10 +25,10 @@ use Rattle.prt_route.specs.declared.route.Route.{Route}
 use Rattle.prt_rows.proofs.Cells.{same_number}
 use Rattle.prt_rows.proofs.Found.{has_permuted}
 use Rattle.prt_rows.proofs.Keyed.{keyed-permutation}
+use Rattle.prt_rows.proofs.Quiet.{IsQuiet, failed_query, quiet_read_meta, quiet_read_routes, quiet_read_rules, quiet_read_suppress, shown_unchanged, shows_no_write}
 use Rattle.prt_rows.proofs.Reading.{Lists, keyed_if_read_rising, read_rising_if_keyed, reads_meta, reads_routes, reads_rules, reads_suppress}
 use Rattle.prt_rows.proofs.RouteRows.{same_route}
 use Rattle.prt_rows.proofs.Shapes.{meta_is_read, routes_are_read, rules_are_read, suppress_is_read}
-use Rattle.prt_rows.proofs.Texts.{read_meta_is, read_routes_is, read_rules_is, read_suppress_is}
 use Rattle.prt_rows.specs.Cell.{IsWithin}
 use Rattle.prt_rows.specs.Decodes.{Decodes}
 use Rattle.prt_rows.specs.Kept.{kept_count, kept_length, kept_rule, with_key_column}
@@ -57,69 +55,9 @@ use Rattle.prt_store.specs.Adopted.{IsSettled}
 use Rattle.prt_store.specs.Loaded.{IsReadable, Reads, SpellsCount, SpellsLengths, SpellsRoutes, SpellsRules, StaysSettled}
 use Rattle.prt_store.specs.Openings.{NamesFormat1}
 use Rattle.prt_rows.specs.Format.{IsFormat2}
-use Rattle.prt_store.specs.Stored.{Stores}
+use Rattle.prt_store.specs.Stored.{FitsTables, Stores}
 
 -- ---- what a statement that reads leaves
-
--- our statements that read show no rows of a write
-pub plain_meta : (schema : Schema) → IsFormat2 schema → IsPlain (understood schema read_meta)
-plain_meta schema t = subst (λ (s : Schema). IsPlain (understood s read_meta)) (sym t.is) (read_meta_is t.tables t.indexes t.views).1
-
-pub plain_rules : (schema : Schema) → IsFormat2 schema → IsPlain (understood schema read_rules)
-plain_rules schema t = subst (λ (s : Schema). IsPlain (understood s read_rules)) (sym t.is) (read_rules_is t.tables t.indexes t.views).1
-
-pub plain_routes : (schema : Schema) → IsFormat2 schema → IsPlain (understood schema read_routes)
-plain_routes schema t = subst (λ (s : Schema). IsPlain (understood s read_routes)) (sym t.is) (read_routes_is t.tables t.indexes t.views).1
-
-pub plain_lengths : (schema : Schema) → IsFormat2 schema → IsPlain (understood schema read_suppress)
-plain_lengths schema t = subst (λ (s : Schema). IsPlain (understood s read_suppress)) (sym t.is) (read_suppress_is t.tables t.indexes t.views).1
-
-module _ (sql : Word) (old new : Conn) (plain : IsPlain (understood old.now.schema sql)) where
-  pub unchanged : (rows : List Row) → Shown sql [] old new rows → IsUnchanged old new
-  unfolding Shown
-  unchanged rows shown =
-      let bare = subst IsPlain shown.1.is plain in
-      (rw (bare.0) at shown.2).3
-
-pub commits_nothing : (sql : Word) (old new : Conn) → (HasCleanDisk old → IsPlain (understood old.now.schema sql)) → Survives old new (CommitsShowing sql [] old) → Survives old new (λ _. ⊥)
-commits_nothing sql old new plain survives = survives_weaker old new _ _ (λ clean db. never_commits sql [] old db (plain (omega (arith, survives.clean)))) survives
-
-module _ (old new : Conn) (tables : IsFormat2 old.now.schema) where
-  pub count_unchanged : (rows : List Row) → Shown read_meta [] old new rows → IsUnchanged old new
-  count_unchanged = unchanged read_meta old new (plain_meta old.now.schema tables)
-
-  pub rules_unchanged : (rows : List Row) → Shown read_rules [] old new rows → IsUnchanged old new
-  rules_unchanged = unchanged read_rules old new (plain_rules old.now.schema tables)
-
-  pub routes_unchanged : (rows : List Row) → Shown read_routes [] old new rows → IsUnchanged old new
-  routes_unchanged = unchanged read_routes old new (plain_routes old.now.schema tables)
-
-  pub lengths_unchanged : (rows : List Row) → Shown read_suppress [] old new rows → IsUnchanged old new
-  lengths_unchanged = unchanged read_suppress old new (plain_lengths old.now.schema tables)
-
-module _ (old new : Conn) (tables : HasCleanDisk old → IsFormat2 old.now.schema) where
-  pub count_quiet : Survives old new (CommitsShowing read_meta [] old) → Survives old new (λ _. ⊥)
-  count_quiet = commits_nothing read_meta old new (λ clean. plain_meta old.now.schema (tables clean))
-
-  pub rules_quiet : Survives old new (CommitsShowing read_rules [] old) → Survives old new (λ _. ⊥)
-  rules_quiet = commits_nothing read_rules old new (λ clean. plain_rules old.now.schema (tables clean))
-
-  pub routes_quiet : Survives old new (CommitsShowing read_routes [] old) → Survives old new (λ _. ⊥)
-  routes_quiet = commits_nothing read_routes old new (λ clean. plain_routes old.now.schema (tables clean))
-
-  pub lengths_quiet : Survives old new (CommitsShowing read_suppress [] old) → Survives old new (λ _. ⊥)
-  lengths_quiet = commits_nothing read_suppress old new (λ clean. plain_lengths old.now.schema (tables clean))
-
--- ---- what a query that fails leaves
-
--- the connection as it was, or without what was pending
-pub failed_query : (sql : Word) (old new : Conn) (e : Error) → IsPlain (understood old.now.schema sql) → FailsToQuery sql [] old new e → IsUnchanged old new ⊎ IsRolledBack old new
-unfolding FailsToQuery IsNotRun
-failed_query sql old new e plain (inl (inl refused)) = inl refused.1
-failed_query sql old new e plain (inl (inr failed)) = inr failed.3
-failed_query sql old new e plain (inr ran) =
-    let bare = subst IsPlain ran.1.is plain in
-    inl (rw (bare.0) at ran.2).3
 
 module _ {S : Type 0} (g : Ghosts S) (old new : Held S) where
   pub stays_settled : IsUnchanged (state g old) (state g new) → IsSettled g old → StaysSettled g old new
@@ -135,24 +73,28 @@ module _ {S : Type 0} (g : Ghosts S) (old new : Held S) where
   still_sound (Ok x) live same = subst IsDatabase (sym same.0.now_is) (live same.0.was_open).0
   still_sound (Err reason) live same = tt
 
+  -- a query that fails leaves nothing pending where nothing was
+  pub fails_settled : (sql : Word) → IsQuiet (understood (state g old).now.schema sql) → (e : Error) → FailsToQuery sql [] (state g old) (state g new) e → IsTrue (state g new).is_open → IsSettled g old → StaysSettled g old new
+  fails_settled sql quiet e fails still_open was = elim (failed_query sql (state g old) (state g new) quiet e fails) [
+    | inl same ↦ stays_settled same was
+    | inr undone ↦ rolled_back_settled undone still_open was
+  ]
+
   -- nothing is read
-  pub reads_nothing : {X V : Type 0} (seen : X → V) (Spells : Database → V → Type 0) (sql : Word) → (IsFormat2 (state g old).now.schema → IsPlain (understood (state g old).now.schema sql))
-      → Survives (state g old) (state g new) (CommitsShowing sql [] (state g old)) → (e : Error) → (HasCleanDisk (state g new) → FailsToQuery sql [] (state g old) (state g new) e) → Reads g seen Spells old new (Err OpenFailed)
-  reads_nothing seen Spells sql plain survives e fails = record {
+  pub reads_nothing : {X V : Type 0} (seen : X → V) (Spells : Database → V → Type 0) (sql : Word) → IsQuiet (understood (state g old).now.schema sql) → Survives (state g old) (state g new) (CommitsShowing sql [] (state g old))
+      → (e : Error) → (HasCleanDisk (state g new) → FailsToQuery sql [] (state g old) (state g new) e) → Reads g seen Spells old new (Err OpenFailed)
+  reads_nothing seen Spells sql quiet survives e fails = record {
     ok = λ clean readable. tt;
     damaged = λ clean readable is. absurd (cc);
     reason = inr (inl refl);
-    same = λ clean tables. tt;
-    err = λ clean tables still_open was. elim (failed_query sql (state g old) (state g new) e (plain tables) (fails clean)) [
-      | inl same ↦ stays_settled same was
-      | inr undone ↦ rolled_back_settled undone still_open was
-    ];
-    quiet = λ tables. commits_nothing sql (state g old) (state g new) (λ clean. plain (tables clean)) survives;
+    same = λ clean. tt;
+    err = λ clean still_open was. fails_settled sql quiet e (fails clean) still_open was;
+    quiet = shows_no_write sql (state g old) (state g new) quiet survives;
   }
 
 -- ---- what the rows that were read spell
 
-map_twice : {X Y Z : Type 0} (g : Y → Z) (f : X → Y) (xs : List X) → map g (map f xs) ≡ map (λ x. g (f x)) xs
+pub map_twice : {X Y Z : Type 0} (g : Y → Z) (f : X → Y) (xs : List X) → map g (map f xs) ≡ map (λ x. g (f x)) xs
 map_twice g f [] = refl
 map_twice g f (x ∷ xs) = ap (λ ys. g (f x) ∷ ys) (map_twice g f xs)
 
@@ -198,7 +140,7 @@ module _ (old new : Conn) (readable : IsReadable old) (rows : List Row) where
 
   module _ (shown : Shown read_meta [] old new rows) where
     obeys : IsDatabase old.now
-    obeys = (readable.live (count_unchanged old new tables rows shown).0.was_open).0
+    obeys = (readable.live (shown_unchanged read_meta old new (quiet_read_meta old.now.schema) rows shown).0.was_open).0
 
     meta_rows_are : IsPermutation (old.now.trees 3) (map with_key_column rows)
     meta_rows_are = meta_is_read tables.tables tables.indexes tables.views old.now tables.is obeys rows (reads_meta tables.tables tables.indexes tables.views old new tables.is rows shown)
@@ -228,7 +170,7 @@ module _ (old new : Conn) (readable : IsReadable old) (rows : List Row) where
     rules_list = reads_rules tables.tables tables.indexes tables.views old new tables.is rows shown
 
     rule_rows_are : IsPermutation (old.now.trees 0) (map with_key_column rows)
-    rule_rows_are = rules_are_read tables.tables tables.indexes tables.views old.now tables.is (readable.live (rules_unchanged old new tables rows shown).0.was_open).0 rows rules_list
+    rule_rows_are = rules_are_read tables.tables tables.indexes tables.views old.now tables.is (readable.live (shown_unchanged read_rules old new (quiet_read_rules old.now.schema) rows shown).0.was_open).0 rows rules_list
 
     pub rules_read : (last : ℕ) (rules : List Rule) → rowids_rise rows ≡ true → Decodes (map rule_row) (All (IsRule last)) rows (Some rules) → SpellsRules last old.now rules
     rules_read last rules rise read = record {
@@ -252,7 +194,7 @@ module _ (old new : Conn) (readable : IsReadable old) (rows : List Row) where
     lengths_list = reads_suppress tables.tables tables.indexes tables.views old new tables.is rows shown
 
     length_rows_are : IsPermutation (old.now.trees 4) (map with_key_column rows)
-    length_rows_are = suppress_is_read tables.tables tables.indexes tables.views old.now tables.is (readable.live (lengths_unchanged old new tables rows shown).0.was_open).0 rows lengths_list
+    length_rows_are = suppress_is_read tables.tables tables.indexes tables.views old.now tables.is (readable.live (shown_unchanged read_suppress old new (quiet_read_suppress old.now.schema) rows shown).0.was_open).0 rows lengths_list
 
     pub lengths_read : (last : ℕ) (lengths : List RuleLength) → rowids_rise rows ≡ true → Decodes (map suppress_row) (All (IsLength last)) rows (Some lengths) → SpellsLengths last old.now lengths
     lengths_read last lengths rise read = record {
@@ -276,7 +218,7 @@ module _ (old new : Conn) (readable : IsReadable old) (rows : List Row) where
     routes_list = reads_routes tables.tables tables.indexes tables.views old new tables.is rows shown
 
     route_rows_are : IsPermutation (map (drop 1) (old.now.trees 1)) (map (drop 1) rows)
-    route_rows_are = IsPermutation-map (drop 1) _ rows (routes_are_read tables.tables tables.indexes tables.views old.now tables.is (readable.live (routes_unchanged old new tables rows shown).0.was_open).0 rows routes_list)
+    route_rows_are = IsPermutation-map (drop 1) _ rows (routes_are_read tables.tables tables.indexes tables.views old.now tables.is (readable.live (shown_unchanged read_routes old new (quiet_read_routes old.now.schema) rows shown).0.was_open).0 rows routes_list)
 
     pub routes_read : (routes : List Route) → rowids_rise rows ≡ true → Decodes (map route_row) (All IsInRange) (map (drop 1) rows) (Some routes) → SpellsRoutes old.now routes
     routes_read routes rise read = record {
@@ -304,15 +246,15 @@ read_refusal write Fits part rows reason (inr (inr none)) = inr (inr none)
 pub reads_of : {S X V : Type 0} (g : Ghosts S) (seen : X → V) (Spells : Database → V → Type 0) (old new : Held S) (result : Result X Refusal) (Rise Read : X → Type 0) (Fails : Refusal → Type 0) → IfOk result Rise → IfOk result Read → IfErr result Fails
     → (HasCleanDisk (state g new) → IsReadable (state g old) → (value : X) → Rise value → Read value → Spells (state g old).now (seen value))
     → (HasCleanDisk (state g new) → IsReadable (state g old) → (reason : Refusal) → Fails reason → reason ≡ Damaged → (value : V) → Spells (state g old).now value → ⊥) → ((reason : Refusal) → Fails reason → IsOpenRefusal reason)
-    → (HasCleanDisk (state g new) → IsFormat2 (state g old).now.schema → IsUnchanged (state g old) (state g new)) → ((HasCleanDisk (state g old) → IsFormat2 (state g old).now.schema) → Survives (state g old) (state g new) (λ _. ⊥)) → Reads g seen Spells old new result
+    → (HasCleanDisk (state g new) → IsUnchanged (state g old) (state g new)) → Survives (state g old) (state g new) (λ _. ⊥) → Reads g seen Spells old new result
 reads_of g seen Spells old new (Ok value) Rise Read Fails rise read fails spells none why same quiet =
-    record { ok = λ clean readable. spells clean readable value rise read; damaged = λ clean readable. tt; reason = tt; same = same; err = λ clean tables still_open was. tt; quiet = quiet }
+    record { ok = λ clean readable. spells clean readable value rise read; damaged = λ clean readable. tt; reason = tt; same = same; err = λ clean still_open was. tt; quiet = quiet }
 reads_of g seen Spells old new (Err reason) Rise Read Fails rise read fails spells none why same quiet = record {
   ok = λ clean readable. tt;
   damaged = λ clean readable is. none clean readable reason fails is;
   reason = why reason fails;
-  same = λ clean tables. tt;
-  err = λ clean tables still_open was. stays_settled g old new (same clean tables) was;
+  same = λ clean. tt;
+  err = λ clean still_open was. stays_settled g old new (same clean) was;
   quiet = quiet;
 }
 
@@ -325,14 +267,9 @@ risen write Fits items rows (Err reason) rise read = tt
 -- ---- one read after another
 
 module _ {S X Y V W : Type 0} (g : Ghosts S) (seen : X → V) (seen_too : Y → W) (First : Database → V → Type 0) (Second : Database → W → Type 0) (a b c : Held S) (x : X) (one : Reads g seen First a b (Ok x)) where
-  tables_then : (HasCleanDisk (state g a) → IsFormat2 (state g a).now.schema) → HasCleanDisk (state g b) → IsFormat2 (state g b).now.schema
-  tables_then tables clean =
-      let had = tables (omega (arith, (one.quiet tables).clean)) in
-      subst (λ (d : Database). IsFormat2 d.schema) (sym (one.same clean had).0.now_is) had
-
   readable_then : HasCleanDisk (state g b) → IsReadable (state g a) → IsReadable (state g b)
   readable_then clean readable =
-      let same = one.same clean readable.tables in
+      let same = one.same clean in
       let live = readable.live same.0.was_open in
       record {
         tables = subst (λ (d : Database). IsFormat2 d.schema) (sym same.0.now_is) readable.tables;
@@ -340,23 +277,21 @@ module _ {S X Y V W : Type 0} (g : Ghosts S) (seen : X → V) (seen_too : Y → 
       }
 
   module _ (result : Result Y Refusal) (two : Reads g seen_too Second b c result) where
-    clean_before : (HasCleanDisk (state g a) → IsFormat2 (state g a).now.schema) → HasCleanDisk (state g c) → HasCleanDisk (state g b)
-    clean_before tables clean = omega (arith, (two.quiet (tables_then tables)).clean)
+    clean_before : HasCleanDisk (state g c) → HasCleanDisk (state g b)
+    clean_before clean = omega (arith, two.quiet.clean, clean)
 
-    quiet_then : (HasCleanDisk (state g a) → IsFormat2 (state g a).now.schema) → Survives (state g a) (state g c) (λ _. ⊥)
-    quiet_then tables = survives_then (state g a) (state g b) (state g c) _ _ (λ _. ⊥) (λ _ db none. none) (λ _ db none. none) (one.quiet tables) (two.quiet (tables_then tables))
+    quiet_then : Survives (state g a) (state g c) (λ _. ⊥)
+    quiet_then = survives_then (state g a) (state g b) (state g c) _ _ (λ _. ⊥) (λ _ db none. none) (λ _ db none. none) one.quiet two.quiet
 
   pub then_ok : (y : Y) → Reads g seen_too Second b c (Ok y) → Reads g (λ (u : Unit {0}). u) (λ db _. First db (seen x) × Second db (seen_too y)) a c (Ok tt)
   then_ok y two = record {
     ok = λ clean readable.
-        let before = clean_before (Ok y) two (λ _. readable.tables) clean in
-        (one.ok before readable, subst (λ db. Second db (seen_too y)) (one.same before readable.tables).0.now_is (two.ok clean (readable_then before readable)));
+        let before = clean_before (Ok y) two clean in
+        (one.ok before readable, subst (λ db. Second db (seen_too y)) (one.same before).0.now_is (two.ok clean (readable_then before readable)));
     damaged = λ clean readable. tt;
     reason = tt;
-    same = λ clean tables.
-        let before = clean_before (Ok y) two (λ _. tables) clean in
-        unchanged_then (state g a) (state g b) (state g c) (one.same before tables) (two.same clean (tables_then (λ _. tables) before));
-    err = λ clean tables still_open was. tt;
+    same = λ clean. unchanged_then (state g a) (state g b) (state g c) (one.same (clean_before (Ok y) two clean)) (two.same clean);
+    err = λ clean still_open was. tt;
     quiet = quiet_then (Ok y) two;
   }
 
@@ -365,15 +300,15 @@ module _ {S X Y V W : Type 0} (g : Ghosts S) (seen : X → V) (seen_too : Y → 
   then_fails reason two has = record {
     ok = λ clean readable. tt;
     damaged = λ clean readable is stored held.
-        let before = clean_before (Err reason) two (λ _. readable.tables) clean in
+        let before = clean_before (Err reason) two clean in
         let y = has (state g a).now stored (one.ok before readable) held in
-        two.damaged clean (readable_then before readable) is y.0 (subst (λ db. Second db y.0) (sym (one.same before readable.tables).0.now_is) y.1);
+        two.damaged clean (readable_then before readable) is y.0 (subst (λ db. Second db y.0) (sym (one.same before).0.now_is) y.1);
     reason = two.reason;
-    same = λ clean tables. tt;
-    err = λ clean tables still_open was.
-        let before = clean_before (Err reason) two (λ _. tables) clean in
-        let first = stays_settled g a b (one.same before tables) was in
-        let second = two.err clean (tables_then (λ _. tables) before) still_open first.0 in
+    same = λ clean. tt;
+    err = λ clean still_open was.
+        let before = clean_before (Err reason) two clean in
+        let first = stays_settled g a b (one.same before) was in
+        let second = two.err clean still_open first.0 in
         (second.0, second.1 ∙ first.1);
     quiet = quiet_then (Err reason) two;
   }
@@ -383,13 +318,13 @@ pub in_all : {S X V : Type 0} (g : Ghosts S) (seen : X → V) (All : Database �
     → IfOk result (λ stored. (db : Database) → IsFormat2 db.schema → All db (seen x) → Stores db stored) → IfErr result (λ reason. reason ≡ Damaged → (db : Database) (stored : State) → All db (seen x) → Stores db stored → ⊥) → IfErr result IsOpenRefusal
     → Reads g (λ stored. stored) Stores a b result
 in_all g seen All a b x one (Ok made) spells none why =
-    record { ok = λ clean readable. spells (state g a).now readable.tables (one.ok clean readable); damaged = λ clean readable. tt; reason = tt; same = one.same; err = λ clean tables still_open was. tt; quiet = one.quiet }
+    record { ok = λ clean readable. spells (state g a).now readable.tables (one.ok clean readable); damaged = λ clean readable. tt; reason = tt; same = one.same; err = λ clean still_open was. tt; quiet = one.quiet }
 in_all g seen All a b x one (Err reason) spells none why = record {
   ok = λ clean readable. tt;
   damaged = λ clean readable is stored held. none is (state g a).now stored (one.ok clean readable) held;
   reason = why;
-  same = λ clean tables. tt;
-  err = λ clean tables still_open was. stays_settled g a b (one.same clean tables) was;
+  same = λ clean. tt;
+  err = λ clean still_open was. stays_settled g a b (one.same clean) was;
   quiet = one.quiet;
 }
 
@@ -403,12 +338,25 @@ plain_fits : (last : ℕ) (rule : Rule) → IsRule last rule → IsRule last (pl
 plain_fits last rule is = record { id = is.id; priority = is.priority; from = is.from; to = is.to; iif = is.iif; mark = is.mark; action = is.action; plain = refl }
 
 -- what was read of the rules and of their lengths
-module _ (db : Database) (count : ℕ) (rules : List Rule) (lengths : List RuleLength) (some : SpellsRules (count + 3) db rules) (known : SpellsLengths (count + 3) db lengths) where
+module _ (count : ℕ) (rules : List Rule) (lengths : List RuleLength) (fit : All (IsRule (count + 3)) rules) where
+  merged_fits : (rule : Rule) → Has (merged rules lengths) rule → IsRule (count + 3) (plain rule)
+  merged_fits rule there = let was = was_merged rules lengths rule there in subst (IsRule (count + 3)) (sym was.2) (plain_fits (count + 3) was.0 (rule_in (count + 3) rules fit was.0 was.1))
+
+  pub own_lengths : left_over rules lengths ≡ [] → lengths_of (merged rules lengths) ≡ lengths
+  own_lengths over = merged_lengths rules lengths (λ rule there. (rule_in (count + 3) rules fit rule there).plain) over
+
+  -- the state that they spell fits the tables
+  pub fits_read : (routes : List Route) (stored : State) → All IsInRange routes → RowsSpell count (merged rules lengths) routes stored → FitsTables stored
+  fits_read routes stored in_range spells = record {
+    sound = spells.sound;
+    rules = λ rule there. subst (λ n. IsRule (n + 3) (plain rule)) (sym spells.count) (merged_fits rule (has_permuted (merged rules lengths) stored.rules rule spells.rules_are there));
+    routes = λ route there. all_has IsInRange routes route (recursion_from_All IsInRange routes in_range) (has_permuted routes stored.routes route spells.routes_are there);
+    storable = spells.storable;
+  }
+
+module _ (db : Database) (count : ℕ) (rules : List Rule) (lengths : List RuleLength) (some : SpellsRules (count + 3) db rules) where
   abbrev all : List Rule
   all = merged rules lengths
-
-  merged_fits : (rule : Rule) → Has all rule → IsRule (count + 3) (plain rule)
-  merged_fits rule there = let was = was_merged rules lengths rule there in subst (IsRule (count + 3)) (sym was.2) (plain_fits (count + 3) was.0 (rule_in (count + 3) rules some.fit was.0 was.1))
 
   merged_spell : IsPermutation (db.trees 0) (map kept_rule all)
   merged_spell = subst (IsPermutation (db.trees 0)) (sym (merged_rows rules lengths)) some.rows
@@ -416,30 +364,22 @@ module _ (db : Database) (count : ℕ) (rules : List Rule) (lengths : List RuleL
   merged_ids : HaveOwnIds all
   merged_ids = own_ids all (keyed-permutation (db.trees 0) (map kept_rule all) merged_spell (λ row there. has_permuted (db.trees 0) (map kept_rule all) row merged_spell there) some.keyed).once
 
-  own_lengths : left_over rules lengths ≡ [] → lengths_of all ≡ lengths
-  own_lengths over = merged_lengths rules lengths (λ rule there. (rule_in (count + 3) rules some.fit rule there).plain) over
-
 -- what the parts spell is the state that the tables spell
 pub stores_read : (db : Database) (count : ℕ) (rules : List Rule) (lengths : List RuleLength) (routes : List Route) (stored : State) → IsFormat2 db.schema → SpellsCount db count → SpellsRules (count + 3) db rules → SpellsLengths (count + 3) db lengths → SpellsRoutes db routes
     → left_over rules lengths ≡ [] → RowsSpell count (merged rules lengths) routes stored → Stores db stored
 stores_read db count rules lengths routes stored tables one some known more over spells =
     let all = merged rules lengths in
     let stored_ids = spells.sound.distinct_ids in
-    let own = own_lengths db count rules lengths some known over in
+    let own = own_lengths count rules lengths some.fit over in
     record {
       tables = tables;
-      rules = IsPermutation-trans (db.trees 0) (map kept_rule all) (map kept_rule stored.rules) (merged_spell db count rules lengths some known) (IsPermutation-map kept_rule all stored.rules spells.rules_are);
+      rules = IsPermutation-trans (db.trees 0) (map kept_rule all) (map kept_rule stored.rules) (merged_spell db count rules lengths some) (IsPermutation-map kept_rule all stored.rules spells.rules_are);
       routes = IsPermutation-trans (map (drop 1) (db.trees 1)) (map route_row routes) (map route_row stored.routes) more.rows (IsPermutation-map route_row routes stored.routes spells.routes_are);
       keyed = more.keyed;
       lengths = IsPermutation-trans (db.trees 4) (map kept_length lengths) (map kept_length (lengths_of stored.rules)) known.rows
-          (subst (λ l. IsPermutation (map kept_length l) (map kept_length (lengths_of stored.rules))) own (lengths_permuted all stored.rules (merged_ids db count rules lengths some known) stored_ids spells.rules_are));
+          (subst (λ l. IsPermutation (map kept_length l) (map kept_length (lengths_of stored.rules))) own (lengths_permuted all stored.rules (merged_ids db count rules lengths some) stored_ids spells.rules_are));
       count = subst (λ n. db.trees 3 ≡ kept_count n ∷ []) (sym spells.count) one.row;
-      fits = record {
-        sound = spells.sound;
-        rules = λ rule there. subst (λ n. IsRule (n + 3) (plain rule)) (sym spells.count) (merged_fits db count rules lengths some known rule (has_permuted all stored.rules rule spells.rules_are there));
-        routes = λ route there. all_has IsInRange routes route (recursion_from_All IsInRange routes more.fit) (has_permuted routes stored.routes route spells.routes_are there);
-        storable = spells.storable;
-      };
+      fits = fits_read count rules lengths some.fit routes stored more.fit spells;
     }
 
 same_count : (a b : ℕ) → kept_count a ∷ [] ≡ kept_count b ∷ [] → a ≡ b
@@ -505,8 +445,8 @@ module _ (db : Database) (stored : State) (held : Stores db stored) where
         let number = count_stored count one in
         record {
           count = number;
-          rules_are = rules_same (count + 3) all (merged_ids db count rules lengths some known) (merged_fits db count rules lengths some known) (λ rule there. subst (λ n. IsRule (n + 3) (plain rule)) number (held.fits.rules rule there))
-              (merged_spell db count rules lengths some known) (subst (λ l. IsPermutation (db.trees 4) (map kept_length l)) (sym (own_lengths db count rules lengths some known over)) known.rows);
+          rules_are = rules_same (count + 3) all (merged_ids db count rules lengths some) (merged_fits count rules lengths some.fit) (λ rule there. subst (λ n. IsRule (n + 3) (plain rule)) number (held.fits.rules rule there))
+              (merged_spell db count rules lengths some) (subst (λ l. IsPermutation (db.trees 4) (map kept_length l)) (sym (own_lengths count rules lengths some.fit over)) known.rows);
           routes_are = routes_same routes more;
           sound = held.fits.sound;
           storable = held.fits.storable;

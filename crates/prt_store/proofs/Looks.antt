@@ -2,7 +2,7 @@
 use Rattle.std.proofs.Common.{◌≡◌, ◌⊎◌, inl, inr, ℕ, Bool, true, false, List, [], ◌∷◌, length, Ok, Err, Result, IsErr, IsTrue, true≢false, refl, sym, ap, subst, ◌∙◌, arith}
 use Rattle.std.proofs.lemmas.Bool.{ne_eqb}
 use Rattle.std.specs.Prelude.{◌==◌, MatchBool}
-use Rattle.sqlite.proofs.Callers.{IsPlain, unchanged_then}
+use Rattle.sqlite.proofs.Callers.{unchanged_then}
 use Rattle.sqlite.proofs.StateLemmas.{survives_then}
 use Rattle.sqlite.specs.Effect.{Database}
 use Rattle.sqlite.specs.Held.{Held, state}
@@ -16,12 +16,12 @@ use Rattle.sqlite_rules.specs.Lists.{Has}
 use Rattle.sqlite_value.specs.Order.{Row}
 use Rattle.prt_addr.specs.declared.refusal.Refusal.{Refusal}
 use Rattle.prt_rows.proofs.Looking.{Looks, looks_at_meta, looks_at_routes, looks_at_rules, looks_at_suppress}
-use Rattle.prt_rows.proofs.Texts.{look_at_meta_is, look_at_routes_is, look_at_rules_is, look_at_suppress_is}
+use Rattle.prt_rows.proofs.Quiet.{IsQuiet, failed_query, quiet_meta, quiet_routes, quiet_rules, quiet_suppress, shown_unchanged, shows_no_write}
 use Rattle.prt_rows.specs.Effects.{AreEmpty}
 use Rattle.prt_rows.specs.Format.{IsFormat2}
-use Rattle.prt_rows.specs.Tables.{meta_table, our_tables, route_table, rule_table, schema_with, suppress_table}
-use Rattle.prt_store.proofs.Loads.{commits_nothing, failed_query, unchanged}
-use Rattle.prt_store.specs.Openings.{IsDue, IsEmpty, NamesFormat1, Sees, look_at, table_of}
+use Rattle.prt_rows.specs.Tables.{meta_table, our_tables, route_table, rule_table, suppress_table}
+use Rattle.prt_store.specs.Openings.{IsDue, IsEmpty, NamesFormat1, Sees, table_of}
+use Rattle.prt_store.specs.Shown.{look_at}
 use Rattle.prt_store.specs.declared.opening.OurTable.{OurTable}
 use Rattle.prt_store.specs.declared.opening.OurTable.TheVariants as ours
 
@@ -30,31 +30,23 @@ pub still_there : (old new : Conn) → IsUnchanged old new ⊎ IsRolledBack old 
 still_there old new (inl same) still_open settled = same.0.now_is
 still_there old new (inr undone) still_open settled = (undone.undone still_open).0 ∙ sym (settled (undone.was_open still_open))
 
-pub no_length : (rows : List Row) → length rows ≡ 0 → rows ≡ []
-no_length [] none = refl
-no_length (row ∷ rows) none = absurd (omega (arith, none))
-
--- whether anything was found
-pub none_found : (found : List Row) (n : ℕ) (b : Bool) → n ≡ length found → b ≡ (n == 0) → b ≡ true → found ≡ []
-none_found [] n b long is told = refl
-none_found (x ∷ found) n b long is told = absurd (true≢false (sym told ∙ is ∙ ap (λ n. n == 0) long ∙ ne_eqb (length (x ∷ found)) 0 (λ zero. absurd (omega (arith, zero)))))
-
 -- whether nothing was found says whether there are rows
 tells : (rows found : List Row) (n : ℕ) (b : Bool) → Looks rows found → n ≡ length found → b ≡ (n == 0) → MatchBool b (rows ≡ []) (rows ≡ [] → ⊥)
 tells rows [] n b looks long is = subst (λ b. MatchBool b (rows ≡ []) (rows ≡ [] → ⊥)) (sym (is ∙ ap (λ n. n == 0) long)) (looks.none refl)
 tells rows (x ∷ found) n b looks long is = subst (λ b. MatchBool b (rows ≡ []) (rows ≡ [] → ⊥)) (sym (is ∙ ap (λ n. n == 0) long ∙ ne_eqb (length (x ∷ found)) 0 (λ zero. absurd (omega (arith, zero))))) (λ none. absurd (let e = looks.some none in cc))
 
+-- and whether a row was shown
+pub none_found : (found : List Row) (n : ℕ) (b : Bool) → n ≡ length found → b ≡ (n == 0) → MatchBool b (found ≡ []) (found ≡ [] → ⊥)
+none_found found n b = tells found found n b (record { none = λ is. is; some = λ is. is })
+
 -- ---- one look
 
--- the statement shows no rows of a write
-plain_look : (table : OurTable) (schema : Schema) → IsFormat2 schema → IsPlain (understood schema (look_at table))
-plain_look table schema t = subst (λ (s : Schema). IsPlain (understood s (look_at table))) (sym t.is) (plain table)
-  where
-    plain : (table : OurTable) → IsPlain (understood (schema_with t.tables t.indexes t.views) (look_at table))
-    plain ours.Rule = (look_at_rules_is t.tables t.indexes t.views).1
-    plain ours.Route = (look_at_routes_is t.tables t.indexes t.views).1
-    plain ours.Meta = (look_at_meta_is t.tables t.indexes t.views).1
-    plain ours.Suppress = (look_at_suppress_is t.tables t.indexes t.views).1
+-- the statement changes nothing
+pub quiet_look : (table : OurTable) (schema : Schema) → IsQuiet (understood schema (look_at table))
+quiet_look ours.Rule = quiet_rules
+quiet_look ours.Route = quiet_routes
+quiet_look ours.Meta = quiet_meta
+quiet_look ours.Suppress = quiet_suppress
 
 looks_at : (table : OurTable) (old new : Conn) → IsFormat2 old.now.schema → (found : List Row) → Shown (look_at table) [] old new found → Looks (old.now.trees (table_of table).tree) found
 looks_at ours.Rule old new t found = looks_at_rules t.tables t.indexes t.views old new t.is found
@@ -64,24 +56,21 @@ looks_at ours.Suppress old new t found = looks_at_suppress t.tables t.indexes t.
 
 -- what it tells of a table
 module _ {S : Type 0} (g : Ghosts S) (table : OurTable) (old new : Held S) (survives : Survives (state g old) (state g new) (CommitsShowing (look_at table) [] (state g old))) where
-  look_quiet : (HasCleanDisk (state g old) → IsFormat2 (state g old).now.schema) → Survives (state g old) (state g new) (λ _. ⊥)
-  look_quiet tables = commits_nothing (look_at table) (state g old) (state g new) (λ clean. plain_look table (state g old).now.schema (tables clean)) survives
-
   pub look_fails : (e : Error) (reason : Refusal) → (HasCleanDisk (state g new) → FailsToQuery (look_at table) [] (state g old) (state g new) e) → Sees g (IsEmpty table) old new (Err reason)
   look_fails e reason fails = record {
     ok = λ clean tables. tt;
-    err = λ clean tables still_open settled. still_there (state g old) (state g new) (failed_query (look_at table) (state g old) (state g new) e (plain_look table (state g old).now.schema tables) (fails clean)) still_open settled;
-    quiet = look_quiet;
+    err = λ clean tables still_open settled. still_there (state g old) (state g new) (failed_query (look_at table) (state g old) (state g new) (quiet_look table (state g old).now.schema) e (fails clean)) still_open settled;
+    quiet = λ tables. shows_no_write (look_at table) (state g old) (state g new) (quiet_look table (state g old).now.schema) survives;
   }
 
   pub look_tells : (found : List Row) (n : ℕ) (b : Bool) → (HasCleanDisk (state g new) → Shown (look_at table) [] (state g old) (state g new) found) → n ≡ length found → b ≡ (n == 0) → Sees g (IsEmpty table) old new (Ok b)
   look_tells found n b shown long is = record {
     ok = λ clean tables. (
       tells ((state g old).now.trees (table_of table).tree) found n b (looks_at table (state g old) (state g new) tables found (shown clean)) long is,
-      unchanged (look_at table) (state g old) (state g new) (plain_look table (state g old).now.schema tables) found (shown clean),
+      shown_unchanged (look_at table) (state g old) (state g new) (quiet_look table (state g old).now.schema) found (shown clean),
     );
     err = λ clean tables still_open settled. tt;
-    quiet = look_quiet;
+    quiet = λ tables. shows_no_write (look_at table) (state g old) (state g new) (quiet_look table (state g old).now.schema) survives;
   }
 
 -- ---- one look after another

@@ -12,6 +12,7 @@ use Rattle.sqlite.specs.declared.error.Error.{Error}
 use Rattle.sqlite_value.specs.Order.{Row}
 use Rattle.prt_addr.specs.declared.refusal.Refusal.{Refusal}
 use Rattle.prt_rows.proofs.Migrating.{sets_format}
+use Rattle.prt_rows.proofs.Quiet.{failed_query, quiet_read_meta, shown_unchanged, shows_no_write}
 use Rattle.prt_rows.proofs.Texts.{migrate_is}
 use Rattle.prt_rows.specs.Decodes.{Decodes}
 use Rattle.prt_rows.specs.Effects.{Migrates}
@@ -20,7 +21,7 @@ use Rattle.prt_rows.specs.Meanings.{migrate_command}
 use Rattle.prt_rows.specs.MetaRow.{IsCount, meta_rows_1}
 use Rattle.prt_rows.specs.Statements.{migrate, read_meta}
 use Rattle.prt_rows.specs.Tables.{schema_with}
-use Rattle.prt_store.proofs.Loads.{count_quiet, count_unchanged, failed_query, format_missing, format_read, plain_meta, stays_settled}
+use Rattle.prt_store.proofs.Loads.{format_missing, format_read, stays_settled}
 use Rattle.prt_store.proofs.Looks.{still_there}
 use Rattle.prt_store.specs.Adopted.{IsSettled, LeavesMigrated}
 use Rattle.prt_store.specs.Openings.{Commits, HasDone, HasLeft, IsDue, NamesFormat1, Ran, Sees, begun_from}
@@ -31,18 +32,18 @@ module _ {S : Type 0} (g : Ghosts S) (old new : Held S) (survives : Survives (st
   pub format_fails : (e : Error) (reason : Refusal) → (HasCleanDisk (state g new) → FailsToQuery read_meta [] (state g old) (state g new) e) → Sees g NamesFormat1 old new (Err reason)
   format_fails e reason fails = record {
     ok = λ clean tables. tt;
-    err = λ clean tables still_open settled. still_there (state g old) (state g new) (failed_query read_meta (state g old) (state g new) e (plain_meta (state g old).now.schema tables) (fails clean)) still_open settled;
-    quiet = λ tables. count_quiet (state g old) (state g new) tables survives;
+    err = λ clean tables still_open settled. still_there (state g old) (state g new) (failed_query read_meta (state g old) (state g new) (quiet_read_meta (state g old).now.schema) e (fails clean)) still_open settled;
+    quiet = λ tables. shows_no_write read_meta (state g old) (state g new) (quiet_read_meta (state g old).now.schema) survives;
   }
 
   pub format_tells : IsLive (state g old) → (rows : List Row) (count : Option ℕ) (b : Bool) → (HasCleanDisk (state g new) → Shown read_meta [] (state g old) (state g new) rows) → Decodes meta_rows_1 IsCount rows count → b ≡ is_some count → Sees g NamesFormat1 old new (Ok b)
   format_tells live rows count b shown read is = record {
     ok = λ clean tables. (
       subst (λ b. MatchBool b (NamesFormat1 (state g old).now) (NamesFormat1 (state g old).now → ⊥)) (sym is) (tells count read tables (shown clean)),
-      count_unchanged (state g old) (state g new) tables rows (shown clean),
+      shown_unchanged read_meta (state g old) (state g new) (quiet_read_meta (state g old).now.schema) rows (shown clean),
     );
     err = λ clean tables still_open settled. tt;
-    quiet = λ tables. count_quiet (state g old) (state g new) tables survives;
+    quiet = λ tables. shows_no_write read_meta (state g old) (state g new) (quiet_read_meta (state g old).now.schema) survives;
   }
     where
       tells : (count : Option ℕ) → Decodes meta_rows_1 IsCount rows count → IsFormat2 (state g old).now.schema → Shown read_meta [] (state g old) (state g new) rows

@@ -1,5 +1,5 @@
 -- What the exits of a store's calls say of its file: what its tables spell, and what a crash may leave.
-use Rattle.std.specs.Prelude.{◌≡◌, Bool, true}
+use Rattle.std.specs.Prelude.{◌≡◌, ◌⊎◌, Bool, true}
 use Rattle.sqlite.specs.Effect.{Database, IsDatabase}
 use Rattle.sqlite.specs.Held.{Held, state}
 use Rattle.sqlite.specs.Schema.{Schema}
@@ -8,10 +8,12 @@ use Rattle.sqlite.specs.Store.{Ghosts}
 use Rattle.sqlite.specs.Table.{Table}
 use Rattle.sqlite.specs.Tree.{Trees}
 use Rattle.sqlite_rules.specs.Lists.{Has}
+use Rattle.prt_rows.specs.Effects.{AreEmpty}
+use Rattle.prt_rows.specs.Format.{BeginsFormat2}
 use Rattle.prt_rows.specs.Tables.{our_tables}
 use Rattle.prt_store.specs.Adopted.{Adopts}
-use Rattle.prt_store.specs.Stored.{Stores}
-use Rattle.prt_version.specs.State.{State}
+use Rattle.prt_store.specs.Stored.{Stores, StoresFormat1}
+use Rattle.prt_version.specs.State.{State, opening_state}
 
 -- These trees are those of a database whose tables spell the state.
 pub record Spells (trees : Trees) (stored : State) : Type 0 where
@@ -26,6 +28,10 @@ MayLeave g tables left = (trees : Trees) × (state g tables).may_leave trees × 
 -- what an opening makes of the file spells the state
 abbrev pub Opens : Database → State → Type 0
 Opens found opened = (db : Database) × Adopts found db × Stores db opened
+
+-- The file has this state: its tables spell it, in format 2 or in format 1, or it is new, and they have no rows.
+abbrev pub HasState : Database → State → Type 0
+HasState db stored = Spells db.trees stored ⊎ (StoresFormat1 db stored ⊎ (BeginsFormat2 db.schema × AreEmpty db × (stored ≡ opening_state)))
 
 -- The tables spell the state, and so does whatever a crash leaves.
 pub record IsStored {S : Type 0} (g : Ghosts S) (tables : Held S) (stored : State) : Type 0 where

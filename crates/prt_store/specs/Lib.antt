@@ -5,6 +5,7 @@ pub mod Written
 pub mod Made
 pub mod Loaded
 pub mod Adopted
+pub mod Shown
 pub mod Openings
 pub mod Exits
 pub mod Stops

@@ -52,11 +52,11 @@ pub record IsReadable (conn : Conn) : Type 0 where
 abbrev pub StaysSettled : {S : Type 0} → Ghosts S → Held S → Held S → Type 0
 StaysSettled g old new = IsSettled g new × ((state g new).now ≡ (state g old).now)
 
--- What was read is what the tables spell, and they are `Damaged` only where they spell no such thing. Nothing is changed, and a crash leaves what it could leave before. After a refusal that needs a connection that is still open, on which nothing was pending.
+-- Where the first tables are ours, what was read is what they spell, and `Damaged` comes only where they spell no such thing. Whatever the file, nothing is changed after `Ok`, and a crash leaves what it could leave before. After a refusal nothing is changed either, if the connection is still open and nothing was pending.
 pub record Reads {S X V : Type 0} (g : Ghosts S) (seen : X → V) (Spells : Database → V → Type 0) (old new : Held S) (result : Result X Refusal) : Type 0 where
   pub ok : HasCleanDisk (state g new) → IsReadable (state g old) → IfOk result (λ value. Spells (state g old).now (seen value))
   pub damaged : HasCleanDisk (state g new) → IsReadable (state g old) → IfErr result (λ reason. reason ≡ Damaged → (value : V) → Spells (state g old).now value → ⊥)
   pub reason : IfErr result IsOpenRefusal
-  pub same : HasCleanDisk (state g new) → IsFormat2 (state g old).now.schema → OnOk result (IsUnchanged (state g old) (state g new))
-  pub err : HasCleanDisk (state g new) → IsFormat2 (state g old).now.schema → IsTrue (state g new).is_open → IsSettled g old → OnErr result (StaysSettled g old new)
-  pub quiet : (HasCleanDisk (state g old) → IsFormat2 (state g old).now.schema) → Survives (state g old) (state g new) (λ _. ⊥)
+  pub same : HasCleanDisk (state g new) → OnOk result (IsUnchanged (state g old) (state g new))
+  pub err : HasCleanDisk (state g new) → IsTrue (state g new).is_open → IsSettled g old → OnErr result (StaysSettled g old new)
+  pub quiet : Survives (state g old) (state g new) (λ _. ⊥)

@@ -3,7 +3,7 @@ use Rattle.std.specs.Prelude.{◌≡◌, ◌⊎◌, ℕ, Bool, true, false, [], 
 use Rattle.sqlite.specs.Effect.{Database}
 use Rattle.sqlite.specs.Held.{Held, state}
 use Rattle.sqlite.specs.Schema.{Schema}
-use Rattle.sqlite.specs.State.{Executes, HasCleanDisk, IsUnchanged, KeepsCommit, Shown, Survives}
+use Rattle.sqlite.specs.State.{Executes, HasCleanDisk, IsUnchanged, KeepsCommit, Survives}
 use Rattle.sqlite.specs.Store.{Ghosts}
 use Rattle.sqlite.specs.Table.{Table}
 use Rattle.sqlite.specs.Tree.{Trees}
@@ -15,11 +15,12 @@ use Rattle.prt_route.specs.Names.{default_table, local_table, main_table}
 use Rattle.prt_rows.specs.Effects.{IsOfFormat1, KeepsTables}
 use Rattle.prt_rows.specs.Format.{BeginsFormat2, IsFormat2, has_table}
 use Rattle.prt_rows.specs.Kept.{kept_count_1}
-use Rattle.prt_rows.specs.MetaRow.{IsCount, meta_row, meta_rows_1}
+use Rattle.prt_rows.specs.MetaRow.{IsCount, meta_row}
 use Rattle.prt_rows.specs.RuleRow.{rule_row}
-use Rattle.prt_rows.specs.Statements.{create_meta, create_route, create_rule, create_suppress, insert_meta, insert_rule, look_at_meta, look_at_routes, look_at_rules, look_at_suppress, migrate, read_meta}
+use Rattle.prt_rows.specs.Statements.{create_meta, create_route, create_rule, create_suppress, insert_meta, insert_rule, migrate}
 use Rattle.prt_rows.specs.Tables.{meta_table, route_table, rule_table, suppress_table}
 use Rattle.prt_store.specs.Adopted.{Adopts, AdoptsPart, IsSettled, LeavesPart}
+use Rattle.prt_store.specs.Shown.{ShowsContents, ShowsDue, ShowsNoRow, ShowsNotDue}
 use Rattle.prt_store.specs.Written.{CommitsNothing}
 use Rattle.prt_store.specs.declared.opening.OurTable.{OurTable}
 use Rattle.prt_store.specs.declared.opening.OurTable.TheVariants as ours
@@ -45,13 +46,6 @@ create ours.Rule = create_rule
 create ours.Route = create_route
 create ours.Meta = create_meta
 create ours.Suppress = create_suppress
-
--- the statement that shows the rowids of a table
-abbrev pub look_at : OurTable → Word
-look_at ours.Rule = look_at_rules
-look_at ours.Route = look_at_routes
-look_at ours.Meta = look_at_meta
-look_at ours.Suppress = look_at_suppress
 
 -- ---- inside a transaction
 
@@ -148,17 +142,9 @@ pub record MakesTable {S : Type 0} (g : Ghosts S) (table : OurTable) (old new : 
 abbrev pub MakesTables : {S : Type 0} → Ghosts S → Held S → Held S → Type 0
 MakesTables g = InTurn (MakesTable g ours.Rule) (InTurn (MakesTable g ours.Route) (InTurn (MakesTable g ours.Meta) (MakesTable g ours.Suppress)))
 
--- of the database as it is, the statement that looks at the table showed no row
-abbrev pub ShowsNoRow : {S : Type 0} → Ghosts S → Held S → OurTable → Type 0
-ShowsNoRow {S = S} g conn table = (before after : Held S) × ((state g before).now ≡ (state g conn).now) × Shown (look_at table) [] (state g before) (state g after) []
-
--- of the database as it is, the statement that reads `meta` showed the row of format 1
-abbrev pub ShowsFormat1 : {S : Type 0} → Ghosts S → Held S → Type 0
-ShowsFormat1 {S = S} g conn = (before after : Held S) × ((state g before).now ≡ (state g conn).now) × ((count : ℕ) × Shown read_meta [] (state g before) (state g after) (meta_rows_1 count))
-
--- nothing was changed, and it was found so only if this holds
-pub record Finds {S : Type 0} (g : Ghosts S) (P : Type 0) (old new : Held S) (result : Result Bool Refusal) : Type 0 where
-  pub ok : HasCleanDisk (state g new) → IfOk result (λ found. IsUnchanged (state g old) (state g new) × (found ≡ true → P))
+-- Nothing was changed. `Yes` holds where the answer was true, `No` where it was false.
+pub record Finds {S : Type 0} (g : Ghosts S) (Yes No : Type 0) (old new : Held S) (result : Result Bool Refusal) : Type 0 where
+  pub ok : HasCleanDisk (state g new) → IfOk result (λ found. IsUnchanged (state g old) (state g new) × MatchBool found Yes No)
   pub quiet : CommitsNothing g old new
 
 -- each statement that looks showed no row, and the opening state was put into the tables, in one transaction
@@ -166,23 +152,25 @@ pub record FillsEmpty {S : Type 0} (g : Ghosts S) (old new : Held S) : Type 0 wh
   pub empty : (table : OurTable) → ShowsNoRow g old table
   pub seen : Held S
   pub same : IsUnchanged (state g old) (state g seen)
-  pub filled : HasDone g (Fills g) seen (state g new).now
+  pub filled : HasDone g (Fills g) seen (state g new).committed
+  pub settled : IsSettled g new
 
 -- the file was found to be of format 1 without lengths, and its format was set, in one transaction
 pub record MigratesFound {S : Type 0} (g : Ghosts S) (old new : Held S) : Type 0 where
-  pub found : ShowsFormat1 g old × ShowsNoRow g old ours.Suppress
+  pub found : ShowsDue g old
   pub seen : Held S
   pub same : IsUnchanged (state g old) (state g seen)
-  pub set : HasDone g (Ran g migrate []) seen (state g new).now
+  pub set : HasDone g (Ran g migrate []) seen (state g new).committed
+  pub settled : IsSettled g new
 
--- nothing was changed, or the format was set
+-- the file was not due, and nothing was changed; or it was due, and its format was set
 abbrev pub KeepsOrMigrates : {S : Type 0} → Ghosts S → Held S → Held S → Type 0
-KeepsOrMigrates g old new = IsUnchanged (state g old) (state g new) ⊎ MigratesFound g old new
+KeepsOrMigrates g old new = (ShowsNotDue g old × IsUnchanged (state g old) (state g new)) ⊎ MigratesFound g old new
 
--- nothing was changed but for the format of a file of format 1, or the tables were empty and were filled
+-- Some table was shown to have a row, and nothing was changed but the format of a file of format 1. Or none was, and they were filled.
 abbrev pub KeepsOrFills : {S : Type 0} → Ghosts S → Held S → Held S → Type 0
-KeepsOrFills g old new = KeepsOrMigrates g old new ⊎ FillsEmpty g old new
+KeepsOrFills g old new = (ShowsContents g old × KeepsOrMigrates g old new) ⊎ FillsEmpty g old new
 
--- the missing tables were made, and then nothing was changed or the tables were migrated or filled
+-- the missing tables were made, and then they were filled, migrated or kept, as their rows showed
 abbrev pub MakesAndFills : {S : Type 0} → Ghosts S → Held S → Held S → Type 0
 MakesAndFills g = InTurn (MakesTables g) (KeepsOrFills g)

@@ -25,16 +25,19 @@ impl<S: Alter + Drop> Store<S> {
     /// they are, whether they spell a state or not.
     ///
     /// After `Ok`, whatever the file, the four tables have the columns of format 2, nothing is pending, and a crash
-    /// leaves what the tables show. Each missing table was made by its statement, and then nothing was changed, or the
-    /// file was found to be of format 1 and its format was set, or the statements that look at the four tables showed no
-    /// rows and those that fill them ran. The other clauses speak of a file without tables, of one that an earlier
-    /// opening was stopped in, of one with the tables of format 1 alone, and of one whose first tables are the four.
+    /// leaves what the tables show. Each missing table was made by its statement. Then the statements that look at the
+    /// four showed no rows, and those that fill them ran. Or they showed some. Then, where `meta` showed the row of format
+    /// 1 and `suppress` no row, the format was set; otherwise nothing was changed.
+    ///
+    /// The other clauses speak of four kinds of file: without tables, left by a stopped opening, with the tables of format
+    /// 1 alone, or with the four first.
     ///
     /// # Errors
     ///
     /// `OpenFailed`, with the connection. Where one of the four tables has other columns than those of format 2, the
-    /// connection is as it was, whatever the file. Where a store call fails, no row is changed, but that four empty
-    /// tables may have been filled, and a file of format 1 migrated; the connection is to be closed and opened again before it is used.
+    /// connection is as it was, whatever the file. Where a store call fails in a file of those four kinds, no row is
+    /// changed. But four empty tables may have been filled, and a file of format 1 migrated. The connection is to be closed
+    /// and opened again before it is used.
     pub fn adopt(mut conn: Connection<S>) -> Result<Store<S>, (Refusal, Connection<S>)>
         ensures ok { IfOk result (λ store. HasCleanDisk (state S.Store store.conn) → BeginsFormat2 (state S.Store conn).now.schema →
             Adopts (state S.Store conn).now (state S.Store store.conn).now) }

@@ -1,11 +1,17 @@
 //! The state that the tables spell, read.
 
-ghost use Rattle.std.specs.Prelude.{IfOk, IsTrue, map};
+ghost use Rattle.std.specs.Prelude.{◌≡◌, IfErr, IfOk, IsTrue, drop, map};
+ghost use Rattle.sqlite.specs.Held.{state};
+ghost use Rattle.sqlite.specs.State.{HasCleanDisk};
+ghost use Rattle.prt_addr.specs.declared.refusal.Refusal.TheVariants.{Damaged};
 ghost use Rattle.prt_rows.specs.MetaRow.{IsCount};
+ghost use Rattle.prt_rows.specs.RouteRow.{IsInRange, route_row};
 ghost use Rattle.prt_rows.specs.Rowids.{rowids_rise};
-ghost use Rattle.prt_rows.specs.RuleRow.{rule_row};
-ghost use Rattle.prt_rows.specs.SuppressRow.{suppress_row};
+ghost use Rattle.prt_rows.specs.RuleRow.{IsRule, rule_row};
+ghost use Rattle.prt_rows.specs.Statements.{read_routes, read_rules, read_suppress};
+ghost use Rattle.prt_rows.specs.SuppressRow.{IsLength, suppress_row};
 ghost use Rattle.prt_store.specs.Loaded.{Reads, SpellsCount, SpellsLengths, SpellsRoutes, SpellsRules};
+ghost use Rattle.prt_store.specs.Shown.{ShowsBadRows, ShowsCount, ShowsDamage, ShowsLengths, ShowsNoCount, ShowsRoutes, ShowsRules, ShowsState};
 ghost use Rattle.prt_store.specs.Stored.{Stores};
 
 use crate::merging::merge;
@@ -20,6 +26,8 @@ use std::alloc::Global;
 /// Gives the count that the table `meta` spells.
 fn read_count<S: Alter>(conn: &mut Connection<S>) -> Result<u64, Refusal>
     ensures read { Reads S.Store (λ count. count) SpellsCount conn.old conn.new result }
+    ensures shown { HasCleanDisk (state S.Store conn.new) → IfOk result (ShowsCount S.Store conn.old) }
+    ensures damage { HasCleanDisk (state S.Store conn.new) → IfErr result (λ reason. reason ≡ Damaged → ShowsNoCount S.Store conn.old) }
     ensures fits { IfOk result IsCount }
 {
     match conn.query_all("SELECT id, format, count FROM meta ORDER BY id", &[]) {
@@ -39,6 +47,8 @@ fn read_rules<S: Alter>(
     last: u64,
 ) -> Result<Vec<Rule>, Refusal>
     ensures read { Reads S.Store (λ (rules : _). rules.items) (SpellsRules last) conn.old conn.new result }
+    ensures shown { HasCleanDisk (state S.Store conn.new) → IfOk result (λ rules. ShowsRules S.Store last conn.old rules.items) }
+    ensures damage { HasCleanDisk (state S.Store conn.new) → IfErr result (λ reason. reason ≡ Damaged → ShowsBadRows S.Store conn.old read_rules rule_row (IsRule last) (λ row. row)) }
     ensures rise { IfOk result (λ rules. IsTrue (rowids_rise (map rule_row rules.items))) }
 {
     match conn.query_all(
@@ -57,6 +67,8 @@ fn read_lengths<S: Alter>(
     last: u64,
 ) -> Result<Vec<RuleLength>, Refusal>
     ensures read { Reads S.Store (λ (lengths : _). lengths.items) (SpellsLengths last) conn.old conn.new result }
+    ensures shown { HasCleanDisk (state S.Store conn.new) → IfOk result (λ lengths. ShowsLengths S.Store last conn.old lengths.items) }
+    ensures damage { HasCleanDisk (state S.Store conn.new) → IfErr result (λ reason. reason ≡ Damaged → ShowsBadRows S.Store conn.old read_suppress suppress_row (IsLength last) (λ row. row)) }
     ensures rise { IfOk result (λ lengths. IsTrue (rowids_rise (map suppress_row lengths.items))) }
 {
     match conn.query_all("SELECT rule, len FROM suppress ORDER BY rule", &[]) {
@@ -67,7 +79,9 @@ fn read_lengths<S: Alter>(
 
 /// Gives the routes that the table `route` spells.
 fn read_routes<S: Alter>(alloc: Global, conn: &mut Connection<S>) -> Result<Vec<Route>, Refusal>
-    ensures { Reads S.Store (λ (routes : _). routes.items) SpellsRoutes conn.old conn.new result }
+    ensures read { Reads S.Store (λ (routes : _). routes.items) SpellsRoutes conn.old conn.new result }
+    ensures shown { HasCleanDisk (state S.Store conn.new) → IfOk result (λ routes. ShowsRoutes S.Store conn.old routes.items) }
+    ensures damage { HasCleanDisk (state S.Store conn.new) → IfErr result (λ reason. reason ≡ Damaged → ShowsBadRows S.Store conn.old read_routes route_row IsInRange (drop 1)) }
 {
     match conn.query_all(
         "SELECT rowid, tbl, net, len, metric, kind, via, dev, src, proto, scope FROM route ORDER BY rowid",
@@ -78,13 +92,15 @@ fn read_routes<S: Alter>(alloc: Global, conn: &mut Connection<S>) -> Result<Vec<
     }
 }
 
-/// Gives the version that the tables spell.
+/// Gives the version that the tables spell: the one whose rows the statements that read them showed.
 ///
 /// # Errors
 ///
 /// `Damaged` only where the rows that were read spell none; `OpenFailed` where a store call fails; `NoMemory`.
 pub(crate) fn load<S: Alter>(alloc: Global, conn: &mut Connection<S>) -> Result<Version, Refusal>
-    ensures { Reads S.Store (λ version. version) Stores conn.old conn.new result }
+    ensures read { Reads S.Store (λ version. version) Stores conn.old conn.new result }
+    ensures shown { HasCleanDisk (state S.Store conn.new) → IfOk result (ShowsState S.Store conn.old) }
+    ensures damage { HasCleanDisk (state S.Store conn.new) → IfErr result (λ reason. reason ≡ Damaged → ShowsDamage S.Store conn.old) }
 {
     let count = read_count(conn)?;
     let listed = read_rules(alloc, conn, count + 3)?;

@@ -11,9 +11,9 @@ ghost use Rattle.prt_rows.specs.MetaRow.{meta_row};
 ghost use Rattle.prt_rows.specs.RuleRow.{rule_row};
 ghost use Rattle.prt_rows.specs.Statements.{insert_meta, insert_rule, migrate};
 ghost use Rattle.prt_store.specs.Adopted.{IsSettled, LeavesMigrated};
-ghost use Rattle.prt_store.specs.Openings.{Advances, Commits, Fills, Finds, InsertsRules, IsEmpty, IsDue, KeepsOrMigrates, MakesAndFills, MakesMissing, MakesTables, NamesFormat1, OpensTables, Ran, Sees, ShowsFormat1, ShowsNoRow, Takes, Works, create, look_at, table_of};
+ghost use Rattle.prt_store.specs.Openings.{Advances, Commits, Fills, Finds, InsertsRules, IsEmpty, IsDue, KeepsOrMigrates, MakesAndFills, MakesMissing, MakesTables, NamesFormat1, OpensTables, Ran, Sees, Takes, Works, create, table_of};
+ghost use Rattle.prt_store.specs.Shown.{ShowsContents, ShowsDue, ShowsFormat1, ShowsNoRow, ShowsNotDue, ShowsOtherFormat, ShowsSomeRow, look_at};
 ghost use Rattle.prt_store.specs.declared.opening.OurTable.{OurTable as OneTable};
-ghost use Rattle.prt_store.specs.declared.opening.OurTable.TheVariants.{Suppress};
 
 use crate::statements::insert_rule;
 use prt_addr::Refusal;
@@ -196,7 +196,7 @@ fn look_at(table: OurTable) -> &'static str
 fn is_empty<S: Alter>(conn: &mut Connection<S>, table: OurTable) -> Result<bool, Refusal>
     ensures reason { IfErr result (λ reason. reason ≡ OpenFailed) }
     ensures sees { Sees S.Store (IsEmpty table) conn.old conn.new result }
-    ensures finds { Finds S.Store (ShowsNoRow S.Store conn.old table) conn.old conn.new result }
+    ensures finds { Finds S.Store (ShowsNoRow S.Store conn.old table) (ShowsSomeRow S.Store conn.old table) conn.old conn.new result }
 {
     match conn.query_all(look_at(table), &[]) {
         Ok(rows) => Ok(rows.is_empty()),
@@ -209,7 +209,7 @@ fn is_empty<S: Alter>(conn: &mut Connection<S>, table: OurTable) -> Result<bool,
 fn are_empty<S: Alter>(conn: &mut Connection<S>) -> Result<bool, Refusal>
     ensures reason { IfErr result (λ reason. reason ≡ OpenFailed) }
     ensures sees { Sees S.Store AreEmpty conn.old conn.new result }
-    ensures finds { Finds S.Store ((table : OneTable) → ShowsNoRow S.Store conn.old table) conn.old conn.new result }
+    ensures finds { Finds S.Store ((table : OneTable) → ShowsNoRow S.Store conn.old table) (ShowsContents S.Store conn.old) conn.old conn.new result }
 {
     if !is_empty(conn, OurTable::Meta)? {
         return Ok(false);
@@ -227,7 +227,7 @@ fn are_empty<S: Alter>(conn: &mut Connection<S>) -> Result<bool, Refusal>
 fn names_format_1<S: Alter>(conn: &mut Connection<S>) -> Result<bool, Refusal>
     ensures reason { IfErr result (λ reason. reason ≡ OpenFailed) }
     ensures sees { Sees S.Store NamesFormat1 conn.old conn.new result }
-    ensures finds { Finds S.Store (ShowsFormat1 S.Store conn.old) conn.old conn.new result }
+    ensures finds { Finds S.Store (ShowsFormat1 S.Store conn.old) (ShowsOtherFormat S.Store conn.old) conn.old conn.new result }
 {
     // Recalls that the rows are as the schema has them.
     let _live = conn.schema();
@@ -241,7 +241,7 @@ fn names_format_1<S: Alter>(conn: &mut Connection<S>) -> Result<bool, Refusal>
 fn is_due<S: Alter>(conn: &mut Connection<S>) -> Result<bool, Refusal>
     ensures reason { IfErr result (λ reason. reason ≡ OpenFailed) }
     ensures sees { Sees S.Store IsDue conn.old conn.new result }
-    ensures finds { Finds S.Store (ShowsFormat1 S.Store conn.old × ShowsNoRow S.Store conn.old Suppress) conn.old conn.new result }
+    ensures finds { Finds S.Store (ShowsDue S.Store conn.old) (ShowsNotDue S.Store conn.old) conn.old conn.new result }
 {
     if !names_format_1(conn)? {
         return Ok(false);
@@ -253,7 +253,8 @@ fn is_due<S: Alter>(conn: &mut Connection<S>) -> Result<bool, Refusal>
 /// prefixes. Any other file stays as it is.
 ///
 /// After `Ok` that has happened, and nothing else has changed. A crash leaves what it could leave before, or the file so
-/// migrated. Of files whose first tables are not the four, only the statements that ran are known.
+/// migrated. Of a file whose first tables are others it is known which statements ran. The format was set exactly where
+/// `meta` showed the row of format 1 and `suppress` no row.
 ///
 /// # Errors
 ///

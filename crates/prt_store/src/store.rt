@@ -19,6 +19,7 @@ ghost use Rattle.prt_store.specs.Loaded.{StaysSettled};
 ghost use Rattle.prt_store.specs.Made.{MakesChange, MakesChanges};
 ghost use Rattle.prt_store.specs.Next.{AreNext, IsNext, MakesNext, put_all};
 ghost use Rattle.prt_store.specs.Openings.{HasDone};
+ghost use Rattle.prt_store.specs.Shown.{ShowsDamage, ShowsState};
 ghost use Rattle.prt_store.specs.Stops.{AllStoppedIn, MakesAllCalls, MakesCalls, StoppedIn};
 ghost use Rattle.prt_store.specs.Stored.{Stores};
 ghost use Rattle.prt_store.specs.Written.{CommitsNothing};
@@ -69,26 +70,28 @@ impl<S: Alter + Drop> Store<S> {
         self.conn
     }
 
-    /// Gives the version that the tables spell. After `Ok` nothing is changed; a crash leaves in any case what it could
+    /// Gives the version whose rows the four SELECTs showed, whatever other tables the file has. Where the first tables are
+    /// the four, it is the one that they spell. After `Ok` nothing is changed; a crash leaves in any case what it could
     /// leave before.
     ///
     /// # Errors
     ///
-    /// `Damaged` only where the tables spell no state; `OpenFailed` where a store call fails; `NoMemory`. The tables
-    /// are as they were, if the connection is still open and nothing was pending on it.
+    /// `Damaged` only where the rows that were shown spell no state; `OpenFailed` where a store call fails; `NoMemory`. The
+    /// tables are as they were, if the connection is still open and nothing was pending on it.
     pub fn load(&mut self, alloc: Global) -> Result<Version, Refusal>
+        ensures shown { HasCleanDisk (state S.Store self.new.conn) → IfOk result (ShowsState S.Store self.old.conn) }
         ensures ok { HasCleanDisk (state S.Store self.new.conn) → IsFormat2 (state S.Store self.old.conn).now.schema →
             IfOk result (Stores (state S.Store self.old.conn).now) }
         ensures damaged { HasCleanDisk (state S.Store self.new.conn) → IsFormat2 (state S.Store self.old.conn).now.schema →
             IfErr result (λ reason. reason ≡ Damaged → (stored : State) → Stores (state S.Store self.old.conn).now stored → ⊥) }
+        ensures damage { HasCleanDisk (state S.Store self.new.conn) → IfErr result (λ reason. reason ≡ Damaged → ShowsDamage S.Store self.old.conn) }
         ensures reason { IfErr result IsOpenRefusal }
-        ensures same { HasCleanDisk (state S.Store self.new.conn) → IsFormat2 (state S.Store self.old.conn).now.schema →
+        ensures same { HasCleanDisk (state S.Store self.new.conn) →
             OnOk result (IsUnchanged (state S.Store self.old.conn) (state S.Store self.new.conn)) }
-        ensures sound { HasCleanDisk (state S.Store self.new.conn) → IsFormat2 (state S.Store self.old.conn).now.schema →
-            OnOk result (IsDatabase (state S.Store self.new.conn).now) }
-        ensures err { HasCleanDisk (state S.Store self.new.conn) → IsFormat2 (state S.Store self.old.conn).now.schema → IsTrue (state S.Store self.new.conn).is_open →
+        ensures sound { HasCleanDisk (state S.Store self.new.conn) → OnOk result (IsDatabase (state S.Store self.new.conn).now) }
+        ensures err { HasCleanDisk (state S.Store self.new.conn) → IsTrue (state S.Store self.new.conn).is_open →
             IsSettled S.Store self.old.conn → OnErr result (StaysSettled S.Store self.old.conn self.new.conn) }
-        ensures quiet { (HasCleanDisk (state S.Store self.old.conn) → IsFormat2 (state S.Store self.old.conn).now.schema) → CommitsNothing S.Store self.old.conn self.new.conn }
+        ensures quiet { CommitsNothing S.Store self.old.conn self.new.conn }
     {
         // Recalls that the rows are as the schema has them.
         let _live = self.conn.schema();

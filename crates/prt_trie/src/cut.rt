@@ -12,6 +12,7 @@ pub(crate) const PIECES: usize = 257;
 pub(crate) enum Cut {
     FirstOctet,
     SecondOctet,
+    ThirdOctet,
 }
 
 impl Cut {
@@ -22,6 +23,15 @@ impl Cut {
         match self {
             Cut::FirstOctet => 8,
             Cut::SecondOctet => 16,
+            Cut::ThirdOctet => 24,
+        }
+    }
+
+    /// Gives the octet before this one; the first has none before it.
+    pub fn before(self) -> Cut {
+        match self {
+            Cut::FirstOctet | Cut::SecondOctet => Cut::FirstOctet,
+            Cut::ThirdOctet => Cut::SecondOctet,
         }
     }
 
@@ -33,6 +43,7 @@ impl Cut {
         let octet = match self {
             Cut::FirstOctet => addr.0 >> 24,
             Cut::SecondOctet => (addr.0 >> 16) % 256,
+            Cut::ThirdOctet => (addr.0 >> 8) % 256,
         };
         octet as usize + 1
     }

@@ -3,6 +3,7 @@ ghost use Rattle.std.specs.Prelude.{◌≡◌, IfOk};
 ghost use Rattle.prt_route.specs.Edit.{after_edit};
 ghost use Rattle.prt_trie.specs.Table.{IsTable};
 
+use crate::cut::Cut;
 use crate::edit::rows_after;
 use crate::index::Index;
 use crate::piece::Piece;
@@ -59,6 +60,10 @@ impl Leaf {
 
 impl Piece for Leaf {
     ghost routes = { λ leaf. leaf };
+
+    fn cut() -> Cut {
+        Cut::ThirdOctet
+    }
 
     fn from_sorted(alloc: Global, rows: Vec<Route>) -> Result<Leaf, Refusal> {
         let given = rows.as_slice();

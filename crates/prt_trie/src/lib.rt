@@ -1,6 +1,7 @@
 //! Tables of routes, and spans of addresses that find the best route for an address.
 #![tactic(auto)]
 
+mod branch;
 mod cut;
 mod directory;
 mod edit;

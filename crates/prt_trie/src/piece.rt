@@ -1,4 +1,5 @@
 //! What the pieces of a table or a tree can do.
+use crate::cut::Cut;
 use prt_route::{Addr, Refusal, Route, RouteChoice, RouteEdit, RouteKey, Selector};
 use std::alloc::{AllocError, Global};
 
@@ -18,6 +19,9 @@ pub(crate) trait Piece: Sized + Drop {
 
     /// The routes in the order of listings.
     ghost routes: { Self → List Row };
+
+    /// Gives the octet by which routes are told apart into pieces of this kind.
+    fn cut() -> Cut;
 
     /// Makes the piece of the rows, which stand in the order of listings.
     ///

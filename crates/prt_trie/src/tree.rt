@@ -1,3 +1,4 @@
+//! The routes of one first octet, or the short ones of a table.
 ghost use Rattle.std.specs.Prelude.{◌≡◌, ℕ, length, IfErr, IfOk, IsPermutation, option_map};
 ghost use Rattle.std.specs.List.{IsDistinct};
 ghost use Rattle.std.specs.Option.{option_copied};
@@ -8,34 +9,23 @@ ghost use Rattle.prt_route.specs.Route.{key_of};
 ghost use Rattle.prt_route.specs.RouteChoice.{chosen_route};
 ghost use Rattle.prt_trie.specs.Table.{IsOfOneTable, IsOfTable, IsRising, IsTable, has_same_key};
 
+use crate::branch::Branch;
 use crate::cut::Cut;
 use crate::leaf::Leaf;
 use crate::piece::Piece;
-use crate::pieces::Pieces;
-use crate::rows::{read_all, sorted_rows};
+use crate::rows::sorted_rows;
 use crate::{Addr, Refusal, Route, RouteChoice, RouteKey};
 use prt_route::{RouteEdit, Selector};
 use std::alloc::{AllocError, Global};
 use std::marker::Model;
 
-/// How many routes have one index. More of them are split by their second octet.
-const MOST_OF_LEAF: usize = 512;
-
-/// How many routes stay split. Fewer of them get one index again; the limits lie apart, so that no route moves them all
-/// each time that it comes and goes.
-const LEAST_OF_SPLIT: usize = 256;
-
 /// The routes of one table by address, length and metric.
+///
+/// Where they are many they are in pieces by the second octet, and where those are by the third. Trees before and after an
+/// edit share the pieces that it leaves as they are.
 #[derive(Drop)]
 pub struct Tree {
-    shape: Shape,
-}
-
-/// The routes with one index, or in pieces by the second octet that trees before and after an edit share.
-#[derive(Drop)]
-enum Shape {
-    Whole(Leaf),
-    Split(Pieces<Leaf>),
+    branch: Branch<Branch<Leaf>>,
 }
 
 impl Model for Tree {
@@ -44,30 +34,10 @@ impl Model for Tree {
 
     ghost Value = { List Row };
 
-    ghost use Rattle.prt_trie.specs.Shape.{rows_of};
-
-    ghost view = { λ tree. rows_of tree.shape };
+    ghost view = { λ tree. tree.branch };
 }
 
 impl Tree {
-    /// Makes the tree of the pieces after an edit, which get one index again where they have few routes left.
-    ///
-    /// # Errors
-    ///
-    /// `NoMemory` alone.
-    fn of_pieces(pieces: Pieces<Leaf>) -> Result<Tree, Refusal>
-        ensures value { IfOk result (λ tree. tree ≡ pieces.1) }
-        ensures reason { IfErr result (λ reason. reason ≡ NoMemory) }
-    {
-        let shape = if pieces.len() < LEAST_OF_SPLIT {
-            let rows = pieces.rows()?;
-            Shape::Whole(Leaf::from_sorted(*rows.allocator(), rows)?)
-        } else {
-            Shape::Split(pieces)
-        };
-        Ok(Tree { shape })
-    }
-
     /// Makes the tree of the routes of one table, given in any order, each with a key of its own.
     ///
     /// # Errors
@@ -88,10 +58,7 @@ impl Tree {
     pub fn find(&self, addr: Addr) -> Option<&Route>
         ensures { (table : ℕ) → IsOfTable table self.now → option_copied result ≡ best self.now table addr }
     {
-        match &self.shape {
-            Shape::Whole(leaf) => leaf.find(addr),
-            Shape::Split(pieces) => pieces.find(addr),
-        }
+        self.branch.find(addr)
     }
 
     /// Makes a copy of the routes by address, length and metric.
@@ -104,10 +71,7 @@ impl Tree {
         ensures table { IfOk result (λ rows. IsTable rows.items) }
         ensures reason { IfErr result (λ reason. reason ≡ NoMemory) }
     {
-        let rows = match &self.shape {
-            Shape::Whole(leaf) => leaf.rows()?,
-            Shape::Split(pieces) => pieces.rows()?,
-        };
+        let rows = self.branch.rows()?;
         Ok(rows)
     }
 
@@ -116,20 +80,14 @@ impl Tree {
         ensures value { result ≡ length self.now }
         ensures table { IsTable self.now }
     {
-        match &self.shape {
-            Shape::Whole(leaf) => leaf.as_slice().len(),
-            Shape::Split(pieces) => pieces.len(),
-        }
+        self.branch.count()
     }
 
     /// Tells whether one of the routes has the key.
     pub fn holds(&self, key: &RouteKey) -> bool
         ensures { result ≡ has_key key.now self.now }
     {
-        match &self.shape {
-            Shape::Whole(leaf) => leaf.holds(key),
-            Shape::Split(pieces) => pieces.holds(key),
-        }
+        self.branch.holds(key)
     }
 
     /// Gives the key of the route of lowest metric among those that the choice takes, if it takes one (`ip-route(8)`,
@@ -137,35 +95,25 @@ impl Tree {
     pub fn choose(&self, choice: &RouteChoice) -> Option<RouteKey>
         ensures { result ≡ option_map key_of (chosen_route choice.now self.now) }
     {
-        match &self.shape {
-            Shape::Whole(leaf) => leaf.choose(choice),
-            Shape::Split(pieces) => pieces.choose(choice),
-        }
+        self.branch.choose(choice)
     }
 }
 
 impl Piece for Tree {
     ghost routes = { λ tree. tree };
 
+    fn cut() -> Cut {
+        Cut::FirstOctet
+    }
+
     fn from_sorted(alloc: Global, rows: Vec<Route>) -> Result<Tree, Refusal> {
-        let given = rows.as_slice();
-        read_all(given);
-        let shape = if given.len() > MOST_OF_LEAF {
-            Shape::Split(Pieces::from_sorted(alloc, Cut::SecondOctet, given)?)
-        } else {
-            Shape::Whole(Leaf::from_sorted(alloc, rows)?)
-        };
-        Ok(Tree { shape })
+        let branch = Branch::from_sorted(alloc, rows)?;
+        Ok(Tree { branch })
     }
 
     fn with_change(&self, edit: &RouteEdit) -> Result<Tree, Refusal> {
-        match &self.shape {
-            Shape::Whole(leaf) => {
-                let rows = leaf.rows_after(edit)?;
-                Tree::from_sorted(*rows.allocator(), rows)
-            }
-            Shape::Split(pieces) => Tree::of_pieces(pieces.with_change(edit)?),
-        }
+        let branch = self.branch.with_change(edit)?;
+        Ok(Tree { branch })
     }
 
     fn len(&self) -> usize {
@@ -173,17 +121,11 @@ impl Piece for Tree {
     }
 
     fn push_rows(&self, rows: &mut Vec<Route>) -> Result<(), AllocError> {
-        match &self.shape {
-            Shape::Whole(leaf) => leaf.push_rows(rows),
-            Shape::Split(pieces) => pieces.push_rows(rows),
-        }
+        self.branch.push_rows(rows)
     }
 
     fn takes_any(&self, selector: &Selector) -> bool {
-        match &self.shape {
-            Shape::Whole(leaf) => leaf.takes_any(selector),
-            Shape::Split(pieces) => pieces.takes_any(selector),
-        }
+        self.branch.takes_any(selector)
     }
 
     fn find(&self, addr: Addr) -> Option<&Route> {

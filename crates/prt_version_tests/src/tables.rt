@@ -215,3 +215,31 @@ fn random_tables_of_one_octet(rt: HostRuntime) -> Result<(), Fail> {
     }
     Ok(())
 }
+
+/// Removes all rows of the table, one after the other, and compares what is left with a scan on the way.
+fn empty_again(rt: &impl Abort, alloc: Global, table: Table) -> Result<(), Fail> {
+    let rows = table.rows()?;
+    let mut left = table;
+    for row in &rows {
+        left = left.with_change(&RouteEdit::Remove(row.key()))?;
+        if left.len() == 300 || left.len() == 30 {
+            compare_ends(rt, alloc, &left)?;
+        }
+    }
+    assert_eq!(rt; left.len(), 0);
+    Ok(())
+}
+
+#[test]
+fn random_tables_of_one_network(rt: HostRuntime) -> Result<(), Fail> {
+    // A gateway's clients, in one block of 16 bits: more routes than one leaf has.
+    let area = Area {
+        bases: &[0x0a080000],
+        spread: 0x0000ffff,
+    };
+    let mut random = Random(0x853c49e6748fea9b);
+    let table = random_table(rt.alloc(), &mut random, area, 2_000)?;
+    assert!(rt; table.len() > 800);
+    compare_ends(&rt, rt.alloc(), &table)?;
+    empty_again(&rt, rt.alloc(), table)
+}

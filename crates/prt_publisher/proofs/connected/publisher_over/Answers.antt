@@ -11,6 +11,9 @@ returns-in-Ok-adopt-clause-ok g c =
     let says = c.in-Ok-adopt.ensures in
     let opened : HasOpened g.S.Store c.in-Ok.conn made.tables (line_state made.line) = record {
       sound = says.sound;
+      suits = says.other_columns;
+      does = says.does;
+      shown = says.shown;
       adopts = λ clean begins.
           ((says.own (says.format.1 begins, clean)).0, subst (λ (p : Phase). Agrees g.S.Store p made.commands (line_state made.line) made.tables) says.ready.0 (says.stands (says.format.1 begins, clean)));
       found = λ clean is_open stored spells. let found = says.found clean is_open stored spells in (says.format.0 found.0, found.1);
@@ -21,5 +24,5 @@ returns-in-Ok-adopt-clause-ok g c =
 pub returns-in-Err-adopt-clause-err : goal.returns-in-Err-adopt-clause-err
 returns-in-Err-adopt-clause-err g c =
     let says = c.in-Err-adopt.ensures in
-    let refused : HasRefused g.S.Store c.in-Ok.conn c.in-Err-adopt.conn c.in-Err-adopt.refusal = record { why = says.reason; damaged = says.damaged; part = says.err; lasts = says.crash_err } in
+    let refused : HasRefused g.S.Store c.in-Ok.conn c.in-Err-adopt.conn c.in-Err-adopt.refusal = record { why = says.reason; damaged = says.damaged; other_columns = says.other_columns; part = says.err; lasts = says.crash_err } in
     record { was = c.in-Ok.conn; found = c.in-Ok.is; refused = refused }

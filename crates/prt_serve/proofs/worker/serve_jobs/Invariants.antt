@@ -8,5 +8,6 @@ invariant-loop-job g l = record {
   of_book : l.looker.known.book ≡ g.J.Naming.book;
   of_base : l.looker.known.base ≡ g.J.Naming.base;
   grows : Begins l.fn.looker.known l.looker.known;
-  served : ServesEach g.R.Read.remaining g.W.Write.contents l.fn.looker.known l.yielded l.looker.known;
+  served : ServesEach g.R.Read.remaining g.W.Write.contents (λ to left later. goal.F-step g to left tt later) l.fn.looker.known l.fn.after l.yielded l.looker.known l.after;
+  callable : goal.F-IsAlwaysCallable g l.after;
 }

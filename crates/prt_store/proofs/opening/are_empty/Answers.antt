@@ -1,8 +1,9 @@
-use Rattle.std.proofs.Common.{Err, Ok, false, subst}
+use Rattle.std.proofs.Common.{Err, Ok, false, true, subst}
 use Rattle.prt_rows.specs.Effects.{AreEmpty}
-use Rattle.prt_store.proofs.Anywhere.{asked_all, finds_as, finds_fails, finds_four, finds_not, finds_three, finds_two}
+use Rattle.prt_store.proofs.Anywhere.{asked_all, finds_as, finds_fails, finds_first, finds_next, finds_not}
 use Rattle.prt_store.proofs.Looks.{all_empty, no_length_rows, no_meta_rows, no_route_rows, no_rule_rows, sees_both, sees_fails, sees_not, sees_same}
-use Rattle.prt_store.specs.Openings.{Finds, IsEmpty, Sees, ShowsNoRow}
+use Rattle.prt_store.specs.Openings.{Finds, IsEmpty, Sees}
+use Rattle.prt_store.specs.Shown.{ShowsContents, ShowsNoRow, ShowsSomeRow}
 use Rattle.prt_store.specs.declared.opening.OurTable.{OurTable}
 use Rattle.prt_store.specs.declared.opening.OurTable.TheVariants.{Meta, Route, Rule, Suppress}
 use Rattle.prt_store.proofs.opening.are_empty.Goals as goal
@@ -74,17 +75,20 @@ returns-clause-sees g c =
     sees_same g.S.Store (λ db. IsEmpty Meta db × (IsEmpty Rule db × (IsEmpty Route db × IsEmpty Suppress db))) AreEmpty start fourth c.is_empty-4.result (λ db t none. all_empty db none)
     (λ db t empty. (no_meta_rows db t empty, (no_rule_rows db t empty, (no_route_rows db t empty, no_length_rows db t empty)))) all
 
+-- no table before was found to have a row
 pub returns-in_err-is_empty-clause-finds : goal.returns-in_err-is_empty-clause-finds
 returns-in_err-is_empty-clause-finds g c =
     let start = c.args.conn.now in
-    finds_fails g.S.Store (ShowsNoRow g.S.Store start Meta) ((table : OurTable) → ShowsNoRow g.S.Store start table) start c.is_empty.new.conn c.in_err-is_empty.field-0.0 c.from_residual.result c.from_residual.ensures.0 c.in_err-is_empty.ensures.finds
+    finds_fails g.S.Store (ShowsNoRow g.S.Store start Meta) ((table : OurTable) → ShowsNoRow g.S.Store start table) (ShowsSomeRow g.S.Store start Meta) start c.is_empty.new.conn (ShowsContents g.S.Store start) c.in_err-is_empty.field-0.0 c.from_residual.result c.from_residual.ensures.0
+    c.in_err-is_empty.ensures.finds
 
 pub returns-then-not-branch-clause-finds : goal.returns-then-not-branch-clause-finds
 returns-then-not-branch-clause-finds g c =
     let start = c.args.conn.now in
     let first = c.is_empty.new.conn in
     let none = ShowsNoRow g.S.Store start Meta in
-    finds_not g.S.Store none ((table : OurTable) → ShowsNoRow g.S.Store start table) start first (subst (λ b. Finds g.S.Store none start first (Ok b)) c.if-not-branch.true c.in_ok-is_empty.ensures.finds)
+    finds_not g.S.Store none ((table : OurTable) → ShowsNoRow g.S.Store start table) (ShowsContents g.S.Store start) start first
+    (finds_first g.S.Store Meta start first (Ok false) (subst (λ b. Finds g.S.Store none (ShowsSomeRow g.S.Store start Meta) start first (Ok b)) c.if-not-branch.true c.in_ok-is_empty.ensures.finds))
 
 pub returns-in_err-is_empty-2-clause-finds : goal.returns-in_err-is_empty-2-clause-finds
 returns-in_err-is_empty-2-clause-finds g c =
@@ -92,10 +96,11 @@ returns-in_err-is_empty-2-clause-finds g c =
     let first = c.is_empty.new.conn in
     let second = c.is_empty-2.new.conn in
     let none = ShowsNoRow g.S.Store start in
-    let one = subst (λ b. Finds g.S.Store (none Meta) start first (Ok b)) c.if-not-branch.false c.in_ok-is_empty.ensures.finds in
+    let contents = ShowsContents g.S.Store start in
+    let one = finds_first g.S.Store Meta start first (Ok true) (subst (λ b. Finds g.S.Store (none Meta) (ShowsSomeRow g.S.Store start Meta) start first (Ok b)) c.if-not-branch.false c.in_ok-is_empty.ensures.finds) in
     let reason = c.in_err-is_empty-2.field-0.0 in
-    finds_fails g.S.Store (none Meta × none Rule) ((table : OurTable) → none table) start second reason c.from_residual-in_err-is_empty-2.result c.from_residual-in_err-is_empty-2.ensures.0
-    (finds_two g.S.Store Meta Rule start first second (Err reason) one c.in_err-is_empty-2.ensures.finds)
+    finds_fails g.S.Store (none Meta × none Rule) ((table : OurTable) → none table) contents start second contents reason c.from_residual-in_err-is_empty-2.result c.from_residual-in_err-is_empty-2.ensures.0
+    (finds_next g.S.Store (none Meta) Rule start first second (Err reason) one c.in_err-is_empty-2.ensures.finds)
 
 pub returns-then-not-branch-2-clause-finds : goal.returns-then-not-branch-2-clause-finds
 returns-then-not-branch-2-clause-finds g c =
@@ -103,9 +108,9 @@ returns-then-not-branch-2-clause-finds g c =
     let first = c.is_empty.new.conn in
     let second = c.is_empty-2.new.conn in
     let none = ShowsNoRow g.S.Store start in
-    let one = subst (λ b. Finds g.S.Store (none Meta) start first (Ok b)) c.if-not-branch.false c.in_ok-is_empty.ensures.finds in
-    let two = subst (λ b. Finds g.S.Store (ShowsNoRow g.S.Store first Rule) first second (Ok b)) c.if-not-branch-2.true c.in_ok-is_empty-2.ensures.finds in
-    finds_not g.S.Store (none Meta × none Rule) ((table : OurTable) → none table) start second (finds_two g.S.Store Meta Rule start first second (Ok false) one two)
+    let one = finds_first g.S.Store Meta start first (Ok true) (subst (λ b. Finds g.S.Store (none Meta) (ShowsSomeRow g.S.Store start Meta) start first (Ok b)) c.if-not-branch.false c.in_ok-is_empty.ensures.finds) in
+    let two = subst (λ b. Finds g.S.Store (ShowsNoRow g.S.Store first Rule) (ShowsSomeRow g.S.Store first Rule) first second (Ok b)) c.if-not-branch-2.true c.in_ok-is_empty-2.ensures.finds in
+    finds_not g.S.Store (none Meta × none Rule) ((table : OurTable) → none table) (ShowsContents g.S.Store start) start second (finds_next g.S.Store (none Meta) Rule start first second (Ok false) one two)
 
 pub returns-in_err-is_empty-3-clause-finds : goal.returns-in_err-is_empty-3-clause-finds
 returns-in_err-is_empty-3-clause-finds g c =
@@ -114,11 +119,12 @@ returns-in_err-is_empty-3-clause-finds g c =
     let second = c.is_empty-2.new.conn in
     let third = c.is_empty-3.new.conn in
     let none = ShowsNoRow g.S.Store start in
-    let one = subst (λ b. Finds g.S.Store (none Meta) start first (Ok b)) c.if-not-branch.false c.in_ok-is_empty.ensures.finds in
-    let two = subst (λ b. Finds g.S.Store (ShowsNoRow g.S.Store first Rule) first second (Ok b)) c.if-not-branch-2.false c.in_ok-is_empty-2.ensures.finds in
+    let contents = ShowsContents g.S.Store start in
+    let one = finds_first g.S.Store Meta start first (Ok true) (subst (λ b. Finds g.S.Store (none Meta) (ShowsSomeRow g.S.Store start Meta) start first (Ok b)) c.if-not-branch.false c.in_ok-is_empty.ensures.finds) in
+    let two = finds_next g.S.Store (none Meta) Rule start first second (Ok true) one (subst (λ b. Finds g.S.Store (ShowsNoRow g.S.Store first Rule) (ShowsSomeRow g.S.Store first Rule) first second (Ok b)) c.if-not-branch-2.false c.in_ok-is_empty-2.ensures.finds) in
     let reason = c.in_err-is_empty-3.field-0.0 in
-    finds_fails g.S.Store (none Meta × (none Rule × none Route)) ((table : OurTable) → none table) start third reason c.from_residual-in_err-is_empty-3.result c.from_residual-in_err-is_empty-3.ensures.0
-    (finds_three g.S.Store Meta Rule start first second Route third (Err reason) one two c.in_err-is_empty-3.ensures.finds)
+    finds_fails g.S.Store ((none Meta × none Rule) × none Route) ((table : OurTable) → none table) contents start third contents reason c.from_residual-in_err-is_empty-3.result c.from_residual-in_err-is_empty-3.ensures.0
+    (finds_next g.S.Store (none Meta × none Rule) Route start second third (Err reason) two c.in_err-is_empty-3.ensures.finds)
 
 pub returns-then-not-branch-3-clause-finds : goal.returns-then-not-branch-3-clause-finds
 returns-then-not-branch-3-clause-finds g c =
@@ -127,10 +133,10 @@ returns-then-not-branch-3-clause-finds g c =
     let second = c.is_empty-2.new.conn in
     let third = c.is_empty-3.new.conn in
     let none = ShowsNoRow g.S.Store start in
-    let one = subst (λ b. Finds g.S.Store (none Meta) start first (Ok b)) c.if-not-branch.false c.in_ok-is_empty.ensures.finds in
-    let two = subst (λ b. Finds g.S.Store (ShowsNoRow g.S.Store first Rule) first second (Ok b)) c.if-not-branch-2.false c.in_ok-is_empty-2.ensures.finds in
-    let three = subst (λ b. Finds g.S.Store (ShowsNoRow g.S.Store second Route) second third (Ok b)) c.if-not-branch-3.true c.in_ok-is_empty-3.ensures.finds in
-    finds_not g.S.Store (none Meta × (none Rule × none Route)) ((table : OurTable) → none table) start third (finds_three g.S.Store Meta Rule start first second Route third (Ok false) one two three)
+    let one = finds_first g.S.Store Meta start first (Ok true) (subst (λ b. Finds g.S.Store (none Meta) (ShowsSomeRow g.S.Store start Meta) start first (Ok b)) c.if-not-branch.false c.in_ok-is_empty.ensures.finds) in
+    let two = finds_next g.S.Store (none Meta) Rule start first second (Ok true) one (subst (λ b. Finds g.S.Store (ShowsNoRow g.S.Store first Rule) (ShowsSomeRow g.S.Store first Rule) first second (Ok b)) c.if-not-branch-2.false c.in_ok-is_empty-2.ensures.finds) in
+    let three = subst (λ b. Finds g.S.Store (ShowsNoRow g.S.Store second Route) (ShowsSomeRow g.S.Store second Route) second third (Ok b)) c.if-not-branch-3.true c.in_ok-is_empty-3.ensures.finds in
+    finds_not g.S.Store ((none Meta × none Rule) × none Route) ((table : OurTable) → none table) (ShowsContents g.S.Store start) start third (finds_next g.S.Store (none Meta × none Rule) Route start second third (Ok false) two three)
 
 pub returns-clause-finds : goal.returns-clause-finds
 returns-clause-finds g c =
@@ -140,8 +146,9 @@ returns-clause-finds g c =
     let third = c.is_empty-3.new.conn in
     let fourth = c.is_empty-4.new.conn in
     let none = ShowsNoRow g.S.Store start in
-    let one = subst (λ b. Finds g.S.Store (none Meta) start first (Ok b)) c.if-not-branch.false c.in_ok-is_empty.ensures.finds in
-    let two = subst (λ b. Finds g.S.Store (ShowsNoRow g.S.Store first Rule) first second (Ok b)) c.if-not-branch-2.false c.in_ok-is_empty-2.ensures.finds in
-    let three = subst (λ b. Finds g.S.Store (ShowsNoRow g.S.Store second Route) second third (Ok b)) c.if-not-branch-3.false c.in_ok-is_empty-3.ensures.finds in
-    finds_as g.S.Store (none Meta × (none Rule × (none Route × none Suppress))) ((table : OurTable) → none table) start fourth c.is_empty-4.result (asked_all g.S.Store start)
-    (finds_four g.S.Store Meta Rule Route Suppress start first second third fourth c.is_empty-4.result one two three c.is_empty-4.ensures.finds)
+    let contents = ShowsContents g.S.Store start in
+    let one = finds_first g.S.Store Meta start first (Ok true) (subst (λ b. Finds g.S.Store (none Meta) (ShowsSomeRow g.S.Store start Meta) start first (Ok b)) c.if-not-branch.false c.in_ok-is_empty.ensures.finds) in
+    let two = finds_next g.S.Store (none Meta) Rule start first second (Ok true) one (subst (λ b. Finds g.S.Store (ShowsNoRow g.S.Store first Rule) (ShowsSomeRow g.S.Store first Rule) first second (Ok b)) c.if-not-branch-2.false c.in_ok-is_empty-2.ensures.finds) in
+    let three = finds_next g.S.Store (none Meta × none Rule) Route start second third (Ok true) two (subst (λ b. Finds g.S.Store (ShowsNoRow g.S.Store second Route) (ShowsSomeRow g.S.Store second Route) second third (Ok b)) c.if-not-branch-3.false c.in_ok-is_empty-3.ensures.finds) in
+    finds_as g.S.Store (((none Meta × none Rule) × none Route) × none Suppress) ((table : OurTable) → none table) contents start fourth contents c.is_empty-4.result (asked_all g.S.Store start) (λ some. some)
+    (finds_next g.S.Store ((none Meta × none Rule) × none Route) Suppress start third fourth c.is_empty-4.result three c.is_empty-4.ensures.finds)

@@ -1,7 +1,8 @@
-use Rattle.std.proofs.Common.{Ok, subst}
-use Rattle.prt_store.proofs.Anywhere.{finds_fails, finds_format, finds_not}
+use Rattle.std.proofs.Common.{Ok, false, inl, subst}
+use Rattle.prt_store.proofs.Anywhere.{finds_as, finds_fails, finds_format, finds_not}
 use Rattle.prt_store.proofs.Looks.{is_due_if, named_if_due, sees_both, sees_fails, sees_not, sees_same}
-use Rattle.prt_store.specs.Openings.{Finds, IsDue, IsEmpty, NamesFormat1, Sees, ShowsFormat1, ShowsNoRow}
+use Rattle.prt_store.specs.Openings.{Finds, IsDue, IsEmpty, NamesFormat1, Sees}
+use Rattle.prt_store.specs.Shown.{ShowsDue, ShowsFormat1, ShowsNotDue, ShowsOtherFormat}
 use Rattle.prt_store.specs.declared.opening.OurTable.TheVariants.{Suppress}
 use Rattle.prt_store.proofs.opening.is_due.Goals as goal
 
@@ -26,7 +27,7 @@ returns-clause-sees g c =
 pub returns-in_err-names_format_1-clause-finds : goal.returns-in_err-names_format_1-clause-finds
 returns-in_err-names_format_1-clause-finds g c =
     let start = c.args.conn.now in
-    finds_fails g.S.Store (ShowsFormat1 g.S.Store start) (ShowsFormat1 g.S.Store start × ShowsNoRow g.S.Store start Suppress) start c.names_format_1.new.conn c.in_err-names_format_1.field-0.0 c.from_residual.result c.from_residual.ensures.0
+    finds_fails g.S.Store (ShowsFormat1 g.S.Store start) (ShowsDue g.S.Store start) (ShowsOtherFormat g.S.Store start) start c.names_format_1.new.conn (ShowsNotDue g.S.Store start) c.in_err-names_format_1.field-0.0 c.from_residual.result c.from_residual.ensures.0
     c.in_err-names_format_1.ensures.finds
 
 pub returns-then-not-branch-clause-finds : goal.returns-then-not-branch-clause-finds
@@ -34,11 +35,14 @@ returns-then-not-branch-clause-finds g c =
     let start = c.args.conn.now in
     let first = c.names_format_1.new.conn in
     let named = ShowsFormat1 g.S.Store start in
-    finds_not g.S.Store named (named × ShowsNoRow g.S.Store start Suppress) start first (subst (λ b. Finds g.S.Store named start first (Ok b)) c.if-not-branch.true c.in_ok-names_format_1.ensures.finds)
+    let other = ShowsOtherFormat g.S.Store start in
+    let not_due = ShowsNotDue g.S.Store start in
+    finds_not g.S.Store named (ShowsDue g.S.Store start) not_due start first
+    (finds_as g.S.Store named named other start first not_due (Ok false) (λ it. it) (λ it. inl it) (subst (λ b. Finds g.S.Store named other start first (Ok b)) c.if-not-branch.true c.in_ok-names_format_1.ensures.finds))
 
 pub returns-clause-finds : goal.returns-clause-finds
 returns-clause-finds g c =
     let start = c.args.conn.now in
     let first = c.names_format_1.new.conn in
-    let one = subst (λ b. Finds g.S.Store (ShowsFormat1 g.S.Store start) start first (Ok b)) c.if-not-branch.false c.in_ok-names_format_1.ensures.finds in
+    let one = subst (λ b. Finds g.S.Store (ShowsFormat1 g.S.Store start) (ShowsOtherFormat g.S.Store start) start first (Ok b)) c.if-not-branch.false c.in_ok-names_format_1.ensures.finds in
     finds_format g.S.Store start first c.is_empty.new.conn c.is_empty.result one c.is_empty.ensures.finds

@@ -2,7 +2,8 @@ use Rattle.std.proofs.Common.{Ok, subst}
 use Rattle.prt_rows.specs.Effects.{AreEmpty}
 use Rattle.prt_store.proofs.Anywhere.{does_fill, does_keep, on_none}
 use Rattle.prt_store.proofs.Openings.{look_failed, opens_filled, opens_migrated, opens_refused}
-use Rattle.prt_store.specs.Openings.{Finds, Sees, ShowsNoRow}
+use Rattle.prt_store.specs.Openings.{Finds, Sees}
+use Rattle.prt_store.specs.Shown.{ShowsContents, ShowsNoRow}
 use Rattle.prt_store.specs.declared.opening.OurTable.{OurTable}
 use Rattle.prt_store.proofs.opening.make_and_fill.Goals as goal
 
@@ -39,11 +40,11 @@ returns-then-not-branch-clause-does g c clean =
     let made = c.make_tables.new.conn in
     let seen = c.are_empty.new.conn in
     does_keep g.S.Store c.args.conn.now made seen c.in_ok-make_tables.ensures.makes c.migrate.new.conn c.migrate.result
-    (subst (λ b. Finds g.S.Store ((table : OurTable) → ShowsNoRow g.S.Store made table) made seen (Ok b)) c.if-not-branch.true c.in_ok-are_empty.ensures.finds) (c.migrate.ensures.clean clean) (c.migrate.ensures.does clean)
+    (subst (λ b. Finds g.S.Store ((table : OurTable) → ShowsNoRow g.S.Store made table) (ShowsContents g.S.Store made) made seen (Ok b)) c.if-not-branch.true c.in_ok-are_empty.ensures.finds) (c.migrate.ensures.clean clean) (c.migrate.ensures.does clean)
 
 pub returns-clause-does : goal.returns-clause-does
 returns-clause-does g c clean =
     let made = c.make_tables.new.conn in
     let seen = c.are_empty.new.conn in
-    does_fill g.S.Store c.args.conn.now made seen c.in_ok-make_tables.ensures.makes c.take.new.conn c.take.result (subst (λ b. Finds g.S.Store ((table : OurTable) → ShowsNoRow g.S.Store made table) made seen (Ok b)) c.if-not-branch.false c.in_ok-are_empty.ensures.finds)
+    does_fill g.S.Store c.args.conn.now made seen c.in_ok-make_tables.ensures.makes c.take.new.conn c.take.result (subst (λ b. Finds g.S.Store ((table : OurTable) → ShowsNoRow g.S.Store made table) (ShowsContents g.S.Store made) made seen (Ok b)) c.if-not-branch.false c.in_ok-are_empty.ensures.finds)
     c.take.ensures.commits clean

@@ -1,8 +1,8 @@
 use Rattle.std.proofs.Common.{Ok, subst}
-use Rattle.prt_store.proofs.Anywhere.{does_migrate}
+use Rattle.prt_store.proofs.Anywhere.{does_migrate, does_not_migrate}
 use Rattle.prt_store.proofs.Migrations.{is_migrated, leaves_migrated}
-use Rattle.prt_store.specs.Openings.{Finds, IsDue, Sees, ShowsFormat1, ShowsNoRow}
-use Rattle.prt_store.specs.declared.opening.OurTable.TheVariants.{Suppress}
+use Rattle.prt_store.specs.Openings.{Finds, IsDue, Sees}
+use Rattle.prt_store.specs.Shown.{ShowsDue, ShowsNotDue}
 use Rattle.prt_store.proofs.opening.migrate.Goals as goal
 
 pub returns-clause-ok : goal.returns-clause-ok
@@ -21,5 +21,11 @@ pub returns-clause-does : goal.returns-clause-does
 returns-clause-does g c clean =
     let start = c.args.conn.now in
     let seen = c.is_due.new.conn in
-    let found = ShowsFormat1 g.S.Store start × ShowsNoRow g.S.Store start Suppress in
-    does_migrate g.S.Store start seen c.take.new.conn c.take.result (subst (λ b. Finds g.S.Store found start seen (Ok b)) c.if-not-branch.false c.in_ok-is_due.ensures.finds) c.take.ensures.commits clean
+    does_migrate g.S.Store start seen c.take.new.conn c.take.result (subst (λ b. Finds g.S.Store (ShowsDue g.S.Store start) (ShowsNotDue g.S.Store start) start seen (Ok b)) c.if-not-branch.false c.in_ok-is_due.ensures.finds)
+    c.take.ensures.commits clean
+
+pub returns-then-not-branch-clause-does : goal.returns-then-not-branch-clause-does
+returns-then-not-branch-clause-does g c clean =
+    let start = c.args.conn.now in
+    let seen = c.is_due.new.conn in
+    does_not_migrate g.S.Store start seen (subst (λ b. Finds g.S.Store (ShowsDue g.S.Store start) (ShowsNotDue g.S.Store start) start seen (Ok b)) c.if-not-branch.true c.in_ok-is_due.ensures.finds) clean

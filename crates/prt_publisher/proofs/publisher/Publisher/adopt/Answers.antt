@@ -7,6 +7,15 @@ invariant_of-result g c =
     let begun = c.in-Ok.ensures.begun in
     (begun.2, omega (arith, begun.3), begun.1, tt, λ known. (c.in-Ok.ensures.opened.adopts known.1 (c.in-Ok.ensures.format.0 known.0)).1, ap (λ (l : Line). l.book) c.in-Ok.ensures.seats, ap (λ (l : Line). l.base) c.in-Ok.ensures.seats)
 
+pub returns-clause-does : goal.returns-clause-does
+returns-clause-does g c = λ clean. c.in-Ok.ensures.opened.does clean
+
+pub returns-clause-shown : goal.returns-clause-shown
+returns-clause-shown g c = λ clean. c.in-Ok.ensures.opened.shown clean
+
+pub returns-clause-other_columns : goal.returns-clause-other_columns
+returns-clause-other_columns g c others = absurd (c.in-Ok.ensures.opened.suits others)
+
 pub returns-clause-adopts : goal.returns-clause-adopts
 returns-clause-adopts g c = λ known.
     let stored = c.in-Ok.ensures.opened.adopts known.1 (c.in-Ok.ensures.format.0 known.0) in
