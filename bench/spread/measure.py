@@ -33,8 +33,7 @@ def seconds(program, lines):
         script.flush()
         least = None
         for _ in range(TURNS):
-            with open(script.name) as given:
-                _, processor = spent([program, "batch"], given.fileno())
+            _, processor = spent([program, "batch"], script.name)
             least = processor if least is None else min(least, processor)
     return least
 
