@@ -20,7 +20,7 @@ use Rattle.prt_version.specs.State.{State}
 abbrev pub Lasts : {S : Type 0} → Ghosts S → Held S → Held S → Type 0
 Lasts g was left = (HasCleanDisk (state g was) → BeginsFormat2 (state g was).now.schema) → Survives (state g was) (state g left) (LeavesPart (state g was).now)
 
--- The tables were adopted, and this state is stored in them; tables that spelled a state spelled this one. Of whatever file, none of ours had other columns. They were only made where they were missing, filled where they showed no row, or migrated; and the statements that read them show the state.
+-- The tables were adopted, and this state is stored in them; tables that spelled a state spelled this one. Of whatever file, none of ours had other columns. They were only made where they were missing, filled where none of the four showed a row, or migrated where they showed format 1 and no lengths; and the statements that read them show the state.
 pub record HasOpened {S : Type 0} (g : Ghosts S) (was made : Held S) (opened : State) : Type 0 where
   pub sound : IsSound opened
   pub suits : (SuitsFormat2 (state g was).now.schema → ⊥) → ⊥

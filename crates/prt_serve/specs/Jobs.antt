@@ -7,7 +7,7 @@ use Rattle.prt_serve.specs.declared.worker.Job.{Job}
 use Rattle.prt_serve.specs.declared.worker.Served.{Served}
 
 module _ {R W F : Type 0} (remaining : R → Option (List ℕ)) (contents : W → Option (List ℕ)) (takes : F → Served R W → F → Type 0) where
-  -- A session served the job: its lines are what the job's reader had, and its replies came after what the job's writer had. What is called after each session then took the job as it was left, with how the session had ended.
+  -- A session served the job: its lines are what the job's reader had, and its replies came after what the job's writer had; it may end by a fault before its first line. What is called after each session then took the job as it was left, with how the session had ended.
   pub record ServesJob (known0 : Line) (after0 : F) (job : Job R W) (known : Line) (after : F) : Type 0 where
     pub left : Served R W
     pub session : left.job.session ≡ job.session

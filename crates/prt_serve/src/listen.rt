@@ -45,7 +45,7 @@ pub enum Accepting {
 #[derive(Clone, Copy)]
 pub struct ServeEnd {
     pub accepting: Accepting,
-    /// Why a worker got no looker, if one did.
+    /// Why a worker got no looker, if one got none.
     pub refused: Option<Refusal>,
 }
 

@@ -68,7 +68,7 @@ fn serve_job<
 }
 
 /// Serves jobs until no more come, each with all that the looker learned from those before. A fault ends its own session
-/// alone. Gives each to `after` once its session has ended.
+/// alone. Gives each job to `after` once its session has ended.
 fn serve_jobs<
     H: Wait,
     S: Alter + Drop,
@@ -133,7 +133,7 @@ fn work_with<
 }
 
 /// Serves jobs until no more come, with a looker of its own, which then leaves. The departure has the list that it knew at
-/// the end. Gives each job to `after` once its session has ended, and takes the next when that returns.
+/// the end. Gives each job to `after` once its session has ended.
 ///
 /// # Errors
 ///

@@ -12,11 +12,10 @@ use prt_route::{Addr, Refusal, Route, RouteChoice, RouteEdit, RouteKey, Selector
 use std::alloc::{AllocError, Global};
 use std::marker::Model;
 
-/// How many routes have one index. More of them are in pieces.
+/// The most routes that get one index. More are split.
 const MOST_OF_LEAF: usize = 512;
 
-/// How many routes stay split. Fewer of them get one index again; the limits lie apart, so that no route moves them all
-/// each time that it comes and goes.
+/// The fewest routes that stay split. The limits lie apart, so that no route that comes and goes moves them all each time.
 const LEAST_OF_SPLIT: usize = 256;
 
 /// Some routes of one table: few of them with one index, and many in pieces `P`.
@@ -73,7 +72,7 @@ impl<P: Piece> Branch<P> {
         }
     }
 
-    /// Counts the routes.
+    /// Tells how many routes there are.
     pub fn count(&self) -> usize
         ensures value { result ≡ length self.now }
         ensures table { IsTable self.now }
@@ -94,6 +93,7 @@ impl<P: Piece> Piece for Branch<P> {
 
     fn from_sorted(alloc: Global, rows: Vec<Route>) -> Result<Branch<P>, Refusal> {
         let given = rows.as_slice();
+        // Recalls what the types say of each row.
         read_all(given);
         let shape = if given.len() > MOST_OF_LEAF {
             Shape::Split(Pieces::from_sorted(alloc, P::cut(), given)?)

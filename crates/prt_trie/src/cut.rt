@@ -4,7 +4,7 @@ ghost use Rattle.prt_trie.specs.Cut.{long_of, number_for, number_in};
 
 use prt_route::{Addr, Prefix};
 
-/// How many pieces there are: one of the prefixes that are too short, and one for each octet of the others.
+/// How many pieces there are: one of the prefixes that are too short, and one for each value of the octet.
 pub(crate) const PIECES: usize = 257;
 
 /// The octet that tells pieces apart. The prefixes that are too short to have it whole are in one piece.
@@ -27,7 +27,7 @@ impl Cut {
         }
     }
 
-    /// Gives the octet before this one; the first has none before it.
+    /// Gives the octet before this one, and the first for itself.
     pub fn before(self) -> Cut {
         match self {
             Cut::FirstOctet | Cut::SecondOctet => Cut::FirstOctet,

@@ -1,4 +1,4 @@
-//! The routes of one first octet, or the short ones of a table.
+//! Some routes of one table; in a `Table`, those of one first octet or the short ones.
 ghost use Rattle.std.specs.Prelude.{◌≡◌, ℕ, length, IfErr, IfOk, IsPermutation, option_map};
 ghost use Rattle.std.specs.List.{IsDistinct};
 ghost use Rattle.std.specs.Option.{option_copied};

@@ -48,7 +48,7 @@ module _ {X : Type 0} where
   filter_none p (x ∷ xs) h = rw (h.0, filter_none p xs h.1) refl
 
   -- those that pass one test, which all pass that pass the other
-  filter_absorbed : (p q : X → Bool) (xs : List X) → ((x : X) → p x ≡ true → q x ≡ true) → filter p (filter q xs) ≡ filter p xs
+  pub filter_absorbed : (p q : X → Bool) (xs : List X) → ((x : X) → p x ≡ true → q x ≡ true) → filter p (filter q xs) ≡ filter p xs
   filter_absorbed p q [] more = refl
   filter_absorbed p q (x ∷ xs) more =
       ⊎_elim
@@ -91,7 +91,7 @@ own_choice : (a b c d e f g h i : Bool) → (a && b && c && d && e && f && g && 
 own_choice true b c d e f g h i all = refl
 own_choice false b c d e f g h i all = cc
 
-other_way : (a b : ℕ) → eqb a b ≡ true → eqb b a ≡ true
+pub other_way : (a b : ℕ) → eqb a b ≡ true → eqb b a ≡ true
 other_way a b h = grind (arith, nat_tests)
 
 pub best_of_table : (routes : List Route) (table : ℕ) (addr : Addr) → best routes table addr ≡ best (rows_of_table table routes) table addr
@@ -144,7 +144,7 @@ is_not_own table number h = grind (arith, nat_tests)
 is_lower_one : (table number : ℕ) → ltb table number ≡ true → eqb table number ≡ false
 is_lower_one table number h = grind (arith, nat_tests)
 
-turned : (a b : ℕ) → eqb b a ≡ false → eqb a b ≡ false
+pub turned : (a b : ℕ) → eqb b a ≡ false → eqb a b ≡ false
 turned a b h = grind (arith, nat_tests)
 
 over : (a b c : ℕ) → ltb a b ≡ true → ltb b c ≡ true → ltb a c ≡ true
@@ -160,7 +160,7 @@ second_holds : (b c : Bool) → b ≡ false → (b || c) ≡ true → c ≡ true
 second_holds true c fails h = absurd cc
 second_holds false c fails h = h
 
-lower_is_le : (a b : ℕ) → ltb a b ≡ true → a ≤ b
+pub lower_is_le : (a b : ℕ) → ltb a b ≡ true → a ≤ b
 lower_is_le a b h = grind (arith, nat_tests)
 
 equal_numbers : (a b : ℕ) → eqb a b ≡ true → a ≡ b
@@ -195,7 +195,7 @@ module _ {X : Type 0} (before : X → X → Bool) where
   insert_first x (y ∷ ys) h = rw h.0 refl
 
   -- in front of a part that it comes before
-  insert_in_front : (x : X) (front back : List X) → Each (λ y. before x y ≡ true) back → insert_by before x (front ++ back) ≡ insert_by before x front ++ back
+  pub insert_in_front : (x : X) (front back : List X) → Each (λ y. before x y ≡ true) back → insert_by before x (front ++ back) ≡ insert_by before x front ++ back
   insert_in_front x [] back h = insert_first x back h
   insert_in_front x (y ∷ front) back h =
       ⊎_elim
@@ -204,7 +204,7 @@ module _ {X : Type 0} (before : X → X → Bool) where
       (cases_Bool (before x y))
 
   -- after a part that it does not come before
-  insert_after : (x : X) (front back : List X) → Each (λ y. before x y ≡ false) front → insert_by before x (front ++ back) ≡ front ++ insert_by before x back
+  pub insert_after : (x : X) (front back : List X) → Each (λ y. before x y ≡ false) front → insert_by before x (front ++ back) ≡ front ++ insert_by before x back
   insert_after x [] back h = refl
   insert_after x (y ∷ front) back h = rw h.0 (ap (λ rest. y ∷ rest) (insert_after x front back h.1))
 
@@ -415,6 +415,9 @@ rows_with (Put route) tables are = rows_put route tables (has_table route.table 
 rows_with (Remove key) tables are = rows_of_filled (map (table_after (Remove key)) tables) ∙ removed_rows key tables are.own
 rows_with (Flush selector) tables are = rows_of_filled (map (table_after (Flush selector)) tables) ∙ flushed_rows selector tables are.own
 
+pub are_all_with : (edit : RouteEdit) (inside given after : List TableRows) → AreTables inside → given ≡ inside → after ≡ tables_with edit given → AreTables after
+are_all_with edit inside given after are same made = subst AreTables (sym (made ∙ ap (tables_with edit) same)) (are_with edit inside are)
+
 pub all_rows_with : (edit : RouteEdit) (routes : List Route) (inside given after : List TableRows) → AreTables inside → all_rows inside ≡ routes → given ≡ inside → after ≡ tables_with edit given → all_rows after ≡ after_edit edit routes
 all_rows_with edit routes inside given after are views same made = ap all_rows (made ∙ ap (tables_with edit) same) ∙ rows_with edit inside are ∙ ap (after_edit edit) views
 
@@ -474,11 +477,13 @@ rows_more tables i table lt is =
     ∙ rows_append (take i tables) (table ∷ [])
     ∙ ap (λ rows. all_rows (take i tables) ++ rows) (append-nil table.rows)
 
-pub selected_more : (selector : Selector) (tables : List TableRows) (i : ℕ) (table : TableRows) (before after : List Route) → i < length tables → table ≡ get_or tables i table → before ≡ filter (is_selected selector) (all_rows (take i tables)) → after ≡ before ++ filter (is_selected selector) table.rows → after ≡ filter (is_selected selector) (all_rows (take (i + 1) tables))
-selected_more selector tables i table before after lt is so_far adds =
+pub selected_more : (selector : Selector) (tables : List TableRows) (i : ℕ) (table : TableRows) (old before after : List Route) → i < length tables → table ≡ get_or tables i table → before ≡ old ++ filter (is_selected selector) (all_rows (take i tables)) → after ≡ before ++ filter (is_selected selector) table.rows → after ≡ old ++ filter (is_selected selector) (all_rows (take (i + 1) tables))
+selected_more selector tables i table old before after lt is so_far adds =
     adds ∙ ap (λ rows. rows ++ filter (is_selected selector) table.rows) so_far
-    ∙ sym (filter-append (is_selected selector) (all_rows (take i tables)) table.rows)
-    ∙ ap (filter (is_selected selector)) (sym (rows_more tables i table lt is))
+    ∙ append_assoc old (filter (is_selected selector) (all_rows (take i tables))) (filter (is_selected selector) table.rows)
+    ∙ ap (λ rows. old ++ rows)
+    (sym (filter-append (is_selected selector) (all_rows (take i tables)) table.rows)
+    ∙ ap (filter (is_selected selector)) (sym (rows_more tables i table lt is)))
 
 rows_within : (tables : List TableRows) (i : ℕ) → length (all_rows (take i tables)) ≤ length (all_rows tables)
 rows_within [] zero = omega arith

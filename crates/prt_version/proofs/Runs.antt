@@ -25,7 +25,7 @@ module _ {X : Type 0} (P : X → Type 0) where
   each_front (x ∷ xs) zero le h = tt
   each_front (x ∷ xs) (suc i) le h = (h zero x (omega arith) (omega arith), each_front xs i (omega arith) (λ k d low below. h (suc k) d (omega arith) (omega arith)))
 
-  each_back : (xs : List X) (i : ℕ) → i ≤ length xs → AllWithin P xs i (length xs) → Each P (drop i xs)
+  pub each_back : (xs : List X) (i : ℕ) → i ≤ length xs → AllWithin P xs i (length xs) → Each P (drop i xs)
   each_back xs zero le h = recursion_from_All P xs (λ k d inside. h k d (omega arith) inside)
   each_back [] (suc i) le h = absurd (omega arith)
   each_back (x ∷ xs) (suc i) le h = each_back xs i (omega arith) (λ k d low below. h (suc k) d (omega arith) (omega arith))
@@ -38,10 +38,10 @@ lowest : (rows : List Route) → IsRising is_listed_before rows → Each (λ row
 lowest [] rises = tt
 lowest (row ∷ rows) rises = (omega arith, each_implies (λ other. is_listed_before row other ≡ true) (λ other. row.table ≤ other.table) (no_lower row) rows rises.0)
 
-is_up_to : (table number : ℕ) → leb table number ≡ true → table ≤ number
+pub is_up_to : (table number : ℕ) → leb table number ≡ true → table ≤ number
 is_up_to table number h = grind (arith, nat_tests)
 
-is_above : (table number : ℕ) → leb table number ≡ false → number < table
+pub is_above : (table number : ℕ) → leb table number ≡ false → number < table
 is_above table number h = grind (arith, nat_tests)
 
 -- the rows up to a table stand before the others
@@ -68,7 +68,7 @@ pub some_first : (rows : List Route) (number place : ℕ) → 0 < length rows �
 some_first rows number zero some first parts = absurd (first_above rows number some first (λ d. is_above (get_or rows 0 d).table number (parts.1 0 d (omega arith) some)))
 some_first rows number (suc place) some first parts = omega arith
 
-is_below : (a b : ℕ) → a < b → ltb a b ≡ true
+pub is_below : (a b : ℕ) → a < b → ltb a b ≡ true
 is_below a b h = grind (arith, nat_tests)
 
 -- ---- one table more

@@ -1,5 +1,7 @@
 pub mod State
 pub mod Tables
+pub mod Groups
+pub mod Shape
 pub mod Change
 pub mod Accepted
 pub mod Listing
@@ -10,3 +12,4 @@ pub mod Ordered
 pub mod Select
 pub mod Steps
 pub mod Example
+pub mod RuleIndex

@@ -1,5 +1,5 @@
 -- The routes of a version, one table after another.
-use Rattle.std.specs.Prelude.{◌≡◌, ℕ, Bool, true, false, ◌==◌, nat_lt, if◌then◌else◌, List, [], ◌∷◌, ◌++◌, filter, map}
+use Rattle.std.specs.Prelude.{◌≡◌, ℕ, Bool, true, false, ◌==◌, nat_lt, if◌then◌else◌, List, [], ◌∷◌, ◌++◌, Option, Some, filter, map}
 use Rattle.std.specs.List.{list_any, AllByRecursion as Each}
 use Rattle.prt_addr.specs.Given.{agrees}
 use Rattle.prt_addr.specs.Order.{insert_by}
@@ -48,6 +48,12 @@ abbrev pub names_table : RouteEdit → ℕ → Bool
 names_table (Put route) number = route.table == number
 names_table (Remove key) number = key.table == number
 names_table (Flush selector) number = agrees (λ a b. a == b) selector.table number
+
+-- the number of the one table that it may change, if it names one
+abbrev pub named_table : RouteEdit → Option ℕ
+named_table (Put route) = Some route.table
+named_table (Remove key) = Some key.table
+named_table (Flush selector) = selector.table
 
 abbrev pub table_after : RouteEdit → TableRows → TableRows
 table_after edit table = record { number = table.number; rows = if names_table edit table.number then after_edit edit table.rows else table.rows }

@@ -1,8 +1,9 @@
-ghost use Rattle.std.specs.Prelude.{◌≡◌, option_map};
-ghost use Rattle.prt_rule.specs.Sound.{IsInOrder};
-ghost use Rattle.prt_version.specs.Select.{decision, suppresses, table_lookup, verdict_of};
-ghost use Rattle.prt_version.specs.Steps.{first_verdict};
+ghost use Rattle.std.specs.Prelude.{◌≡◌, ◌<◌, ◌≤◌, length, option_map};
+ghost use Rattle.prt_version.specs.RuleIndex.{IsIndex};
+ghost use Rattle.prt_version.specs.Select.{decision, suppresses, table_lookup};
+ghost use Rattle.prt_version.specs.Steps.{IsFirstIn, first_verdict};
 
+use crate::rule_index::{RuleIndex, lists_for};
 use crate::tables::Tables;
 use crate::{Action, Packet, Route, Rule, Verdict};
 use prt_route::Kind;
@@ -34,6 +35,7 @@ fn suppresses(suppress: Option<u8>, route: &Route) -> bool
 }
 
 /// Tells what one rule says of a packet, if it decides (`ip-rule(8)`).
+#[inline(always)]
 fn decision(rule: &Rule, routes: &Tables, packet: &Packet) -> Option<Verdict>
     ensures { result ≡ decision rule.now routes.now packet.now }
 {
@@ -51,8 +53,8 @@ fn decision(rule: &Rule, routes: &Tables, packet: &Packet) -> Option<Verdict>
 }
 
 /// Tells what the first of these rules that decides says.
-#[tactic(auto, using(crate::proofs::Rules::decides, crate::proofs::Rules::passes_on))]
-fn first_verdict(rules: &[Rule], routes: &Tables, packet: &Packet) -> Verdict
+#[tactic(auto, using(crate::proofs::Verdicts::decides, crate::proofs::Verdicts::passes_on))]
+pub(crate) fn first_verdict(rules: &[Rule], routes: &Tables, packet: &Packet) -> Verdict
     ensures { result ≡ first_verdict rules.now routes.now packet.now }
 {
     for rule in rules {
@@ -63,10 +65,48 @@ fn first_verdict(rules: &[Rule], routes: &Tables, packet: &Packet) -> Verdict
     Verdict::NoRoute
 }
 
-/// Tells what the rules, in the order in which they are asked, make of a packet.
-pub(crate) fn verdict_of(rules: &[Rule], routes: &Tables, packet: &Packet) -> Verdict
-    requires { IsInOrder rules.now }
-    ensures { result ≡ verdict_of rules.now routes.now packet.now }
+/// Gives the place of the first rule of the list that decides, before this place, and what it says.
+fn first_in(
+    rules: &[Rule],
+    index: &RuleIndex,
+    list: usize,
+    before: usize,
+    routes: &Tables,
+    packet: &Packet,
+) -> Option<(usize, Verdict)>
+    requires index { IsIndex rules.now index.now }
+    requires list { list < 513 }
+    requires before { before ≤ length rules.now }
+    ensures { IsFirstIn rules.now list before routes.now packet.now result }
 {
-    first_verdict(rules, routes, packet)
+    let mut place = index.first[list] as usize;
+    while place < before {
+        if let Some(verdict) = decision(&rules[place], routes, packet) {
+            return Some((place, verdict));
+        }
+        place = index.next[place] as usize;
+    }
+    None
+}
+
+/// Tells what the first of the rules that decides says, and asks only those in the lists of the packet.
+pub(crate) fn indexed_verdict(
+    rules: &[Rule],
+    index: &RuleIndex,
+    routes: &Tables,
+    packet: &Packet,
+) -> Verdict
+    requires { IsIndex rules.now index.now }
+    ensures { result ≡ first_verdict rules.now routes.now packet.now }
+{
+    let lists = lists_for(packet);
+    let mut before = rules.len();
+    let mut verdict = Verdict::NoRoute;
+    for list in lists.as_slice() {
+        if let Some((place, says)) = first_in(rules, index, *list, before, routes, packet) {
+            before = place;
+            verdict = says;
+        }
+    }
+    verdict
 }

@@ -1,266 +1,69 @@
 //! The routes of a version, in one table for each number that has any.
-ghost use Rattle.std.specs.Prelude.{◌≡◌, ◌<◌, ◌≤◌, ◌++◌, [], length, filter, nat_lt, position, unwrap_or, IfOk, OnOk, option_map};
+ghost use Rattle.std.specs.Prelude.{◌≡◌, ◌≤◌, [], ◌++◌, length, filter, unwrap_or, IfOk, IfSome, OnOk, option_map};
 ghost use Rattle.std.specs.Arc.{arc_value};
-ghost use Rattle.std.specs.List.{AllByRecursion as Each};
 ghost use Rattle.std.specs.Option.{option_copied};
-ghost use Rattle.prt_addr.specs.Order.{insert_by};
 ghost use Rattle.prt_addr.specs.Rising.{IsRising};
 ghost use Rattle.prt_route.specs.Best.{best};
 ghost use Rattle.prt_route.specs.Edit.{after_edit, has_key};
 ghost use Rattle.prt_route.specs.Route.{is_listed_before, key_of};
 ghost use Rattle.prt_route.specs.RouteChoice.{chosen_route, is_selected};
-ghost use Rattle.prt_trie.specs.Table.{table_of as first_table};
-ghost use Rattle.prt_version.specs.Tables.{AreTables, HasOwnRows, TableRows, all_rows, has_rows, has_table, is_lower, names_table, rows_of_table, table_after, tables_after, table_of, tables_with};
+ghost use Rattle.prt_version.specs.Shape.{IsShape, tables_of};
+ghost use Rattle.prt_version.specs.Tables.{AreTables, all_rows, rows_of_table};
 
+use crate::groups::{
+    Group, all_tables, groups_around, groups_of, push_selected_of, split_groups, tables_for,
+};
+use crate::shared_table::{
+    SharedTable, count_rows, find_table, named_table, push_selected, tables_of_rows, tables_with,
+};
 use crate::{MOST_ROUTES, Route};
-use prt_addr::agrees;
 use prt_route::{Addr, RouteChoice, RouteEdit, RouteKey, Selector};
 use prt_trie::Table;
 use std::alloc::{AllocError, Global};
 use std::marker::Model;
-use std::slice;
 use std::sync::Arc;
 
-/// A table under its number, which versions share until an edit of it.
+/// How many tables stand in one list, and at most in one group.
+const MOST_OF_LIST: usize = 64;
+
+/// Few tables in one list, and many in groups, so that an edit of one table copies few of them.
 #[derive(Drop)]
-struct SharedTable {
-    number: u32,
-    table: Arc<Table>,
-}
-
-impl Model for SharedTable {
-    ghost use Rattle.std.specs.Arc.{arc_value};
-    ghost use Rattle.prt_version.specs.Tables.{TableRows};
-
-    ghost Value = { TableRows };
-
-    ghost view = { λ shared. record { number = shared.number; rows = arc_value shared.table } };
+enum Shape {
+    Few(Vec<SharedTable>),
+    Many(Vec<Group>),
 }
 
 /// The routes in the order of listings: each table's rows, by the tables' numbers.
 #[derive(Drop)]
 pub struct Tables {
-    tables: Vec<SharedTable>,
+    shape: Shape,
     len: usize,
 }
 
 impl Model for Tables {
-    ghost use Rattle.std.specs.Prelude.{◌≡◌, List, length};
+    ghost use Rattle.std.specs.Prelude.{List};
     ghost use Rattle.prt_route.specs.declared.route.Route.{Route as Row};
-    ghost use Rattle.prt_version.specs.Tables.{AreTables, all_rows};
+    ghost use Rattle.prt_version.specs.Shape.{AreWhole, tables_of};
+    ghost use Rattle.prt_version.specs.Tables.{all_rows};
 
     ghost Value = { List Row };
 
-    ghost view = { λ it. all_rows it.tables.items };
+    ghost view = { λ it. all_rows (tables_of it.shape) };
 
-    ghost invariant = { λ it. AreTables it.tables.items × (it.len ≡ length (all_rows it.tables.items)) };
+    ghost invariant = { λ it. AreWhole it.shape it.len };
 }
 
-/// Tells whether the edit may change a row of the table of this number.
-fn names_table(edit: &RouteEdit, number: u32) -> bool
-    ensures { result ≡ names_table edit.now number }
+/// Leaves few tables in their list, and makes groups of many.
+fn shape_of(tables: Vec<SharedTable>) -> Result<Shape, AllocError>
+    requires { AreTables tables.items }
+    ensures is { IfOk result IsShape }
+    ensures tables { IfOk result (λ shape. tables_of shape ≡ tables.items) }
 {
-    match edit {
-        RouteEdit::Put(route) => route.table == number,
-        RouteEdit::Remove(key) => key.table == number,
-        RouteEdit::Flush(selector) => agrees(&selector.table, &number),
+    if tables.len() <= MOST_OF_LIST {
+        return Ok(Shape::Few(tables));
     }
-}
-
-impl SharedTable {
-    /// Gives one more owner of the same table.
-    fn share(&self) -> Result<SharedTable, AllocError>
-        ensures { IfOk result (λ shared. shared ≡ self.now) }
-    {
-        Ok(SharedTable {
-            number: self.number,
-            table: Arc::try_clone(&self.table)?,
-        })
-    }
-
-    /// Makes a table of these rows, under its number.
-    fn with_rows(alloc: Global, number: u32, table: Table) -> Result<SharedTable, AllocError>
-        ensures { IfOk result (λ shared. shared ≡ record { number = number; rows = table }) }
-    {
-        Ok(SharedTable {
-            number,
-            table: Arc::new(alloc, table)?,
-        })
-    }
-
-    /// Gives the table after the edit: the same one where the edit names another.
-    fn after_edit(&self, alloc: Global, edit: &RouteEdit) -> Result<SharedTable, AllocError>
-        requires { HasOwnRows self.now }
-        ensures { IfOk result (λ shared. shared ≡ table_after edit.now self.now) }
-    {
-        if !names_table(edit, self.number) {
-            return self.share();
-        }
-        let Ok(table) = self.table.with_change(edit) else {
-            return Err(AllocError);
-        };
-        SharedTable::with_rows(alloc, self.number, table)
-    }
-
-    /// Tells whether the table has routes.
-    fn has_rows(&self) -> bool
-        ensures { result ≡ has_rows self.now }
-    {
-        self.table.len() > 0
-    }
-
-    /// Adds the table's routes that the selector takes.
-    fn add_selected(&self, rows: &mut Vec<Route>, selector: &Selector) -> Result<(), AllocError>
-        requires { HasOwnRows self.now }
-        ensures { OnOk result (rows.new.items ≡ rows.old.items ++ filter (is_selected selector.now) self.now.rows) }
-    {
-        if !agrees(&selector.table, &self.number) {
-            return Ok(());
-        }
-        let Ok(mut part) = self.table.rows() else {
-            return Err(AllocError);
-        };
-        part.retain(|row| selector.takes(row));
-        rows.extend_from_slice(part.as_slice())?;
-        Ok(())
-    }
-}
-
-/// Gives the table of this number.
-fn find_table(tables: &[SharedTable], number: u32) -> Option<&SharedTable>
-    requires { AreTables tables.now }
-    ensures { unwrap_or (option_map (λ table. table.now.rows) result) [] ≡ rows_of_table number (all_rows tables.now) }
-{
-    match tables.binary_search_by_key(&number, |table| table.number) {
-        Ok(place) => Some(&tables[place]),
-        Err(_) => None,
-    }
-}
-
-/// Tells whether there is a table of this number.
-fn has_table(tables: &[SharedTable], number: u32) -> bool
-    ensures { result ≡ has_table number tables.now }
-{
-    tables.iter().any(|table| table.number == number)
-}
-
-/// Tells how many routes the tables have.
-fn count_rows(tables: &[SharedTable]) -> usize
-    requires { length (all_rows tables.now) ≤ MOST_ROUTES }
-    ensures { result ≡ length (all_rows tables.now) }
-{
-    let mut count = 0;
-    for table in tables {
-        count += table.table.len();
-    }
-    count
-}
-
-/// Gives the tables after the edit, but for one that has no routes left.
-fn tables_after(
-    alloc: Global,
-    tables: &[SharedTable],
-    edit: &RouteEdit,
-) -> Result<Vec<SharedTable>, AllocError>
-    requires { AreTables tables.now }
-    ensures { IfOk result (λ after. after.items ≡ tables_after edit.now tables.now) }
-{
-    let mut after = Vec::new(alloc);
-    for table in tables {
-        let table = table.after_edit(alloc, edit)?;
-        if table.has_rows() {
-            after.push(table)?;
-        }
-    }
-    Ok(after)
-}
-
-/// Makes a table of these rows.
-fn table_of_rows(alloc: Global, number: u32, rows: &[Route]) -> Result<SharedTable, AllocError>
-    requires own { Each (λ row. row.table ≡ number) rows.now }
-    requires rising { IsRising is_listed_before rows.now }
-    ensures { IfOk result (λ table. table ≡ record { number = number; rows = rows.now }) }
-{
-    let Ok(table) = Table::from_sorted(alloc, rows) else {
-        return Err(AllocError);
-    };
-    SharedTable::with_rows(alloc, number, table)
-}
-
-/// Makes a table of one route.
-fn table_of(alloc: Global, route: &Route) -> Result<SharedTable, AllocError>
-    ensures { IfOk result (λ table. table ≡ table_of route.now) }
-{
-    table_of_rows(alloc, route.table, slice::from_ref(route))
-}
-
-/// Gives the place of the first table whose number is higher.
-fn table_above(tables: &[SharedTable], number: u32) -> Option<usize>
-    ensures { result ≡ position (λ table. nat_lt number table.number) tables.now }
-{
-    tables.iter().position(|table| number < table.number)
-}
-
-/// Gives the tables with a new one of the route in its place.
-fn with_table_of(
-    alloc: Global,
-    mut tables: Vec<SharedTable>,
-    route: &Route,
-) -> Result<Vec<SharedTable>, AllocError>
-    ensures { IfOk result (λ after. after.items ≡ insert_by is_lower (table_of route.now) tables.items) }
-{
-    let table = table_of(alloc, route)?;
-    let place = table_above(&tables, route.table).unwrap_or(tables.len());
-    tables.insert(place, table)?;
-    Ok(tables)
-}
-
-/// Gives all tables after the edit.
-fn tables_with(
-    alloc: Global,
-    tables: &[SharedTable],
-    edit: &RouteEdit,
-) -> Result<Vec<SharedTable>, AllocError>
-    requires { AreTables tables.now }
-    ensures { IfOk result (λ after. after.items ≡ tables_with edit.now tables.now) }
-{
-    let after = tables_after(alloc, tables, edit)?;
-    match edit {
-        RouteEdit::Put(route) if !has_table(tables, route.table) => {
-            with_table_of(alloc, after, route)
-        }
-        RouteEdit::Put(_) | RouteEdit::Remove(_) | RouteEdit::Flush(_) => Ok(after),
-    }
-}
-
-/// Parts the rows of a table, which stand first, from the rows after them.
-fn split_table(rows: &[Route], number: u32) -> (&[Route], &[Route])
-    requires rising { IsRising is_listed_before rows.now }
-    requires some { 0 < length rows.now }
-    requires first { first_table rows.now ≡ number }
-    ensures whole { result.0.now ++ result.1.now ≡ rows.now }
-    ensures own { Each (λ row. row.table ≡ number) result.0.now }
-    ensures some { 0 < length result.0.now }
-    ensures higher { Each (λ row. number < row.table) result.1.now }
-{
-    rows.split_at(rows.partition_point(|row| row.table <= number))
-}
-
-/// Makes the tables of rows in the order of listings.
-fn tables_of_rows(alloc: Global, rows: &[Route]) -> Result<Vec<SharedTable>, AllocError>
-    requires { IsRising is_listed_before rows.now }
-    ensures tables { IfOk result (λ tables. AreTables tables.items) }
-    ensures value { IfOk result (λ tables. all_rows tables.items ≡ rows.now) }
-{
-    let mut tables = Vec::new(alloc);
-    let mut rest = rows;
-    while let Some(first) = rest.first() {
-        let (own, others) = split_table(rest, first.table);
-        let table = table_of_rows(alloc, first.table, own)?;
-        tables.push(table)?;
-        rest = others;
-    }
-    Ok(tables)
+    let groups = groups_of(*tables.allocator(), &tables)?;
+    Ok(Shape::Many(groups))
 }
 
 impl Tables {
@@ -269,19 +72,20 @@ impl Tables {
         ensures { result ≡ [] }
     {
         Tables {
-            tables: Vec::new(alloc),
+            shape: Shape::Few(Vec::new(alloc)),
             len: 0,
         }
     }
 
     /// Makes the whole of these tables.
-    fn from_tables(tables: Vec<SharedTable>) -> Tables
+    fn from_tables(tables: Vec<SharedTable>) -> Result<Tables, AllocError>
         requires tables { AreTables tables.items }
         requires room { length (all_rows tables.items) ≤ MOST_ROUTES }
-        ensures { result ≡ all_rows tables.items }
+        ensures { IfOk result (λ whole. whole ≡ all_rows tables.items) }
     {
         let len = count_rows(&tables);
-        Tables { tables, len }
+        let shape = shape_of(tables)?;
+        Ok(Tables { shape, len })
     }
 
     /// Makes the tables of these rows, which stand in the order of listings.
@@ -290,15 +94,33 @@ impl Tables {
         requires room { length rows.now ≤ MOST_ROUTES }
         ensures { IfOk result (λ tables. tables ≡ rows.now) }
     {
-        let tables = tables_of_rows(alloc, rows)?;
-        Ok(Tables::from_tables(tables))
+        Tables::from_tables(tables_of_rows(alloc, rows)?)
+    }
+
+    /// Gives the allocator of the tables.
+    fn allocator(&self) -> Global {
+        match &self.shape {
+            Shape::Few(tables) => *tables.allocator(),
+            Shape::Many(groups) => *groups.allocator(),
+        }
+    }
+
+    /// Gives the tables among which one of this number stands, if there is one.
+    fn tables_for(&self, number: u32) -> &[SharedTable]
+        ensures are { AreTables result.now }
+        ensures rows { rows_of_table number (all_rows result.now) ≡ rows_of_table number self.now }
+    {
+        match &self.shape {
+            Shape::Few(tables) => tables,
+            Shape::Many(groups) => tables_for(groups, number),
+        }
     }
 
     /// Gives the table of this number, with its owners; `None` where it has no routes.
     pub fn shared_table(&self, number: u32) -> Option<&Arc<Table>>
         ensures { unwrap_or (option_map (λ table. arc_value table.now) result) [] ≡ rows_of_table number self.now }
     {
-        Some(&find_table(&self.tables, number)?.table)
+        Some(&find_table(self.tables_for(number), number)?.table)
     }
 
     /// Gives the table of this number, if it has routes.
@@ -346,15 +168,68 @@ impl Tables {
         }
     }
 
+    /// Puts copies of the routes that the selector takes behind the rows so far.
+    fn push_selected(&self, rows: &mut Vec<Route>, selector: &Selector) -> Result<(), AllocError>
+        ensures { OnOk result (rows.new.items ≡ rows.old.items ++ filter (is_selected selector.now) self.now) }
+    {
+        match &self.shape {
+            Shape::Few(tables) => push_selected(rows, tables, selector),
+            Shape::Many(groups) => push_selected_of(rows, groups, selector),
+        }
+    }
+
     /// Makes a copy of the routes that the selector takes, in the order of listings (`ip-route(8)`, `show`).
     pub(crate) fn rows(&self, selector: &Selector) -> Result<Vec<Route>, AllocError>
         ensures { IfOk result (λ rows. rows.items ≡ filter (is_selected selector.now) self.now) }
     {
-        let mut rows = Vec::new(*self.tables.allocator());
-        for table in &self.tables {
-            table.add_selected(&mut rows, selector)?;
-        }
+        let mut rows = Vec::new(self.allocator());
+        self.push_selected(&mut rows, selector)?;
         Ok(rows)
+    }
+
+    /// Makes one list of all tables after the edit.
+    fn list_with(&self, edit: &RouteEdit) -> Result<Vec<SharedTable>, AllocError>
+        ensures are { IfOk result (λ tables. AreTables tables.items) }
+        ensures rows { IfOk result (λ tables. all_rows tables.items ≡ after_edit edit.now self.now) }
+    {
+        match &self.shape {
+            Shape::Few(tables) => tables_with(*tables.allocator(), tables, edit),
+            Shape::Many(groups) => {
+                let alloc = *groups.allocator();
+                let tables = all_tables(alloc, groups)?;
+                tables_with(alloc, &tables, edit)
+            }
+        }
+    }
+
+    /// Gives the routes after an edit that names one table, by its group alone; `None` where the tables aren't in groups
+    /// or the group would have no tables or too many, and for an edit of all tables.
+    fn with_group(&self, edit: &RouteEdit) -> Result<Option<Tables>, AllocError>
+        requires { length (after_edit edit.now self.now) ≤ MOST_ROUTES }
+        ensures { IfOk result (λ after. IfSome after (λ after. after ≡ after_edit edit.now self.now)) }
+    {
+        let Shape::Many(groups) = &self.shape else {
+            return Ok(None);
+        };
+        let Some(number) = named_table(edit) else {
+            return Ok(None);
+        };
+        let alloc = *groups.allocator();
+        let (front, group, back) = split_groups(groups, number);
+        let own = group.as_slice();
+        let tables = tables_with(alloc, own, edit)?;
+        if tables.is_empty() {
+            return Ok(None);
+        }
+        if tables.len() > MOST_OF_LIST {
+            return Ok(None);
+        }
+        let len = self.len - count_rows(own) + count_rows(&tables);
+        let groups = groups_around(alloc, front, Group::of(alloc, tables)?, back)?;
+        Ok(Some(Tables {
+            shape: Shape::Many(groups),
+            len,
+        }))
     }
 
     /// Gives the routes after the edit, in tables that are shared but for those that it changes. These stay as they
@@ -363,8 +238,9 @@ impl Tables {
         requires { length (after_edit edit.now self.now) ≤ MOST_ROUTES }
         ensures { IfOk result (λ after. after ≡ after_edit edit.now self.now) }
     {
-        let alloc = *self.tables.allocator();
-        let tables = tables_with(alloc, &self.tables, edit)?;
-        Ok(Tables::from_tables(tables))
+        if let Some(tables) = self.with_group(edit)? {
+            return Ok(tables);
+        }
+        Tables::from_tables(self.list_with(edit)?)
     }
 }

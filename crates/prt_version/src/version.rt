@@ -16,7 +16,7 @@ use crate::checks::change_of;
 use crate::from_rows::{ordered_routes, ordered_rules};
 use crate::owners::first_owner;
 use crate::rows::{flushed_rules, with_rule, without_rule};
-use crate::select::verdict_of;
+use crate::rules::Rules;
 use crate::several::make_all;
 use crate::tables::Tables;
 use crate::{
@@ -32,7 +32,7 @@ use std::sync::Arc;
 #[derive(Drop)]
 pub struct Version {
     count: u64,
-    rules: Arc<Vec<Rule>>,
+    rules: Arc<Rules>,
     routes: Arc<Tables>,
 }
 
@@ -43,9 +43,9 @@ impl Model for Version {
 
     ghost Value = { State };
 
-    ghost view = { λ v. record { count = v.count; rules = (arc_value v.rules).items; routes = arc_value v.routes } };
+    ghost view = { λ v. record { count = v.count; rules = arc_value v.rules; routes = arc_value v.routes } };
 
-    ghost invariant = { λ v. IsSound (record { count = v.count; rules = (arc_value v.rules).items; routes = arc_value v.routes }) };
+    ghost invariant = { λ v. IsSound (record { count = v.count; rules = arc_value v.rules; routes = arc_value v.routes }) };
 }
 
 /// Makes a rule that looks up a table for every packet, as the three of a new database do (`ip-rule(8)`).
@@ -86,7 +86,8 @@ impl Version {
         ensures value { IfOk result (λ version. version ≡ opening_state) }
         ensures reason { IfErr result (λ reason. reason ≡ NoMemory) }
     {
-        let rules = Vec::from_slice(alloc, &opening_rules())?;
+        let opening = Vec::from_slice(alloc, &opening_rules())?;
+        let rules = Rules::new(opening)?;
         Ok(Version {
             count: 0,
             rules: first_owner(alloc, rules)?,
@@ -117,7 +118,8 @@ impl Version {
         if number > MOST_COMMANDS {
             return Err(Refusal::Damaged);
         }
-        let rules = ordered_rules(number, rules)?;
+        let ordered = ordered_rules(number, rules)?;
+        let rules = Rules::new(ordered)?;
         let routes = ordered_routes(routes)?;
         let tables = Tables::from_sorted(alloc, &routes)?;
         Ok(Version {
@@ -145,8 +147,8 @@ impl Version {
     }
 
     /// Gives the rules with their owners: the versions that share them.
-    pub fn shared_rules(&self) -> &Arc<Vec<Rule>>
-        ensures { (arc_value result.now).items ≡ self.now.rules }
+    pub fn shared_rules(&self) -> &Arc<Rules>
+        ensures { arc_value result.now ≡ self.now.rules }
     {
         &self.rules
     }
@@ -184,7 +186,7 @@ impl Version {
     {
         Rule {
             id: self.count + 4,
-            priority: new.priority.unwrap_or(auto_priority(&self.rules)),
+            priority: new.priority.unwrap_or(auto_priority(self.rules.as_slice())),
             inverted: new.inverted,
             from: new.from,
             to: new.to,
@@ -218,17 +220,18 @@ impl Version {
     }
 
     /// Gives the rules after a change.
-    fn rules_after(&self, change: &Change) -> Result<Arc<Vec<Rule>>, AllocError>
-        ensures { IfOk result (λ rules. (arc_value rules).items ≡ (put self.now change.now).rules) }
+    fn rules_after(&self, change: &Change) -> Result<Arc<Rules>, AllocError>
+        ensures { IfOk result (λ rules. arc_value rules ≡ (put self.now change.now).rules) }
     {
         let alloc = *self.rules.allocator();
+        let rules = self.rules.as_slice();
         let rules = match change {
             Change::Route(_) | Change::RouteAdd(_) => return Arc::try_clone(&self.rules),
-            Change::RulePut(rule) => with_rule(alloc, &self.rules, rule)?,
-            Change::RuleDrop(id) => without_rule(alloc, &self.rules, *id)?,
-            Change::RuleFlush => flushed_rules(alloc, &self.rules)?,
+            Change::RulePut(rule) => with_rule(alloc, rules, rule)?,
+            Change::RuleDrop(id) => without_rule(alloc, rules, *id)?,
+            Change::RuleFlush => flushed_rules(alloc, rules)?,
         };
-        Ok(Arc::new(alloc, rules)?)
+        Ok(Arc::new(alloc, Rules::new(rules)?)?)
     }
 
     /// Gives the routes after an edit.
@@ -307,7 +310,7 @@ impl Version {
     {
         Answer {
             number: self.count,
-            verdict: verdict_of(&self.rules, &self.routes, packet),
+            verdict: self.rules.verdict(&self.routes, packet),
         }
     }
 }

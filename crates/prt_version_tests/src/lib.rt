@@ -8,6 +8,16 @@ mod from_rows;
 #[cfg(test)]
 mod lines;
 #[cfg(test)]
+mod many_tables;
+#[cfg(test)]
+mod plain_list;
+#[cfg(test)]
+mod random;
+#[cfg(test)]
+mod random_edits;
+#[cfg(test)]
+mod rules;
+#[cfg(test)]
 mod script;
 #[cfg(test)]
 mod sharing;

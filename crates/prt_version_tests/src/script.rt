@@ -6,13 +6,18 @@ use prt_version::Version;
 use std::alloc::Global;
 use std::test::Fail;
 
+/// Gives the version after the command.
+pub fn version_with(version: &Version, command: &Command) -> Result<Version, Refusal> {
+    match version.check(command) {
+        Ok(change) => version.next(&change),
+        Err(refusal) => Err(refusal),
+    }
+}
+
 /// Gives the version after the command of a line.
 pub fn next_version(version: &Version, line: &str) -> Result<Version, Refusal> {
     match read_line(line.as_bytes())? {
-        Some(Request::Command(command)) => match version.check(&command) {
-            Ok(change) => version.next(&change),
-            Err(refusal) => Err(refusal),
-        },
+        Some(Request::Command(command)) => version_with(version, &command),
         _ => Err(Refusal::UnknownVerb),
     }
 }

@@ -2,6 +2,7 @@
 ghost use Rattle.std.specs.Prelude.{◌≡◌, ◌≤◌, IfOk};
 ghost use Rattle.prt_trie.specs.Table.{IsOfTable};
 
+use crate::random::Random;
 use prt_command::{Addr, Kind, Prefix, Refusal, Route};
 use prt_route::{RouteChoice, RouteEdit};
 use prt_trie::{Table, Tree};
@@ -39,24 +40,11 @@ pub fn with_route(table: &Table, route: Route) -> Result<Table, Refusal>
 }
 
 /// A table of main with no routes.
-fn empty_table(alloc: Global) -> Result<Table, Refusal>
+pub fn empty_table(alloc: Global) -> Result<Table, Refusal>
     ensures { IfOk result (λ table. IsOfTable 254 table) }
 {
     let table = Table::build(alloc, &[])?;
     Ok(table)
-}
-
-/// Numbers that look random and are the same in each run (Marsaglia's xorshift).
-#[derive(Drop)]
-struct Random(u64);
-
-impl Random {
-    fn next(&mut self) -> u32 {
-        self.0 ^= self.0 << 13;
-        self.0 ^= self.0 >> 7;
-        self.0 ^= self.0 << 17;
-        (self.0 >> 32) as u32
-    }
 }
 
 /// Which addresses the prefixes of a random table begin near: the bits of `spread` differ from those of one of `bases`.

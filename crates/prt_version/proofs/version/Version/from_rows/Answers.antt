@@ -1,4 +1,4 @@
-use Rattle.std.proofs.Common.{◌∙◌, Global, IsPermutation, List, Vec, ap, arith, rules, subst, sym}
+use Rattle.std.proofs.Common.{◌∙◌, IsPermutation, List, arith, rules, subst, sym}
 use Rattle.prt_addr.specs.Rising.{IsRising}
 use Rattle.prt_route.specs.Route.{is_listed_before}
 use Rattle.prt_route.specs.declared.route.Route.{Route}
@@ -8,8 +8,8 @@ use Rattle.prt_version.specs.Ordered.{AreRoutes, AreRules}
 use Rattle.prt_version.proofs.FromRows.{ordered_sound, ordered_spelled, routes_damaged, rules_damaged}
 use Rattle.prt_version.proofs.version.Version.from_rows.Goals as goal
 
-pub returns-in_err-rules-clause-reason : goal.returns-in_err-rules-clause-reason
-returns-in_err-rules-clause-reason c = search (rules, rules_damaged c.args.number c.args.rules.items c.args.routes.items c.in_err-rules.field-0.0 c.in_err-rules.ensures.reason)
+pub returns-in_err-ordered-clause-reason : goal.returns-in_err-ordered-clause-reason
+returns-in_err-ordered-clause-reason c = search (rules, rules_damaged c.args.number c.args.rules.items c.args.routes.items c.in_err-ordered.field-0.0 c.in_err-ordered.ensures.reason)
 
 pub returns-in_err-routes-clause-reason : goal.returns-in_err-routes-clause-reason
 returns-in_err-routes-clause-reason c = search (rules, routes_damaged c.args.number c.args.rules.items c.args.routes.items c.in_err-routes.field-0.0 c.in_err-routes.ensures.reason)
@@ -17,16 +17,16 @@ returns-in_err-routes-clause-reason c = search (rules, routes_damaged c.args.num
 pub invariant_of-result : goal.invariant_of-result
 invariant_of-result c =
     ordered_sound c.args.number _ _ (omega arith)
-    (subst (λ (rs : List Rule). AreRules c.args.number rs × IsInOrder rs) (sym (ap (λ v. v.items) c.in_ok-first_owner.ensures.value)) c.in_ok-rules.ensures.value)
+    (subst (λ (rs : List Rule). AreRules c.args.number rs × IsInOrder rs) (sym (c.in_ok-first_owner.ensures.value ∙ c.in_ok-rules.ensures)) c.in_ok-ordered.ensures.value)
     (subst (λ (rs : List Route). AreRoutes rs × IsRising is_listed_before rs) (sym (c.in_ok-first_owner-2.ensures.value ∙ c.in_ok-tables.ensures ∙ c.deref.ensures.value)) c.in_ok-routes.ensures.value)
 
 pub returns-clause-value : goal.returns-clause-value
 returns-clause-value c =
-    let rules_is = ap (λ (v : Vec Rule Global). v.items) c.in_ok-first_owner.ensures.value in
+    let rules_is = c.in_ok-first_owner.ensures.value ∙ c.in_ok-rules.ensures in
     let routes_is = c.in_ok-first_owner-2.ensures.value ∙ c.in_ok-tables.ensures ∙ c.deref.ensures.value in
     ordered_spelled c.args.number _ _ (omega arith)
-    (subst (λ (rs : List Rule). AreRules c.args.number rs × IsInOrder rs) (sym rules_is) c.in_ok-rules.ensures.value)
+    (subst (λ (rs : List Rule). AreRules c.args.number rs × IsInOrder rs) (sym rules_is) c.in_ok-ordered.ensures.value)
     (subst (λ (rs : List Route). AreRoutes rs × IsRising is_listed_before rs) (sym routes_is) c.in_ok-routes.ensures.value)
     c.args.rules.items c.args.routes.items
-    (subst (IsPermutation c.args.rules.items) (sym rules_is) c.in_ok-rules.ensures.same)
+    (subst (IsPermutation c.args.rules.items) (sym rules_is) c.in_ok-ordered.ensures.same)
     (subst (IsPermutation c.args.routes.items) (sym routes_is) c.in_ok-routes.ensures.same)

@@ -1,0 +1,77 @@
+//! The rules of a version, in the order in which they are asked, with an index where they are many.
+ghost use Rattle.std.specs.Prelude.{◌≡◌, IfOk};
+ghost use Rattle.prt_rule.specs.Sound.{IsInOrder};
+ghost use Rattle.prt_version.specs.RuleIndex.{HasIndex};
+ghost use Rattle.prt_version.specs.Select.{verdict_of};
+
+use crate::rule_index::RuleIndex;
+use crate::select::{first_verdict, indexed_verdict};
+use crate::tables::Tables;
+use crate::{MOST_RULES, Packet, Rule, Verdict};
+use std::alloc::{AllocError, Global};
+use std::marker::Model;
+
+/// How many rules are asked one after another with no index.
+const FEW: usize = 50;
+
+/// The rules in the order in which they are asked, which versions share until one changes.
+#[derive(Drop)]
+pub struct Rules {
+    rules: Vec<Rule>,
+    index: Option<RuleIndex>,
+}
+
+impl Model for Rules {
+    ghost use Rattle.std.specs.Prelude.{List};
+    ghost use Rattle.prt_rule.specs.declared.rule.Rule.{Rule as Row};
+    ghost use Rattle.prt_version.specs.RuleIndex.{HasIndex};
+
+    ghost Value = { List Row };
+
+    ghost view = { λ it. it.rules.items };
+
+    ghost invariant = { λ it. HasIndex it.rules.items it.index };
+}
+
+/// Makes the index of the rules, where they are many and it tells them from each other.
+fn index_of(alloc: Global, rules: &[Rule]) -> Result<Option<RuleIndex>, AllocError>
+    ensures { IfOk result (λ index. HasIndex rules.now index) }
+{
+    if rules.len() < FEW || rules.len() > MOST_RULES {
+        return Ok(None);
+    }
+    RuleIndex::over(alloc, rules)
+}
+
+impl Rules {
+    /// Takes the rules, which stand in the order in which they are asked.
+    pub(crate) fn new(rules: Vec<Rule>) -> Result<Rules, AllocError>
+        ensures { IfOk result (λ all. all ≡ rules.items) }
+    {
+        let index = index_of(*rules.allocator(), rules.as_slice())?;
+        Ok(Rules { rules, index })
+    }
+
+    /// Gives the rules, in the order in which they are asked.
+    pub fn as_slice(&self) -> &[Rule]
+        ensures { result.now ≡ self.now }
+    {
+        self.rules.as_slice()
+    }
+
+    /// Gives the allocator of the rules.
+    pub fn allocator(&self) -> &Global {
+        self.rules.allocator()
+    }
+
+    /// Tells what the rules make of a packet.
+    pub(crate) fn verdict(&self, routes: &Tables, packet: &Packet) -> Verdict
+        requires { IsInOrder self.now }
+        ensures { result ≡ verdict_of self.now routes.now packet.now }
+    {
+        match &self.index {
+            Some(index) => indexed_verdict(&self.rules, index, routes, packet),
+            None => first_verdict(&self.rules, routes, packet),
+        }
+    }
+}
