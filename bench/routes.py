@@ -27,3 +27,17 @@ def addr_text(bits):
 def route_line(verb, prefix, hop):
     bits, length = prefix
     return f"route {verb} {addr_text(bits)}/{length} via 192.0.2.{hop} dev eth0\n"
+
+
+def hosts(numbers, count, base, free_bits):
+    """So many host routes that differ in their last bits."""
+    return [(base | bits, 32) for bits in numbers.sample(range(1 << free_bits), count)]
+
+
+def tables(numbers, count):
+    """The prefixes of each table that holds so many."""
+    yield "as in a full table", random_prefixes(numbers, count, range(1, 223))
+    yield "hosts at random", hosts(numbers, count, 0, 32)
+    yield "hosts of one /8", hosts(numbers, count, 10 << 24, 24)
+    if count < 1 << 16:
+        yield "hosts of one /16", hosts(numbers, count, 10 << 24 | 8 << 16, 16)

@@ -1,29 +1,16 @@
-"""Processor time of a command and of a lookup, by where the routes of the table lie."""
+"""Processor time of a command and of a lookup, by where the routes of the table lie, and by how many tables there are."""
 
 import random
 import sys
 import tempfile
 
-from routes import addr_text, random_prefixes, route_line
+from routes import addr_text, route_line, tables
 from spent import spent
 
 TURNS = 3
 SIZES = (1_000, 10_000, 60_000, 100_000)
+TABLES = (60, 100, 1_000, 5_000)
 LOOKUPS = 400_000
-
-
-def hosts(numbers, count, base, free_bits):
-    """So many host routes that differ in their last bits."""
-    return [(base | bits, 32) for bits in numbers.sample(range(1 << free_bits), count)]
-
-
-def tables(numbers, count):
-    """The prefixes of each table that holds so many."""
-    yield "as in a full table", random_prefixes(numbers, count, range(1, 223))
-    yield "hosts at random", hosts(numbers, count, 0, 32)
-    yield "hosts of one /8", hosts(numbers, count, 10 << 24, 24)
-    if count < 1 << 16:
-        yield "hosts of one /16", hosts(numbers, count, 10 << 24 | 8 << 16, 16)
 
 
 def seconds(program, lines):
@@ -53,8 +40,26 @@ def show(program, numbers, name, prefixes):
     )
 
 
+def show_tables(program, count):
+    """A new table's first route, which goes again, and another next hop, among so many tables of one route each."""
+    first = [f"route add 10/8 dev eth0 table {2 * number + 1}\n" for number in range(count)]
+    turns = [number * 7919 % count for number in range(20_000)]
+    come_and_go = [
+        f"route {verb} 10/8 dev eth0 table {2 * number + 2}\n" for number in turns[:10_000] for verb in ("add", "del")
+    ]
+    replaces = [f"route replace 10/8 dev eth1 table {2 * number + 1}\n" for number in turns]
+    added = seconds(program, first)
+    print(
+        f"{count:>7} tables              {(seconds(program, first + come_and_go) - added) / 20_000 * 1e6:8.1f} us an add or del of a table's "
+        f"one route, {(seconds(program, first + replaces) - added) / 20_000 * 1e6:8.1f} us a replace",
+        flush=True,
+    )
+
+
 def main():
     numbers = random.Random(1)
+    for count in TABLES:
+        show_tables(sys.argv[1], count)
     for count in SIZES:
         for name, prefixes in tables(numbers, count):
             show(sys.argv[1], numbers, name, prefixes)
