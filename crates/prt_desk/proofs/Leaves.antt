@@ -44,8 +44,9 @@ one_other state command why (inr (none, inr is)) = ap is_unpublished is
 
 pub all_other : (state : State) (commands : List Command) → IsOther (λ why. AreNotPrepared phases.Ready state commands why)
 all_other state commands why (inl (inl is)) = state_other why (all_refused_by state commands why is)
-all_other state commands why (inl (inr is)) = ap is_unpublished is
-all_other state commands why (inr (accepted, is)) = ap is_unpublished is
+all_other state commands why (inl (inr (is, several))) = ap is_unpublished is
+all_other state commands why (inr (accepted, inl is)) = ap is_unpublished is
+all_other state commands why (inr (accepted, inr is)) = ap is_unpublished is
 
 -- so what is left may be told by the reason
 other_leaves : (why : Refusal) (before after left : State) → is_unpublished why ≡ false → (left ≡ before) ⊎ ((why ≡ StoreFailed Commit) × (left ≡ after)) → LeavesEither (Err why) before after left

@@ -133,8 +133,9 @@ module _ (state : State) (commands : List Command) where
 
   all_refused : (why : Refusal) → AreNotPrepared phases.Ready state commands why → Gives (Err why) (settled state)
   all_refused why (inl (inl is)) = ends_so (Some why) None is
-  all_refused why (inl (inr is)) = subst (λ (e : Refusal). Gives (Err e) (settled state)) (sym is) (memory_ends (refusal_all state commands) refl)
-  all_refused why (inr (accepted, is)) = subst (λ (e : Refusal). Gives (Err e) (settled state)) (sym is) (ends_so None (Some no_room) (none_refused state commands accepted))
+  all_refused why (inl (inr (is, several))) = subst (λ (e : Refusal). Gives (Err e) (settled state)) (sym is) (memory_ends (refusal_all state commands) refl)
+  all_refused why (inr (accepted, inl is)) = subst (λ (e : Refusal). Gives (Err e) (settled state)) (sym is) (ends_so None (Some no_room) (none_refused state commands accepted))
+  all_refused why (inr (accepted, inr is)) = subst (λ (e : Refusal). Gives (Err e) (settled state)) (sym is) (memory_ends (refusal_all state commands) refl)
 
   all_closed : (desk : DeskState) → desk.closed ≡ true → CommandsGive IsStoreMishap desk commands (Err reasons.Closed) desk
   all_closed desk is = (

@@ -194,7 +194,8 @@ impl<S: Alter + Drop, H: Wait + Drop> Desk for StoreDesk<S, H> {
         ensures leaves { is_shut self.old ≡ false → IsKnown S.Store self.new.ours_first self.new.tables → (left : State) → MayLeave S.Store self.new.tables left →
             LeavesEither result (published self.old) (fold (published self.old) commands.now.items) left }
     {
-        let receipt = match self.publisher.submit_all(&self.rt, &self.domain, commands) {
+        let all = commands.as_slice();
+        let receipt = match self.publisher.submit_all(&self.rt, &self.domain, all) {
             Ok(receipt) => receipt,
             Err(refusal) => return Err(refusal),
         };

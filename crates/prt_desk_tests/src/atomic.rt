@@ -47,7 +47,7 @@ fn is_right_with<H: Wait + Copy + Drop>(
 }
 
 /// The faults at a call of each of the two files.
-fn faults_at(calls: u64) -> [Faults; 4] {
+pub fn faults_at(calls: u64) -> [Faults; 4] {
     [
         Faults {
             log_stop: calls,

@@ -15,3 +15,5 @@ mod migration;
 mod reopened;
 #[cfg(test)]
 mod streams;
+#[cfg(test)]
+mod world;

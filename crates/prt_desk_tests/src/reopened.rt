@@ -80,6 +80,38 @@ fn run_unheard<D: Disk + Drop, H: Wait + Copy + Drop>(
     Ok((end.fault, replies(alloc, &mut again, second)))
 }
 
+/// Runs a script, closes the database and opens it again, and gives the replies to it and to a second one.
+fn run_twice<D: Disk + Drop, H: Wait + Copy + Drop>(
+    rt: H,
+    alloc: Global,
+    files: Files<D>,
+    script: &str,
+    second: &str,
+) -> Result<(Vec<u8>, Vec<u8>), Refusal> {
+    let mut desk = desk_in(rt, alloc, files)?;
+    let first = replies(alloc, &mut desk, script);
+    let mut again = reopened(rt, alloc, desk)?;
+    Ok((first, replies(alloc, &mut again, second)))
+}
+
+#[test]
+fn reopened_desk(rt: HostRuntime) -> Result<(), Fail> {
+    let alloc = rt.alloc();
+    let files = new_files(alloc, Faults::NONE);
+    let (first, second) = run_twice(
+        rt,
+        alloc,
+        files,
+        "route add default via 192.0.2.1\n",
+        "route get 10.0.0.1\n",
+    )?;
+    assert!(rt; first.as_slice() == b"ok 1\n".as_slice());
+    assert!(rt;
+        second.as_slice() == b"answer 1 rule 32766 table main default via 192.0.2.1\n".as_slice()
+    );
+    Ok(())
+}
+
 #[test]
 fn an_unheard_command_is_kept(rt: HostRuntime) -> Result<(), Fail> {
     let alloc = rt.alloc();

@@ -1,5 +1,5 @@
 //! The writer of a front.
-ghost use Rattle.std.specs.Prelude.{◌≡◌, ◌+◌, ◌≤◌, ◌<◌, ◌^◌, [], All, length, IfErr, IfOk, MatchResult, OnOk};
+ghost use Rattle.std.specs.Prelude.{◌≡◌, ◌+◌, ◌≤◌, [], All, length, IfErr, IfOk, MatchResult, OnOk};
 ghost use Rattle.std.specs.Arc.{arc_value};
 ghost use Rattle.prt_version.specs.Accepted.{IsAccepted};
 ghost use Rattle.prt_version.specs.Change.{fold};
@@ -98,7 +98,6 @@ impl<R: Wait + Drop> Front<R> {
         requires stamp { stamp.number ≡ self.old.base.count + length self.old.list + length commands.now.items }
         requires accepted { IsAccepted (line_state self.old) commands.now.items }
         requires next { arc_value version ≡ fold (line_state self.old) commands.now.items }
-        requires room { length self.old.list + length commands.now.items < 2 ^ 62 }
         ensures list { MatchResult result (λ told. (self.new ≡ grown_by self.old commands.now.items) × (told ≡ self.new)) (λ _. self.new ≡ self.old) }
         ensures accepted { OnOk result (IsAccepted self.new.base self.new.list) }
         ensures reason { IfErr result (λ reason. reason ≡ Refusal.NotPublished) }

@@ -1,5 +1,5 @@
 //! Tokens of what is known of the published list.
-ghost use Rattle.std.specs.Prelude.{◌≡◌, ◌+◌, ◌<◌, ◌^◌, [], length, IfSome, MatchBool};
+ghost use Rattle.std.specs.Prelude.{◌≡◌, [], length, IfSome, MatchBool};
 ghost use Rattle.prt_version.specs.Accepted.{IsAccepted};
 ghost use Rattle.prt_front.specs.History.{length_of};
 ghost use Rattle.prt_front.specs.Line.{Begins, grown_by, line_state};
@@ -78,7 +78,6 @@ impl Known {
     pub(crate) fn accept(&self, word: &Length, commands: &Vec<Command>) -> Option<Known>
         requires word { word.now ≡ length_of self.now.book }
         requires accepted { IsAccepted (line_state self.now) commands.now.items }
-        requires room { length self.now.list + length commands.now.items < 2 ^ 62 }
         ensures { IfSome result (λ k. k ≡ grown_by self.now commands.now.items) }
     {
         let asked = Snapshot::of(commands);

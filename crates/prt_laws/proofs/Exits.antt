@@ -9,11 +9,10 @@ use Rattle.prt_addr.specs.declared.refusal.StoreCall.TheVariants as calls
 use Rattle.prt_command.specs.declared.request.Command.{Command}
 use Rattle.prt_front.specs.Line.{Line, grown_by, line_state}
 use Rattle.prt_store.specs.Exits.{IsKnown, IsStored, MayLeave}
-use Rattle.prt_publisher.specs.Standing.{IsQuiet, Standing, Stands}
-use Rattle.prt_publisher.specs.Exits.{IsNotAdmitted}
+use Rattle.prt_publisher.specs.Standing.{Standing, Stands}
 use Rattle.prt_publisher.specs.declared.phase.Phase.{Phase}
 use Rattle.prt_publisher.specs.declared.phase.Phase.TheVariants.{Ready, Admitted, Prepared, Committed, Published, Closed}
-use Rattle.prt_version.specs.Accepted.{IsAccepted, or_later, refusal_all}
+use Rattle.prt_version.specs.Accepted.{IsAccepted}
 use Rattle.prt_version.specs.Change.{fold}
 use Rattle.prt_version.specs.State.{State}
 use Rattle.prt_world.specs.World as world
@@ -24,7 +23,7 @@ use Rattle.prt_world.specs.declared.event.Fate.{Fate}
 use Rattle.prt_world.specs.declared.event.Fate.TheVariants.{Kept, Lost}
 use Rattle.prt_world.specs.declared.outcome.Outcome.{Outcome}
 use Rattle.prt_world.specs.declared.outcome.Outcome.TheVariants as outcomes
-use Rattle.prt_laws.specs.Laws.{Declines, DeclinesBy, FailsBy}
+use Rattle.prt_laws.specs.Laws.{DeclinesBy, FailsBy}
 use Rattle.prt_laws.specs.Spots.{IsAt, Spot}
 use Rattle.prt_laws.specs.Events.{AsksSome, asked, commit_events, commit_outcomes, events_before, fail_events, fail_outcomes, own, note_events, note_outcomes, outcomes_before, write_events, write_outcomes}
 use Rattle.prt_laws.specs.Publishers.{HasDisk, Leads, SawRoom, AreBothOf, IsPublisherOf, moment_of}
@@ -37,7 +36,7 @@ use Rattle.prt_laws.proofs.Registering.{registers_reclaimed, room_is}
 use Rattle.std.specs.Prelude.{nat_lt, length}
 use Rattle.std.proofs.lemmas.Bool.Decides.{nat_tests}
 use Rattle.prt_world.proofs.Phases.{Phased}
-use Rattle.prt_laws.proofs.Steps.{Moves, acknowledges, begins, busy, commits, counts, disk_before, keeps, loses, notes, phased_of, publishes, publishes_not, refuses, shut, takes, writes}
+use Rattle.prt_laws.proofs.Steps.{Moves, acknowledges, begins, busy, commits, counts, disk_before, keeps, loses, notes, phased_of, publishes, publishes_not, takes, writes}
 use Rattle.prt_laws.proofs.Woven.{Goes, woven}
 
 is_less : (n m : ℕ) → n < m → nat_lt n m ≡ true
@@ -312,16 +311,6 @@ module _ {S : Type 0} (g : Ghosts S) where
         let v : World = (step w events.Reclaim).world in
         (subst (λ (p : Standing (Held S)). IsPublisherOf g p v) (sym is) (stands (record old { phase = Admitted; commands = commands }) v w.disk there.0 (stored_in old new w s Ready ready) there.2), there.1)
 
-    -- commands that were planned are taken at once
-    pub admits_all : (event : Event) → AsksSome event → IsAccepted (line_state old.line) (asked event) → new ≡ record old { phase = Prepared; commands = asked event } → old.phase ≡ Ready → (r ≡ reclaimed before) × (length r.retired < MOST_RETIRED)
-        → ((step (step w events.Reclaim).world event).outcome ≡ outcomes.Prepared ((line_state old.line).count + length (asked event))) × AreBothOf g new r (step (step w events.Reclaim).world event).world
-    admits_all event some allowed is ready room =
-        let there = roomy ready room in
-        let v : World = (step w events.Reclaim).world in
-        let u : World = (step v event).world in
-        let m = takes old.line w.disk v event some allowed there.2 there.0 in
-        (m.0, (subst (λ (p : Standing (Held S)). IsPublisherOf g p u) (sym is) (stands (record old { phase = Prepared; commands = asked event }) u w.disk m.1 (stored_in old new w s Ready ready) tt), asks_registers event some r v there.1))
-
   -- ---- refused
 
   module _ (old new : Standing (Held S)) (same : new ≡ old) (event : Event) (some : AsksSome event) where
@@ -331,15 +320,6 @@ module _ {S : Type 0} (g : Ghosts S) where
         still old new w s v same (subst (λ (p : Phase). IsAt (spot old.line w.disk (moment_of p old.commands)) v) (sym is) at) (subst (λ (p : Phase). SawRoom p v) (sym is) (saw v))
 
     module _ (before r : RegistryState) where
-      pub declines_for : (why : Refusal) → old.phase ≡ Ready → refusal_all (line_state old.line) (asked event) ≡ Some why → r ≡ before → DeclinesBy g old new false before r event why
-      declines_for why ready refused kept = (
-        same,
-        λ w h.
-            let u : World = (step w event).world in
-            let m = refuses old.line w.disk w event why some refused (place_in old new w h.0 Ready ready) in
-            (m.0, (as_it_was w u h.0 Ready ready (λ u. tt) m.1, asks_registers event some r w (subst (λ (q : RegistryState). IsRegistryOf q w) (sym kept) h.1))),
-      )
-
       pub declines_full : (why : Refusal) → old.phase ≡ Ready → IsAccepted (line_state old.line) (asked event) → r ≡ reclaimed before → why ≡ refusals.Busy → MOST_RETIRED ≤ length r.retired → DeclinesBy g old new true before r event why
       declines_full why ready allowed is why_is full = (
         same,
@@ -352,30 +332,3 @@ module _ {S : Type 0} (g : Ghosts S) where
             let m = busy old.line w.disk v event some allowed has there.0 in
             (m.0 ∙ ap outcomes.Refused (sym why_is), (as_it_was w u h.0 Ready ready (λ u. tt) m.1, asks_registers event some r v registers)),
       )
-
-      pub declines_shut : (why : Refusal) → old.phase ≡ Closed → why ≡ refusals.Closed → r ≡ before → DeclinesBy g old new false before r event why
-      declines_shut why closed why_is kept = (
-        same,
-        λ w h.
-            let u : World = (step w event).world in
-            let m = shut old.line w.disk w event some (place_in old new w h.0 Closed closed) in
-            (m.0 ∙ ap outcomes.Refused (sym why_is), (as_it_was w u h.0 Closed closed (λ u. tt) m.1, asks_registers event some r w (subst (λ (q : RegistryState). IsRegistryOf q w) (sym kept) h.1))),
-      )
-
-  module _ (old new : Standing (Held S)) (before r : RegistryState) where
-    pub declines : IsQuiet old.phase → (command : Command) (why : Refusal) → (new ≡ old) × IsNotAdmitted old.phase (line_state old.line) command before r why → Declines g old new before r (events.Submit command) why
-    declines quiet command why clause = by old.phase refl quiet clause.1
-      where
-        asks : AsksSome (events.Submit command)
-        asks = omega arith
-
-        by : (phase : Phase) → old.phase ≡ phase → IsQuiet phase → IsNotAdmitted phase (line_state old.line) command before r why → Declines g old new before r (events.Submit command) why
-        by Ready ready quiet refused = elim refused [
-          | inl reason ↦ (false, declines_for old new clause.0 (events.Submit command) asks before r why ready (ap (λ (x : Option Refusal). or_later x None) reason.0) reason.1)
-          | inr full ↦ (true, declines_full old new clause.0 (events.Submit command) asks before r why ready (full.0, tt) full.1 full.2 full.3)
-        ]
-        by Admitted is quiet refused = absurd quiet
-        by Prepared is quiet refused = absurd quiet
-        by Committed is quiet refused = absurd quiet
-        by Published is quiet refused = absurd quiet
-        by Closed closed quiet refused = (false, declines_shut old new clause.0 (events.Submit command) asks before r why closed refused.0 refused.1)

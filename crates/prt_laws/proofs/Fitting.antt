@@ -24,7 +24,7 @@ use Rattle.prt_laws.specs.Events.{AsksSome, asked, stop_events, without_fate}
 use Rattle.prt_laws.specs.Laws.{BeginsAt, FailsBy, SubmitFailsBy}
 use Rattle.prt_laws.specs.Publishers.{AreBothOf, HasDisk}
 use Rattle.prt_laws.specs.Registries.{registry_after}
-use Rattle.prt_laws.specs.Runs.{Act, Acts, ActsAll, EveryRunGoesOn, EveryRunLeaves, EveryStopLeaves, HoldsAll, SameButFates, act_answers, act_events, act_receipts, adopted, admitted, answers_of, beside, committed, declined, events_of, failed, looked, noted, planned, prepared, published, receipts_of, refused, seated, shown, stopped, submit_failed, submit_unpublished, submitted, taken, unplanned, unshown}
+use Rattle.prt_laws.specs.Runs.{Act, Acts, ActsAll, EveryRunGoesOn, EveryRunLeaves, EveryStopLeaves, HoldsAll, SameButFates, act_answers, act_events, act_receipts, adopted, admitted, answers_of, beside, committed, declined, events_of, failed, looked, noted, planned, prepared, published, receipts_of, refused, seated, shown, stopped, submit_failed, submit_unpublished, submitted, unplanned, unshown}
 use Rattle.prt_laws.proofs.Acks.{stopped_none, woven_keeps}
 use Rattle.prt_laws.proofs.Answered.{list_had}
 use Rattle.prt_laws.proofs.Between.{moment_stays}
@@ -136,7 +136,6 @@ module _ {S : Type 0} (g : Ghosts S) where
         inr (idles_more old mid new r between after w (declined event why reclaims) acts (t.1.0, λ d p. (t, declined_with event t.0 reclaims w d p place.moment then why)) idle)
     last (planned event) t idle known left may = absurd (let both : Prepared ≡ Closed = sym t.2.0 ∙ idle.0 in cc)
     last unplanned t idle known left may = absurd (let both : Ready ≡ Closed = sym t.1.1 ∙ idle.0 in cc)
-    last (taken event) t idle known left may = absurd (let both : Prepared ≡ Closed = sym t.1.0 ∙ idle.0 in cc)
     last (committed all) t idle known left may = absurd (let both : Committed ≡ Closed = sym t.2.0 ∙ idle.0 in cc)
     last (failed call fate other all) t idle known left may =
         let by = t.3.4 (subst (λ (p : Standing (Held S)). IsKnown g p.ours_first p.tables) idle.2 known) left (subst (λ (p : Standing (Held S)). MayLeave g p.tables left) idle.2 may) in

@@ -28,7 +28,7 @@ use Rattle.prt_laws.specs.Registries.{IsRegistryOf, registry_through}
 use Rattle.prt_laws.proofs.Exits.{asks_registers, note_goes, place_in, spot}
 use Rattle.prt_laws.proofs.Registering.{joins, registers_beside}
 use Rattle.prt_laws.specs.Events.{acks_to, asked, commit_events, fail_events, note_events, note_outcomes, own, publish_events, publish_outcomes, stop_events, submit_events, submit_outcomes, unpublished_events}
-use Rattle.prt_laws.specs.Runs.{EveryRunStands, HoldsAll, ActsAll, Act, Acts, adopted, admitted, answers_of, beside, committed, declined, events_of, failed, looked, noted, planned, prepared, published, receipts_of, refused, seated, shown, stopped, submit_failed, submit_unpublished, submitted, taken, act_answers, act_events, act_receipts, unplanned, unshown}
+use Rattle.prt_laws.specs.Runs.{EveryRunStands, HoldsAll, ActsAll, Act, Acts, adopted, admitted, answers_of, beside, committed, declined, events_of, failed, looked, noted, planned, prepared, published, receipts_of, refused, seated, shown, stopped, submit_failed, submit_unpublished, submitted, act_answers, act_events, act_receipts, unplanned, unshown}
 use Rattle.prt_laws.specs.Publishers.{HasDisk, AreBothOf, IsPublisherOf}
 use Rattle.prt_laws.proofs.Acks.{asks_none, committed_none, event_keeps, failed_none, list_keeps, lookers_none, stopped_none, woven_acks, woven_keeps}
 use Rattle.prt_laws.proofs.Desks.{accepted_there, published_there}
@@ -68,9 +68,6 @@ module _ {S : Type 0} (g : Ghosts S) where
       (there.1.0, there.1.1, list_keeps (event ∷ []) (asks_none event t.0, tt) w)
   acted old new r after w (planned event) s h t = ((t.2.1 w s (event ∷ []) (own_asked event [] t.0)).1, kept t.1 (asks_registers event t.0 r w h), list_keeps (event ∷ []) (asks_none event t.0, tt) w)
   acted old new r after w unplanned s h t = ((t.1.2 w s [] refl).1, kept t.0 h, sym (append-nil w.acks))
-  acted old new r after w (taken event) s h t =
-      let there = t.1.1 w (s, h) in
-      (there.1.0, there.1.1, list_keeps (events.Reclaim ∷ event ∷ []) (refl, (asks_none event t.0, tt)) w)
   acted old new r after w (committed all) s h t =
       let e : own all ≡ commit_events old.commands ++ [] = t.0 ∙ sym (append-nil (commit_events old.commands)) in (
         (t.2.1 w s all t.0).1,

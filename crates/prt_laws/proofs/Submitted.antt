@@ -7,13 +7,13 @@ use Rattle.prt_addr.specs.declared.refusal.Refusal.TheVariants as refusals
 use Rattle.prt_command.specs.declared.request.Command.{Command}
 use Rattle.prt_front.specs.Line.{Line, grown_by, line_state}
 use Rattle.prt_publisher.proofs.Lists.{state_grown}
-use Rattle.prt_publisher.specs.Exits.{AreNotAcknowledged, AreNotPlanned, AreNotPrepared, AreNotPublished, AreNotStored, IsNotAcknowledged, IsNotPrepared, TakesAll}
+use Rattle.prt_publisher.specs.Exits.{AreNotAcknowledged, AreNotChecked, AreNotPrepared, AreNotPublished, AreNotStored, IsNotAcknowledged, IsNotPrepared, TakesAll}
 use Rattle.prt_publisher.specs.Standing.{Agrees, IsQuiet, Standing, Stands}
 use Rattle.prt_publisher.specs.declared.phase.Phase.{Phase}
 use Rattle.prt_publisher.specs.declared.phase.Phase.TheVariants.{Ready, Admitted, Prepared, Committed, Published, Closed}
 use Rattle.prt_store.specs.Exits.{IsKnown, IsStored}
 use Rattle.prt_version.proofs.Folds.{count_fold}
-use Rattle.prt_version.specs.Accepted.{IsAccepted, IsRefusedFor, or_later, refusal_all}
+use Rattle.prt_version.specs.Accepted.{IsAccepted, or_later, refusal_all}
 use Rattle.prt_version.specs.Change.{fold}
 use Rattle.prt_version.specs.State.{State}
 use Rattle.prt_world.specs.World as world
@@ -22,12 +22,11 @@ use Rattle.prt_world.specs.declared.event.Event.{Event}
 use Rattle.prt_world.specs.declared.event.Event.TheVariants as events
 use Rattle.prt_world.specs.declared.outcome.Outcome.TheVariants as outcomes
 use Rattle.prt_laws.specs.Events.{AsksSome, asked, commit_events, commit_outcomes, fail_events, fail_outcomes, note_events, note_outcomes, publish_events, publish_outcomes, submit_events, submit_outcomes}
-use Rattle.prt_laws.specs.Laws.{PlansNone, PlansNot, Prepares, PreparesNot, Publishes, Refuses, SubmitFails, SubmitUnpublished, Submits, SubmitsNot}
-use Rattle.prt_laws.specs.Publishers.{Leads, SawRoom, IsPublisherOf, moment_of}
-use Rattle.prt_laws.specs.Spots.{IsAt}
-use Rattle.prt_laws.proofs.Exits.{spot, as_it_was, committed, failed, not_published, noted_on, place_in, planned, published, stands, stored_in}
+use Rattle.prt_laws.specs.Laws.{ChecksNot, PlansNot, Prepares, PreparesNot, Publishes, Refuses, SubmitFails, SubmitUnpublished, Submits, SubmitsNot}
+use Rattle.prt_laws.specs.Publishers.{Leads, IsPublisherOf}
+use Rattle.prt_laws.proofs.Exits.{as_it_was, committed, failed, not_published, noted_on, place_in, planned, published, stands, stored_in}
 use Rattle.prt_laws.proofs.Joined.{idle, leads_by, leads_then, leads_then_to}
-use Rattle.prt_laws.proofs.Steps.{Moves, busy, refuses, shut}
+use Rattle.prt_laws.proofs.Steps.{busy, refuses, shut}
 
 module _ {S : Type 0} (g : Ghosts S) where
   -- ---- the phases between
@@ -66,13 +65,22 @@ module _ {S : Type 0} (g : Ghosts S) where
   -- ---- refused
 
   module _ (old new : Standing (Held S)) (is : new ≡ old) (event : Event) (some : AsksSome event) where
-    refuses_for : (why : Refusal) → old.phase ≡ Ready → refusal_all (line_state old.line) (asked event) ≡ Some why → Refuses g old new event why
-    refuses_for why ready refused = (
-      is,
-      λ w s room.
-          let m = refuses old.line w.disk w event why some refused (place_in g old new w s Ready ready) in
-          (m.0, as_it_was g old new is event some w (step w event).world s Ready ready (λ u. tt) m.1),
-    )
+    -- the world refuses it, with room or without
+    abbrev RefusedThere : Refusal → Type 0
+    RefusedThere why = (w : World) → IsPublisherOf g old w → ((step w event).outcome ≡ outcomes.Refused why) × IsPublisherOf g new (step w event).world
+
+    refused_there : (why : Refusal) → old.phase ≡ Ready → refusal_all (line_state old.line) (asked event) ≡ Some why → RefusedThere why
+    refused_there why ready refused w s =
+        let m = refuses old.line w.disk w event why some refused (place_in g old new w s Ready ready) in
+        (m.0, as_it_was g old new is event some w (step w event).world s Ready ready (λ u. tt) m.1)
+
+    shut_there : (why : Refusal) → old.phase ≡ Closed → why ≡ refusals.Closed → RefusedThere why
+    shut_there why closed why_is w s =
+        let m = shut old.line w.disk w event some (place_in g old new w s Closed closed) in
+        (m.0 ∙ ap outcomes.Refused (sym why_is), as_it_was g old new is event some w (step w event).world s Closed closed (λ u. tt) m.1)
+
+    refuses_by : (why : Refusal) → RefusedThere why → Refuses g old new event why
+    refuses_by why there = (is, λ w s room. there w s)
 
     refuses_full : (why : Refusal) → old.phase ≡ Ready → IsAccepted (line_state old.line) (asked event) → why ≡ refusals.Busy → Refuses g old new event why
     refuses_full why ready allowed why_is = (
@@ -82,62 +90,45 @@ module _ {S : Type 0} (g : Ghosts S) where
           (m.0 ∙ ap outcomes.Refused (sym why_is), as_it_was g old new is event some w (step w event).world s Ready ready (λ u. tt) m.1),
     )
 
-    refuses_shut : (why : Refusal) → old.phase ≡ Closed → why ≡ refusals.Closed → Refuses g old new event why
-    refuses_shut why closed why_is = (
-      is,
-      λ w s room.
-          let m = shut old.line w.disk w event some (place_in g old new w s Closed closed) in
-          (m.0 ∙ ap outcomes.Refused (sym why_is), as_it_was g old new is event some w (step w event).world s Closed closed (λ u. tt) m.1),
-    )
-
     -- for lack of memory nothing is done
     no_memory : (why : Refusal) → old.phase ≡ Ready → why ≡ refusals.NoMemory → PlansNot g old new why
     no_memory why ready memory = (memory, ap (λ (p : Standing (Held S)). p.phase) is ∙ ready, λ w s. idle g new w (subst (λ (p : Standing (Held S)). IsPublisherOf g p w) (sym is) s))
-
-    refused_for : (why : Refusal) → old.phase ≡ Ready → IsRefusedFor (line_state old.line) (asked event) why → PreparesNot g old new event why
-    refused_for why ready refused = elim refused [ inl reason ↦ inr (refuses_for why ready reason) | inr memory ↦ inl (no_memory why ready memory) ]
-
-    -- outside the lock
-    pub plans_none : (why : Refusal) → IsQuiet old.phase → AreNotPlanned old.phase (line_state old.line) (asked event) why → PlansNone g old new event why
-    plans_none why quiet refused = (is, by old.phase refl quiet refused)
-      where
-        -- the world refuses it, with room or without
-        at : (phase : Phase) → old.phase ≡ phase → ((u : World) → SawRoom phase u) → ((w : World) → IsAt (spot old.line w.disk (moment_of phase old.commands)) w → Moves w event (outcomes.Refused why) (spot old.line w.disk (moment_of phase old.commands)))
-            → (w : World) → IsPublisherOf g old w → ((step w event).outcome ≡ outcomes.Refused why) × IsPublisherOf g new (step w event).world
-        at phase is_in saw moves w s =
-            let m = moves w (place_in g old new w s phase is_in) in
-            (m.0, as_it_was g old new is event some w (step w event).world s phase is_in saw m.1)
-
-        by : (phase : Phase) → old.phase ≡ phase → IsQuiet phase → AreNotPlanned phase (line_state old.line) (asked event) why
-            → (why ≡ refusals.NoMemory) ⊎ ((w : World) → IsPublisherOf g old w → ((step w event).outcome ≡ outcomes.Refused why) × IsPublisherOf g new (step w event).world)
-        by Ready ready quiet refused = elim refused [
-          | inl reason ↦ inr (at Ready ready (λ u. tt) (λ w place. refuses old.line w.disk w event why some reason place))
-          | inr memory ↦ inl memory
-        ]
-        by Admitted at quiet refused = absurd quiet
-        by Prepared at quiet refused = absurd quiet
-        by Committed at quiet refused = absurd quiet
-        by Published at quiet refused = absurd quiet
-        by Closed closed quiet refused =
-            inr (at Closed closed (λ u. tt) (λ w place. subst (λ (r : Refusal). Moves w event (outcomes.Refused r) (spot old.line w.disk world.Closed)) (sym refused) (shut old.line w.disk w event some place)))
 
     pub prepares_none : (why : Refusal) → IsQuiet old.phase → AreNotPrepared old.phase (line_state old.line) (asked event) why → PreparesNot g old new event why
     prepares_none why quiet refused = by old.phase refl quiet refused
       where
         by : (phase : Phase) → old.phase ≡ phase → IsQuiet phase → AreNotPrepared phase (line_state old.line) (asked event) why → PreparesNot g old new event why
-        by Ready ready quiet refused = elim refused [ inl reason ↦ refused_for why ready reason | inr full ↦ inr (refuses_full why ready full.0 full.1) ]
+        by Ready ready quiet (inl (inl reason)) = inr (refuses_by why (refused_there why ready reason))
+        by Ready ready quiet (inl (inr (memory, several))) = inl (no_memory why ready memory)
+        by Ready ready quiet (inr (allowed, inl full)) = inr (refuses_full why ready allowed full)
+        by Ready ready quiet (inr (allowed, inr memory)) = inl (no_memory why ready memory)
         by Admitted at quiet refused = absurd quiet
         by Prepared at quiet refused = absurd quiet
         by Committed at quiet refused = absurd quiet
         by Published at quiet refused = absurd quiet
-        by Closed closed quiet refused = inr (refuses_shut why closed refused)
+        by Closed closed quiet refused = inr (refuses_by why (shut_there why closed refused))
+
+  -- outside the lock
+  pub checks_not : (old : Standing (Held S)) (commands : List Command) (why : Refusal) → 1 ≤ length commands → IsQuiet old.phase → AreNotChecked old.phase (line_state old.line) commands why → ChecksNot g old old commands why
+  checks_not old commands why some quiet refused = (refl, by old.phase refl quiet refused)
+    where
+      asks : (event : Event) → commands ≡ asked event → AsksSome event
+      asks event same = let long = ap length same in omega (arith, some, long)
+
+      by : (phase : Phase) → old.phase ≡ phase → IsQuiet phase → AreNotChecked phase (line_state old.line) commands why
+          → (why ≡ refusals.NoMemory) ⊎ ((event : Event) → commands ≡ asked event → (w : World) → IsPublisherOf g old w → ((step w event).outcome ≡ outcomes.Refused why) × IsPublisherOf g old (step w event).world)
+      by Ready ready quiet (inl reason) = inr (λ event same. refused_there old old refl event (asks event same) why ready (ap (refusal_all (line_state old.line)) (sym same) ∙ reason))
+      by Ready ready quiet (inr (memory, several)) = inl memory
+      by Admitted at quiet refused = absurd quiet
+      by Prepared at quiet refused = absurd quiet
+      by Committed at quiet refused = absurd quiet
+      by Published at quiet refused = absurd quiet
+      by Closed closed quiet refused = inr (λ event same. shut_there old old refl event (asks event same) why closed refused)
 
   -- one command that is not prepared is a list of one
   one_not_prepared : (phase : Phase) (published : State) (command : Command) (why : Refusal) → IsQuiet phase → IsNotPrepared phase published command why → AreNotPrepared phase published (command ∷ []) why
-  one_not_prepared Ready published command why quiet refused = elim refused [
-    | inl reason ↦ inl (inl (ap (λ (r : Option Refusal). or_later r None) reason))
-    | inr allowed ↦ elim allowed.1 [ inl full ↦ inr ((allowed.0, tt), full) | inr memory ↦ inl (inr memory) ]
-  ]
+  one_not_prepared Ready published command why quiet (inl reason) = inl (inl (ap (λ (r : Option Refusal). or_later r None) reason))
+  one_not_prepared Ready published command why quiet (inr allowed) = inr ((allowed.0, tt), allowed.1)
   one_not_prepared Admitted published command why quiet refused = absurd quiet
   one_not_prepared Prepared published command why quiet refused = absurd quiet
   one_not_prepared Committed published command why quiet refused = absurd quiet

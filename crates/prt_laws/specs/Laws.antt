@@ -7,6 +7,7 @@ use Rattle.prt_addr.specs.declared.refusal.Refusal.{Refusal}
 use Rattle.prt_addr.specs.declared.refusal.Refusal.TheVariants.{Busy, NoMemory, NotPublished, StoreFailed}
 use Rattle.prt_addr.specs.declared.refusal.StoreCall.{StoreCall}
 use Rattle.prt_command.specs.Storable.{IsStorable}
+use Rattle.prt_command.specs.declared.request.Command.{Command}
 use Rattle.prt_front.specs.Line.{Line, line_state}
 use Rattle.prt_grace.specs.Registry.{RegistryState, new_registry}
 use Rattle.prt_publisher.specs.Standing.{Standing, Stands}
@@ -28,7 +29,7 @@ use Rattle.prt_laws.specs.Publishers.{Leads, LeadsTo, AreBothOf, IsPublisherOf}
 module _ {S : Type 0} (g : Ghosts S) (old new : Standing (Held S)) where
   -- ---- the steps
 
-  -- under the registry's lock: a reclaim, and the command is admitted
+  -- under the registry's lock: a reclaim, and the commands are admitted
   abbrev pub Admits : RegistryState → RegistryState → Type 0
   Admits before r = (new.phase ≡ Admitted) × ((w : World) → AreBothOf g old before w → AreBothOf g new r (step w events.Reclaim).world)
 
@@ -40,33 +41,25 @@ module _ {S : Type 0} (g : Ghosts S) (old new : Standing (Held S)) where
   abbrev pub DeclinesBy : Bool → RegistryState → RegistryState → Event → Refusal → Type 0
   DeclinesBy reclaims before r event why = (new ≡ old) × ((w : World) → AreBothOf g old before w → Refused r (run_from w (reclaim_events reclaims)) event why)
 
-  abbrev pub Declines : RegistryState → RegistryState → Event → Refusal → Type 0
-  Declines before r event why = (reclaims : Bool) × DeclinesBy reclaims before r event why
-
   -- the number of the last command that this event submits
   abbrev pub last_number : Event → ℕ
   last_number event = (line_state old.line).count + length (asked event)
 
-  -- the admitted command is under way
+  -- the admitted commands are under way
   abbrev pub PlansBy : Event → Type 0
   PlansBy event = (new.phase ≡ Prepared) × ((w : World) → IsPublisherOf g old w → Leads g w (event ∷ []) (outcomes.Prepared (last_number event) ∷ []) new)
 
-  -- by each event that submits it
+  -- by each event that submits them
   abbrev pub Plans : Type 0
   Plans = (event : Event) → AsksSome event → old.commands ≡ asked event → PlansBy event
 
-  -- it is given up for lack of memory, of which the world has no event
+  -- they are given up for lack of memory, of which the world has no event
   abbrev pub PlansNot : Refusal → Type 0
   PlansNot why = (why ≡ NoMemory) × (new.phase ≡ Ready) × ((w : World) → IsPublisherOf g old w → Leads g w [] [] new)
 
-  -- Commands are not planned, and the publisher is as it was. Memory was refused, of which the world has no event; or the world refuses what this event submits, with room or without.
-  abbrev pub PlansNone : Event → Refusal → Type 0
-  PlansNone event why = (new ≡ old) × ((why ≡ NoMemory) ⊎ ((w : World) → IsPublisherOf g old w → ((step w event).outcome ≡ outcomes.Refused why) × IsPublisherOf g new (step w event).world))
-
-  -- under the registry's lock: a reclaim, and commands that were planned are under way
-  abbrev pub AdmitsAll : RegistryState → RegistryState → Event → Type 0
-  AdmitsAll before r event = (new.phase ≡ Prepared) × ((w : World) → AreBothOf g old before w →
-      ((step (step w events.Reclaim).world event).outcome ≡ outcomes.Prepared (last_number event)) × AreBothOf g new r (step (step w events.Reclaim).world event).world)
+  -- Commands are not checked, and the publisher is as it was. Memory was refused, of which the world has no event; or the world refuses each event that submits them, with room or without.
+  abbrev pub ChecksNot : List Command → Refusal → Type 0
+  ChecksNot commands why = (new ≡ old) × ((why ≡ NoMemory) ⊎ ((event : Event) → commands ≡ asked event → (w : World) → IsPublisherOf g old w → ((step w event).outcome ≡ outcomes.Refused why) × IsPublisherOf g new (step w event).world))
 
   -- the calls that store the commands under way
   abbrev pub Commits : Type 0

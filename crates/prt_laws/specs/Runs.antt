@@ -27,7 +27,7 @@ use Rattle.prt_version.specs.declared.answer.Answer.{Answer}
 use Rattle.prt_world.specs.declared.event.Fate.{Fate}
 use Rattle.prt_world.specs.declared.event.Fate.TheVariants.{Lost}
 use Rattle.prt_laws.specs.Events.{AsksSome, acks_to, asked, commit_events, fail_events, is_lookers, own, publish_events, reclaim_events, stop_events, without_fate}
-use Rattle.prt_laws.specs.Laws.{Admits, AdmitsAll, AdoptsAgain, BeginsAt, Commits, DeclinesBy, FailsBy, FailsToCommit, IsCutShort, Notes, PlansBy, PlansNot, Prepares, Publishes, PublishesNot, Refuses, Shows, StopsBy, SubmitFails, SubmitFailsBy, SubmitUnpublished, Submits}
+use Rattle.prt_laws.specs.Laws.{Admits, AdoptsAgain, BeginsAt, Commits, DeclinesBy, FailsBy, FailsToCommit, IsCutShort, Notes, PlansBy, PlansNot, Prepares, Publishes, PublishesNot, Refuses, Shows, StopsBy, SubmitFails, SubmitFailsBy, SubmitUnpublished, Submits}
 use Rattle.prt_laws.specs.Registries.{registry_after, registry_through}
 use Rattle.prt_laws.specs.Publishers.{AreBothOf}
 
@@ -43,8 +43,6 @@ pub data Act : Type 0 where
   declined : (event : Event) → (why : Refusal) → (reclaims : Bool) → Act
   planned : (event : Event) → Act
   unplanned : Act
-  -- commands that were planned are admitted
-  taken : (event : Event) → Act
   committed : (all : List Event) → Act
   failed : (call : StoreCall) → (fate : Fate) → (left : State) → (all : List Event) → Act
   shown : Act
@@ -73,7 +71,6 @@ act_events admitted = events.Reclaim ∷ []
 act_events (declined event why reclaims) = reclaim_events reclaims ++ event ∷ []
 act_events (planned event) = event ∷ []
 act_events unplanned = []
-act_events (taken event) = events.Reclaim ∷ event ∷ []
 act_events (committed all) = all
 act_events (failed call fate left all) = all
 act_events shown = events.Publish ∷ []
@@ -118,13 +115,9 @@ pub record SameButFates (again acts : List Act) : Type 0 where
   pub receipts : receipts_of again ≡ receipts_of acts
   pub answers : answers_of again ≡ answers_of acts
 
--- the five steps of a command that is acknowledged
-abbrev pub step_acts : Command → Line → List Act
-step_acts command told = admitted ∷ planned (events.Submit command) ∷ committed (commit_events (command ∷ [])) ∷ shown ∷ noted (command ∷ []) told (events.Ack ∷ []) ∷ []
-
--- and the four of commands together, once they are planned
-abbrev pub step_acts_all : List Command → Line → List Act
-step_acts_all commands told = taken (events.SubmitAll commands) ∷ committed (commit_events commands) ∷ shown ∷ noted commands told (events.Ack ∷ []) ∷ []
+-- the five steps of commands that are acknowledged, from the event that submits them
+abbrev pub step_acts : Event → Line → List Act
+step_acts event told = admitted ∷ planned event ∷ committed (commit_events (asked event)) ∷ shown ∷ noted (asked event) told (events.Ack ∷ []) ∷ []
 
 -- What a crash leaves is on disk in this world. It is a beginning of the accepted commands that lacks at most those that were accepted last together. It has each command of a receipt under its number, and the version by which each of these answers was given. So it has that of every answer of the world, also of one that was given while a call was under way.
 pub record HoldsAll (w : World) (receipts : List Ack) (answers : List Lookup) (left : State) : Type 0 where
@@ -148,7 +141,6 @@ module _ {S : Type 0} (g : Ghosts S) where
   Acts old r w (declined event why reclaims) new after = AsksSome event × DeclinesBy g old new reclaims r after event why
   Acts old r w (planned event) new after = AsksSome event × (after ≡ r) × PlansBy g old new event
   Acts old r w unplanned new after = (after ≡ r) × PlansNot g old new NoMemory
-  Acts old r w (taken event) new after = AsksSome event × AdmitsAll g old new r after event
   Acts old r w (committed all) new after = (own all ≡ commit_events old.commands) × (after ≡ registry_through r w all) × Commits g old new
   Acts old r w (failed call fate left all) new after = (own all ≡ fail_events old.commands call fate) × (after ≡ registry_through r w all) × FailsBy g old new call fate left × FailsToCommit g old new (StoreFailed call)
   Acts old r w shown new after = (after ≡ r) × Shows g old new
@@ -171,28 +163,17 @@ module _ {S : Type 0} (g : Ghosts S) where
   -- ---- a submission by its steps
 
   -- One that is acknowledged is its five steps, from each world of the publisher and of the registry.
-  abbrev pub Acknowledges : Standing (Held S) → RegistryState → Command → Line → Standing (Held S) → RegistryState → Type 0
-  Acknowledges old r command told new after = (w : World) → AreBothOf g old r w → ActsAll old r w (step_acts command told) new after
+  abbrev pub Acknowledges : Standing (Held S) → RegistryState → Event → Line → Standing (Held S) → RegistryState → Type 0
+  Acknowledges old r event told new after = (w : World) → AreBothOf g old r w → ActsAll old r w (step_acts event told) new after
 
-  -- One that is not is refused at once, or after a reclaim; or it has no memory; or it is stored, and its publication fails; or its commit fails.
-  abbrev pub TakesNot : Standing (Held S) → RegistryState → Command → Refusal → Standing (Held S) → RegistryState → Type 0
-  TakesNot old r command why new after = (w : World) → AreBothOf g old r w →
-      ((reclaims : Bool) × ActsAll old r w (declined (events.Submit command) why reclaims ∷ []) new after)
-      ⊎ (((why ≡ NoMemory) × ActsAll old r w (admitted ∷ unplanned ∷ []) new after)
-      ⊎ (((why ≡ NotPublished) × ActsAll old r w (admitted ∷ planned (events.Submit command) ∷ committed (commit_events (command ∷ [])) ∷ unshown ∷ []) new after)
-      ⊎ ((mid : Standing (Held S)) × ActsAll old r w (admitted ∷ planned (events.Submit command) ∷ []) mid after × FailsToCommit g mid new why)))
-
-  -- Commands together that are acknowledged are their four steps.
-  abbrev pub AcknowledgesAll : Standing (Held S) → RegistryState → List Command → Line → Standing (Held S) → RegistryState → Type 0
-  AcknowledgesAll old r commands told new after = (w : World) → AreBothOf g old r w → ActsAll old r w (step_acts_all commands told) new after
-
-  -- Those that are not had no memory, and nothing changed; or they are refused, at once or after a reclaim. Or all of them are stored, and their publication fails; or their commit fails.
-  abbrev pub TakesNone : Standing (Held S) → RegistryState → List Command → Refusal → Standing (Held S) → RegistryState → Type 0
-  TakesNone old r commands why new after = (w : World) → AreBothOf g old r w →
+  -- One that is not has no memory to be checked, and nothing changes; or it is refused at once, or after a reclaim; or it has no memory then. Or it is stored, and its publication fails; or its commit fails.
+  abbrev pub TakesNot : Standing (Held S) → RegistryState → Event → Refusal → Standing (Held S) → RegistryState → Type 0
+  TakesNot old r event why new after = (w : World) → AreBothOf g old r w →
       ((why ≡ NoMemory) × (new ≡ old) × (after ≡ r))
-      ⊎ (((reclaims : Bool) × ActsAll old r w (declined (events.SubmitAll commands) why reclaims ∷ []) new after)
-      ⊎ (((why ≡ NotPublished) × ActsAll old r w (taken (events.SubmitAll commands) ∷ committed (commit_events commands) ∷ unshown ∷ []) new after)
-      ⊎ ((mid : Standing (Held S)) × ActsAll old r w (taken (events.SubmitAll commands) ∷ []) mid after × FailsToCommit g mid new why)))
+      ⊎ (((reclaims : Bool) × ActsAll old r w (declined event why reclaims ∷ []) new after)
+      ⊎ (((why ≡ NoMemory) × ActsAll old r w (admitted ∷ unplanned ∷ []) new after)
+      ⊎ (((why ≡ NotPublished) × ActsAll old r w (admitted ∷ planned event ∷ committed (commit_events (asked event)) ∷ unshown ∷ []) new after)
+      ⊎ ((mid : Standing (Held S)) × ActsAll old r w (admitted ∷ planned event ∷ []) mid after × FailsToCommit g mid new why))))
 
   -- ---- the laws of every run
 

@@ -6,45 +6,69 @@ ghost use Rattle.prt_command.specs.Storable.{IsStorable};
 ghost use Rattle.prt_front.specs.Line.{line_state};
 ghost use Rattle.prt_grace.specs.Registry.{new_registry};
 ghost use Rattle.prt_publisher.specs.Standing.{IsQuiet};
-ghost use Rattle.prt_publisher.specs.Step.{IsPlan};
+ghost use Rattle.prt_publisher.specs.Step.{AreChecked, commands_checked};
 ghost use Rattle.prt_rows.specs.Effects.{AreEmpty};
 ghost use Rattle.prt_store.specs.Exits.{IsKnown, MayLeave};
 ghost use Rattle.prt_version.specs.State.{State};
 ghost use Rattle.prt_world.specs.World.{run_from, start};
+ghost use Rattle.prt_world.specs.declared.event.Event.{Event};
 ghost use Rattle.prt_world.specs.declared.event.Event.TheVariants.{Submit, SubmitAll};
-ghost use Rattle.prt_laws.specs.Laws.{Admits, AdmitsAll, AdoptsAgain, AdoptsStopped, BeginsAt, Commits, Declines, DeclinesBy, FailsToCommit, Notes, Plans, PlansNone, PlansNot, Prepares, PreparesNot, Publishes, PublishesNot, Shows, Submits, SubmitsNot};
-ghost use Rattle.prt_laws.specs.Runs.{Acknowledges, AcknowledgesAll, HoldsAll, TakesNone, TakesNot, events_of, receipts_of, step_acts, step_acts_all};
+ghost use Rattle.prt_laws.specs.Events.{AsksSome, asked};
+ghost use Rattle.prt_laws.specs.Laws.{Admits, AdoptsAgain, AdoptsStopped, BeginsAt, ChecksNot, Commits, DeclinesBy, FailsToCommit, Notes, Plans, PlansNot, Prepares, PreparesNot, Publishes, PublishesNot, Shows, Submits, SubmitsNot};
+ghost use Rattle.prt_laws.specs.Runs.{Acknowledges, HoldsAll, TakesNot, events_of, receipts_of, step_acts};
 
 use prt_command::{Command, Refusal};
 use prt_grace::{Domain, Registry};
-use prt_publisher::{Phase, Plan, Publisher, Receipt};
+use prt_publisher::{Checked, Phase, Publisher, Receipt};
 use sqlite::{Alter, Connection};
 use std::alloc::Global;
 use std::sync::Wait;
 
-/// Admits a command, under the lock of the registry.
+/// Checks commands, outside the lock: no event.
 ///
 /// # Errors
 ///
-/// Those of `Publisher::admit`: the world refuses the command for the same reason, after a reclaim where it is `Busy`.
+/// Those of `Publisher::check_all`. The world refuses the commands for the same reason; of `NoMemory` it has no event.
+pub fn check_all<S: Alter + Drop, R: Wait + Drop>(
+    publisher: &Publisher<S, R>,
+    commands: &[Command],
+) -> Result<Checked, Refusal>
+    requires quiet { IsQuiet publisher.now.phase }
+    requires some { 1 ≤ length commands.now }
+    requires storable { All IsStorable commands.now }
+    ensures ok { IfOk result (λ checked. AreChecked (line_state publisher.now.line) checked × (commands_checked checked ≡ commands.now)) }
+    ensures ready { OnOk result (publisher.now.phase ≡ Phase.Ready) }
+    ensures err { IfErr result (λ why. ChecksNot S.Store publisher.now publisher.now commands.now why) }
+{
+    match publisher.check_all(commands) {
+        Ok(checked) => Ok(checked),
+        Err(reason) => Err(reason),
+    }
+}
+
+/// Sees that there is room for checked commands, under the lock of the registry: then they are admitted.
+///
+/// # Errors
+///
+/// `Busy`: the world refuses the commands for want of room, after a reclaim.
 pub fn admit<S: Alter + Drop, R: Wait + Drop>(
     publisher: &mut Publisher<S, R>,
     registry: &mut Registry,
-    command: &Command,
+    checked: Checked,
 ) -> Result<(), Refusal>
-    requires quiet { IsQuiet publisher.old.phase }
-    requires storable { IsStorable command.now }
+    requires ready { publisher.old.phase ≡ Phase.Ready }
+    requires checked { AreChecked (line_state publisher.old.line) checked }
     ensures ok { OnOk result (Admits S.Store publisher.old publisher.new registry.old registry.new) }
-    ensures then { OnOk result ((publisher.new.phase ≡ Phase.Admitted) × (publisher.new.commands ≡ command.now ∷ [])) }
-    ensures err { IfErr result (λ why. Declines S.Store publisher.old publisher.new registry.old registry.new (Submit command.now) why) }
+    ensures then { OnOk result ((publisher.new.phase ≡ Phase.Admitted) × (publisher.new.commands ≡ commands_checked checked)) }
+    ensures err { IfErr result (λ why. (event : Event) → AsksSome event → commands_checked checked ≡ asked event → DeclinesBy S.Store publisher.old publisher.new true registry.old registry.new event why) }
 {
-    match publisher.admit(registry, command) {
+    match publisher.admit(registry, checked) {
         Ok(()) => Ok(()),
         Err(reason) => Err(reason),
     }
 }
 
-/// Makes the version of the admitted command, outside the lock.
+/// Makes the version of the admitted commands, outside the lock.
 ///
 /// # Errors
 ///
@@ -56,50 +80,6 @@ pub fn plan<S: Alter + Drop, R: Wait + Drop>(publisher: &mut Publisher<S, R>) ->
     ensures err { IfErr result (λ why. PlansNot S.Store publisher.old publisher.new why) }
 {
     match publisher.plan() {
-        Ok(()) => Ok(()),
-        Err(reason) => Err(reason),
-    }
-}
-
-/// Makes what commands need to be published, outside the lock: no event.
-///
-/// # Errors
-///
-/// Those of `Publisher::plan_all`. The world refuses the commands for the same reason; of `NoMemory` it has no event.
-pub fn plan_all<S: Alter + Drop, R: Wait + Drop>(
-    publisher: &Publisher<S, R>,
-    commands: &Vec<Command>,
-) -> Result<Plan, Refusal>
-    requires quiet { IsQuiet publisher.now.phase }
-    requires some { 1 ≤ length commands.now.items }
-    requires storable { All IsStorable commands.now.items }
-    ensures ok { IfOk result (λ plan. IsPlan (line_state publisher.now.line) plan × (plan.commands.items ≡ commands.now.items)) }
-    ensures ready { OnOk result (publisher.now.phase ≡ Phase.Ready) }
-    ensures err { IfErr result (λ why. PlansNone S.Store publisher.now publisher.now (SubmitAll commands.now.items) why) }
-{
-    match publisher.plan_all(commands) {
-        Ok(plan) => Ok(plan),
-        Err(reason) => Err(reason),
-    }
-}
-
-/// Sees that there is room for planned commands, under the lock of the registry: then they are prepared.
-///
-/// # Errors
-///
-/// `Busy`: the world refuses the commands for want of room, after a reclaim.
-pub fn admit_all<S: Alter + Drop, R: Wait + Drop>(
-    publisher: &mut Publisher<S, R>,
-    registry: &mut Registry,
-    plan: Plan,
-) -> Result<(), Refusal>
-    requires ready { publisher.old.phase ≡ Phase.Ready }
-    requires plan { IsPlan (line_state publisher.old.line) plan }
-    ensures ok { OnOk result (AdmitsAll S.Store publisher.old publisher.new registry.old registry.new (SubmitAll plan.commands.items)) }
-    ensures then { OnOk result ((publisher.new.phase ≡ Phase.Prepared) × (publisher.new.commands ≡ plan.commands.items)) }
-    ensures err { IfErr result (λ why. DeclinesBy S.Store publisher.old publisher.new true registry.old registry.new (SubmitAll plan.commands.items) why) }
-{
-    match publisher.admit_all(registry, plan) {
         Ok(()) => Ok(()),
         Err(reason) => Err(reason),
     }
@@ -153,8 +133,8 @@ pub fn note<S: Alter + Drop, R: Wait + Drop>(
     publisher.note(registry)
 }
 
-/// Submits a command by the steps that `Publisher::submit` makes, in one registry: so it is said that there was room, and
-/// that the version was noted.
+/// Submits commands by the steps that `Publisher::submit_all` makes, in one registry: so it is said that there was room,
+/// and that the version was noted.
 ///
 /// # Errors
 ///
@@ -162,14 +142,19 @@ pub fn note<S: Alter + Drop, R: Wait + Drop>(
 pub fn submit_by_steps<S: Alter + Drop, R: Wait + Drop>(
     publisher: &mut Publisher<S, R>,
     registry: &mut Registry,
-    command: &Command,
+    commands: &[Command],
 ) -> Result<Receipt, Refusal>
     requires quiet { IsQuiet publisher.old.phase }
-    requires storable { IsStorable command.now }
-    ensures ok { IfOk result (λ told. Acknowledges S.Store publisher.old registry.old command.now told publisher.new registry.new) }
-    ensures err { IfErr result (λ why. TakesNot S.Store publisher.old registry.old command.now why publisher.new registry.new) }
+    requires some { 1 ≤ length commands.now }
+    requires storable { All IsStorable commands.now }
+    ensures ok { IfOk result (λ told. (event : Event) → commands.now ≡ asked event → Acknowledges S.Store publisher.old registry.old event told publisher.new registry.new) }
+    ensures err { IfErr result (λ why. (event : Event) → commands.now ≡ asked event → TakesNot S.Store publisher.old registry.old event why publisher.new registry.new) }
 {
-    if let Err(reason) = admit(publisher, registry, command) {
+    let checked = match check_all(publisher, commands) {
+        Ok(checked) => checked,
+        Err(reason) => return Err(reason),
+    };
+    if let Err(reason) = admit(publisher, registry, checked) {
         return Err(reason);
     }
     if let Err(reason) = plan(publisher) {
@@ -185,64 +170,8 @@ pub fn submit_by_steps<S: Alter + Drop, R: Wait + Drop>(
     Ok(receipt)
 }
 
-/// Submits the first command of a new file, with the registry of its domain. What a crash leaves then holds it, under the
-/// number that its receipt tells.
-///
-/// # Errors
-///
-/// Those of the steps.
-pub fn first_command<S: Alter + Drop, R: Wait + Drop>(
-    publisher: &mut Publisher<S, R>,
-    registry: &mut Registry,
-    command: &Command,
-) -> Result<Receipt, Refusal>
-    requires quiet { IsQuiet publisher.old.phase }
-    requires storable { IsStorable command.now }
-    requires registry { registry.old ≡ new_registry (line_state publisher.old.line) }
-    ensures { IfOk result (λ told. BeginsAt S.Store publisher.old start → IsKnown S.Store publisher.new.ours_first publisher.new.tables → (left : State) → MayLeave S.Store publisher.new.tables left →
-        HoldsAll (run_from start (events_of (step_acts command.now told))) (receipts_of (step_acts command.now told)) [] left) }
-{
-    match submit_by_steps(publisher, registry, command) {
-        Ok(receipt) => Ok(receipt),
-        Err(reason) => Err(reason),
-    }
-}
-
-/// Submits commands together by the steps that `Publisher::submit_all` makes, in one registry.
-///
-/// # Errors
-///
-/// Those of the steps.
-pub fn submit_all_by_steps<S: Alter + Drop, R: Wait + Drop>(
-    publisher: &mut Publisher<S, R>,
-    registry: &mut Registry,
-    commands: &Vec<Command>,
-) -> Result<Receipt, Refusal>
-    requires quiet { IsQuiet publisher.old.phase }
-    requires some { 1 ≤ length commands.now.items }
-    requires storable { All IsStorable commands.now.items }
-    ensures ok { IfOk result (λ told. AcknowledgesAll S.Store publisher.old registry.old commands.now.items told publisher.new registry.new) }
-    ensures err { IfErr result (λ why. TakesNone S.Store publisher.old registry.old commands.now.items why publisher.new registry.new) }
-{
-    let plan = match plan_all(publisher, commands) {
-        Ok(plan) => plan,
-        Err(reason) => return Err(reason),
-    };
-    if let Err(reason) = admit_all(publisher, registry, plan) {
-        return Err(reason);
-    }
-    if let Err(failed) = commit(publisher) {
-        return Err(failed);
-    }
-    if let Err(unshown) = show(publisher) {
-        return Err(unshown);
-    }
-    let receipt = note(publisher, registry);
-    Ok(receipt)
-}
-
-/// Submits the first commands of a new file together, with the registry of its domain. What a crash leaves then holds each
-/// of them, under its own number, of which the receipt tells the last.
+/// Submits the first commands of a new file, with the registry of its domain. What a crash leaves then holds each of them,
+/// under its own number, of which the receipt tells the last.
 ///
 /// # Errors
 ///
@@ -250,16 +179,16 @@ pub fn submit_all_by_steps<S: Alter + Drop, R: Wait + Drop>(
 pub fn first_commands<S: Alter + Drop, R: Wait + Drop>(
     publisher: &mut Publisher<S, R>,
     registry: &mut Registry,
-    commands: &Vec<Command>,
+    commands: &[Command],
 ) -> Result<Receipt, Refusal>
     requires quiet { IsQuiet publisher.old.phase }
-    requires some { 1 ≤ length commands.now.items }
-    requires storable { All IsStorable commands.now.items }
+    requires some { 1 ≤ length commands.now }
+    requires storable { All IsStorable commands.now }
     requires registry { registry.old ≡ new_registry (line_state publisher.old.line) }
-    ensures { IfOk result (λ told. BeginsAt S.Store publisher.old start → IsKnown S.Store publisher.new.ours_first publisher.new.tables → (left : State) → MayLeave S.Store publisher.new.tables left →
-        HoldsAll (run_from start (events_of (step_acts_all commands.now.items told))) (receipts_of (step_acts_all commands.now.items told)) [] left) }
+    ensures { IfOk result (λ told. (event : Event) → commands.now ≡ asked event → BeginsAt S.Store publisher.old start → IsKnown S.Store publisher.new.ours_first publisher.new.tables → (left : State) → MayLeave S.Store publisher.new.tables left →
+        HoldsAll (run_from start (events_of (step_acts event told))) (receipts_of (step_acts event told)) [] left) }
 {
-    match submit_all_by_steps(publisher, registry, commands) {
+    match submit_by_steps(publisher, registry, commands) {
         Ok(receipt) => Ok(receipt),
         Err(reason) => Err(reason),
     }
@@ -298,13 +227,13 @@ pub fn prepare_all<S: Alter + Drop, R: Wait + Drop, W: Wait>(
     publisher: &mut Publisher<S, R>,
     rt: &W,
     domain: &Domain,
-    commands: &Vec<Command>,
+    commands: &[Command],
 ) -> Result<(), Refusal>
     requires quiet { IsQuiet publisher.old.phase }
-    requires some { 1 ≤ length commands.now.items }
-    requires storable { All IsStorable commands.now.items }
-    ensures ok { OnOk result (Prepares S.Store publisher.old publisher.new (SubmitAll commands.now.items)) }
-    ensures err { IfErr result (λ why. PreparesNot S.Store publisher.old publisher.new (SubmitAll commands.now.items) why) }
+    requires some { 1 ≤ length commands.now }
+    requires storable { All IsStorable commands.now }
+    ensures ok { OnOk result (Prepares S.Store publisher.old publisher.new (SubmitAll commands.now)) }
+    ensures err { IfErr result (λ why. PreparesNot S.Store publisher.old publisher.new (SubmitAll commands.now) why) }
 {
     match publisher.prepare_all(rt, domain, commands) {
         Ok(()) => Ok(()),
@@ -363,13 +292,13 @@ pub fn submit_all<S: Alter + Drop, R: Wait + Drop, W: Wait>(
     publisher: &mut Publisher<S, R>,
     rt: &W,
     domain: &Domain,
-    commands: &Vec<Command>,
+    commands: &[Command],
 ) -> Result<Receipt, Refusal>
     requires quiet { IsQuiet publisher.old.phase }
-    requires some { 1 ≤ length commands.now.items }
-    requires storable { All IsStorable commands.now.items }
-    ensures ok { IfOk result (λ told. Submits S.Store publisher.old publisher.new (SubmitAll commands.now.items) told) }
-    ensures err { IfErr result (λ why. SubmitsNot S.Store publisher.old publisher.new (SubmitAll commands.now.items) why) }
+    requires some { 1 ≤ length commands.now }
+    requires storable { All IsStorable commands.now }
+    ensures ok { IfOk result (λ told. Submits S.Store publisher.old publisher.new (SubmitAll commands.now) told) }
+    ensures err { IfErr result (λ why. SubmitsNot S.Store publisher.old publisher.new (SubmitAll commands.now) why) }
 {
     match publisher.submit_all(rt, domain, commands) {
         Ok(receipt) => Ok(receipt),

@@ -1,9 +1,7 @@
 -- What a commit leaves.
-use Rattle.std.proofs.Common.{◌≡◌, ◌⊎◌, inl, inr, ℕ, suc, ◌+◌, ◌≤◌, Bool, List, [], ◌∷◌, length, None, Result, Ok, Err, refl, sym, ap, subst, ◌∙◌, arith}
-use Rattle.std.proofs.lemmas.List.Elements.{All-head, All-tail}
-use Rattle.std.specs.Prelude.{All, IsTrue}
+use Rattle.std.proofs.Common.{◌≡◌, ◌⊎◌, inl, inr, ℕ, ◌+◌, ◌≤◌, Bool, List, [], ◌∷◌, length, sym, ap, subst, ◌∙◌, arith}
+use Rattle.std.specs.Prelude.{IsTrue}
 use Rattle.std.specs.Arc.{arc_value}
-use Rattle.std.specs.Result.{result_err}
 use Rattle.sqlite.specs.Effect.{Database}
 use Rattle.sqlite.specs.Held.{Held, state}
 use Rattle.sqlite.specs.Store.{Ghosts}
@@ -11,18 +9,17 @@ use Rattle.sqlite.specs.Tree.{Trees}
 use Rattle.prt_addr.specs.declared.refusal.Refusal.{Refusal}
 use Rattle.prt_addr.specs.declared.refusal.Refusal.TheVariants.{StoreFailed}
 use Rattle.prt_addr.specs.declared.refusal.StoreCall.TheVariants.{Commit}
-use Rattle.prt_command.specs.Storable.{IsStorable}
 use Rattle.prt_command.specs.declared.request.Command.{Command}
-use Rattle.prt_store.proofs.Accepted.{are_made, are_next, as_many}
+use Rattle.prt_store.proofs.Accepted.{are_made, are_next}
 use Rattle.prt_store.specs.Exits.{IsKnown, IsStored, MayLeave, Spells}
 use Rattle.prt_store.specs.Made.{MakesChanges}
 use Rattle.prt_store.specs.declared.store.Stamp.{Stamp}
-use Rattle.prt_store.specs.Next.{AreMade, AreNext, put_all}
+use Rattle.prt_store.specs.Next.{AreNext, put_all}
 use Rattle.prt_store.specs.Openings.{HasDone}
 use Rattle.prt_store.specs.Stored.{Stores}
 use Rattle.prt_version.proofs.Folds.{count_fold}
-use Rattle.prt_version.specs.Accepted.{IsAccepted, changes_of, with_made}
-use Rattle.prt_version.specs.Change.{apply, check, fold, put, put_if}
+use Rattle.prt_version.specs.Accepted.{IsAccepted, changes_of}
+use Rattle.prt_version.specs.Change.{fold}
 use Rattle.prt_version.specs.State.{State}
 use Rattle.prt_version.specs.declared.change.Change.{Change}
 use Rattle.prt_front.specs.Line.{line_state}

@@ -8,8 +8,6 @@ use Rattle.prt_addr.specs.declared.refusal.StoreCall.{StoreCall}
 use Rattle.prt_addr.specs.declared.refusal.StoreCall.TheVariants.{Commit}
 use Rattle.prt_command.specs.declared.request.Command.{Command}
 use Rattle.prt_front.specs.Line.{line_state}
-use Rattle.prt_grace.specs.Registry.{RegistryState, reclaimed}
-use Rattle.prt_grace.specs.declared.limits.TheConstants.{MOST_RETIRED}
 use Rattle.prt_publisher.specs.Standing.{Standing}
 use Rattle.prt_publisher.specs.declared.phase.Phase.{Phase}
 use Rattle.prt_publisher.specs.declared.phase.Phase.TheVariants.{Ready, Closed}
@@ -17,7 +15,7 @@ use Rattle.prt_store.specs.Exits.{IsKnown, MayLeave, SparesOthers}
 use Rattle.prt_store.specs.Made.{MakesChanges}
 use Rattle.prt_store.specs.Openings.{HasDone}
 use Rattle.prt_store.specs.Stored.{Stores}
-use Rattle.prt_version.specs.Accepted.{IsAccepted, IsRefusedFor, changes_of}
+use Rattle.prt_version.specs.Accepted.{IsAccepted, changes_of, refusal_all}
 use Rattle.prt_version.specs.Change.{fold, refusal}
 use Rattle.prt_version.specs.State.{State}
 
@@ -29,27 +27,24 @@ TakesAll s commands = (s.phase ≡ Ready) × IsAccepted (line_state s.line) comm
 abbrev pub Takes : {T : Type 0} → Standing T → Command → Type 0
 Takes s command = TakesAll s (command ∷ [])
 
--- why a command is not admitted, and what the registry is after it
-abbrev pub IsNotAdmitted : Phase → State → Command → RegistryState → RegistryState → Refusal → Type 0
-IsNotAdmitted Closed published command old new why = (why ≡ reason.Closed) × (new ≡ old)
-IsNotAdmitted p published command old new why =
-    ((refusal published command ≡ Some why) × (new ≡ old))
-    ⊎ ((refusal published command ≡ None) × (new ≡ reclaimed old) × (why ≡ reason.Busy) × (MOST_RETIRED ≤ length new.retired))
+-- why commands are refused: the first refusal among them; or, where they are several, that memory was refused on the way to it
+abbrev pub AreRefused : State → List Command → Refusal → Type 0
+AreRefused published commands why = (refusal_all published commands ≡ Some why) ⊎ ((why ≡ reason.NoMemory) × (2 ≤ length commands))
+
+-- why commands are not checked
+abbrev pub AreNotChecked : Phase → State → List Command → Refusal → Type 0
+AreNotChecked Closed published commands why = why ≡ reason.Closed
+AreNotChecked p published commands why = AreRefused published commands why
+
+-- why commands are not prepared
+abbrev pub AreNotPrepared : Phase → State → List Command → Refusal → Type 0
+AreNotPrepared Closed published commands why = why ≡ reason.Closed
+AreNotPrepared p published commands why = AreRefused published commands why ⊎ (IsAccepted published commands × ((why ≡ reason.Busy) ⊎ (why ≡ reason.NoMemory)))
 
 -- why a command is not prepared
 abbrev pub IsNotPrepared : Phase → State → Command → Refusal → Type 0
 IsNotPrepared Closed published command why = why ≡ reason.Closed
 IsNotPrepared p published command why = (refusal published command ≡ Some why) ⊎ ((refusal published command ≡ None) × ((why ≡ reason.Busy) ⊎ (why ≡ reason.NoMemory)))
-
--- why commands are not planned
-abbrev pub AreNotPlanned : Phase → State → List Command → Refusal → Type 0
-AreNotPlanned Closed published commands why = why ≡ reason.Closed
-AreNotPlanned p published commands why = IsRefusedFor published commands why
-
--- why commands are not prepared
-abbrev pub AreNotPrepared : Phase → State → List Command → Refusal → Type 0
-AreNotPrepared Closed published commands why = why ≡ reason.Closed
-AreNotPrepared p published commands why = IsRefusedFor published commands why ⊎ (IsAccepted published commands × (why ≡ reason.Busy))
 
 -- The commit failed: closed, with the old state in the tables while they can be seen. A crash leaves it too or, only where the commit call failed, possibly the one after all of the commands.
 pub record AreNotStored {S : Type 0} (g : Ghosts S) (old : Standing (Held S)) (commands : List Command) (why : Refusal) (new : Standing (Held S)) : Type 0 where

@@ -1,21 +1,48 @@
 -- What a publisher keeps of the commands under way.
-use Rattle.std.specs.Prelude.{◌≡◌, ◌+◌, ◌≤◌, All, List, [], ◌∷◌, length, None, Some}
+use Rattle.std.specs.Prelude.{◌≡◌, ◌+◌, ◌≤◌, ◌++◌, All, List, [], ◌∷◌, length, Option, None, Some, Ok}
 use Rattle.std.specs.Arc.{arc_value}
 use Rattle.prt_command.specs.Storable.{IsStorable}
 use Rattle.prt_command.specs.declared.request.Command.{Command}
 use Rattle.prt_version.specs.Accepted.{IsAccepted, changes_of}
-use Rattle.prt_version.specs.Change.{fold, refusal}
+use Rattle.prt_version.specs.Change.{check, fold}
 use Rattle.prt_version.specs.Sound.{IsSound}
 use Rattle.prt_version.specs.State.{State}
+use Rattle.prt_publisher.specs.declared.checked.Checked.{Checked}
+use Rattle.prt_publisher.specs.declared.checked.Earlier.{Earlier}
 use Rattle.prt_publisher.specs.declared.phase.Phase.{Phase}
 use Rattle.prt_publisher.specs.declared.phase.Phase.TheVariants as phase
 use Rattle.prt_publisher.specs.declared.plan.Plan.{Plan}
 use Rattle.prt_publisher.specs.declared.publisher.Step.{Step}
 use Rattle.prt_publisher.specs.declared.publisher.Step.TheVariants.{Ready, Admitted, Prepared, Committed, Published, Closed}
 
+-- ---- commands that were checked
+
+abbrev pub commands_checked : Checked → List Command
+commands_checked checked = checked.earlier.commands.items ++ checked.command ∷ []
+
+-- the version that the next command meets
+abbrev pub version_met : State → Option State → State
+version_met published None = published
+version_met published (Some version) = version
+
+-- The commands are refused for nothing, one after the other, and lead to the version that the next one meets.
+pub record LeadUp (published : State) (earlier : Earlier) : Type 0 where
+  pub accepted : IsAccepted published earlier.commands.items
+  pub changes : earlier.changes.items ≡ changes_of published earlier.commands.items
+  pub version : version_met published earlier.version ≡ fold published earlier.commands.items
+
+-- The storable commands are refused for nothing, one after the other, and this is the change that the last one makes.
+pub record AreChecked (published : State) (checked : Checked) : Type 0 where
+  pub sound : IsSound published
+  pub storable : All IsStorable (commands_checked checked)
+  pub earlier : LeadUp published checked.earlier
+  pub makes : check (version_met published checked.earlier.version) checked.command ≡ Ok checked.change
+
+-- ---- the step
+
 abbrev pub phase_of : Step → Phase
 phase_of Ready = phase.Ready
-phase_of (Admitted command) = phase.Admitted
+phase_of (Admitted checked) = phase.Admitted
 phase_of (Prepared plan) = phase.Prepared
 phase_of (Committed plan stamp) = phase.Committed
 phase_of (Published commands noted) = phase.Published
@@ -23,7 +50,7 @@ phase_of (Closed unpublished) = phase.Closed
 
 abbrev pub commands_of : Step → List Command
 commands_of Ready = []
-commands_of (Admitted command) = command ∷ []
+commands_of (Admitted checked) = commands_checked checked
 commands_of (Prepared plan) = plan.commands.items
 commands_of (Committed plan stamp) = plan.commands.items
 commands_of (Published commands noted) = commands.items
@@ -44,7 +71,7 @@ pub record IsPlan (published : State) (plan : Plan) : Type 0 where
 -- what is kept of commands belongs to the published state
 abbrev pub IsStep : State → Step → Type 0
 IsStep published Ready = Unit {0}
-IsStep published (Admitted command) = IsStorable command × (refusal published command ≡ None)
+IsStep published (Admitted checked) = AreChecked published checked
 IsStep published (Prepared plan) = IsPlan published plan
 IsStep published (Committed plan stamp) = IsPlan published plan × (stamp.number ≡ published.count + length plan.commands.items)
 IsStep published (Published commands noted) = (1 ≤ length commands.items) × (arc_value noted ≡ published)

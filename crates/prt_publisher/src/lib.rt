@@ -1,6 +1,7 @@
 //! The publisher: commands are checked, committed, published and noted, and only then acknowledged.
 #![tactic(auto)]
 
+mod checked;
 mod connected;
 mod opening;
 mod phase;
@@ -9,9 +10,9 @@ mod publisher;
 mod receipt;
 mod seats;
 
+pub use checked::Checked;
 pub use connected::publisher_over;
 pub use phase::Phase;
-pub use plan::Plan;
 pub use publisher::Publisher;
 pub use receipt::Receipt;
 pub use seats::Seats;

@@ -6,7 +6,7 @@
 pub enum Phase {
     /// It takes the next commands.
     Ready,
-    /// A command was checked, and the registry had room for one more retired version.
+    /// The commands were checked, and the registry had room for one more retired version.
     Admitted,
     /// The memory of the version after the commands was taken.
     Prepared,

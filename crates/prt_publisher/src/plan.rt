@@ -1,10 +1,11 @@
 //! What commands need to be published, with its memory.
-ghost use Rattle.std.specs.Prelude.{◌≡◌, ◌≤◌, All, IfErr, IfOk, length};
+ghost use Rattle.std.specs.Prelude.{◌≡◌, IfErr, IfOk};
 ghost use Rattle.std.specs.Arc.{arc_value};
-ghost use Rattle.prt_command.specs.Storable.{IsStorable};
-ghost use Rattle.prt_publisher.specs.Step.{IsPlan};
-ghost use Rattle.prt_version.specs.Accepted.{IsRefusedFor};
+ghost use Rattle.prt_addr.specs.declared.refusal.Refusal.TheVariants.{NoMemory};
+ghost use Rattle.prt_publisher.specs.Step.{AreChecked, IsPlan, commands_checked};
 
+use crate::Checked;
+use crate::checked::Earlier;
 use prt_command::{Command, Refusal};
 use prt_version::{Change, Version};
 use std::alloc::{AllocError, Global};
@@ -13,7 +14,7 @@ use std::sync::Arc;
 /// Commands that are published together, the changes that they make, and the version after them in the hands of three
 /// owners: the publisher, the front and the registry.
 #[derive(Drop)]
-pub struct Plan {
+pub(crate) struct Plan {
     pub(crate) commands: Vec<Command>,
     pub(crate) changes: Vec<Change>,
     pub(crate) next: Arc<Version>,
@@ -34,27 +35,32 @@ pub(crate) fn owners(
     Ok((first, second, third))
 }
 
-/// Makes what commands need to be published, with all memory that they need after their commit.
+/// Makes what checked commands need to be published, with all memory that they need after their commit.
 ///
 /// # Errors
 ///
-/// As of `Version::after_all`.
-pub(crate) fn make_plan(version: &Version, commands: &[Command]) -> Result<Plan, Refusal>
-    requires some { 1 ≤ length commands.now }
-    requires storable { All IsStorable commands.now }
-    ensures plan { IfOk result (IsPlan version.now) }
-    ensures commands { IfOk result (λ plan. plan.commands.items ≡ commands.now) }
-    ensures reason { IfErr result (IsRefusedFor version.now commands.now) }
+/// `NoMemory`.
+pub(crate) fn make_plan(published: &Version, checked: Checked) -> Result<Plan, Refusal>
+    requires { AreChecked published.now checked }
+    ensures plan { IfOk result (IsPlan published.now) }
+    ensures commands { IfOk result (λ plan. plan.commands.items ≡ commands_checked checked) }
+    ensures reason { IfErr result (λ reason. reason ≡ NoMemory) }
 {
-    // Recalls that the version is sound.
-    let _number = version.number();
-    let alloc = *version.shared_rules().allocator();
-    let (changes, after) = match version.after_all(commands) {
-        Ok(made) => made,
-        Err(reason) => return Err(reason),
-    };
-    let commands = Vec::from_slice(alloc, commands)?;
-    let (next, shown, noted) = owners(alloc, after)?;
+    let alloc = *published.shared_rules().allocator();
+    let Checked {
+        earlier,
+        command,
+        change,
+    } = checked;
+    let last = earlier.version(published).next(&change)?;
+    let (next, shown, noted) = owners(alloc, last)?;
+    let Earlier {
+        mut commands,
+        mut changes,
+        version: _,
+    } = earlier;
+    commands.push(command)?;
+    changes.push(change)?;
     Ok(Plan {
         commands,
         changes,

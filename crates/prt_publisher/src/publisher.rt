@@ -10,9 +10,9 @@ ghost use Rattle.prt_command.specs.Storable.{IsStorable};
 ghost use Rattle.prt_front.specs.Line.{grown, grown_by, line_state};
 ghost use Rattle.prt_grace.specs.Registry.{noted_by, reclaimed};
 ghost use Rattle.prt_grace.specs.declared.limits.TheConstants.{MOST_RETIRED};
-ghost use Rattle.prt_publisher.specs.Exits.{AreNotAcknowledged, AreNotPlanned, AreNotPrepared, HasCommitted, HaveCommitted, IsNotAcknowledged, IsNotAdmitted, IsNotPrepared, Spares, Takes, TakesAll};
+ghost use Rattle.prt_publisher.specs.Exits.{AreNotAcknowledged, AreNotChecked, AreNotPrepared, HasCommitted, HaveCommitted, IsNotAcknowledged, IsNotPrepared, Spares, Takes, TakesAll};
 ghost use Rattle.prt_publisher.specs.Standing.{IsQuiet, Stands, unnoted};
-ghost use Rattle.prt_publisher.specs.Step.{IsPlan};
+ghost use Rattle.prt_publisher.specs.Step.{AreChecked, commands_checked};
 ghost use Rattle.prt_rows.specs.Format.{BeginsFormat2, SuitsFormat2};
 ghost use Rattle.prt_store.specs.Adopted.{Adopts, AdoptsPart, LeavesPart};
 ghost use Rattle.prt_store.specs.Exits.{HasState, IsKnown, IsStored, MayLeave, Opens, Spells};
@@ -24,9 +24,10 @@ ghost use Rattle.prt_version.specs.Change.{fold};
 ghost use Rattle.prt_version.specs.Sound.{IsSound};
 ghost use Rattle.prt_version.specs.State.{State};
 
+use crate::checked::check_all;
 use crate::opening::open;
 use crate::plan::{Plan, make_plan};
-use crate::{Phase, Receipt, Seats};
+use crate::{Checked, Phase, Receipt, Seats};
 use prt_command::{Command, Refusal};
 use prt_front::Front;
 use prt_grace::{Domain, Keeper, Registry};
@@ -42,7 +43,7 @@ use std::{mem, slice};
 #[derive(Drop)]
 enum Step {
     Ready,
-    Admitted(Command),
+    Admitted(Checked),
     Prepared(Plan),
     Committed(Plan, Stamp),
     /// With the version to be noted.
@@ -53,9 +54,10 @@ enum Step {
 
 /// Takes commands for one database, and publishes the version after each, or after those that are made together.
 ///
-/// Commands are prepared, committed and published; `submit` and `submit_all` do the three. The steps `admit`,
-/// `admit_all` and `note` take the registry of the domain, which the caller has locked; the others lock it for that one
-/// step each. No lock is held while a version is made, across a store call, or while readers are waited for.
+/// Commands are prepared, committed and published; `submit_all` does the three. To prepare them is to check them, to
+/// admit them and to plan them. The steps `admit` and `note` take the registry of the domain, which the caller has
+/// locked; `prepare_all` and `publish` lock it for that one step each. The domain's lock is held while no version is made,
+/// across no store call, and while no reader is waited for.
 #[derive(Drop)]
 pub struct Publisher<S: Alter + Drop, R: Wait + Drop> {
     store: Store<S>,
@@ -216,41 +218,57 @@ impl<S: Alter + Drop, R: Wait + Drop> Publisher<S, R> {
         }
     }
 
-    /// Checks a command, has the registry give up the versions that nobody can hold, and sees that it has room for one
-    /// more.
+    /// Checks commands one after the other. Needs no lock, and of one command no memory.
     ///
     /// # Errors
     ///
-    /// `Closed` exactly where it is closed; otherwise what the command is refused for; where that is nothing, `Busy`
-    /// exactly where the registry has no room. The publisher is then as it was, and the registry too but for what it gave
-    /// up before `Busy`.
-    pub fn admit(&mut self, registry: &mut Registry, command: &Command) -> Result<(), Refusal>
-        requires quiet { IsQuiet self.old.phase }
-        requires storable { IsStorable command.now }
-        ensures ok { OnOk result ((self.new ≡ record self.old { phase = Phase.Admitted; commands = command.now ∷ [] }) × Takes self.old command.now) }
-        ensures idle { OnOk result (self.old.commands ≡ []) }
-        ensures room { OnOk result ((registry.new ≡ reclaimed registry.old) × (length registry.new.retired < MOST_RETIRED)) }
-        ensures err { IfErr result (λ reason. (self.new ≡ self.old) × IsNotAdmitted self.old.phase (line_state self.old.line) command.now registry.old registry.new reason) }
-        ensures stands { Stands S.Store self.new }
+    /// `Closed` exactly where it is closed; otherwise what the first command is refused for that is refused in the state
+    /// after those before it. Of several commands `NoMemory` may come at any up to that.
+    pub fn check_all(&self, commands: &[Command]) -> Result<Checked, Refusal>
+        requires quiet { IsQuiet self.now.phase }
+        requires some { 1 ≤ length commands.now }
+        requires storable { All IsStorable commands.now }
+        ensures ok { IfOk result (λ checked. AreChecked (line_state self.now.line) checked × (commands_checked checked ≡ commands.now)) }
+        ensures took { OnOk result (TakesAll self.now commands.now × (self.now.commands ≡ [])) }
+        ensures err { IfErr result (AreNotChecked self.now.phase (line_state self.now.line) commands.now) }
     {
         if let Err(reason) = self.see_ready() {
             return Err(reason);
         }
-        if let Err(reason) = self.version.check(command) {
-            return Err(reason);
-        }
-        if !registry.make_room() {
-            return Err(Refusal::Busy);
-        }
-        self.step = Step::Admitted(*command);
-        Ok(())
+        check_all(&self.version, commands)
     }
 
-    /// Takes the memory of the version after the admitted command, and of its three owners. Needs no lock.
+    /// Has the registry give up the versions that nobody can hold, and sees that it has room for one more: then the
+    /// checked commands are admitted.
     ///
     /// # Errors
     ///
-    /// `NoMemory`: it is ready again, as it was before the command.
+    /// `Busy` exactly where the registry has no room. The publisher is then as it was, and the registry too but for what
+    /// it gave up.
+    pub fn admit(&mut self, registry: &mut Registry, checked: Checked) -> Result<(), Refusal>
+        requires ready { self.old.phase ≡ Phase.Ready }
+        requires checked { AreChecked (line_state self.old.line) checked }
+        ensures ok { OnOk result (self.new ≡ record self.old { phase = Phase.Admitted; commands = commands_checked checked }) }
+        ensures idle { OnOk result (self.old.commands ≡ []) }
+        ensures room { OnOk result (length registry.new.retired < MOST_RETIRED) }
+        ensures err { IfErr result (λ reason. (reason ≡ Busy) × (self.new ≡ self.old) × (MOST_RETIRED ≤ length registry.new.retired)) }
+        ensures registry { registry.new ≡ reclaimed registry.old }
+        ensures stands { Stands S.Store self.new }
+    {
+        // Recalls what is stored.
+        let _phase = self.phase();
+        if !registry.make_room() {
+            return Err(Refusal::Busy);
+        }
+        self.step = Step::Admitted(checked);
+        Ok(())
+    }
+
+    /// Takes the memory of the version after the admitted commands, and of its three owners. Needs no lock.
+    ///
+    /// # Errors
+    ///
+    /// `NoMemory`: it is ready again, as it was before the commands.
     pub fn plan(&mut self) -> Result<(), Refusal>
         requires { self.old.phase ≡ Phase.Admitted }
         ensures ok { OnOk result (self.new ≡ record self.old { phase = Phase.Prepared }) }
@@ -260,64 +278,15 @@ impl<S: Alter + Drop, R: Wait + Drop> Publisher<S, R> {
         ensures stands { Stands S.Store self.new }
     {
         match mem::replace(&mut self.step, Step::Ready) {
-            Step::Admitted(command) => {
-                match make_plan(&self.version, slice::from_ref(&command)) {
-                    Ok(plan) => {
-                        self.step = Step::Prepared(plan);
-                        Ok(())
-                    }
-                    Err(reason) => Err(reason),
+            Step::Admitted(checked) => match make_plan(&self.version, checked) {
+                Ok(plan) => {
+                    self.step = Step::Prepared(plan);
+                    Ok(())
                 }
-            }
+                Err(reason) => Err(reason),
+            },
             _ => unreachable!(),
         }
-    }
-
-    /// Checks commands one after the other, and takes the memory of the version after them. Needs no lock.
-    ///
-    /// # Errors
-    ///
-    /// `Closed` exactly where it is closed; otherwise what the first command is refused for that is refused in the state
-    /// after those before it. `NoMemory` may come at any command up to that.
-    pub fn plan_all(&self, commands: &Vec<Command>) -> Result<Plan, Refusal>
-        requires quiet { IsQuiet self.now.phase }
-        requires some { 1 ≤ length commands.now.items }
-        requires storable { All IsStorable commands.now.items }
-        ensures ok { IfOk result (λ plan. IsPlan (line_state self.now.line) plan × (plan.commands.items ≡ commands.now.items)) }
-        ensures took { OnOk result (TakesAll self.now commands.now.items × (self.now.commands ≡ [])) }
-        ensures err { IfErr result (AreNotPlanned self.now.phase (line_state self.now.line) commands.now.items) }
-    {
-        if let Err(reason) = self.see_ready() {
-            return Err(reason);
-        }
-        make_plan(&self.version, commands.as_slice())
-    }
-
-    /// Has the registry give up the versions that nobody can hold, and sees that it has room for one more: then the
-    /// planned commands are prepared.
-    ///
-    /// # Errors
-    ///
-    /// `Busy` exactly where the registry has no room. The publisher is then as it was, and the registry too but for what
-    /// it gave up.
-    pub fn admit_all(&mut self, registry: &mut Registry, plan: Plan) -> Result<(), Refusal>
-        requires ready { self.old.phase ≡ Phase.Ready }
-        requires plan { IsPlan (line_state self.old.line) plan }
-        ensures ok { OnOk result (self.new ≡ record self.old { phase = Phase.Prepared; commands = plan.commands.items }) }
-        ensures idle { OnOk result (self.old.commands ≡ []) }
-        ensures room { OnOk result (length registry.new.retired < MOST_RETIRED) }
-        ensures err { IfErr result (λ reason. (reason ≡ Busy) × (self.new ≡ self.old) × (MOST_RETIRED ≤ length registry.new.retired)) }
-        ensures registry { registry.new ≡ reclaimed registry.old }
-        ensures stands { Stands S.Store self.new }
-    {
-        // Recalls what is stored.
-        let _phase = self.phase();
-        let has_room = registry.make_room();
-        if !has_room {
-            return Err(Refusal::Busy);
-        }
-        self.step = Step::Prepared(plan);
-        Ok(())
     }
 
     /// Commits the prepared commands in one transaction. The state before them is still published.
@@ -370,8 +339,6 @@ impl<S: Alter + Drop, R: Wait + Drop> Publisher<S, R> {
     {
         match mem::replace(&mut self.step, Step::Closed(None)) {
             Step::Committed(plan, stamp) => {
-                // Recalls how many commands there can be.
-                let _most = plan.next.number();
                 let shown = plan.shown;
                 match self.front.publish_all(stamp, &plan.commands, shown) {
                     Ok(_told) => {
@@ -407,8 +374,7 @@ impl<S: Alter + Drop, R: Wait + Drop> Publisher<S, R> {
         }
     }
 
-    /// Checks a command, sees that the domain has room for one more version, and takes the memory of the version after
-    /// the command. The domain's lock is held for the check and the room alone.
+    /// Prepares a command: a list of one for `prepare_all`.
     ///
     /// # Errors
     ///
@@ -426,7 +392,36 @@ impl<S: Alter + Drop, R: Wait + Drop> Publisher<S, R> {
         ensures err { IfErr result (λ reason. (self.new ≡ self.old) × IsNotPrepared self.old.phase (line_state self.old.line) command.now reason) }
         ensures stands { Stands S.Store self.new }
     {
-        let admitted = self.admit(&mut domain.lock(rt), command);
+        self.prepare_all(rt, domain, slice::from_ref(command))
+    }
+
+    /// Checks commands one after the other, sees that the domain has room for one more version, and takes the memory of
+    /// the version after them. The domain's lock is held for the room alone.
+    ///
+    /// # Errors
+    ///
+    /// Those of `check_all`; where none is refused, `Busy` (64 versions that readers may hold) or `NoMemory`. It is then
+    /// as it was, and the call may be made again.
+    pub fn prepare_all<W: Wait>(
+        &mut self,
+        rt: &W,
+        domain: &Domain,
+        commands: &[Command],
+    ) -> Result<(), Refusal>
+        requires quiet { IsQuiet self.old.phase }
+        requires some { 1 ≤ length commands.now }
+        requires storable { All IsStorable commands.now }
+        ensures ok { OnOk result ((self.new ≡ record self.old { phase = Phase.Prepared; commands = commands.now }) × TakesAll self.old commands.now) }
+        ensures err { IfErr result (λ reason. (self.new ≡ self.old) × AreNotPrepared self.old.phase (line_state self.old.line) commands.now reason) }
+        ensures stands { Stands S.Store self.new }
+    {
+        // Recalls what is stored.
+        let _phase = self.phase();
+        let checked = match self.check_all(commands) {
+            Ok(checked) => checked,
+            Err(reason) => return Err(reason),
+        };
+        let admitted = self.admit(&mut domain.lock(rt), checked);
         if let Err(reason) = admitted {
             return Err(reason);
         }
@@ -434,35 +429,6 @@ impl<S: Alter + Drop, R: Wait + Drop> Publisher<S, R> {
             return Err(reason);
         }
         Ok(())
-    }
-
-    /// Checks commands one after the other, takes the memory of the version after them, and sees that the domain has room
-    /// for one more version. The domain's lock is held for the room alone.
-    ///
-    /// # Errors
-    ///
-    /// Those of `plan_all`, and `Busy` (64 versions that readers may hold) where it has none. It is then as it was, and
-    /// the call may be made again.
-    pub fn prepare_all<W: Wait>(
-        &mut self,
-        rt: &W,
-        domain: &Domain,
-        commands: &Vec<Command>,
-    ) -> Result<(), Refusal>
-        requires quiet { IsQuiet self.old.phase }
-        requires some { 1 ≤ length commands.now.items }
-        requires storable { All IsStorable commands.now.items }
-        ensures ok { OnOk result ((self.new ≡ record self.old { phase = Phase.Prepared; commands = commands.now.items }) × TakesAll self.old commands.now.items) }
-        ensures err { IfErr result (λ reason. (self.new ≡ self.old) × AreNotPrepared self.old.phase (line_state self.old.line) commands.now.items reason) }
-        ensures stands { Stands S.Store self.new }
-    {
-        // Recalls what is stored.
-        let _phase = self.phase();
-        let plan = match self.plan_all(commands) {
-            Ok(plan) => plan,
-            Err(reason) => return Err(reason),
-        };
-        self.admit_all(&mut domain.lock(rt), plan)
     }
 
     /// Publishes the version after the committed commands in one swap, notes it, and acknowledges the commands. The
@@ -486,7 +452,8 @@ impl<S: Alter + Drop, R: Wait + Drop> Publisher<S, R> {
         Ok(receipt)
     }
 
-    /// Prepares, commits and publishes a command. After it the publisher is ready or closed.
+    /// Prepares, commits and publishes a command: a list of one for `submit_all`. After it the publisher is ready or
+    /// closed.
     ///
     /// # Errors
     ///
@@ -508,18 +475,7 @@ impl<S: Alter + Drop, R: Wait + Drop> Publisher<S, R> {
         ensures stands { Stands S.Store self.new }
         ensures ran { HasCleanDisk (state S.Store self.new.tables) → OnOk result (HasCommitted S.Store self.old command.now self.new.tables) }
     {
-        // Recalls what is stored.
-        let _phase = self.phase();
-        if let Err(reason) = self.prepare(rt, domain, command) {
-            return Err(reason);
-        }
-        if let Err(reason) = self.commit() {
-            return Err(reason);
-        }
-        match self.publish(rt, domain) {
-            Ok(receipt) => Ok(receipt),
-            Err(reason) => Err(reason),
-        }
+        self.submit_all(rt, domain, slice::from_ref(command))
     }
 
     /// Prepares, commits and publishes commands together: all of them or none. After it the publisher is ready or closed.
@@ -531,27 +487,26 @@ impl<S: Alter + Drop, R: Wait + Drop> Publisher<S, R> {
         &mut self,
         rt: &W,
         domain: &Domain,
-        commands: &Vec<Command>,
+        commands: &[Command],
     ) -> Result<Receipt, Refusal>
         requires quiet { IsQuiet self.old.phase }
-        requires some { 1 ≤ length commands.now.items }
-        requires storable { All IsStorable commands.now.items }
+        requires some { 1 ≤ length commands.now }
+        requires storable { All IsStorable commands.now }
         ensures quiet { IsQuiet self.new.phase }
-        ensures ok { IfOk result (λ receipt. (receipt ≡ grown_by self.old.line commands.now.items) × (self.new ≡ record self.old { phase = Phase.Ready; line = grown_by self.old.line commands.now.items; commands = []; tables = self.new.tables })) }
-        ensures took { OnOk result (TakesAll self.old commands.now.items) }
-        ensures err { IfErr result (λ reason. AreNotAcknowledged S.Store self.old commands.now.items reason self.new) }
+        ensures ok { IfOk result (λ receipt. (receipt ≡ grown_by self.old.line commands.now) × (self.new ≡ record self.old { phase = Phase.Ready; line = grown_by self.old.line commands.now; commands = []; tables = self.new.tables })) }
+        ensures took { OnOk result (TakesAll self.old commands.now) }
+        ensures err { IfErr result (λ reason. AreNotAcknowledged S.Store self.old commands.now reason self.new) }
         ensures clean { HasCleanDisk (state S.Store self.new.tables) → HasCleanDisk (state S.Store self.old.tables) }
         ensures others { Spares S.Store self.old self.new }
         ensures stands { Stands S.Store self.new }
-        ensures ran { HasCleanDisk (state S.Store self.new.tables) → OnOk result (HaveCommitted S.Store self.old commands.now.items self.new.tables) }
+        ensures ran { HasCleanDisk (state S.Store self.new.tables) → OnOk result (HaveCommitted S.Store self.old commands.now self.new.tables) }
     {
         // Recalls what is stored.
         let _phase = self.phase();
         if let Err(reason) = self.prepare_all(rt, domain, commands) {
             return Err(reason);
         }
-        let committed = self.commit();
-        if let Err(reason) = committed {
+        if let Err(reason) = self.commit() {
             return Err(reason);
         }
         match self.publish(rt, domain) {

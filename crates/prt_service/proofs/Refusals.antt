@@ -30,8 +30,9 @@ prepared_fine p state command why (inr (_, inr is)) = subst IsServiceRefusal (sy
 all_prepared_fine : (p : Phase) (state : State) (commands : List Command) (why : Refusal) → AreNotPrepared p state commands why → IsServiceRefusal why
 all_prepared_fine phase.Closed state commands why is = subst IsServiceRefusal (sym is) tt
 all_prepared_fine p state commands why (inl (inl is)) = state_fine why (all_refused_by state commands why is)
-all_prepared_fine p state commands why (inl (inr is)) = subst IsServiceRefusal (sym is) tt
-all_prepared_fine p state commands why (inr (_, is)) = subst IsServiceRefusal (sym is) tt
+all_prepared_fine p state commands why (inl (inr (is, _))) = subst IsServiceRefusal (sym is) tt
+all_prepared_fine p state commands why (inr (_, inl is)) = subst IsServiceRefusal (sym is) tt
+all_prepared_fine p state commands why (inr (_, inr is)) = subst IsServiceRefusal (sym is) tt
 
 pub acknowledged_fine : {S : Type 0} (g : Ghosts S) (old : Standing (Held S)) (command : Command) (why : Refusal) (new : Standing (Held S)) → IsNotAcknowledged g old command why new → IsServiceRefusal why
 acknowledged_fine g old command why new (inl (_, refused)) = prepared_fine old.phase (line_state old.line) command why refused

@@ -93,21 +93,21 @@ impl<S: Alter + Drop, R: Wait + Drop, J: Naming> QuietPublisher<S, R, J> {
         &mut self,
         rt: &W,
         domain: &Domain,
-        commands: &Vec<Command>,
+        commands: &[Command],
     ) -> Result<Receipt, Refusal>
-        requires some { 1 ≤ length commands.now.items }
-        requires storable { All IsStorable commands.now.items }
+        requires some { 1 ≤ length commands.now }
+        requires storable { All IsStorable commands.now }
         ensures of { IfOk result (λ receipt. (receipt.book ≡ J.book) × (receipt.base ≡ J.base)) }
-        ensures last { IfOk result (λ receipt. EndsWithAll receipt.list commands.now.items) }
+        ensures last { IfOk result (λ receipt. EndsWithAll receipt.list commands.now) }
         ensures reason { IfErr result IsServiceRefusal }
         ensures quiet { IsQuiet self.new.phase }
-        ensures ok { IfOk result (λ receipt. (receipt ≡ grown_by self.old.line commands.now.items) × (self.new ≡ record self.old { phase = Ready; line = grown_by self.old.line commands.now.items; commands = []; tables = self.new.tables })) }
-        ensures took { OnOk result (TakesAll self.old commands.now.items) }
-        ensures err { IfErr result (λ reason. AreNotAcknowledged S.Store self.old commands.now.items reason self.new) }
+        ensures ok { IfOk result (λ receipt. (receipt ≡ grown_by self.old.line commands.now) × (self.new ≡ record self.old { phase = Ready; line = grown_by self.old.line commands.now; commands = []; tables = self.new.tables })) }
+        ensures took { OnOk result (TakesAll self.old commands.now) }
+        ensures err { IfErr result (λ reason. AreNotAcknowledged S.Store self.old commands.now reason self.new) }
         ensures clean { HasCleanDisk (state S.Store self.new.tables) → HasCleanDisk (state S.Store self.old.tables) }
         ensures others { Spares S.Store self.old self.new }
         ensures stands { Stands S.Store self.new }
-        ensures ran { HasCleanDisk (state S.Store self.new.tables) → OnOk result (HaveCommitted S.Store self.old commands.now.items self.new.tables) }
+        ensures ran { HasCleanDisk (state S.Store self.new.tables) → OnOk result (HaveCommitted S.Store self.old commands.now self.new.tables) }
     {
         let last = match self.publisher.submit_all(rt, domain, commands) {
             Ok(last) => last,

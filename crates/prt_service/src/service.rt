@@ -67,11 +67,11 @@ impl<S: Alter + Drop, R: Wait + Drop, J: Naming> Service<S, R, J> {
     ///
     /// As of `submit`: the first command is refused that is refused in the state after those before it. `NoMemory` may
     /// come at any command up to that.
-    pub fn submit_all<W: Wait>(&self, rt: &W, commands: &Vec<Command>) -> Result<Receipt, Refusal>
-        requires some { 1 ≤ length commands.now.items }
-        requires storable { All IsStorable commands.now.items }
+    pub fn submit_all<W: Wait>(&self, rt: &W, commands: &[Command]) -> Result<Receipt, Refusal>
+        requires some { 1 ≤ length commands.now }
+        requires storable { All IsStorable commands.now }
         ensures of { IfOk result (λ receipt. (receipt.book ≡ J.book) × (receipt.base ≡ J.base)) }
-        ensures last { IfOk result (λ receipt. EndsWithAll receipt.list commands.now.items) }
+        ensures last { IfOk result (λ receipt. EndsWithAll receipt.list commands.now) }
         ensures reason { IfErr result IsServiceRefusal }
     {
         self.publisher

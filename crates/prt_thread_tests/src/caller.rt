@@ -1,8 +1,10 @@
 //! Calls of a publisher and of a service, for connections and handles of any kind.
 ghost use Rattle.std.specs.Prelude.{◌≡◌, IfOk, OnOk};
+ghost use Rattle.prt_command.specs.Storable.{IsStorable};
 ghost use Rattle.prt_publisher.specs.Standing.{IsQuiet};
 
-use prt_command::{Addr, Command, Dev, Packet, Refusal};
+use prt_addr::addr_text;
+use prt_command::{Addr, Command, Dev, Packet, Refusal, Request, read_line};
 use prt_grace::Domain;
 use prt_publisher::{Phase, Publisher};
 use prt_service::{Naming, Service};
@@ -34,6 +36,20 @@ pub fn stored_number<S: Alter + Drop, H: Wait + Drop>(
     Ok((publisher.published().number(), publisher.release()))
 }
 
+/// Gives the command of `route add 10.0.0.N/32 dev eth0`.
+pub fn host_route(alloc: Global, host: u8) -> Result<Command, Refusal>
+    ensures { IfOk result IsStorable }
+{
+    let mut line = Vec::new(alloc);
+    line.extend_from_slice(b"route add ")?;
+    line.extend_from_slice(addr_text(Addr(0x0a00_0000 | host as u32)).as_bytes())?;
+    line.extend_from_slice(b"/32 dev eth0")?;
+    match read_line(line.as_slice())? {
+        Some(Request::Command(command)) => Ok(command),
+        Some(Request::Query(_)) | None => Err(Refusal::UnknownVerb),
+    }
+}
+
 /// Submits a flush of the rules to a publisher, which is always accepted, and gives the number of its receipt.
 pub fn submit_to_publisher<S: Alter + Drop, R: Wait + Drop, H: Wait>(
     rt: &H,
@@ -60,7 +76,7 @@ pub fn submit_two_together<S: Alter + Drop, R: Wait + Drop, H: Wait>(
     requires { IsQuiet publisher.old.phase }
 {
     let commands = Vec::from_slice(alloc, &[Command::RuleFlush, Command::RuleFlush])?;
-    match publisher.submit_all(rt, domain, &commands) {
+    match publisher.submit_all(rt, domain, commands.as_slice()) {
         Ok(receipt) => Ok(receipt.number()),
         Err(reason) => Err(reason),
     }

@@ -2,7 +2,7 @@
 ghost use Rattle.std.specs.Prelude.{◌≡◌};
 ghost use Rattle.prt_publisher.specs.Standing.{IsQuiet};
 
-use crate::caller::{adopted, submit_to_publisher};
+use crate::caller::{adopted, host_route};
 use prt_command::Refusal;
 use prt_grace::Domain;
 use prt_publisher::{Phase, Publisher};
@@ -23,15 +23,32 @@ struct Retained {
     phase: Phase,
     /// How many versions wait then: from the oldest that the looker may hold to the noted one.
     retired: u64,
-    /// How many versions went after the looker had announced.
-    reclaimed: usize,
-    /// The number of the receipt after that.
+    /// The number of the receipt after the looker had announced.
     next: u64,
 }
 
-/// Submits commands until one is refused, at most 100. The number of the last receipt, and why the next was refused.
-fn submit_until_refused<S: Alter + Drop, R: Wait + Drop, H: Wait>(
+/// Adds the route of a host, and gives the number of its receipt.
+fn add_host<S: Alter + Drop, R: Wait + Drop, H: Wait>(
     rt: &H,
+    alloc: Global,
+    publisher: &mut Publisher<S, R>,
+    domain: &Domain,
+    host: u8,
+) -> Result<u64, Refusal>
+    requires { IsQuiet publisher.old.phase }
+    ensures { IsQuiet publisher.new.phase }
+{
+    let command = host_route(alloc, host)?;
+    match publisher.submit(rt, domain, &command) {
+        Ok(receipt) => Ok(receipt.number()),
+        Err(reason) => Err(reason),
+    }
+}
+
+/// Adds the routes of hosts until one is refused, at most 100. The number of the last receipt, and why the next was refused.
+fn add_until_refused<S: Alter + Drop, R: Wait + Drop, H: Wait>(
+    rt: &H,
+    alloc: Global,
     publisher: &mut Publisher<S, R>,
     domain: &Domain,
 ) -> (u64, Option<Refusal>)
@@ -39,8 +56,8 @@ fn submit_until_refused<S: Alter + Drop, R: Wait + Drop, H: Wait>(
     ensures { IsQuiet publisher.new.phase }
 {
     let mut last = 0;
-    for _ in 0..100 {
-        match submit_to_publisher(rt, publisher, domain) {
+    for host in 1..=100 {
+        match add_host(rt, alloc, publisher, domain, host) {
             Ok(number) => last = number,
             Err(reason) => return (last, Some(reason)),
         }
@@ -59,22 +76,20 @@ fn retain<S: Alter + Drop, H: Wait + Copy + Drop>(
         return Ok(None);
     };
     let online_at = domain.online(&rt, &mut place);
-    let (last, refused) = submit_until_refused(&rt, &mut publisher, &domain);
+    let (last, refused) = add_until_refused(&rt, alloc, &mut publisher, &domain);
     let phase = publisher.phase();
     let retired = publisher.noted().saturating_sub(online_at);
     if last < online_at {
         return Ok(None);
     }
     domain.announce(&rt, &mut place, last);
-    let reclaimed = domain.reclaim(&rt);
-    let next = submit_to_publisher(&rt, &mut publisher, &domain)?;
+    let next = add_host(&rt, alloc, &mut publisher, &domain, 65)?;
     Ok(Some(Retained {
         online_at,
         last,
         refused,
         phase,
         retired,
-        reclaimed,
         next,
     }))
 }
@@ -92,7 +107,6 @@ fn retained_versions(rt: HostRuntime) -> Result<(), Fail> {
                 refused: Some(Refusal::Busy),
                 phase: Phase::Ready,
                 retired: 64,
-                reclaimed: 64,
                 next: 65,
             })
     );

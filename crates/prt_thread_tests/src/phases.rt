@@ -22,7 +22,8 @@ fn release_at<S: Alter + Drop, H: Wait + Copy + Drop>(
     if phase == Phase::Ready {
         return Ok((publisher.published().number(), publisher.release()));
     }
-    publisher.admit(&mut domain.lock(&rt), &Command::RuleFlush)?;
+    let checked = publisher.check_all(&[Command::RuleFlush])?;
+    publisher.admit(&mut domain.lock(&rt), checked)?;
     if phase == Phase::Admitted {
         return Ok((publisher.published().number(), publisher.release()));
     }

@@ -2,7 +2,7 @@
 ghost use Rattle.prt_publisher.specs.Standing.{IsQuiet};
 ghost use Rattle.prt_service.specs.Named.{IsNamed};
 
-use crate::caller::{adopted, packet, stored_number, submit_to_service};
+use crate::caller::{adopted, host_route, packet, stored_number};
 use prt_command::Refusal;
 use prt_grace::Domain;
 use prt_publisher::Publisher;
@@ -44,28 +44,31 @@ struct Beside {
     rested: Submitted,
 }
 
-/// Submits commands until one is refused, or so many were accepted.
-fn submit_until_refused<S: Alter + Drop, R: Wait + Drop, J: Naming, H: Wait>(
+/// Adds the routes of the hosts from one to another, until one is refused.
+fn add_hosts<S: Alter + Drop, R: Wait + Drop, J: Naming, H: Wait>(
     rt: &H,
+    alloc: Global,
     service: &Service<S, R, J>,
-    most: u64,
-) -> Submitted {
+    first: u8,
+    most: u8,
+) -> Result<Submitted, Refusal> {
     let mut last = 0;
-    for _ in 0..most {
-        match submit_to_service(rt, service) {
-            Ok(number) => last = number,
+    for host in first..=most {
+        let command = host_route(alloc, host)?;
+        match service.submit(rt, &command) {
+            Ok(receipt) => last = receipt.number(),
             Err(reason) => {
-                return Submitted {
+                return Ok(Submitted {
                     last,
                     refused: Some(reason),
-                };
+                });
             }
         }
     }
-    Submitted {
+    Ok(Submitted {
         last,
         refused: None,
-    }
+    })
 }
 
 /// Makes lookers until one is refused, or so many are there. Then all of them leave.
@@ -96,24 +99,25 @@ fn gather<S: Alter + Drop, R: Wait + Drop, J: Naming, H: Wait>(
     }
 }
 
-/// Submits commands beside a looker that refreshes at first, and then when a command was refused; rests it, and submits
-/// as many as it held up, and one more.
+/// Adds hosts beside a looker that refreshes at first, and then when one was refused; rests it, and adds as many as it held
+/// up, and one more.
 fn submit_beside<S: Alter + Drop, R: Wait + Drop, J: Naming, H: Wait>(
     rt: &H,
+    alloc: Global,
     service: &Service<S, R, J>,
 ) -> Result<Beside, Refusal> {
     let mut looker = service.looker(rt)?;
     looker.refresh(rt, service)?;
     let first = looker.look(&packet()).number;
-    let missed = submit_until_refused(rt, service, 100);
+    let missed = add_hosts(rt, alloc, service, 1, 100)?;
     let still = looker.look(&packet()).number;
     looker.refresh(rt, service)?;
     let refreshed = looker.look(&packet()).number;
-    let next = submit_to_service(rt, service)?;
+    let next = add_hosts(rt, alloc, service, 65, 65)?.last;
     let was_online = looker.is_online();
     looker.rest(rt, service);
     let is_online = looker.is_online();
-    let rested = submit_until_refused(rt, service, 65);
+    let rested = add_hosts(rt, alloc, service, 66, 130)?;
     looker.leave(rt, service);
     Ok(Beside {
         first,
@@ -147,7 +151,7 @@ fn serve<J: Naming, S: Alter + Drop, H: Wait + Copy + Drop>(
     requires of { IsNamed J.book J.base J.ours_first publisher }
 {
     let service: Service<S, H, J> = Service::new(publisher, domain);
-    let beside = submit_beside(&rt, &service)?;
+    let beside = submit_beside(&rt, alloc, &service)?;
     let first = gather(&rt, &service, 100);
     let again = gather(&rt, &service, 100);
     drop(service.looker(&rt)?);

@@ -50,7 +50,7 @@ fn serve<J: Naming, S: Alter + Drop, H: Wait + Copy + Drop>(
     let service: Service<S, H, J> = Service::new(publisher, domain);
     let mut looker = service.looker(&rt)?;
     let before = seen(&rt, &service, &mut looker)?;
-    let number = service.submit_all(&rt, &commands)?.number();
+    let number = service.submit_all(&rt, commands.as_slice())?.number();
     let after = seen(&rt, &service, &mut looker)?;
     Ok(Some((before, number, after)))
 }

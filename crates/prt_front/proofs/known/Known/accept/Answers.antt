@@ -1,4 +1,4 @@
-use Rattle.std.proofs.Common.{eq-eqb, ◌+◌, ◌≡◌, ◌++◌, ap, sym, subst, ◌∙◌, arith, length, length-append, map}
+use Rattle.std.proofs.Common.{eq-eqb, ◌+◌, ◌≡◌, ◌≤◌, ◌++◌, ap, sym, subst, ◌∙◌, arith, length, length-append, map}
 use Rattle.prt_version.specs.Accepted.{IsAccepted}
 use Rattle.prt_version.specs.Change.{fold}
 use Rattle.prt_front.specs.declared.history.Entry.TheVariants.{Accepted, Asked}
@@ -8,7 +8,17 @@ use Rattle.prt_front.specs.Line.{Line, grown_by}
 use Rattle.prt_version.proofs.Folds.{accepted_append}
 use Rattle.prt_front.proofs.Histories.{added, line_spelled, spells}
 use Rattle.prt_front.proofs.Adding.{adds_moves}
+use Rattle.prt_front.proofs.Numbers.{at_most_added}
 use Rattle.prt_front.proofs.known.Known.accept.Goals as goal
+
+pub overflow_add-count_after : goal.overflow_add-count_after
+overflow_add-count_after c =
+    let base = base_of c.self.inside.seen.log in
+    let list = commands_of c.self.inside.seen.log in
+    let more = c.args.commands.now.items in
+    let may : IsAccepted (fold base list) more = subst (λ (l : Line). IsAccepted (fold l.base l.list) more) (sym c.self.view_is) c.requires.accepted in
+    let most : length (list ++ more) ≤ 1000000000000000 = at_most_added base list more c.self.invariant.2 may in
+    omega (arith, most, length-append list more, c.self.invariant.1, ap length c.as_slice.ensures.value)
 
 pub compare_exchange-found-requires : goal.compare_exchange-found-requires
 compare_exchange-found-requires c =

@@ -1,4 +1,4 @@
-use Rattle.std.proofs.Common.{◌≡◌, ◌+◌, ◌≤◌, ap, sym, ◌∙◌, length, subst, arith}
+use Rattle.std.proofs.Common.{◌≡◌, ◌+◌, ap, sym, ◌∙◌, length, subst, arith}
 use Rattle.std.specs.Arc.{arc_value}
 use Rattle.prt_front.specs.Line.{Line, grown_by, line_state}
 use Rattle.prt_version.specs.Change.{fold}
@@ -40,17 +40,6 @@ publish_all-requires-clause-next g c =
     let plan = c.in-Committed.plan in
     let kept = was_committed (line_state old) c.self.inside.step plan c.in-Committed.stamp _ c.replace.ensures.value c.in-Committed.is c.self.invariant.3 in
     kept.0.shown
-
-pub publish_all-requires-clause-room : goal.publish_all-requires-clause-room
-publish_all-requires-clause-room g c =
-    let old = c.self.inside.front in
-    let plan = c.in-Committed.plan in
-    let kept = was_committed (line_state old) c.self.inside.step plan c.in-Committed.stamp _ c.replace.ensures.value c.in-Committed.is c.self.invariant.3 in
-    let counted = count_fold old.base old.list c.self.invariant.2 in
-    let after = count_fold (line_state old) plan.commands.items kept.0.accepted in
-    let fits = c.number-most.ensures.sound.count_fits in
-    let most : (fold (line_state old) plan.commands.items).count ≤ 1000000000000000 = subst (λ (s : State). s.count ≤ 1000000000000000) (c.deref.ensures ∙ kept.0.next) fits in
-    omega (arith, counted, after, most)
 
 pub returns-in-Ok-clause-stands : goal.returns-in-Ok-clause-stands
 returns-in-Ok-clause-stands g c known =

@@ -6,9 +6,9 @@ use Rattle.prt_service.proofs.Refusals.{all_acknowledged_fine}
 use Rattle.prt_service.proofs.quiet.QuietPublisher.submit_all.Goals as goal
 
 pub returns-in-Err-clause-reason : goal.returns-in-Err-clause-reason
-returns-in-Err-clause-reason g c = all_acknowledged_fine g.S.Store _ c.args.commands.now.items c.in-Err.reason _ c.in-Err.ensures.err
+returns-in-Err-clause-reason g c = all_acknowledged_fine g.S.Store _ c.args.commands.now c.in-Err.reason _ c.in-Err.ensures.err
 
 pub returns-clause-ran : goal.returns-clause-ran
 returns-clause-ran g c = λ clean.
     let same : c.self.inside.publisher ≡ c.args.self.now = cc in
-    subst (λ (p : Standing (Held _)). HaveCommitted g.S.Store p c.args.commands.now.items c.submit_all.new.self.tables) same (c.in-Ok.ensures.ran clean)
+    subst (λ (p : Standing (Held _)). HaveCommitted g.S.Store p c.args.commands.now c.submit_all.new.self.tables) same (c.in-Ok.ensures.ran clean)
