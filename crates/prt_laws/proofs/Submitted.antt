@@ -116,9 +116,9 @@ module _ {S : Type 0} (g : Ghosts S) where
       asks event same = let long = ap length same in omega (arith, some, long)
 
       by : (phase : Phase) → old.phase ≡ phase → IsQuiet phase → AreNotChecked phase (line_state old.line) commands why
-          → (why ≡ refusals.NoMemory) ⊎ ((event : Event) → commands ≡ asked event → (w : World) → IsPublisherOf g old w → ((step w event).outcome ≡ outcomes.Refused why) × IsPublisherOf g old (step w event).world)
+          → ((why ≡ refusals.NoMemory) × (2 ≤ length commands)) ⊎ ((event : Event) → commands ≡ asked event → (w : World) → IsPublisherOf g old w → ((step w event).outcome ≡ outcomes.Refused why) × IsPublisherOf g old (step w event).world)
       by Ready ready quiet (inl reason) = inr (λ event same. refused_there old old refl event (asks event same) why ready (ap (refusal_all (line_state old.line)) (sym same) ∙ reason))
-      by Ready ready quiet (inr (memory, several)) = inl memory
+      by Ready ready quiet (inr several) = inl several
       by Admitted at quiet refused = absurd quiet
       by Prepared at quiet refused = absurd quiet
       by Committed at quiet refused = absurd quiet

@@ -43,7 +43,7 @@ checked_accepted published checked are =
 
 module _ {S : Type 0} (g : Ghosts S) (old new : Standing (Held S)) where
   -- what the world refuses it refuses under the lock, too
-  pub declines_checked : (commands : List Command) (why : Refusal) → ChecksNot g old new commands why → (event : Event) → AsksSome event → commands ≡ asked event → (r : RegistryState) → (why ≡ NoMemory) ⊎ DeclinesBy g old new false r r event why
+  pub declines_checked : (commands : List Command) (why : Refusal) → ChecksNot g old new commands why → (event : Event) → AsksSome event → commands ≡ asked event → (r : RegistryState) → ((why ≡ NoMemory) × (2 ≤ length commands)) ⊎ DeclinesBy g old new false r r event why
   declines_checked commands why refused event some same r = elim refused.1 [
     | inl memory ↦ inl memory
     | inr law ↦ inr (refused.0, λ w h. let m = law event same w h.0 in (m.0, (m.1, asks_registers event some r w h.1)))

@@ -1,5 +1,5 @@
 -- What the exits of a publisher's calls are in the world.
-use Rattle.std.specs.Prelude.{◌≡◌, ◌⊎◌, ℕ, Bool, true, false, ◌+◌, All, List, [], ◌∷◌, length}
+use Rattle.std.specs.Prelude.{◌≡◌, ◌⊎◌, ℕ, Bool, true, false, ◌+◌, ◌≤◌, All, List, [], ◌∷◌, length}
 use Rattle.sqlite.specs.Held.{Held, state}
 use Rattle.sqlite.specs.Store.{Ghosts}
 use Rattle.sqlite.specs.Tree.{Trees}
@@ -57,9 +57,9 @@ module _ {S : Type 0} (g : Ghosts S) (old new : Standing (Held S)) where
   abbrev pub PlansNot : Refusal → Type 0
   PlansNot why = (why ≡ NoMemory) × (new.phase ≡ Ready) × ((w : World) → IsPublisherOf g old w → Leads g w [] [] new)
 
-  -- Commands are not checked, and the publisher is as it was. Memory was refused, of which the world has no event; or the world refuses each event that submits them, with room or without.
+  -- Commands are not checked, and the publisher is as it was. They are several, and memory was refused, of which the world has no event; or the world refuses each event that submits them, with room or without.
   abbrev pub ChecksNot : List Command → Refusal → Type 0
-  ChecksNot commands why = (new ≡ old) × ((why ≡ NoMemory) ⊎ ((event : Event) → commands ≡ asked event → (w : World) → IsPublisherOf g old w → ((step w event).outcome ≡ outcomes.Refused why) × IsPublisherOf g new (step w event).world))
+  ChecksNot commands why = (new ≡ old) × (((why ≡ NoMemory) × (2 ≤ length commands)) ⊎ ((event : Event) → commands ≡ asked event → (w : World) → IsPublisherOf g old w → ((step w event).outcome ≡ outcomes.Refused why) × IsPublisherOf g new (step w event).world))
 
   -- the calls that store the commands under way
   abbrev pub Commits : Type 0

@@ -1,5 +1,5 @@
 -- Lists of exits of a publisher's calls, whatever lookers do between them, beside the world's events.
-use Rattle.std.specs.Prelude.{◌≡◌, ◌⊎◌, ℕ, ◌++◌, Bool, true, false, List, [], ◌∷◌, map, None, slice_index_or}
+use Rattle.std.specs.Prelude.{◌≡◌, ◌⊎◌, ℕ, ◌≤◌, ◌++◌, Bool, true, false, List, [], ◌∷◌, length, map, None, slice_index_or}
 use Rattle.std.specs.List.{AllByRecursion as Each}
 use Rattle.sqlite.specs.Held.{Held, state}
 use Rattle.sqlite.specs.Store.{Ghosts}
@@ -166,10 +166,10 @@ module _ {S : Type 0} (g : Ghosts S) where
   abbrev pub Acknowledges : Standing (Held S) → RegistryState → Event → Line → Standing (Held S) → RegistryState → Type 0
   Acknowledges old r event told new after = (w : World) → AreBothOf g old r w → ActsAll old r w (step_acts event told) new after
 
-  -- One that is not has no memory to be checked, and nothing changes; or it is refused at once, or after a reclaim; or it has no memory then. Or it is stored, and its publication fails; or its commit fails.
+  -- One that is not has no memory to be checked, where its commands are several, and nothing changes; or it is refused at once, or after a reclaim; or it has no memory then. Or it is stored, and its publication fails; or its commit fails.
   abbrev pub TakesNot : Standing (Held S) → RegistryState → Event → Refusal → Standing (Held S) → RegistryState → Type 0
   TakesNot old r event why new after = (w : World) → AreBothOf g old r w →
-      ((why ≡ NoMemory) × (new ≡ old) × (after ≡ r))
+      ((why ≡ NoMemory) × (2 ≤ length (asked event)) × (new ≡ old) × (after ≡ r))
       ⊎ (((reclaims : Bool) × ActsAll old r w (declined event why reclaims ∷ []) new after)
       ⊎ (((why ≡ NoMemory) × ActsAll old r w (admitted ∷ unplanned ∷ []) new after)
       ⊎ (((why ≡ NotPublished) × ActsAll old r w (admitted ∷ planned event ∷ committed (commit_events (asked event)) ∷ unshown ∷ []) new after)

@@ -23,7 +23,7 @@ returns-in-Err-clause-err g c event asks w h =
     let r = c.args.registry.now in
     let some = asks_some c.args.commands.now event c.requires.some asks in
     elim (declines_checked g.S.Store p p c.args.commands.now c.in-Err.reason c.in-Err.ensures.err event some asks r) [
-      | inl memory ↦ inl (memory, refl, refl)
+      | inl memory ↦ let long = ap length asks in inl (memory.0, omega (arith, memory.1, long), refl, refl)
       | inr law ↦ inr (inl (false, (p, r, (some, law), (refl, refl))))
     ]
 
