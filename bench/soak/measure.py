@@ -38,15 +38,15 @@ class Sample(NamedTuple):
 def a_line(dice, client):
     """A line of a client."""
     net, table = f"10.{client}.{dice.randrange(PREFIXES)}.0/24", 1000 + client
-    priority = 100 * client + dice.randrange(3)
+    place = dice.randrange(3)
+    rule = f"priority {100 * client + place} from 10.{client}.{place}.0/24 table {table}"
     return dice.choice((
         f"route get 10.{client}.{dice.randrange(PREFIXES)}.7 from 192.0.2.{client}",
         f"route get 10.{dice.randrange(CLIENTS)}.{dice.randrange(PREFIXES)}.7",
         f"route get 203.0.113.{dice.randrange(256)} mark {client}",
         f"route replace {net} via 192.0.2.{dice.randrange(1, 255)} table {dice.choice((table, 254))}",
         f"route replace {net} dev eth{client} table {table}",
-        dice.choice((f"route del {net} table {table}", f"rule add priority {priority} from {net} table {table}",
-                     f"rule del priority {priority}")),
+        dice.choice((f"route del {net} table {table}", f"rule add {rule}", f"rule del {rule}")),
     ))
 
 
