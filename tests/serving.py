@@ -3,6 +3,7 @@
 The program's path is the first argument of a case; it runs in an empty folder, in which the database is made.
 """
 
+import os
 import re
 import socket
 import subprocess
@@ -16,15 +17,16 @@ PATIENCE = 50
 
 
 class Server:
-    """A server on a free port of the loopback, with these further words."""
+    """A server on a free port of the loopback, with these further words, and these variables in its environment."""
 
-    def __init__(self, *words, database=DATABASE):
+    def __init__(self, *words, database=DATABASE, variables=None):
         self.process = subprocess.Popen(
             [PROGRAM, "serve", "--listen", "127.0.0.1:0", "--db", database, *words],
             stdin=subprocess.DEVNULL,
             stdout=subprocess.PIPE,
             stderr=subprocess.PIPE,
             text=True,
+            env=os.environ | (variables or {}),
         )
         line = self.process.stdout.readline()
         told = re.fullmatch(r"listening 127\.0\.0\.1:(\d+)\n", line)
@@ -100,6 +102,14 @@ class Client:
 def batch(script, *words):
     """What `prt batch --force` replies to a script."""
     return subprocess.run([PROGRAM, "batch", "--force", *words], input=script, capture_output=True).stdout
+
+
+def slow_sync(milliseconds, failing="fails"):
+    """Variables of a server whose syncs take so long each, and fail while a file of this name is there."""
+    made = os.path.abspath("sync.so")
+    source = os.path.join(os.path.dirname(os.path.realpath(__file__)), "sync.c")
+    subprocess.run(["cc", "-shared", "-fPIC", "-O1", "-o", made, source, "-ldl"], check=True)
+    return {"LD_PRELOAD": made, "SYNC_MS": str(milliseconds), "SYNC_FAILS": os.path.abspath(failing)}
 
 
 def in_threads(count, work):

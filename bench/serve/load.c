@@ -2,7 +2,7 @@
  *
  *   usage: load PORT LINE LINES IN_FLIGHT CONNECTIONS
  *
- * Each reply is one line. Prints how many seconds passed until each connection had LINES replies. */
+ * A `#` in LINE stands for the number of the connection, from 0. Each reply is one line. Prints how many seconds passed until each connection had LINES replies. */
 #include <arpa/inet.h>
 #include <netinet/tcp.h>
 #include <pthread.h>
@@ -14,8 +14,7 @@
 #include <unistd.h>
 
 static struct sockaddr_in at = {.sin_family = AF_INET};
-static char *block;
-static size_t length;
+static const char *line;
 static long lines, in_flight;
 
 static void fail(const char *what) {
@@ -23,8 +22,17 @@ static void fail(const char *what) {
   exit(1);
 }
 
-/* Sends this many lines in one call. */
-static void send_lines(int end, long count) {
+/* The line of a connection, with its end. */
+static size_t line_of(long connection, char *text) {
+  size_t size = 0;
+  for (const char *at = line; *at; at++)
+    size += (size_t)(*at == '#' ? sprintf(text + size, "%ld", connection) : sprintf(text + size, "%c", *at));
+  text[size++] = '\n';
+  return size;
+}
+
+/* Sends this many lines of a block in one call. */
+static void send_lines(int end, const char *block, size_t length, long count) {
   size_t size = length * (size_t)count, sent = 0;
   while (sent < size) {
     ssize_t step = write(end, block + sent, size - sent);
@@ -34,13 +42,16 @@ static void send_lines(int end, long count) {
 }
 
 static void *run(void *given) {
-  char replies[65536];
+  char replies[65536], own[1024];
+  size_t length = line_of((long)given, own);
+  char *block = malloc(length * (size_t)in_flight);
   int end = socket(AF_INET, SOCK_STREAM, 0), on = 1;
   long sent = in_flight < lines ? in_flight : lines, had = 0;
-  (void)given;
+  if (!block) fail("malloc");
+  for (long i = 0; i < in_flight; i++) memcpy(block + (size_t)i * length, own, length);
   if (connect(end, (struct sockaddr *)&at, sizeof at)) fail("connect");
   setsockopt(end, IPPROTO_TCP, TCP_NODELAY, &on, sizeof on);
-  send_lines(end, sent);
+  send_lines(end, block, length, sent);
   while (had < lines) {
     long more = 0;
     ssize_t got = read(end, replies, sizeof replies);
@@ -48,10 +59,11 @@ static void *run(void *given) {
     for (ssize_t i = 0; i < got; i++) more += replies[i] == '\n';
     had += more;
     if (sent + more > lines) more = lines - sent;
-    if (more > 0) send_lines(end, more);
+    if (more > 0) send_lines(end, block, length, more);
     sent += more;
   }
   close(end);
+  free(block);
   return NULL;
 }
 
@@ -64,12 +76,10 @@ int main(int argc, char **argv) {
   in_flight = atol(argv[4]);
   int connections = atoi(argv[5]);
   pthread_t threads[64];
-  length = strlen(argv[2]) + 1;
-  block = malloc(length * (size_t)in_flight + 1);
-  if (!block || connections < 1 || connections > 64) return 2;
-  for (long i = 0; i < in_flight; i++) sprintf(block + (size_t)i * length, "%s\n", argv[2]);
+  line = argv[2];
+  if (strlen(line) > 256 || in_flight < 1 || connections < 1 || connections > 64) return 2;
   clock_gettime(CLOCK_MONOTONIC, &begun);
-  for (int i = 0; i < connections; i++) pthread_create(&threads[i], NULL, run, NULL);
+  for (int i = 0; i < connections; i++) pthread_create(&threads[i], NULL, run, (void *)(long)i);
   for (int i = 0; i < connections; i++) pthread_join(threads[i], NULL);
   clock_gettime(CLOCK_MONOTONIC, &ended);
   printf("%.6f\n", (double)(ended.tv_sec - begun.tv_sec) + (double)(ended.tv_nsec - begun.tv_nsec) / 1e9);

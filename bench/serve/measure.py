@@ -1,6 +1,9 @@
-"""Measures what `prt serve` takes for a line, beside a server in C that reads in blocks and writes one fixed reply a line.
+"""Measures what `prt serve` takes for a line, beside a server in C that reads in blocks and writes one fixed reply a line,
+and how many durable changes a second one client and 32 clients make, each of which waits for its reply.
 
-usage: measure.py PRT FIXED LOAD
+usage: measure.py PRT FIXED LOAD SYNC
+
+SYNC is the library of tests/sync.c, which makes each sync take its time.
 """
 
 import os
@@ -9,17 +12,20 @@ import subprocess
 import sys
 import tempfile
 
-PRT, FIXED, LOAD = sys.argv[1:]
+PRT, FIXED, LOAD, SYNC = sys.argv[1:]
 ROUTES = 1000
 LINES = 20000
 TURNS = 5
 GET = "route get 10.1.2.3"
 REFUSED = "link show"
+# Each connection changes a route of its own.
+CHANGE = "route replace 10.9.#.0/24 dev eth0"
+CLIENTS = 32
 
 
-def started(words):
+def started(words, **variables):
     """A server, and its port."""
-    server = subprocess.Popen(words, stdin=subprocess.DEVNULL, stdout=subprocess.PIPE, text=True)
+    server = subprocess.Popen(words, stdin=subprocess.DEVNULL, stdout=subprocess.PIPE, text=True, env=os.environ | variables)
     return server, re.search(r":(\d+)$", server.stdout.readline().strip())[1]
 
 
@@ -42,6 +48,24 @@ def system_calls(port, server):
     return ", ".join(f"{row[3]} {row[-1]}" for row in rows if len(row) >= 5 and row[3].isdigit() and row[-1] != "total")
 
 
+def changes(port, connections, lines):
+    """How many changes a second so many connections make: the most of some turns."""
+    words = [LOAD, port, CHANGE, str(lines), "1", str(connections)]
+    least = min(float(subprocess.run(words, capture_output=True, text=True, check=True).stdout) for _ in range(TURNS))
+    return connections * lines / least
+
+
+def measure_changes(path):
+    """Prints how many durable changes a second one client and many make, on this disk and where a sync takes 2 ms."""
+    for name, variables in (("this disk", {}), ("syncs of 2 ms", {"LD_PRELOAD": SYNC, "SYNC_MS": "2"})):
+        words = [PRT, "serve", "--db", path, "--listen", "127.0.0.1:0", "--workers", str(CLIENTS)]
+        server, port = started(words, **variables)
+        one, many = changes(port, 1, 500), changes(port, CLIENTS, 500)
+        print(f"durable changes, {name}: one client {one:.0f} a second, {CLIENTS} clients {many:.0f}: {many / one:.1f} times")
+        server.kill()
+        server.wait()
+
+
 def main():
     with tempfile.TemporaryDirectory() as folder:
         path = os.path.join(folder, "routes.db")
@@ -59,6 +83,8 @@ def main():
         print(f"1,000 lines of one connection, each waited for: {system_calls(our_port, ours)}")
         for server in (ours, theirs):
             server.kill()
+            server.wait()
+        measure_changes(path)
 
 
 main()

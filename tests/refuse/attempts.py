@@ -62,7 +62,7 @@ def text_of(path):
 
 def library(name, folder):
     """Compiles a library of this folder."""
-    made = f"{folder}/{name}.so"
+    made = f"{folder}/{os.path.basename(name)}.so"
     subprocess.run(["cc", "-shared", "-fPIC", "-O1", "-o", made, f"{HERE}/{name}.c", "-ldl"], check=True)
     return made
 

@@ -1,5 +1,5 @@
 -- The number of a published version.
-use Rattle.std.proofs.Common.{◌≡◌, ℕ, ◌+◌, ◌≤◌, Bool, true, false, List, [], ◌∷◌, ◌++◌, length, None, Result, Ok, Err, refl, ap, ◌∙◌, cond, arith}
+use Rattle.std.proofs.Common.{◌≡◌, ℕ, zero, suc, ◌+◌, ◌≤◌, Bool, true, false, List, [], ◌∷◌, ◌++◌, length, take, None, Result, Ok, Err, refl, ap, ◌∙◌, cond, arith}
 use Rattle.std.proofs.lemmas.Bool.Decides.{nat_tests}
 use Rattle.std.specs.Prelude.{nat_lt}
 use Rattle.std.specs.Result.{result_err}
@@ -49,3 +49,10 @@ at_most state (command ∷ commands) accepted = let counted = counted_up state c
 -- so are those of a history and the ones that are added
 pub at_most_added : (base : State) (list commands : List Command) → IsAccepted base list → IsAccepted (fold base list) commands → length (list ++ commands) ≤ MOST_COMMANDS
 at_most_added base list commands accepted more = at_most base (list ++ commands) (accepted_append base list commands accepted more)
+
+-- ---- the first of accepted commands
+
+pub accepted_first : (state : State) (count : ℕ) (commands : List Command) → IsAccepted state commands → IsAccepted state (take count commands)
+accepted_first state zero commands accepted = tt
+accepted_first state (suc count) [] accepted = tt
+accepted_first state (suc count) (command ∷ commands) accepted = (accepted.0, accepted_first (apply state command) count commands accepted.1)

@@ -1,6 +1,19 @@
 -- Beginnings of one list.
-use Rattle.std.proofs.Common.{◌≡◌, ◌≤◌, List, [], ◌∷◌, length, refl, arith}
+use Rattle.std.proofs.Common.{◌≡◌, ◌≤◌, List, [], ◌∷◌, ◌++◌, length, refl, sym, ap, ◌∙◌, append_assoc, arith}
+use Rattle.std.proofs.lemmas.List.{append-nil}
 use mathlib.Core.List.{IsPrefix}
+use Rattle.prt_front.specs.Line.{Begins, Line}
+
+prefix_trans : {A : Type 0} (xs ys zs : List A) → IsPrefix xs ys → IsPrefix ys zs → IsPrefix xs zs
+prefix_trans xs ys zs p q = (p.0 ++ q.0, sym (append_assoc xs p.0 q.0) ∙ (ap (λ w. w ++ q.0) p.1 ∙ q.1))
+
+-- a line begins itself
+pub begins_self : (l : Line) → Begins l l
+begins_self l = (refl, refl, ([], append-nil l.list))
+
+-- what begins a beginning begins the line
+pub begins_trans : (l m n : Line) → Begins l m → Begins m n → Begins l n
+begins_trans l m n p q = (q.0 ∙ p.0, q.1 ∙ p.1, prefix_trans l.list m.list n.list p.2 q.2)
 
 -- of two beginnings of one list the shorter begins the longer
 pub shorter_begins : {A : Type 0} (xs ys whole : List A) → IsPrefix xs whole → IsPrefix ys whole → length xs ≤ length ys → IsPrefix xs ys

@@ -7,9 +7,9 @@ ghost use Rattle.prt_front.specs.Line.{grown_by, line_state};
 
 use crate::copies::{CopyWriter, show};
 use crate::history::Length;
-use crate::known::{Known, Told};
 use crate::reader::{FrontReader, READERS, readers_of};
 use crate::shown::Shown;
+use crate::{Known, Told};
 use core::mem::replace_with;
 use prt_store::Stamp;
 use prt_version::{Command, Refusal, Version};
@@ -113,8 +113,9 @@ impl<R: Wait + Drop> Front<R> {
         if !is_shown {
             return Err(Refusal::NotPublished);
         }
-        self.known = next.again();
-        Ok(next)
+        let told = Told::whole(&next);
+        self.known = next;
+        Ok(told)
     }
 }
 

@@ -17,9 +17,6 @@ pub struct Known {
     seen: Seen<Entry, u64, HistoryRule>,
 }
 
-/// The list of a publication, which its publisher tells readers.
-pub type Told = Known;
-
 impl Model for Known {
     ghost use Rattle.std.specs.Prelude.{◌≡◌, length};
     ghost use Rattle.prt_version.specs.Accepted.{IsAccepted};

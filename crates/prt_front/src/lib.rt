@@ -12,7 +12,9 @@ mod known;
 pub mod laws;
 mod reader;
 mod shown;
+mod told;
 
 pub use front::Front;
-pub use known::{Known, Told};
+pub use known::Known;
 pub use reader::{FrontReader, READERS};
+pub use told::Told;

@@ -7,7 +7,7 @@ ghost use Rattle.prt_front.specs.Copies.{origin_of};
 ghost use Rattle.prt_front.specs.Line.{Begins, line_state};
 
 use crate::copies::{CopyReader, CopyWriter, read, reader_of};
-use crate::known::{Known, Told};
+use crate::{Known, Told};
 use core::mem::replace_with;
 use prt_version::{Refusal, Version};
 use std::alloc::Global;
@@ -58,15 +58,16 @@ impl FrontReader {
         Ok(version)
     }
 
-    /// Learns a list that it is told: of the two that it knows then, each begins the other or is begun by it, and the
-    /// longer one stays.
+    /// Learns a list that it is told: it knows the longer one from then on of its own and of the whole list that it is told
+    /// a beginning of. Of two lists of one front the shorter begins the longer.
     pub fn learn(&mut self, told: &Told)
         requires { told.now.book ≡ self.old.book }
         ensures mine { Begins self.old self.new }
         ensures told { Begins told.now self.new }
     {
-        if self.known.is_before(told) {
-            self.known = told.again();
+        let whole = told.known();
+        if self.known.is_before(whole) {
+            self.known = whole.again();
         }
     }
 }

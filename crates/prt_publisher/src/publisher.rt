@@ -29,7 +29,7 @@ use crate::opening::open;
 use crate::plan::{Plan, make_plan};
 use crate::{Checked, Phase, Receipt, Seats};
 use prt_command::{Command, Refusal};
-use prt_front::Front;
+use prt_front::{Front, Told};
 use prt_grace::{Domain, Keeper, Registry};
 use prt_store::{Stamp, Store};
 use prt_version::Version;
@@ -368,7 +368,8 @@ impl<S: Alter + Drop, R: Wait + Drop> Publisher<S, R> {
             Step::Published(_, noted) => {
                 self.keeper.note(registry, noted);
                 let number = self.version.number();
-                Receipt::new(number, self.front.known())
+                let told = Told::whole(&self.front.known());
+                Receipt::new(number, told)
             }
             _ => unreachable!(),
         }

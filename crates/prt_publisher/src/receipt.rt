@@ -1,16 +1,16 @@
 //! Acknowledgements.
-ghost use Rattle.std.specs.Prelude.{◌≡◌, ◌+◌, length};
+ghost use Rattle.std.specs.Prelude.{◌≡◌, ◌+◌, ◌-◌, ◌<◌, length, take};
 ghost use Rattle.prt_front.specs.Line.{line_state};
 
-use prt_front::Known;
+use prt_front::Told;
 use std::marker::Model;
 
-/// Says that a command, or commands together, were committed, published and noted. A publisher alone makes one.
-/// Contracts see it as the published list that ends with them.
+/// Says that a command, or commands together, were committed, published and noted. A publisher alone makes one; of it those
+/// of earlier commands can be made. Contracts see it as the published list that ends with them.
 #[derive(Drop)]
 pub struct Receipt {
     number: u64,
-    told: Known,
+    told: Told,
 }
 
 impl Model for Receipt {
@@ -26,7 +26,7 @@ impl Model for Receipt {
 
 impl Receipt {
     /// Makes a receipt for the last command of a list, which had this number.
-    pub(crate) fn new(number: u64, told: Known) -> Receipt
+    pub(crate) fn new(number: u64, told: Told) -> Receipt
         requires { (number ≡ told.base.count + length told.list) × (number ≡ (line_state told).count) }
         ensures { result ≡ told }
     {
@@ -41,8 +41,17 @@ impl Receipt {
         self.number
     }
 
+    /// Gives the receipt of the command that was accepted so many commands earlier.
+    pub fn of_earlier(&self, count: u64) -> Receipt
+        requires { count < length self.now.list }
+        ensures { result ≡ record self.now { list = take (length self.now.list - count) self.now.list } }
+    {
+        let told = self.told.without_last(count);
+        Receipt::new(self.number - count, told)
+    }
+
     /// Gives the list that ends with the command.
-    pub fn told(&self) -> &Known
+    pub fn told(&self) -> &Told
         ensures { result.now ≡ self.now }
     {
         &self.told

@@ -1,1 +1,3 @@
+mod Receipts
 mod Refusals
+mod SameCommand

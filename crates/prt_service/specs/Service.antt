@@ -1,8 +1,11 @@
 -- What a service says of a command.
-use Rattle.std.specs.Prelude.{◌≡◌, List, [], ◌∷◌, ◌++◌}
+use Rattle.std.specs.Prelude.{◌≡◌, List, [], ◌∷◌, ◌++◌, IfErr, IfOk, Result}
+use Rattle.logbook.specs.Pages.{Book}
 use Rattle.prt_addr.specs.declared.refusal.Refusal.{Refusal}
 use Rattle.prt_addr.specs.declared.refusal.Refusal.TheVariants.{Busy, Closed, CountFull, Exists, Full, NoMemory, NoSuch, NotPublished, StoreFailed}
 use Rattle.prt_command.specs.declared.request.Command.{Command}
+use Rattle.prt_front.specs.Line.{Line}
+use Rattle.prt_version.specs.State.{State}
 
 -- the commands are the last of the list
 abbrev pub EndsWithAll : List Command → List Command → Type 0
@@ -24,3 +27,8 @@ IsServiceRefusal NoMemory = Unit {0}
 IsServiceRefusal (StoreFailed call) = Unit {0}
 IsServiceRefusal NotPublished = Unit {0}
 IsServiceRefusal _ = ⊥
+
+-- What became of a command of the named front: a receipt of its published list, which ends with the command, or why there is none.
+abbrev pub IsAnswer : Book → State → Command → Result Line Refusal → Type 0
+IsAnswer book base command result =
+    IfOk result (λ receipt. (receipt.book ≡ book) × (receipt.base ≡ base) × EndsWith receipt.list command) × IfErr result IsServiceRefusal

@@ -1,16 +1,20 @@
 //! The service: one publisher that any number of threads submit commands to, and lookers that read what it publishes.
 //!
-//! There are three locks. The publisher's is taken first, then the domain's, step by step; the lock of the spare readers
-//! is held with no other. A looker reads the version that it holds without any.
+//! There are four locks. Under the publisher's the domain's is taken, step by step, that of the lobby, where commands wait,
+//! and those of the channels of their answers. The lock of the spare readers is held with no other. A looker reads the
+//! version that it holds without any.
 #![tactic(auto)]
 
 mod departure;
+mod group;
 mod held;
+mod lobby;
 mod looker;
 mod naming;
 mod quiet;
 mod service;
 mod spare;
+mod waiting;
 
 pub use departure::Departure;
 pub use looker::Looker;

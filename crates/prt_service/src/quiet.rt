@@ -3,7 +3,7 @@ ghost use Rattle.std.specs.Prelude.{◌≡◌, ◌≤◌, [], All, IfErr, IfOk, 
 ghost use Rattle.sqlite.specs.Held.{state};
 ghost use Rattle.sqlite.specs.State.{HasCleanDisk};
 ghost use Rattle.prt_command.specs.Storable.{IsStorable};
-ghost use Rattle.prt_front.specs.Line.{grown, grown_by};
+ghost use Rattle.prt_front.specs.Line.{grown, grown_by, line_state};
 ghost use Rattle.prt_publisher.specs.Exits.{AreNotAcknowledged, HasCommitted, HaveCommitted, IsNotAcknowledged, Spares, Takes, TakesAll};
 ghost use Rattle.prt_publisher.specs.Standing.{IsQuiet, Stands};
 ghost use Rattle.prt_publisher.specs.declared.phase.Phase.TheVariants.{Ready};
@@ -14,6 +14,7 @@ use crate::Naming;
 use prt_command::{Command, Refusal};
 use prt_grace::Domain;
 use prt_publisher::{Publisher, Receipt};
+use prt_version::Version;
 use sqlite::{Alter, Connection, Error};
 use std::marker::{Model, PhantomData};
 use std::sync::Wait;
@@ -114,6 +115,13 @@ impl<S: Alter + Drop, R: Wait + Drop, J: Naming> QuietPublisher<S, R, J> {
             Err(reason) => return Err(reason),
         };
         Ok(last)
+    }
+
+    /// Gives the version that was published last.
+    pub(crate) fn published(&self) -> &Version
+        ensures { result.now ≡ line_state self.now.line }
+    {
+        self.publisher.published()
     }
 
     /// Gives the library's error of the commit that closed it, if one did.

@@ -1,18 +1,23 @@
 //! A publisher for many threads.
-ghost use Rattle.std.specs.Prelude.{◌≡◌, ◌≤◌, All, None, IfErr, IfOk, length};
+ghost use Rattle.std.specs.Prelude.{◌≡◌, ◌≤◌, All, None, IfErr, IfOk, IfSome, length};
 ghost use Rattle.prt_command.specs.Storable.{IsStorable};
 ghost use Rattle.prt_publisher.specs.Standing.{IsQuiet};
 ghost use Rattle.prt_service.specs.Named.{IsNamed, IsReleased};
-ghost use Rattle.prt_service.specs.Service.{EndsWith, EndsWithAll, IsServiceRefusal};
+ghost use Rattle.prt_service.specs.Service.{EndsWith, EndsWithAll, IsAnswer, IsServiceRefusal};
 
+use crate::group::submit_waiting;
+use crate::lobby::{Entered, Lobby};
 use crate::quiet::QuietPublisher;
 use crate::spare::SpareReaders;
+use crate::waiting::Waiting;
 use crate::{Looker, Naming};
+use crossbeam_channel::bounded;
 use prt_command::{Command, Refusal};
 use prt_front::FrontReader;
 use prt_grace::Domain;
 use prt_publisher::{Publisher, Receipt};
 use sqlite::{Alter, Connection, Error};
+use std::alloc::Global;
 use std::sync::{Mutex, Wait};
 
 /// A publisher, its domain and the readers that no looker has, for any number of threads.
@@ -20,11 +25,17 @@ use std::sync::{Mutex, Wait};
 /// The publisher lies under a lock: whenever nobody holds it, the publisher is ready, and the published state is stored,
 /// or it is closed. The domain has its own lock, which a submission takes under the publisher's. The spare readers lie
 /// under a third, held with no other.
+///
+/// While the publisher is held, up to 64 commands wait in a lobby, under a lock of its own. Who came first submits those in
+/// one transaction that are accepted one after the other, and each thread gets the receipt of its own command. A thread
+/// whose command was left out submits it by itself.
 #[derive(Drop)]
 pub struct Service<S: Alter + Drop, R: Wait + Drop, J: Naming> {
     publisher: Mutex<QuietPublisher<S, R, J>>,
+    lobby: Mutex<Lobby<J>>,
     domain: Domain,
     spare: Mutex<SpareReaders<J>>,
+    alloc: Global,
 }
 
 impl<S: Alter + Drop, R: Wait + Drop, J: Naming> Service<S, R, J> {
@@ -38,13 +49,15 @@ impl<S: Alter + Drop, R: Wait + Drop, J: Naming> Service<S, R, J> {
         let seats = publisher.seats(alloc);
         Service {
             publisher: Mutex::new(QuietPublisher::new(publisher)),
+            lobby: Mutex::new(Lobby::new(alloc)),
             domain,
             spare: Mutex::new(SpareReaders::new(seats)),
+            alloc,
         }
     }
 
-    /// Has a command stored, published and noted, one after another with those of other threads. The receipt's list ends
-    /// with the command.
+    /// Has a command stored, published and noted, together with those of other threads that wait, or by itself. The
+    /// receipt's list ends with the command.
     ///
     /// # Errors
     ///
@@ -57,7 +70,36 @@ impl<S: Alter + Drop, R: Wait + Drop, J: Naming> Service<S, R, J> {
         ensures last { IfOk result (λ receipt. EndsWith receipt.list command.now) }
         ensures reason { IfErr result IsServiceRefusal }
     {
-        self.publisher.lock(rt).submit(rt, &self.domain, command)
+        match self.submit_in_group(rt, command) {
+            Some(result) => result,
+            None => self.publisher.lock(rt).submit(rt, &self.domain, command),
+        }
+    }
+
+    /// Has a command submitted together with those that wait. `None` where it can't wait, or was left out of its group.
+    fn submit_in_group<W: Wait>(
+        &self,
+        rt: &W,
+        command: &Command,
+    ) -> Option<Result<Receipt, Refusal>>
+        requires { IsStorable command.now }
+        ensures { IfSome result (IsAnswer J.book J.base command.now) }
+    {
+        let (reply_to, replies) = bounded(self.alloc, 1).ok()?;
+        let entered = self.lobby.lock(rt).enter(Waiting::new(command, reply_to));
+        match entered {
+            Entered::First => self.submit_waiting(rt),
+            Entered::Later => {}
+            Entered::Full => return None,
+        }
+        replies.recv(rt).ok()?.for_command(command)
+    }
+
+    /// Submits the commands that wait once the publisher is free.
+    fn submit_waiting<W: Wait>(&self, rt: &W) {
+        let mut publisher = self.publisher.lock(rt);
+        let waiting = self.lobby.lock(rt).take_all(self.alloc);
+        submit_waiting(&mut publisher, rt, self.alloc, &self.domain, waiting);
     }
 
     /// Has commands stored, published and noted together: all of them or none. The receipt's list ends with them, and its

@@ -1,4 +1,4 @@
-"""Kills servers under four writers, each at another moment, and looks at what each file holds.
+"""Kills servers under 32 writers, each at another moment, and looks at what each file holds.
 
 KILLS says how often (100 where it isn't set), half of them with SIGKILL and half with SIGTERM. Each writer adds routes of
 its own, one after another. The file then holds each route whose `ok N` was received, of each writer the first so many
@@ -16,7 +16,7 @@ from threading import Thread
 from serving import Client, Server, batch
 
 KILLS = int(os.environ.get("KILLS", "100"))
-WRITERS = 4
+WRITERS = 32
 
 
 def write(server, writer, receipts):
@@ -56,7 +56,7 @@ def main():
     acknowledged = 0
     for turn in range(KILLS):
         path = f"{turn}.db"
-        server = Server(database=path)
+        server = Server("--workers", str(WRITERS), database=path)
         receipts = [[] for _ in range(WRITERS)]
         writers = [Thread(target=write, args=(server, writer, receipts[writer])) for writer in range(WRITERS)]
         for writer in writers:

@@ -1,5 +1,5 @@
 use Rattle.std.proofs.Common.{of_calls}
-use Rattle.prt_serve.specs.Growing.{begins_trans}
+use Rattle.prt_front.proofs.Prefixes.{begins_trans}
 use Rattle.prt_serve.proofs.Jobs.{ServesEach-more}
 use Rattle.prt_serve.proofs.worker.serve_jobs.Goals as goal
 

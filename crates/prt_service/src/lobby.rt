@@ -1,0 +1,51 @@
+//! Where commands wait for the next group.
+
+use crate::Naming;
+use crate::waiting::Waiting;
+use std::alloc::Global;
+use std::mem;
+
+/// How many commands wait at most, and are submitted together.
+const MOST_WAITING: usize = 64;
+
+/// The commands that wait, in the order in which they came.
+#[derive(Drop)]
+pub(crate) struct Lobby<J: Naming> {
+    waiting: Vec<Waiting<J>>,
+}
+
+/// How a command entered the lobby.
+pub(crate) enum Entered {
+    /// Nobody waited: who brings it submits all that wait once the publisher is free.
+    First,
+    /// Others wait, of whom the first submits it too.
+    Later,
+    /// It was let go: there is no place, or no memory for one.
+    Full,
+}
+
+impl<J: Naming> Lobby<J> {
+    pub(crate) fn new(alloc: Global) -> Lobby<J> {
+        Lobby {
+            waiting: Vec::new(alloc),
+        }
+    }
+
+    /// Lets a command wait, if there is room.
+    pub(crate) fn enter(&mut self, one: Waiting<J>) -> Entered {
+        let before = self.waiting.len();
+        if before >= MOST_WAITING || self.waiting.push(one).is_err() {
+            return Entered::Full;
+        }
+        if before == 0 {
+            Entered::First
+        } else {
+            Entered::Later
+        }
+    }
+
+    /// Takes all that wait.
+    pub(crate) fn take_all(&mut self, alloc: Global) -> Vec<Waiting<J>> {
+        mem::replace(&mut self.waiting, Vec::new(alloc))
+    }
+}
