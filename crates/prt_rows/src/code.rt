@@ -40,6 +40,7 @@ pub(crate) fn kind_of_code(code: u32) -> Option<Kind>
 pub(crate) fn action_codes(action: Action) -> (u32, u32)
     ensures code { result.0 ≡ action_code action }
     ensures table { result.1 ≡ action_table action }
+    ensures action { IsAction action }
 {
     match action {
         Action::Lookup(table) => (1, table),

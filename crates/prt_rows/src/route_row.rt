@@ -47,7 +47,8 @@ pub fn route_of_row(row: &Row) -> Option<Route>
 /// The values of the row of a route, in the order of the columns (`docs/STORE.md`), to be bound to a statement. The
 /// rowid is not among them.
 pub fn route_values(route: &Route) -> [ValueRef<'_>; ROUTE_COLUMNS]
-    ensures { bound result ≡ route_row route.now }
+    ensures value { bound result ≡ route_row route.now }
+    ensures route { IsInRange route.now }
 {
     [
         value::number(route.table),

@@ -1,6 +1,6 @@
 //! The row of a rule.
 
-ghost use Rattle.std.specs.Prelude.{◌≡◌, ◌<◌, ◌^◌, [], ◌∷◌, ⊤};
+ghost use Rattle.std.specs.Prelude.{◌≡◌, ◌≤◌, ◌<◌, ◌^◌, [], ◌∷◌, None, ⊤};
 ghost use Rattle.sqlite.specs.Values.{bound};
 ghost use Rattle.sqlite_value.specs.Order.{column};
 ghost use Rattle.prt_rows.specs.Decodes.{Decodes};
@@ -70,7 +70,8 @@ pub fn rule_of_row(row: &Row, last: u64) -> Option<Rule>
 /// to a statement.
 pub fn rule_values(rule: &Rule) -> [ValueRef<'_>; RULE_COLUMNS]
     requires { rule.now.id < 2 ^ 63 }
-    ensures { bound result ≡ rule_row rule.now }
+    ensures value { bound result ≡ rule_row rule.now }
+    ensures rule { 1 ≤ rule.now.id → IsRule rule.now.id (record rule.now { suppress = None }) }
 {
     let (code, table) = action_codes(rule.action);
     [

@@ -1,10 +1,10 @@
 //! What stands in one cell, written.
 
-ghost use Rattle.std.specs.Prelude.{◌≡◌, ◌<◌, ◌^◌, true};
+ghost use Rattle.std.specs.Prelude.{◌≡◌, ◌<◌, ◌^◌, IfSome, true};
 ghost use Rattle.sqlite.specs.Values.{bound_value};
 ghost use Rattle.sqlite_value.specs.Value.{owned};
 ghost use Rattle.prt_route.specs.Name.{is_name};
-ghost use Rattle.prt_rows.specs.Cell.{IsOptionalName, flag, number, optional_addr, optional_name, optional_number};
+ghost use Rattle.prt_rows.specs.Cell.{IsNumber, IsOptionalAddr, IsOptionalName, flag, number, optional_addr, optional_name, optional_number};
 
 use prt_addr::Addr;
 use prt_route::Dev;
@@ -12,7 +12,8 @@ use sqlite::types::ValueRef;
 
 /// Gives the cell of a number.
 pub(crate) fn number(n: u32) -> ValueRef<'static>
-    ensures { bound_value (owned result) ≡ number n }
+    ensures value { bound_value (owned result) ≡ number n }
+    ensures number { IsNumber n }
 {
     ValueRef::Int(i64::from(n))
 }
@@ -27,7 +28,8 @@ pub(crate) fn large_number(n: u64) -> ValueRef<'static>
 
 /// Gives the cell of a number that may be absent: -1 where it is.
 pub(crate) fn optional_number(n: Option<u32>) -> ValueRef<'static>
-    ensures { bound_value (owned result) ≡ optional_number n }
+    ensures value { bound_value (owned result) ≡ optional_number n }
+    ensures number { IfSome n IsNumber }
 {
     match n {
         Some(n) => ValueRef::Int(i64::from(n)),
@@ -37,17 +39,17 @@ pub(crate) fn optional_number(n: Option<u32>) -> ValueRef<'static>
 
 /// Gives the cell of an address that may be absent: -1 where it is.
 pub(crate) fn optional_addr(addr: Option<Addr>) -> ValueRef<'static>
-    ensures { bound_value (owned result) ≡ optional_addr addr }
+    ensures value { bound_value (owned result) ≡ optional_addr addr }
+    ensures addr { IsOptionalAddr addr }
 {
     optional_number(addr.map(|addr| addr.0))
 }
 
-/// Recalls that the bytes of a `Dev` are a name, which its type keeps.
+/// Recalls that the bytes of a `Dev` are a name, which its type keeps. One that is passed as a value tells it, one behind a
+/// reference doesn't.
 fn recall_name(dev: Dev)
     ensures { is_name dev ≡ true }
-{
-    let _dev = dev;
-}
+{}
 
 /// Gives the cell of a name that may be absent: the empty text where it is, which is no name.
 pub(crate) fn optional_name(dev: &Option<Dev>) -> ValueRef<'_>

@@ -7,7 +7,6 @@ mod laws;
 mod load;
 mod merging;
 mod opening;
-mod ranges;
 mod statements;
 mod store;
 

@@ -11,7 +11,6 @@ ghost use Rattle.prt_rows.specs.SuppressRow.{suppress_row};
 ghost use Rattle.prt_store.specs.Lengths.{plain};
 ghost use Rattle.prt_store.specs.Written.{CommitsNothing, RunsInside};
 
-use crate::ranges::{recall_route, recall_rule};
 use prt_route::{Route, RouteKey, Selector};
 use prt_rows::{RuleLength, length_values, route_values, rule_values, selector_values};
 use prt_rule::Rule;
@@ -28,7 +27,6 @@ pub(crate) fn insert_route<S: Alter>(
     ensures survives { CommitsNothing S.Store tx.old.conn.now tx.new.conn.now }
     ensures typed { IsInRange route.now }
 {
-    recall_route(route);
     tx.execute(
         "INSERT INTO route (tbl, net, len, metric, kind, via, dev, src, proto, scope) VALUES (?1, ?2, ?3, ?4, ?5, ?6, ?7, ?8, ?9, ?10)",
         &route_values(route),
@@ -45,7 +43,6 @@ pub(crate) fn put_route<S: Alter>(
     ensures survives { CommitsNothing S.Store tx.old.conn.now tx.new.conn.now }
     ensures typed { IsInRange route.now }
 {
-    recall_route(route);
     tx.execute(
         "INSERT INTO route (tbl, net, len, metric, kind, via, dev, src, proto, scope) VALUES (?1, ?2, ?3, ?4, ?5, ?6, ?7, ?8, ?9, ?10) ON CONFLICT (tbl, net, len, metric) DO UPDATE SET kind = ?5, via = ?6, dev = ?7, src = ?8, proto = ?9, scope = ?10",
         &route_values(route),
@@ -99,7 +96,6 @@ pub(crate) fn insert_rule<S: Alter>(
     ensures survives { CommitsNothing S.Store tx.old.conn.now tx.new.conn.now }
     ensures typed { 1 ≤ rule.now.id → IsRule rule.now.id (plain rule.now) }
 {
-    recall_rule(rule);
     tx.execute(
         "INSERT INTO rule (id, priority, inverted, src_net, src_len, dst_net, dst_len, iif, mark, mask, act, tbl) VALUES (?1, ?2, ?3, ?4, ?5, ?6, ?7, ?8, ?9, ?10, ?11, ?12)",
         &rule_values(rule),
