@@ -1,5 +1,5 @@
 -- What a reason that was found among the rows says of the tables.
-use Rattle.std.proofs.Common.{◌≡◌, ◌+◌, ◌<◌, ℕ, ℤ, List, [], ◌∷◌, length, map, drop, IsPermutation, refl, sym, ap, subst, ◌∙◌}
+use Rattle.std.proofs.Common.{◌≡◌, ◌+◌, ◌<◌, ℕ, ℤ, List, [], ◌∷◌, map, drop, IsPermutation, sym, ap, subst, ◌∙◌}
 use Rattle.std.specs.Prelude.{Contains, IfSome, Option, Some, None}
 use Rattle.std.proofs.lemmas.List.{get_or-map, length-map}
 use Rattle.std.proofs.lemmas.List.Sorted.{Contains-permutation, IsPermutation-sym}
@@ -9,10 +9,9 @@ use Rattle.sqlite.specs.Tree.{rowid}
 use Rattle.sqlite_value.specs.Order.{Row}
 use Rattle.prt_rows.specs.Kept.{kept_count, with_key_column}
 use Rattle.prt_rows.specs.MetaRow.{meta_row, meta_rows}
-use Rattle.prt_store.specs.Loaded.{SpellsCount}
 use Rattle.prt_reasons.specs.Explains.{Explains, HasCount, NamesBadRow}
 use Rattle.prt_reasons.specs.Found.{HasBadRow}
-use Rattle.prt_reasons.specs.IsReason.{IsReasonIfAny, IsReasonOf, KeepsBadRow, NamesKeptRow}
+use Rattle.prt_reasons.specs.IsReason.{IsReasonIfAny, IsReasonOf, KeepsBadRow, KeepsCount, NamesKeptRow}
 use Rattle.prt_reasons.specs.Shows.{ShowsAll}
 use Rattle.prt_reasons.specs.declared.reason.Reason.{Reason}
 use Rattle.prt_reasons.specs.declared.reason.Reason.TheVariants as reason
@@ -50,13 +49,13 @@ meta_rows_of (row ∷ []) count is = let first : with_key_column row ≡ kept_co
 meta_rows_of (row ∷ (other ∷ rows)) count is = absurd (let e = is in cc)
 
 module _ (db : Database) (rows : AllRows) (all : ShowsAll db rows) where
-  counted : (count : ℕ) → HasCount rows count → SpellsCount db count
+  counted : (count : ℕ) → HasCount rows count → KeepsCount db count
   counted count has = record {
     row = one_permutation (kept_count count) (db.trees 3) (IsPermutation-sym _ _ (subst (λ (rows : List Row). IsPermutation (db.trees 3) (map with_key_column rows)) has.is all.meta));
     fits = has.fits;
   }
 
-  read_count : (count : ℕ) → SpellsCount db count → rows.meta.items ≡ meta_rows count
+  read_count : (count : ℕ) → KeepsCount db count → rows.meta.items ≡ meta_rows count
   read_count count spells = meta_rows_of rows.meta.items count (one_permutation (kept_count count) (map with_key_column rows.meta.items) (subst (λ (table : List Row). IsPermutation table (map with_key_column rows.meta.items)) spells.row all.meta))
 
   named_row : (last : ℕ) (named : Reason) → NamesBadRow rows last named → NamesKeptRow db last named
@@ -72,7 +71,7 @@ module _ (db : Database) (rows : AllRows) (all : ShowsAll db rows) where
   named_row last (reason.FurtherColumn table n) bad = bad
   named_row last reason.Keys bad = bad
 
-  spelled : (named : Reason) → ((count : ℕ) × HasCount rows count × NamesBadRow rows (count + 3) named) → (count : ℕ) × SpellsCount db count × NamesKeptRow db (count + 3) named
+  spelled : (named : Reason) → ((count : ℕ) × HasCount rows count × NamesBadRow rows (count + 3) named) → (count : ℕ) × KeepsCount db count × NamesKeptRow db (count + 3) named
   spelled named (count, has, bad) = (count, counted count has, named_row (count + 3) named bad)
 
   explained : (named : Reason) → Explains rows named → IsReasonOf db named

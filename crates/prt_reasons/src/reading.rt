@@ -1,10 +1,10 @@
 //! The rows of the four tables, read.
 
-ghost use Rattle.std.specs.Prelude.{◌≡◌, IfErr};
-ghost use Rattle.prt_addr.specs.declared.refusal.Refusal.TheVariants.{OpenFailed};
+ghost use Rattle.std.specs.Prelude.{◌≡◌};
+ghost use Rattle.sqlite.specs.Held.{state};
 ghost use Rattle.prt_reasons.specs.IsReason.{IsReasonIfAny};
-ghost use Rattle.prt_reasons.specs.Shows.{ShowsAll, ShowsRows, text};
-ghost use Rattle.prt_store.specs.Loaded.{Reads};
+ghost use Rattle.prt_reasons.specs.Shows.{OfOurs, Reads, ShowsAll, ShowsRows, text};
+ghost use Rattle.prt_store.specs.Loaded.{ReadsShown};
 
 use crate::rows::{AllRows, reason_in};
 use crate::{Reason, Table};
@@ -27,11 +27,8 @@ fn text(table: Table) -> &'static str
 
 /// Gives the rows of a table, in the order of their rowids.
 fn rows_of<S: Alter>(conn: &mut Connection<S>, table: Table) -> Result<Vec<Row>, Refusal>
-    ensures read { Reads S.Store (λ (rows : _). rows.items) (ShowsRows table) conn.old conn.new result }
-    ensures reason { IfErr result (λ reason. reason ≡ OpenFailed) }
+    ensures { ReadsShown S.Store (λ (rows : _). OfOurs (λ db. ShowsRows table db rows.items) (state S.Store conn.old).now) ⊥ conn.old conn.new result }
 {
-    // Recalls that the rows are as the schema has them.
-    let _live = conn.schema();
     match conn.query_all(text(table), &[]) {
         Ok(rows) => Ok(rows),
         Err(_) => Err(Refusal::OpenFailed),
@@ -40,8 +37,7 @@ fn rows_of<S: Alter>(conn: &mut Connection<S>, table: Table) -> Result<Vec<Row>,
 
 /// Gives the rows of the four tables.
 fn all_rows<S: Alter>(conn: &mut Connection<S>) -> Result<AllRows, Refusal>
-    ensures read { Reads S.Store (λ rows. rows) ShowsAll conn.old conn.new result }
-    ensures reason { IfErr result (λ reason. reason ≡ OpenFailed) }
+    ensures { ReadsShown S.Store (λ rows. OfOurs (λ db. ShowsAll db rows) (state S.Store conn.old).now) ⊥ conn.old conn.new result }
 {
     let meta = rows_of(conn, Table::Meta)?;
     let rules = rows_of(conn, Table::Rule)?;

@@ -16,7 +16,8 @@ use Rattle.prt_rows.specs.Kept.{kept_count, kept_count_1, kept_length, kept_rule
 use Rattle.prt_rows.specs.RouteRow.{route_row}
 use Rattle.prt_rows.specs.Tables.{meta_table, our_tables, route_table, rule_table, suppress_table}
 use Rattle.prt_version.specs.State.{State, opening_state}
-use Rattle.prt_store.proofs.Looks.{no_meta_rows, our_table}
+use Rattle.prt_store.proofs.Looks.{no_rows, our_table}
+use Rattle.prt_store.specs.declared.opening.OurTable.TheVariants as ours
 use Rattle.prt_store.proofs.Openings.{due_after, filled_later, migrated_later, not_empty}
 use Rattle.prt_store.specs.Adopted.{Adopts, AdoptsOne, AdoptsPart, IsFilled, MigratesTables, RefusesOne}
 use Rattle.prt_store.specs.Lengths.{lengths_of}
@@ -24,7 +25,7 @@ use Rattle.prt_store.specs.Stored.{FitsTables, Stores, StoresFormat1}
 
 -- tables that spell a state have a row
 has_row : (db : Database) (stored : State) → Stores db stored → AreEmpty db → ⊥
-has_row db stored held empty = let none : kept_count stored.count ∷ [] ≡ [] = sym held.count ∙ no_meta_rows db held.tables empty in cc
+has_row db stored held empty = let none : kept_count stored.count ∷ [] ≡ [] = sym held.count ∙ no_rows db held.tables empty ours.Meta in cc
 
 -- and are not those of a file of format 1
 not_stored_before : (db : Database) (stored : State) (count : ℕ) → Stores db stored → IsOfFormat1 db count → ⊥

@@ -1,24 +1,28 @@
 -- What an opening does to a connection, whatever tables the file has.
-use Rattle.std.proofs.Common.{◌≡◌, inl, inr, ℕ, Bool, true, false, List, [], length, Option, Some, None, Ok, Err, Result, IsErr, OnOk, true≢false, refl, sym, subst, ◌∙◌, arith}
+use Rattle.std.proofs.Common.{◌≡◌, inl, inr, ℕ, Bool, true, false, List, [], ◌∷◌, length, Option, Some, None, Ok, Err, Result, IsErr, OnOk, true≢false, refl, sym, subst, ◌∙◌, arith}
 use Rattle.std.proofs.lemmas.Result.{on_ok_weaker}
-use Rattle.std.specs.Prelude.{◌==◌, MatchBool, is_some}
+use Rattle.std.specs.Prelude.{MatchBool, is_some}
 use Rattle.sqlite.proofs.Callers.{unchanged_then}
 use Rattle.sqlite.specs.Held.{Held, state}
-use Rattle.sqlite.specs.State.{CommitsShowing, HasCleanDisk, IsUnchanged, Shown, Survives}
+use Rattle.sqlite.specs.Listing.{understood}
+use Rattle.sqlite.specs.declared.error.Error.{Error}
+use Rattle.std.specs.List.{AllByRecursion as Each}
+use Rattle.prt_addr.specs.Word.{Word}
+use Rattle.sqlite.specs.State.{CommitsShowing, FailsToQuery, HasCleanDisk, IsUnchanged, Shown, Survives}
 use Rattle.sqlite.specs.Store.{Ghosts}
 use Rattle.sqlite_value.specs.Order.{Row}
 use Rattle.prt_addr.specs.declared.refusal.Refusal.{Refusal}
-use Rattle.prt_rows.proofs.Quiet.{quiet_read_meta, shown_unchanged, shows_no_write}
+use Rattle.prt_rows.proofs.Quiet.{IsQuiet, failed_query, shown_unchanged, shows_no_write}
 use Rattle.prt_rows.specs.Decodes.{Decodes}
 use Rattle.prt_rows.specs.Format.{HasFormat2, has_table}
 use Rattle.prt_rows.specs.MetaRow.{IsCount, meta_rows_1}
 use Rattle.prt_rows.specs.Statements.{migrate, read_meta}
-use Rattle.prt_store.proofs.Looks.{none_found, quiet_look}
+use Rattle.prt_store.proofs.Looks.{still_there}
 use Rattle.prt_store.proofs.Openings.{on_any}
-use Rattle.prt_store.proofs.Shown.{rows_moved, shown_as}
+use Rattle.prt_store.proofs.Shown.{rows_moved}
 use Rattle.prt_store.proofs.Stops.{quiet_then}
-use Rattle.prt_store.specs.Openings.{Commits, Fills, Finds, HasDone, KeepsOrFills, KeepsOrMigrates, MakesAndFills, MakesMissing, MakesTable, MakesTables, Ran, table_of}
-use Rattle.prt_store.specs.Shown.{ShowsContents, ShowsDue, ShowsFormat1, ShowsNoRow, ShowsNotDue, ShowsOtherFormat, ShowsSomeRow, look_at}
+use Rattle.prt_store.specs.Openings.{Commits, Fills, Finds, KeepsOrFills, KeepsOrMigrates, MakesAndFills, MakesMissing, MakesTable, MakesTables, Ran, table_of}
+use Rattle.prt_store.specs.Shown.{ShowsContents, ShowsDue, ShowsFormat1, ShowsNoRow, ShowsNotDue, ShowsOtherFormat, ShowsRows, ShowsSomeRow, look_at}
 use Rattle.prt_store.specs.declared.opening.OurTable.{OurTable}
 use Rattle.prt_store.specs.declared.opening.OurTable.TheVariants as ours
 
@@ -61,23 +65,29 @@ either_way : {A B C D : Type 0} (b : Bool) → (A → C) → (B → D) → Match
 either_way true so not_so it = so it
 either_way false so not_so it = not_so it
 
-module _ {S : Type 0} (g : Ghosts S) (table : OurTable) (old new : Held S) (survives : Survives (state g old) (state g new) (CommitsShowing (look_at table) [] (state g old))) where
-  pub look_finds_none : (reason : Refusal) → Finds g (ShowsNoRow g old table) (ShowsSomeRow g old table) old new (Err reason)
-  look_finds_none reason = record { ok = λ clean. tt; quiet = shows_no_write (look_at table) (state g old) (state g new) (quiet_look table (state g old).now.schema) survives }
+module _ {S : Type 0} (g : Ghosts S) (Yes No : Type 0) (old new : Held S) (sql : Word) (quiet : IsQuiet (understood (state g old).now.schema sql)) (survives : Survives (state g old) (state g new) (CommitsShowing sql [] (state g old))) where
+  pub look_fails : (e : Error) (reason : Refusal) → (HasCleanDisk (state g new) → FailsToQuery sql [] (state g old) (state g new) e) → Finds g Yes No old new (Err reason)
+  look_fails e reason fails = record {
+    ok = λ clean. tt;
+    err = λ clean still_open settled. still_there (state g old) (state g new) (failed_query sql (state g old) (state g new) quiet e (fails clean)) still_open settled;
+    quiet = shows_no_write sql (state g old) (state g new) quiet survives;
+  }
 
-  pub look_finds : (found : List Row) (n : ℕ) (b : Bool) → (HasCleanDisk (state g new) → Shown (look_at table) [] (state g old) (state g new) found) → n ≡ length found → b ≡ (n == 0) → Finds g (ShowsNoRow g old table) (ShowsSomeRow g old table) old new (Ok b)
-  look_finds found n b shown long is = record {
-    ok = λ clean. (
-      shown_unchanged (look_at table) (state g old) (state g new) (quiet_look table (state g old).now.schema) found (shown clean),
-      either_way b (λ none. shown_as g old new found (look_at table) [] none (shown clean)) (λ some. (found, (old, new, refl, shown clean), some)) (none_found found n b long is),
-    );
-    quiet = shows_no_write (look_at table) (state g old) (state g new) (quiet_look table (state g old).now.schema) survives;
+  pub look_finds : (rows : List Row) (b : Bool) → (HasCleanDisk (state g new) → Shown sql [] (state g old) (state g new) rows) → (ShowsRows g old sql rows → MatchBool b Yes No) → Finds g Yes No old new (Ok b)
+  look_finds rows b shown tells = record {
+    ok = λ clean. (shown_unchanged sql (state g old) (state g new) quiet rows (shown clean), tells (old, new, refl, shown clean));
+    err = λ clean still_open settled. tt;
+    quiet = shows_no_write sql (state g old) (state g new) quiet survives;
   }
 
 -- what is shown of a database is shown of the same one
 module _ {S : Type 0} (g : Ghosts S) (a b : Held S) (same : (state g b).now ≡ (state g a).now) where
   none_moved : (table : OurTable) → ShowsNoRow g b table → ShowsNoRow g a table
   none_moved table = rows_moved g a b same (look_at table) []
+
+  each_moved : (tables : List OurTable) → Each (ShowsNoRow g b) tables → Each (ShowsNoRow g a) tables
+  each_moved [] all = tt
+  each_moved (table ∷ tables) all = (none_moved table all.0, each_moved tables all.1)
 
   some_moved : (table : OurTable) → ShowsSomeRow g b table → ShowsSomeRow g a table
   some_moved table it = (it.0, rows_moved g a b same (look_at table) it.0 it.1, it.2)
@@ -97,15 +107,15 @@ module _ {S : Type 0} (g : Ghosts S) (a b : Held S) (same : (state g b).now ≡ 
 
 module _ {S : Type 0} (g : Ghosts S) (P Q No : Type 0) (a b : Held S) where
   pub finds_not : Finds g P No a b (Ok false) → Finds g Q No a b (Ok false)
-  finds_not one = record { ok = one.ok; quiet = one.quiet }
+  finds_not one = record { ok = one.ok; err = one.err; quiet = one.quiet }
 
   pub finds_fails : (Other : Type 0) (reason : Refusal) (result : Result Bool Refusal) → IsErr result → Finds g P No a b (Err reason) → Finds g Q Other a b result
   finds_fails Other reason (Ok x) bad one = absurd (true≢false (sym bad))
-  finds_fails Other reason (Err other) bad one = record { ok = λ clean. tt; quiet = one.quiet }
+  finds_fails Other reason (Err other) bad one = record { ok = λ clean. tt; err = one.err; quiet = one.quiet }
 
   pub finds_as : (Other : Type 0) (result : Result Bool Refusal) → (P → Q) → (No → Other) → Finds g P No a b result → Finds g Q Other a b result
-  finds_as Other (Ok found) so not_so one = record { ok = λ clean. ((one.ok clean).0, either_way found so not_so (one.ok clean).1); quiet = one.quiet }
-  finds_as Other (Err reason) so not_so one = record { ok = λ clean. tt; quiet = one.quiet }
+  finds_as Other (Ok found) so not_so one = record { ok = λ clean. ((one.ok clean).0, either_way found so not_so (one.ok clean).1); err = one.err; quiet = one.quiet }
+  finds_as Other (Err reason) so not_so one = record { ok = λ clean. tt; err = one.err; quiet = one.quiet }
 
   -- the second look is asked where the first one found it so
   finds_both : (R Else Other : Type 0) → ((state g b).now ≡ (state g a).now → Q → R) → ((state g b).now ≡ (state g a).now → No → Other) → (c : Held S) (result : Result Bool Refusal) → Finds g P Else a b (Ok true) → Finds g Q No b c result → Finds g (P × R) Other a c result
@@ -114,44 +124,39 @@ module _ {S : Type 0} (g : Ghosts S) (P Q No : Type 0) (a b : Held S) where
         let first = one.ok (omega (arith, two.quiet.clean, clean)) in
         let second = two.ok clean in
         (unchanged_then (state g a) (state g b) (state g c) first.0 second.0, either_way found (λ it. (first.1, so first.0.0.now_is it)) (not_so first.0.0.now_is) second.1);
+    err = λ clean still_open settled. tt;
     quiet = quiet_then g a b c one.quiet two.quiet;
   }
-  finds_both R Else Other so not_so c (Err reason) one two = record { ok = λ clean. tt; quiet = quiet_then g a b c one.quiet two.quiet }
+  finds_both R Else Other so not_so c (Err reason) one two = record {
+    ok = λ clean. tt;
+    err = λ clean still_open settled.
+        let same = (one.ok (omega (arith, two.quiet.clean, clean))).0.0 in
+        two.err clean still_open (λ _. same.now_is ∙ settled same.was_open ∙ sym same.committed_is) ∙ same.now_is;
+    quiet = quiet_then g a b c one.quiet two.quiet;
+  }
 
--- the first look
-pub finds_first : {S : Type 0} (g : Ghosts S) (table : OurTable) (a b : Held S) (result : Result Bool Refusal) → Finds g (ShowsNoRow g a table) (ShowsSomeRow g a table) a b result → Finds g (ShowsNoRow g a table) (ShowsContents g a) a b result
-finds_first g table a b result = finds_as g (ShowsNoRow g a table) (ShowsNoRow g a table) (ShowsSomeRow g a table) a b (ShowsContents g a) result (λ none. none) (λ some. (table, some))
+pub each_of_none : {X : Type 0} (P : X → Type 0) (xs : List X) → length xs ≡ 0 → Each P xs
+each_of_none P [] none = tt
+each_of_none P (x ∷ xs) none = absurd (omega (arith, none))
 
--- and the next, where the looks before it found no row
-pub finds_next : {S : Type 0} (g : Ghosts S) (P : Type 0) (table : OurTable) (a b c : Held S) (result : Result Bool Refusal) → Finds g P (ShowsContents g a) a b (Ok true) → Finds g (ShowsNoRow g b table) (ShowsSomeRow g b table) b c result
-    → Finds g (P × ShowsNoRow g a table) (ShowsContents g a) a c result
-finds_next g P table a b c result = finds_both g P (ShowsNoRow g b table) (ShowsSomeRow g b table) a b (ShowsNoRow g a table) (ShowsContents g a) (ShowsContents g a) (λ same. none_moved g a b same table) (λ same some. (table, some_moved g a b same table some)) c result
+-- a table, and then those that are asked after it
+pub finds_next : {S : Type 0} (g : Ghosts S) (table : OurTable) (tables : List OurTable) (a b c : Held S) (result : Result Bool Refusal) → Finds g (ShowsNoRow g a table) (ShowsSomeRow g a table) a b (Ok true)
+    → Finds g (Each (ShowsNoRow g b) tables) (ShowsContents g b) b c result → Finds g (Each (ShowsNoRow g a) (table ∷ tables)) (ShowsContents g a) a c result
+finds_next g table tables a b c result =
+    finds_both g (ShowsNoRow g a table) (Each (ShowsNoRow g b) tables) (ShowsContents g b) a b (Each (ShowsNoRow g a) tables) (ShowsSomeRow g a table) (ShowsContents g a) (λ same. each_moved g a b same tables) (λ same some. (some.0, some_moved g a b same some.0 some.1)) c result
 
 -- so each of the four is asked
-pub asked_all : {S : Type 0} (g : Ghosts S) (conn : Held S) → ((ShowsNoRow g conn ours.Meta × ShowsNoRow g conn ours.Rule) × ShowsNoRow g conn ours.Route) × ShowsNoRow g conn ours.Suppress → (table : OurTable) → ShowsNoRow g conn table
-asked_all g conn it ours.Rule = it.0.0.1
-asked_all g conn it ours.Route = it.0.1
-asked_all g conn it ours.Meta = it.0.0.0
-asked_all g conn it ours.Suppress = it.1
+pub asked_all : {S : Type 0} (g : Ghosts S) (conn : Held S) → Each (ShowsNoRow g conn) (ours.Meta ∷ (ours.Rule ∷ (ours.Route ∷ (ours.Suppress ∷ [])))) → (table : OurTable) → ShowsNoRow g conn table
+asked_all g conn it ours.Meta = it.0
+asked_all g conn it ours.Rule = it.1.0
+asked_all g conn it ours.Route = it.1.1.0
+asked_all g conn it ours.Suppress = it.1.1.1.0
 
 -- ---- the format is looked at
 
-module _ {S : Type 0} (g : Ghosts S) (old new : Held S) (survives : Survives (state g old) (state g new) (CommitsShowing read_meta [] (state g old))) where
-  pub format_not_found : (reason : Refusal) → Finds g (ShowsFormat1 g old) (ShowsOtherFormat g old) old new (Err reason)
-  format_not_found reason = record { ok = λ clean. tt; quiet = shows_no_write read_meta (state g old) (state g new) (quiet_read_meta (state g old).now.schema) survives }
-
-  pub format_found : (rows : List Row) (count : Option ℕ) (b : Bool) → (HasCleanDisk (state g new) → Shown read_meta [] (state g old) (state g new) rows) → Decodes meta_rows_1 IsCount rows count → b ≡ is_some count → Finds g (ShowsFormat1 g old) (ShowsOtherFormat g old) old new (Ok b)
-  format_found rows count b shown read is = record {
-    ok = λ clean. (
-      shown_unchanged read_meta (state g old) (state g new) (quiet_read_meta (state g old).now.schema) rows (shown clean),
-      subst (λ b. MatchBool b (ShowsFormat1 g old) (ShowsOtherFormat g old)) (sym is) (go count read (shown clean)),
-    );
-    quiet = shows_no_write read_meta (state g old) (state g new) (quiet_read_meta (state g old).now.schema) survives;
-  }
-    where
-      go : (count : Option ℕ) → Decodes meta_rows_1 IsCount rows count → Shown read_meta [] (state g old) (state g new) rows → MatchBool (is_some count) (ShowsFormat1 g old) (ShowsOtherFormat g old)
-      go None none it = (rows, (old, new, refl, it), none)
-      go (Some n) read it = (n, read.0, shown_as g old new rows read_meta (meta_rows_1 n) read.1 it)
+pub format_tells : {S : Type 0} (g : Ghosts S) (conn : Held S) (rows : List Row) (count : Option ℕ) (b : Bool) → Decodes meta_rows_1 IsCount rows count → b ≡ is_some count → ShowsRows g conn read_meta rows → MatchBool b (ShowsFormat1 g conn) (ShowsOtherFormat g conn)
+format_tells g conn rows (Some n) b read is it = subst (λ b. MatchBool b (ShowsFormat1 g conn) (ShowsOtherFormat g conn)) (sym is) (n, read.0, subst (ShowsRows g conn read_meta) read.1 it)
+format_tells g conn rows None b none is it = subst (λ b. MatchBool b (ShowsFormat1 g conn) (ShowsOtherFormat g conn)) (sym is) (rows, it, none)
 
 -- the format, and then the lengths
 pub finds_format : {S : Type 0} (g : Ghosts S) (a b c : Held S) (result : Result Bool Refusal) → Finds g (ShowsFormat1 g a) (ShowsOtherFormat g a) a b (Ok true) → Finds g (ShowsNoRow g b ours.Suppress) (ShowsSomeRow g b ours.Suppress) b c result → Finds g (ShowsDue g a) (ShowsNotDue g a) a c result

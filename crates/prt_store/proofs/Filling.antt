@@ -28,7 +28,8 @@ use Rattle.prt_rule.specs.declared.rule.Rule.{Rule}
 use Rattle.prt_version.proofs.Successor.{opens_sound}
 use Rattle.prt_version.specs.State.{opening_rules, opening_state, table_rule}
 use Rattle.prt_store.proofs.Changes.{among_others, keyed_rules}
-use Rattle.prt_store.proofs.Looks.{no_length_rows, no_meta_rows, no_route_rows, no_rule_rows, our_table}
+use Rattle.prt_store.proofs.Looks.{no_rows, our_table}
+use Rattle.prt_store.specs.declared.opening.OurTable.TheVariants as ours
 use Rattle.prt_store.proofs.Spelling.{same_rows}
 use Rattle.prt_store.specs.Adopted.{IsFilled}
 use Rattle.prt_store.specs.Lengths.{plain}
@@ -118,13 +119,13 @@ module _ (a b c d e : Database) (one : ChangesOnly rule_table a b) (two : Change
 module _ (a b c d e : Database) (tables : IsFormat2 a.schema) (empty : AreEmpty a) (one : Adds rule_table (kept_rule (table_rule 1 0 local_table)) a b) (two : Adds rule_table (kept_rule (table_rule 2 32766 main_table)) b c)
     (three : Adds rule_table (kept_rule (table_rule 3 32767 default_table)) c d) (four : Adds meta_table (kept_count 0) d e) where
   no_rules : a.trees 0 ≡ []
-  no_rules = no_rule_rows a tables empty
+  no_rules = no_rows a tables empty ours.Rule
 
   no_routes : a.trees 1 ≡ []
-  no_routes = no_route_rows a tables empty
+  no_routes = no_rows a tables empty ours.Route
 
   no_count : a.trees 3 ≡ []
-  no_count = no_meta_rows a tables empty
+  no_count = no_rows a tables empty ours.Meta
 
   rules_stay : e.trees 0 ≡ d.trees 0
   rules_stay = four.only.others rule_table (subst (λ (s : Schema). Has s.tables rule_table) (sym (three.only.schema ∙ two.only.schema ∙ one.only.schema)) (our_table a.schema tables rule_table (inl refl))) (λ is. absurd (cc))
@@ -141,7 +142,7 @@ module _ (a b c d e : Database) (tables : IsFormat2 a.schema) (empty : AreEmpty 
 
   no_lengths : e.trees 4 ≡ []
   no_lengths =
-      stays a b c d e one.only two.only three.only four.only suppress_table (our_table a.schema tables suppress_table (inr (inr (inr (inl refl))))) (λ is. absurd (cc)) (λ is. absurd (cc)) ∙ no_length_rows a tables empty
+      stays a b c d e one.only two.only three.only four.only suppress_table (our_table a.schema tables suppress_table (inr (inr (inr (inl refl))))) (λ is. absurd (cc)) (λ is. absurd (cc)) ∙ no_rows a tables empty ours.Suppress
 
   opened : Stores e opening_state
   opened = record {

@@ -1,27 +1,23 @@
 -- What the statements that look at the tables tell, one after the other.
-use Rattle.std.proofs.Common.{◌≡◌, ◌⊎◌, inl, inr, ℕ, Bool, true, false, List, [], ◌∷◌, length, Ok, Err, Result, IsErr, IsTrue, true≢false, refl, sym, ap, subst, ◌∙◌, arith}
+use Rattle.std.proofs.Common.{◌≡◌, ◌⊎◌, inl, inr, ℕ, Bool, List, [], ◌∷◌, length, IsTrue, refl, sym, ap, subst, ◌∙◌, arith}
 use Rattle.std.proofs.lemmas.Bool.{ne_eqb}
 use Rattle.std.specs.Prelude.{◌==◌, MatchBool}
-use Rattle.sqlite.proofs.Callers.{unchanged_then}
-use Rattle.sqlite.proofs.StateLemmas.{survives_then}
 use Rattle.sqlite.specs.Effect.{Database}
 use Rattle.sqlite.specs.Held.{Held, state}
 use Rattle.sqlite.specs.Listing.{understood}
 use Rattle.sqlite.specs.Schema.{Schema}
-use Rattle.sqlite.specs.State.{CommitsShowing, FailsToQuery, HasCleanDisk, IsRolledBack, IsUnchanged, Shown, State as Conn, Survives}
+use Rattle.sqlite.specs.State.{IsRolledBack, IsUnchanged, Shown, State as Conn}
 use Rattle.sqlite.specs.Store.{Ghosts}
 use Rattle.sqlite.specs.Table.{Table}
-use Rattle.sqlite.specs.declared.error.Error.{Error}
 use Rattle.sqlite_rules.specs.Lists.{Has}
 use Rattle.sqlite_value.specs.Order.{Row}
-use Rattle.prt_addr.specs.declared.refusal.Refusal.{Refusal}
 use Rattle.prt_rows.proofs.Looking.{Looks, looks_at_meta, looks_at_routes, looks_at_rules, looks_at_suppress}
-use Rattle.prt_rows.proofs.Quiet.{IsQuiet, failed_query, quiet_meta, quiet_routes, quiet_rules, quiet_suppress, shown_unchanged, shows_no_write}
+use Rattle.prt_rows.proofs.Quiet.{IsQuiet, quiet_meta, quiet_routes, quiet_rules, quiet_suppress}
 use Rattle.prt_rows.specs.Effects.{AreEmpty}
 use Rattle.prt_rows.specs.Format.{IsFormat2}
 use Rattle.prt_rows.specs.Tables.{meta_table, our_tables, route_table, rule_table, suppress_table}
-use Rattle.prt_store.specs.Openings.{IsDue, IsEmpty, NamesFormat1, Sees, table_of}
-use Rattle.prt_store.specs.Shown.{look_at}
+use Rattle.prt_store.specs.Openings.{IsDue, IsEmpty, NamesFormat1, table_of}
+use Rattle.prt_store.specs.Shown.{ShowsContents, ShowsNoRow, ShowsRows, ShowsSomeRow, look_at}
 use Rattle.prt_store.specs.declared.opening.OurTable.{OurTable}
 use Rattle.prt_store.specs.declared.opening.OurTable.TheVariants as ours
 
@@ -29,15 +25,6 @@ use Rattle.prt_store.specs.declared.opening.OurTable.TheVariants as ours
 pub still_there : (old new : Conn) → IsUnchanged old new ⊎ IsRolledBack old new → IsTrue new.is_open → (IsTrue old.is_open → old.now ≡ old.committed) → new.now ≡ old.now
 still_there old new (inl same) still_open settled = same.0.now_is
 still_there old new (inr undone) still_open settled = (undone.undone still_open).0 ∙ sym (settled (undone.was_open still_open))
-
--- whether nothing was found says whether there are rows
-tells : (rows found : List Row) (n : ℕ) (b : Bool) → Looks rows found → n ≡ length found → b ≡ (n == 0) → MatchBool b (rows ≡ []) (rows ≡ [] → ⊥)
-tells rows [] n b looks long is = subst (λ b. MatchBool b (rows ≡ []) (rows ≡ [] → ⊥)) (sym (is ∙ ap (λ n. n == 0) long)) (looks.none refl)
-tells rows (x ∷ found) n b looks long is = subst (λ b. MatchBool b (rows ≡ []) (rows ≡ [] → ⊥)) (sym (is ∙ ap (λ n. n == 0) long ∙ ne_eqb (length (x ∷ found)) 0 (λ zero. absurd (omega (arith, zero))))) (λ none. absurd (let e = looks.some none in cc))
-
--- and whether a row was shown
-pub none_found : (found : List Row) (n : ℕ) (b : Bool) → n ≡ length found → b ≡ (n == 0) → MatchBool b (found ≡ []) (found ≡ [] → ⊥)
-none_found found n b = tells found found n b (record { none = λ is. is; some = λ is. is })
 
 -- ---- one look
 
@@ -54,85 +41,22 @@ looks_at ours.Route old new t found = looks_at_routes t.tables t.indexes t.views
 looks_at ours.Meta old new t found = looks_at_meta t.tables t.indexes t.views old new t.is found
 looks_at ours.Suppress old new t found = looks_at_suppress t.tables t.indexes t.views old new t.is found
 
--- what it tells of a table
-module _ {S : Type 0} (g : Ghosts S) (table : OurTable) (old new : Held S) (survives : Survives (state g old) (state g new) (CommitsShowing (look_at table) [] (state g old))) where
-  pub look_fails : (e : Error) (reason : Refusal) → (HasCleanDisk (state g new) → FailsToQuery (look_at table) [] (state g old) (state g new) e) → Sees g (IsEmpty table) old new (Err reason)
-  look_fails e reason fails = record {
-    ok = λ clean tables. tt;
-    err = λ clean tables still_open settled. still_there (state g old) (state g new) (failed_query (look_at table) (state g old) (state g new) (quiet_look table (state g old).now.schema) e (fails clean)) still_open settled;
-    quiet = λ tables. shows_no_write (look_at table) (state g old) (state g new) (quiet_look table (state g old).now.schema) survives;
-  }
+-- whether it found nothing tells what it showed
+module _ {S : Type 0} (g : Ghosts S) (table : OurTable) (conn : Held S) where
+  pub look_tells : (found : List Row) (n : ℕ) (b : Bool) → n ≡ length found → b ≡ (n == 0) → ShowsRows g conn (look_at table) found → MatchBool b (ShowsNoRow g conn table) (ShowsSomeRow g conn table)
+  look_tells [] n b long is it = subst (λ b. MatchBool b (ShowsNoRow g conn table) (ShowsSomeRow g conn table)) (sym (is ∙ ap (λ n. n == 0) long)) it
+  look_tells (x ∷ found) n b long is it =
+      subst (λ b. MatchBool b (ShowsNoRow g conn table) (ShowsSomeRow g conn table)) (sym (is ∙ ap (λ n. n == 0) long ∙ ne_eqb (length (x ∷ found)) 0 (λ zero. absurd (omega (arith, zero))))) (x ∷ found, it, λ none. absurd (let e = none in cc))
 
-  pub look_tells : (found : List Row) (n : ℕ) (b : Bool) → (HasCleanDisk (state g new) → Shown (look_at table) [] (state g old) (state g new) found) → n ≡ length found → b ≡ (n == 0) → Sees g (IsEmpty table) old new (Ok b)
-  look_tells found n b shown long is = record {
-    ok = λ clean tables. (
-      tells ((state g old).now.trees (table_of table).tree) found n b (looks_at table (state g old) (state g new) tables found (shown clean)) long is,
-      shown_unchanged (look_at table) (state g old) (state g new) (quiet_look table (state g old).now.schema) found (shown clean),
-    );
-    err = λ clean tables still_open settled. tt;
-    quiet = λ tables. shows_no_write (look_at table) (state g old) (state g new) (quiet_look table (state g old).now.schema) survives;
-  }
+  module _ (tables : IsFormat2 (state g conn).now.schema) where
+    shown_looks : (found : List Row) → ShowsRows g conn (look_at table) found → Looks ((state g conn).now.trees (table_of table).tree) found
+    shown_looks found it = subst (λ (db : Database). Looks (db.trees (table_of table).tree) found) it.2 (looks_at table (state g it.0) (state g it.1) (subst (λ (db : Database). IsFormat2 db.schema) (sym it.2) tables) found it.3)
 
--- ---- one look after another
+    pub empty_if_shown : ShowsNoRow g conn table → IsEmpty table (state g conn).now
+    empty_if_shown it = (shown_looks [] it).none refl
 
-module _ {S : Type 0} (g : Ghosts S) (P Q : Database → Type 0) (a b : Held S) where
-  pub sees_not : Sees g P a b (Ok false) → ((db : Database) → IsFormat2 db.schema → Q db → P db) → Sees g Q a b (Ok false)
-  sees_not one only = record {
-    ok = λ clean tables. let seen = one.ok clean tables in (λ it. seen.0 (only (state g a).now tables it), seen.1);
-    err = λ clean tables still_open settled. tt;
-    quiet = one.quiet;
-  }
-
-  pub sees_fails : (reason : Refusal) (result : Result Bool Refusal) → IsErr result → Sees g P a b (Err reason) → Sees g Q a b result
-  sees_fails reason (Ok x) bad one = absurd (true≢false (sym bad))
-  sees_fails reason (Err other) bad one = record { ok = λ clean tables. tt; err = one.err; quiet = one.quiet }
-
-  pub sees_same : (result : Result Bool Refusal) → ((db : Database) → IsFormat2 db.schema → P db → Q db) → ((db : Database) → IsFormat2 db.schema → Q db → P db) → Sees g P a b result → Sees g Q a b result
-  sees_same (Ok true) to back one = record { ok = λ clean tables. let seen = one.ok clean tables in (to (state g a).now tables seen.0, seen.1); err = one.err; quiet = one.quiet }
-  sees_same (Ok false) to back one = sees_not one back
-  sees_same (Err reason) to back one = sees_fails reason (Err reason) refl one
-
-  module _ (c : Held S) (one : Sees g P a b (Ok true)) where
-    tables_then : (HasCleanDisk (state g a) → IsFormat2 (state g a).now.schema) → HasCleanDisk (state g b) → IsFormat2 (state g b).now.schema
-    tables_then tables clean =
-        let had = tables (omega (arith, (one.quiet tables).clean)) in
-        subst (λ (d : Database). IsFormat2 d.schema) (sym (one.ok clean had).1.0.now_is) had
-
-    module _ (result : Result Bool Refusal) (two : Sees g Q b c result) where
-      clean_before : IsFormat2 (state g a).now.schema → HasCleanDisk (state g c) → HasCleanDisk (state g b)
-      clean_before tables clean = omega (arith, (two.quiet (tables_then (λ _. tables))).clean)
-
-      quiet_then : (HasCleanDisk (state g a) → IsFormat2 (state g a).now.schema) → Survives (state g a) (state g c) (λ _. ⊥)
-      quiet_then tables = survives_then (state g a) (state g b) (state g c) _ _ (λ _. ⊥) (λ _ db none. none) (λ _ db none. none) (one.quiet tables) (two.quiet (tables_then tables))
-
-    -- the second look is asked where the first one found it so
-    pub sees_both : (result : Result Bool Refusal) → Sees g Q b c result → Sees g (λ db. P db × Q db) a c result
-    sees_both (Ok true) two = record {
-      ok = λ clean tables.
-          let before = clean_before (Ok true) two tables clean in
-          let first = one.ok before tables in
-          let second = two.ok clean (tables_then (λ _. tables) before) in
-          ((first.0, subst Q first.1.0.now_is second.0), unchanged_then (state g a) (state g b) (state g c) first.1 second.1);
-      err = λ clean tables still_open settled. tt;
-      quiet = quiet_then (Ok true) two;
-    }
-    sees_both (Ok false) two = record {
-      ok = λ clean tables.
-          let before = clean_before (Ok false) two tables clean in
-          let first = one.ok before tables in
-          let second = two.ok clean (tables_then (λ _. tables) before) in
-          (λ both. second.0 (subst Q (sym first.1.0.now_is) both.1), unchanged_then (state g a) (state g b) (state g c) first.1 second.1);
-      err = λ clean tables still_open settled. tt;
-      quiet = quiet_then (Ok false) two;
-    }
-    sees_both (Err reason) two = record {
-      ok = λ clean tables. tt;
-      err = λ clean tables still_open settled.
-          let before = clean_before (Err reason) two tables clean in
-          let same = (one.ok before tables).1.0 in
-          two.err clean (tables_then (λ _. tables) before) still_open (λ _. same.now_is ∙ settled same.was_open ∙ sym same.committed_is) ∙ same.now_is;
-      quiet = quiet_then (Err reason) two;
-    }
+    pub not_empty_if_shown : ShowsSomeRow g conn table → IsEmpty table (state g conn).now → ⊥
+    not_empty_if_shown it empty = it.2 ((shown_looks it.0 it.1).some empty)
 
 -- ---- the four tables
 
@@ -147,28 +71,30 @@ our_table schema t table ours = subst (λ (s : Schema). Has s.tables table) (sym
     first_four table (inr (inr (inr (inl is)))) = inr (inr (inr (inl is)))
     first_four table (inr (inr (inr (inr none)))) = absurd none
 
+ours_in : (table : OurTable) → Has our_tables (table_of table)
+ours_in ours.Rule = inl refl
+ours_in ours.Route = inr (inl refl)
+ours_in ours.Meta = inr (inr (inl refl))
+ours_in ours.Suppress = inr (inr (inr (inl refl)))
+
 -- a table of ours that is empty has no rows
-no_rows : (db : Database) (table : Table) → Has our_tables table → IsFormat2 db.schema → AreEmpty db → db.trees table.tree ≡ []
-no_rows db table ours t empty = empty table ours (our_table db.schema t table ours)
+pub no_rows : (db : Database) → IsFormat2 db.schema → AreEmpty db → (table : OurTable) → IsEmpty table db
+no_rows db t empty table = empty (table_of table) (ours_in table) (our_table db.schema t (table_of table) (ours_in table))
 
-pub no_rule_rows : (db : Database) → IsFormat2 db.schema → AreEmpty db → db.trees 0 ≡ []
-no_rule_rows db = no_rows db rule_table (inl refl)
-
-pub no_route_rows : (db : Database) → IsFormat2 db.schema → AreEmpty db → db.trees 1 ≡ []
-no_route_rows db = no_rows db route_table (inr (inl refl))
-
-pub no_meta_rows : (db : Database) → IsFormat2 db.schema → AreEmpty db → db.trees 3 ≡ []
-no_meta_rows db = no_rows db meta_table (inr (inr (inl refl)))
-
-pub no_length_rows : (db : Database) → IsFormat2 db.schema → AreEmpty db → db.trees 4 ≡ []
-no_length_rows db = no_rows db suppress_table (inr (inr (inr (inl refl))))
-
-pub all_empty : (db : Database) → (db.trees 3 ≡ []) × ((db.trees 0 ≡ []) × ((db.trees 1 ≡ []) × (db.trees 4 ≡ []))) → AreEmpty db
-all_empty db none table (inl is) there = subst (λ (t : Table). db.trees t.tree ≡ []) (sym is) none.1.0
-all_empty db none table (inr (inl is)) there = subst (λ (t : Table). db.trees t.tree ≡ []) (sym is) none.1.1.0
-all_empty db none table (inr (inr (inl is))) there = subst (λ (t : Table). db.trees t.tree ≡ []) (sym is) none.0
-all_empty db none table (inr (inr (inr (inl is)))) there = subst (λ (t : Table). db.trees t.tree ≡ []) (sym is) none.1.1.1
+all_empty : (db : Database) → ((table : OurTable) → IsEmpty table db) → AreEmpty db
+all_empty db none table (inl is) there = subst (λ (t : Table). db.trees t.tree ≡ []) (sym is) (none ours.Rule)
+all_empty db none table (inr (inl is)) there = subst (λ (t : Table). db.trees t.tree ≡ []) (sym is) (none ours.Route)
+all_empty db none table (inr (inr (inl is))) there = subst (λ (t : Table). db.trees t.tree ≡ []) (sym is) (none ours.Meta)
+all_empty db none table (inr (inr (inr (inl is)))) there = subst (λ (t : Table). db.trees t.tree ≡ []) (sym is) (none ours.Suppress)
 all_empty db none table (inr (inr (inr (inr other)))) there = absurd other
+
+-- what the statements that look at them show of the four
+module _ {S : Type 0} (g : Ghosts S) (conn : Held S) (tables : IsFormat2 (state g conn).now.schema) where
+  pub all_empty_if_shown : ((table : OurTable) → ShowsNoRow g conn table) → AreEmpty (state g conn).now
+  all_empty_if_shown none = all_empty (state g conn).now (λ table. empty_if_shown g table conn tables (none table))
+
+  pub not_all_empty_if_shown : ShowsContents g conn → AreEmpty (state g conn).now → ⊥
+  not_all_empty_if_shown some empty = not_empty_if_shown g some.0 conn tables some.1 (no_rows (state g conn).now tables empty some.0)
 
 -- ---- the format
 

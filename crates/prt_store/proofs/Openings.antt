@@ -23,9 +23,11 @@ use Rattle.prt_rows.specs.Kept.{kept_count, kept_count_1}
 use Rattle.prt_rows.specs.Statements.{create_meta, create_route, create_rule, create_suppress}
 use Rattle.prt_rows.specs.Tables.{format_1_alone, meta_table, no_tables, our_tables, rule_alone, rule_and_route, suppress_table}
 use Rattle.prt_store.proofs.Filling.{fills}
+use Rattle.prt_store.proofs.Looks.{all_empty_if_shown, not_all_empty_if_shown}
 use Rattle.prt_store.proofs.Transactions.{committed, crash_after, left_alone, not_committed, stopped, survives_itself}
 use Rattle.prt_store.specs.Adopted.{Adopts, AdoptsPart, IsFilled, IsSettled, LeavesMigrated, LeavesPart, MigratesTables}
-use Rattle.prt_store.specs.Openings.{Advances, Commits, Fills, HasDone, HasLeft, MakesMissing, OpensTables, Ran, Sees, Takes, Works, begun_from, table_of}
+use Rattle.prt_store.specs.Openings.{Advances, Commits, Fills, Finds, HasDone, HasLeft, MakesMissing, OpensTables, Ran, Takes, Works, begun_from, table_of}
+use Rattle.prt_store.specs.Shown.{ShowsContents, ShowsNoRow}
 use Rattle.prt_store.specs.declared.opening.OurTable.{OurTable}
 use Rattle.prt_store.specs.declared.opening.OurTable.TheVariants as ours
 use Rattle.prt_store.specs.declared.opening.Step.TheVariants as step
@@ -329,51 +331,52 @@ module _ {S : Type 0} (g : Ghosts S) (a b : Held S) where
       has_tables : (HasCleanDisk (state g a) → BeginsFormat2 (state g a).now.schema) → HasCleanDisk (state g b) → IsFormat2 (state g b).now.schema
       has_tables tables clean = (one.ok clean (tables (omega (arith, (one.crash tables).clean)))).0
 
-      module _ (found : Result Bool Refusal) (two : Sees g AreEmpty b c found) where
-        clean_before : BeginsFormat2 (state g a).now.schema → HasCleanDisk (state g c) → HasCleanDisk (state g b)
-        clean_before tables clean = omega (arith, (two.quiet (has_tables (λ _. tables))).clean)
+      -- the tables are looked at
+      abbrev Looked : Result Bool Refusal → Type 0
+      Looked = Finds g ((table : OurTable) → ShowsNoRow g b table) (ShowsContents g b) b c
+
+      module _ (found : Result Bool Refusal) (two : Looked found) where
+        clean_before : HasCleanDisk (state g c) → HasCleanDisk (state g b)
+        clean_before clean = omega (arith, two.quiet.clean)
 
         crash_then : (HasCleanDisk (state g a) → BeginsFormat2 (state g a).now.schema) → Survives (state g a) (state g c) (LeavesPart (state g a).now)
         crash_then tables =
             survives_then (state g a) (state g b) (state g c) (LeavesPart (state g a).now) (λ _. ⊥) (LeavesPart (state g a).now) (λ clean trees left. left) (λ clean trees none. absurd none) (one.crash tables)
-            (two.quiet (has_tables tables))
+            two.quiet
 
-      pub look_failed : (reason : Refusal) (result : Result (Unit {0}) Refusal) → IsErr result → Sees g AreEmpty b c (Err reason) → (IsTrue (state g b).is_open → (state g b).now ≡ (state g b).committed) → OpensTables g a c result
+      pub look_failed : (reason : Refusal) (result : Result (Unit {0}) Refusal) → IsErr result → Looked (Err reason) → (IsTrue (state g b).is_open → (state g b).now ≡ (state g b).committed) → OpensTables g a c result
       look_failed reason (Ok x) bad two settled = absurd (true≢false (sym bad))
       look_failed reason (Err other) bad two settled = record {
         ok = λ clean tables. tt;
         err = λ clean still_open tables.
-            let before = clean_before (Err reason) two tables clean in
-            subst (AdoptsPart (state g a).now) (sym (two.err clean (one.ok before tables).0 still_open settled)) (part_made before tables);
+            subst (AdoptsPart (state g a).now) (sym (two.err clean still_open settled)) (part_made (clean_before (Err reason) two clean) tables);
         crash = crash_then (Err reason) two;
       }
 
       -- the tables have rows already, and a file of format 1 is migrated
-      module _ (d : Held S) (result : Result (Unit {0}) Refusal) (two : Sees g AreEmpty b c (Ok false)) (alone : (state g b).in_transaction ≡ false) (settled : IsTrue (state g b).is_open → (state g b).now ≡ (state g b).committed)
+      module _ (d : Held S) (result : Result (Unit {0}) Refusal) (two : Looked (Ok false)) (alone : (state g b).in_transaction ≡ false) (settled : IsTrue (state g b).is_open → (state g b).now ≡ (state g b).committed)
           (migrates : HasCleanDisk (state g d) → IsFormat2 (state g c).now.schema → OnOk result (Migrates (state g c).now (state g d).now))
           (settles : HasCleanDisk (state g d) → IsFormat2 (state g c).now.schema → IsSettled g c → OnOk result (IsSettled g d))
           (stays : HasCleanDisk (state g d) → IsTrue (state g d).is_open → IsFormat2 (state g c).now.schema → IsSettled g c → OnErr result ((state g d).now ≡ (state g c).now))
           (crash : (HasCleanDisk (state g c) → IsFormat2 (state g c).now.schema) → Survives (state g c) (state g d) (LeavesMigrated (state g c).now)) where
         module _ (tables : HasCleanDisk (state g a) → BeginsFormat2 (state g a).now.schema) (clean : HasCleanDisk (state g c)) where
           clean_made : HasCleanDisk (state g b)
-          clean_made = omega (arith, (two.quiet (has_tables tables)).clean)
+          clean_made = omega (arith, two.quiet.clean)
 
-          seen_rows : (AreEmpty (state g b).now → ⊥) × IsUnchanged (state g b) (state g c)
-          seen_rows = two.ok clean (has_tables tables clean_made)
+          same : IsUnchanged (state g b) (state g c)
+          same = (two.ok clean).0
 
           tables_seen : IsFormat2 (state g c).now.schema
-          tables_seen = subst (λ (db : Database). IsFormat2 db.schema) (sym seen_rows.1.0.now_is) (has_tables tables clean_made)
+          tables_seen = subst (λ (db : Database). IsFormat2 db.schema) (sym same.0.now_is) (has_tables tables clean_made)
 
           settled_seen : IsSettled g c
-          settled_seen =
-              let same = seen_rows.1.0 in
-              record { is_open = same.is_open; autocommit = same.mode ∙ alone; committed = same.now_is ∙ settled same.was_open ∙ sym same.committed_is }
+          settled_seen = record { is_open = same.0.is_open; autocommit = same.0.mode ∙ alone; committed = same.0.now_is ∙ settled same.0.was_open ∙ sym same.0.committed_is }
 
           first_step : KeepsTables (state g a).now (state g b).now
           first_step = (one.ok clean_made (tables (omega (arith, (one.crash tables).clean, clean_made)))).1
 
           adopts_after : (db : Database) → Migrates (state g c).now db → Adopts (state g a).now db
-          adopts_after db it = adopts_of (state g a).now (state g b).now db first_step (has_tables tables clean_made) seen_rows.0 (subst (λ (was : Database). Migrates was db) seen_rows.1.0.now_is it)
+          adopts_after db it = adopts_of (state g a).now (state g b).now db first_step (has_tables tables clean_made) (not_all_empty_if_shown g b (has_tables tables clean_made) (two.ok clean).1) (subst (λ (was : Database). Migrates was db) same.0.now_is it)
 
         clean_seen : (HasCleanDisk (state g a) → BeginsFormat2 (state g a).now.schema) → HasCleanDisk (state g d) → HasCleanDisk (state g c)
         clean_seen tables clean = omega (arith, (crash (tables_seen tables)).clean, clean)
@@ -386,8 +389,7 @@ module _ {S : Type 0} (g : Ghosts S) (a b : Held S) where
               both_ok (Adopts (state g a).now (state g d).now) (IsSettled g d) result (on_ok_weaker result (adopts_after (λ _. tables) late (state g d).now) (migrates clean has)) (settles clean has (settled_seen (λ _. tables) late));
           err = λ clean still_open tables.
               let late = clean_seen (λ _. tables) clean in
-              let same = (seen_rows (λ _. tables) late).1.0.now_is in
-              on_err_weaker result (λ is. subst (AdoptsPart (state g a).now) (sym (is ∙ same)) (part_made (clean_made (λ _. tables) late) tables))
+              on_err_weaker result (λ is. subst (AdoptsPart (state g a).now) (sym (is ∙ (same (λ _. tables) late).0.now_is)) (part_made (clean_made (λ _. tables) late) tables))
               (stays clean still_open (tables_seen (λ _. tables) late) (settled_seen (λ _. tables) late));
           crash = λ tables.
               survives_then (state g a) (state g c) (state g d) (LeavesPart (state g a).now) (LeavesMigrated (state g c).now) (LeavesPart (state g a).now) (λ clean trees left. left)
@@ -396,16 +398,16 @@ module _ {S : Type 0} (g : Ghosts S) (a b : Held S) where
               record { db = left.db; is = left.is; sound = left.sound; part = part_of (state g a).now left.db (adopts_after tables late left.db left.migrates) }) (crash_then (Ok false) two tables) (crash (tables_seen tables));
         }
 
-      module _ (d : Held S) (result : Result (Unit {0}) Refusal) (two : Sees g AreEmpty b c (Ok true)) (three : Commits g (Fills g) c d result) where
+      module _ (d : Held S) (result : Result (Unit {0}) Refusal) (two : Looked (Ok true)) (three : Commits g (Fills g) c d result) where
         clean_then : HasCleanDisk (state g d) → HasCleanDisk (state g c)
         clean_then clean = omega (arith, three.crash.clean)
 
         filled_by : BeginsFormat2 (state g a).now.schema → HasCleanDisk (state g c) → (db : Database) → HasDone g (Fills g) c db → IsDatabase db × IsFormat2 db.schema × IsFilled (state g a).now db
         filled_by tables clean db done =
-            let first = one.ok (clean_before (Ok true) two tables clean) tables in
-            let seen = two.ok clean first.0 in
-            let same = sym seen.1.0.now_is in
-            let it = fills g c db (subst (λ (d : Database). IsFormat2 d.schema) same first.0) (subst AreEmpty same seen.0) done in
+            let first = one.ok (clean_before (Ok true) two clean) tables in
+            let seen = two.ok clean in
+            let same = sym seen.0.0.now_is in
+            let it = fills g c db (subst (λ (d : Database). IsFormat2 d.schema) same first.0) (subst AreEmpty same (all_empty_if_shown g b first.0 seen.1)) done in
             (it.0, it.1, filled_later (state g a).now (state g b).now db first.1 (subst (λ (d : Database). IsFilled d db) (sym same) it.2))
 
         -- the tables have none, and are filled
@@ -416,9 +418,7 @@ module _ {S : Type 0} (g : Ghosts S) (a b : Held S) where
               (subst (Adopts (state g a).now) (sym it.1.committed) (record { tables = all.1; rows = inr (inr all.2) }), it.1)) (three.ok clean);
           err = λ clean still_open tables.
               let late = clean_then clean in
-              let before = clean_before (Ok true) two tables late in
-              let seen = two.ok late (one.ok before tables).0 in
-              on_err_weaker result (λ same. subst (AdoptsPart (state g a).now) (sym (same ∙ seen.1.0.now_is)) (part_made before tables)) (three.err clean still_open);
+              on_err_weaker result (λ same. subst (AdoptsPart (state g a).now) (sym (same ∙ (two.ok late).0.0.now_is)) (part_made (clean_before (Ok true) two late) tables)) (three.err clean still_open);
           crash = λ tables.
               survives_then (state g a) (state g c) (state g d) (LeavesPart (state g a).now) (HasLeft g (Fills g) c) (LeavesPart (state g a).now) (λ clean trees left. left)
               (λ clean trees left.

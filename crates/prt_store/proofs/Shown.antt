@@ -1,16 +1,18 @@
 -- What the statements that read the tables show, one by one and together.
-use Rattle.std.proofs.Common.{◌≡◌, ◌≢◌, ◌⊎◌, inl, inr, ℕ, ◌+◌, List, [], ◌∷◌, All, Some, None, Ok, Err, Result, IfErr, IfOk, IsPermutation, drop, map, true, refl, sym, subst, ◌∙◌}
-use Rattle.std.specs.Prelude.{IsErrAnd}
+use Rattle.std.proofs.Common.{◌≡◌, ◌≢◌, ◌⊎◌, Any, false, inl, inr, ℕ, ◌+◌, List, [], ◌∷◌, All, Some, None, Ok, Err, Result, IfErr, IfOk, IsPermutation, drop, map, true, refl, sym, subst, ◌∙◌}
 use Rattle.std.proofs.lemmas.List.Sorted.{IsPermutation-map}
-use Rattle.std.proofs.lemmas.Result.{IfOk-weaker}
 use Rattle.sqlite.specs.Held.{Held, state}
-use Rattle.sqlite.specs.State.{Shown}
+use Rattle.sqlite.specs.Listing.{understood}
+use Rattle.sqlite.specs.State.{CommitsShowing, FailsToQuery, HasCleanDisk, Shown, Survives}
+use Rattle.sqlite.specs.declared.error.Error.{Error}
 use Rattle.sqlite.specs.Store.{Ghosts}
 use Rattle.sqlite.specs.Tree.{rowid}
 use Rattle.sqlite_value.specs.Order.{Row}
 use Rattle.prt_addr.specs.Word.{Word}
 use Rattle.prt_addr.specs.declared.refusal.Refusal.{Refusal}
-use Rattle.prt_addr.specs.declared.refusal.Refusal.TheVariants.{Damaged, NoMemory}
+use Rattle.prt_addr.specs.declared.refusal.Refusal.TheVariants.{Damaged, NoMemory, OpenFailed}
+use Rattle.prt_addr.specs.Opening.{IsOpenRefusal}
+use Rattle.prt_rows.proofs.Quiet.{IsQuiet, shown_unchanged}
 use Rattle.prt_route.specs.declared.route.Route.{Route}
 use Rattle.prt_rows.specs.Decodes.{Decodes}
 use Rattle.prt_rows.specs.Kept.{kept_length}
@@ -22,8 +24,9 @@ use Rattle.prt_rows.specs.Statements.{read_meta, read_routes, read_rules, read_s
 use Rattle.prt_rows.specs.SuppressRow.{IsLength, suppress_row}
 use Rattle.prt_rows.specs.declared.suppress_row.RuleLength.{RuleLength}
 use Rattle.prt_rule.specs.declared.rule.Rule.{Rule}
-use Rattle.prt_store.proofs.Lengths.{HaveOwnIds, ids_rise, lengths_permuted, merged_map}
-use Rattle.prt_store.proofs.Loads.{fits_read, map_twice, own_lengths}
+use Rattle.prt_store.proofs.Lengths.{HaveOwnIds, lengths_permuted}
+use Rattle.prt_store.specs.Loaded.{ReadsShown}
+use Rattle.prt_store.proofs.Loads.{failed_only, fits_read, map_twice, merged_alike, merged_ids, own_lengths, shown_only}
 use Rattle.prt_store.specs.Lengths.{left_over, lengths_of, merged}
 use Rattle.prt_store.specs.Shown.{ShowsBadRows, ShowsCount, ShowsDamage, ShowsInSomeOrder, ShowsLengths, ShowsRoutes, ShowsRows, ShowsRules, ShowsState}
 use Rattle.prt_version.specs.RowsSpell.{RowsSpell, RowsSpellNone}
@@ -31,32 +34,43 @@ use Rattle.prt_version.specs.State.{State}
 
 -- ---- one statement
 
-module _ {S : Type 0} (g : Ghosts S) (old new : Held S) (rows : List Row) where
-  pub shown_as : (sql : Word) (written : List Row) → rows ≡ written → Shown sql [] (state g old) (state g new) rows → ShowsRows g old sql written
-  shown_as sql written is shown = (old, new, refl, subst (λ rows. Shown sql [] (state g old) (state g new) rows) is shown)
+module _ {S : Type 0} (g : Ghosts S) (conn : Held S) (rows : List Row) where
+  pub count_shown : (count : ℕ) → ShowsRows g conn read_meta rows → Decodes meta_rows IsCount rows (Some count) → ShowsCount g conn count
+  count_shown count shown read = record { shown = subst (ShowsRows g conn read_meta) read.1 shown; fits = read.0 }
 
-  pub count_shown : (count : ℕ) → Shown read_meta [] (state g old) (state g new) rows → Decodes meta_rows IsCount rows (Some count) → ShowsCount g old count
-  count_shown count shown read = record { shown = shown_as read_meta (meta_rows count) read.1 shown; fits = read.0 }
+  pub rules_shown : (last : ℕ) (rules : List Rule) → Decodes (map rule_row) (All (IsRule last)) rows (Some rules) → ShowsRows g conn read_rules rows → rowids_rise rows ≡ true → ShowsRules g last conn rules
+  rules_shown last rules read shown rise = record { shown = subst (ShowsRows g conn read_rules) read.1 shown; rise = subst (λ rows. rowids_rise rows ≡ true) read.1 rise; fit = read.0 }
 
-  pub rules_shown : (last : ℕ) (rules : List Rule) → Shown read_rules [] (state g old) (state g new) rows → Decodes (map rule_row) (All (IsRule last)) rows (Some rules) → ShowsRules g last old rules
-  rules_shown last rules shown read = record { shown = shown_as read_rules (map rule_row rules) read.1 shown; fit = read.0 }
+  pub lengths_shown : (last : ℕ) (lengths : List RuleLength) → Decodes (map suppress_row) (All (IsLength last)) rows (Some lengths) → ShowsRows g conn read_suppress rows → ShowsLengths g last conn lengths
+  lengths_shown last lengths read shown = record { shown = subst (ShowsRows g conn read_suppress) read.1 shown; fit = read.0 }
 
-  pub lengths_shown : (last : ℕ) (lengths : List RuleLength) → Shown read_suppress [] (state g old) (state g new) rows → Decodes (map suppress_row) (All (IsLength last)) rows (Some lengths) → ShowsLengths g last old lengths
-  lengths_shown last lengths shown read = record { shown = shown_as read_suppress (map suppress_row lengths) read.1 shown; fit = read.0 }
+  pub routes_shown : (routes : List Route) → Decodes (map route_row) (All IsInRange) (map (drop 1) rows) (Some routes) → ShowsRows g conn read_routes rows → rowids_rise rows ≡ true → ShowsRoutes g conn routes
+  routes_shown routes read shown rise = record { rows = rows; shown = shown; rise = rise; parts = read.1; fit = read.0 }
 
-  pub routes_shown : (routes : List Route) → Shown read_routes [] (state g old) (state g new) rows → rowids_rise rows ≡ true → Decodes (map route_row) (All IsInRange) (map (drop 1) rows) (Some routes) → ShowsRoutes g old routes
-  routes_shown routes shown rise read = record { rows = rows; shown = shown_as read_routes rows refl shown; rise = rise; parts = read.1; fit = read.0 }
+module _ {S X : Type 0} (g : Ghosts S) (old new : Held S) (sql : Word) (quiet : IsQuiet (understood (state g old).now.schema sql)) (survives : Survives (state g old) (state g new) (CommitsShowing sql [] (state g old))) where
+  -- the query fails
+  pub nothing_read : {Shows : X → Type 0} {Damage : Type 0} (e : Error) → (HasCleanDisk (state g new) → FailsToQuery sql [] (state g old) (state g new) e) → ReadsShown g Shows Damage old new (Err OpenFailed)
+  nothing_read e fails = record { shown = λ clean. tt; damage = λ clean told. absurd (cc); only = failed_only g old new sql quiet survives e fails }
 
-  -- rows that are damaged spell no list
-  pub bad_rows : {X : Type 0} (sql : Word) (write : X → Row) (Fits : X → Type 0) (part : Row → Row) (reason : Refusal) → Shown sql [] (state g old) (state g new) rows → FailsToRead write Fits part rows reason → reason ≡ Damaged → ShowsBadRows g old sql write Fits part
-  bad_rows sql write Fits part reason shown (inl falls) is = (rows, shown_as sql rows refl shown, inl falls.1)
-  bad_rows sql write Fits part reason shown (inr (inl bad)) is = (rows, shown_as sql rows refl shown, inr bad.1)
-  bad_rows sql write Fits part reason shown (inr (inr none)) is = absurd (let other : Damaged ≡ NoMemory = sym is ∙ none in cc)
+  -- it shows rows, which are decoded or not
+  pub rows_read : {V : Type 0} {Shows : X → Type 0} (write : V → Row) (Fits : V → Type 0) (part : Row → Row) (rows : List Row) (result : Result X Refusal) → (HasCleanDisk (state g new) → Shown sql [] (state g old) (state g new) rows)
+      → IfOk result (λ _. rowids_rise rows ≡ true) → IfOk result (λ x. ShowsRows g old sql rows → rowids_rise rows ≡ true → Shows x) → IfErr result (FailsToRead write Fits part rows) → ReadsShown g Shows (ShowsBadRows g old sql write Fits part) old new result
+  rows_read write Fits part rows (Ok x) shown rise read fails = record { shown = λ clean. read (old, new, refl, shown clean) rise; damage = λ clean. tt; only = shown_only g old new sql quiet survives rows (Ok x) shown tt }
+  rows_read write Fits part rows (Err reason) shown rise read fails = record {
+    shown = λ clean. tt;
+    damage = λ clean told. ((shown_unchanged sql (state g old) (state g new) quiet rows (shown clean)).0.was_open, (rows, (old, new, refl, shown clean), bad fails told));
+    only = shown_only g old new sql quiet survives rows (Err reason) shown (refusal fails);
+  }
+    where
+      refusal : FailsToRead write Fits part rows reason → IsOpenRefusal reason
+      refusal (inl falls) = inl falls.0
+      refusal (inr (inl undecoded)) = inl undecoded.0
+      refusal (inr (inr memory)) = inr (inr memory)
 
--- both hold of what was made
-pub both_ok : {X E : Type 0} (P Q : X → Type 0) (result : Result X E) → IfOk result P → IfOk result Q → IfOk result (λ value. P value × Q value)
-both_ok P Q (Ok value) one two = (one, two)
-both_ok P Q (Err reason) one two = tt
+      bad : FailsToRead write Fits part rows reason → reason ≡ Damaged → (rowids_rise rows ≡ false) ⊎ Any (λ v. Decodes write Fits v None) (map part rows)
+      bad (inl falls) told = inl falls.1
+      bad (inr (inl undecoded)) told = inr undecoded.1
+      bad (inr (inr memory)) told = absurd (let other : Damaged ≡ NoMemory = sym told ∙ memory in cc)
 
 -- ---- the same database
 
@@ -66,7 +80,7 @@ module _ {S : Type 0} (g : Ghosts S) (a b : Held S) (same : (state g b).now ≡ 
   rows_moved sql rows it = (it.0, it.1, it.2 ∙ same, it.3)
 
   pub rules_moved : (last : ℕ) (rules : List Rule) → ShowsRules g last b rules → ShowsRules g last a rules
-  rules_moved last rules it = record { shown = rows_moved read_rules (map rule_row rules) it.shown; fit = it.fit }
+  rules_moved last rules it = record { shown = rows_moved read_rules (map rule_row rules) it.shown; rise = it.rise; fit = it.fit }
 
   pub lengths_moved : (last : ℕ) (lengths : List RuleLength) → ShowsLengths g last b lengths → ShowsLengths g last a lengths
   lengths_moved last lengths it = record { shown = rows_moved read_suppress (map suppress_row lengths) it.shown; fit = it.fit }
@@ -85,7 +99,7 @@ module _ {S : Type 0} (g : Ghosts S) (a b : Held S) (same : (state g b).now ≡ 
     count = rows_moved read_meta (meta_rows stored.count) it.count;
     rules = order_moved read_rules (map rule_row stored.rules) it.rules;
     lengths = order_moved read_suppress (map suppress_row (lengths_of stored.rules)) it.lengths;
-    routes = (it.routes.0, rows_moved read_routes it.routes.0 it.routes.1, it.routes.2);
+    routes = (it.routes.0, rows_moved read_routes it.routes.0 it.routes.1, it.routes.2, it.routes.3);
     fits = it.fits;
   }
 
@@ -101,48 +115,22 @@ lengths_alike rules others distinct apart same =
     subst (λ rows. IsPermutation rows (map suppress_row (lengths_of others))) (map_twice unkept kept_length (lengths_of rules))
     (subst (λ rows. IsPermutation (map unkept (map kept_length (lengths_of rules))) rows) (map_twice unkept kept_length (lengths_of others)) (IsPermutation-map unkept _ _ (lengths_permuted rules others distinct apart same)))
 
--- `?` hands a refusal over as it is
-pub damage_handed : {S X : Type 0} (g : Ghosts S) (conn : Held S) (result : Result X Refusal) (reason : Refusal) → IsErrAnd result (λ other. other ≡ reason) → (reason ≡ Damaged → ShowsDamage g conn) → IfErr result (λ other. other ≡ Damaged → ShowsDamage g conn)
-damage_handed g conn (Ok x) reason is shows = absurd is
-damage_handed g conn (Err other) reason is shows = λ told. shows (sym is ∙ told)
-
 module _ {S : Type 0} (g : Ghosts S) (conn : Held S) (count : ℕ) (rules : List Rule) (lengths : List RuleLength) (routes : List Route) (one : ShowsCount g conn count) (some : ShowsRules g (count + 3) conn rules) (known : ShowsLengths g (count + 3) conn lengths)
     (more : ShowsRoutes g conn routes) where
   pub no_state : (left_over rules lengths ≢ []) ⊎ RowsSpellNone count (merged rules lengths) routes → ShowsDamage g conn
   no_state none = inr (count, one, inr (record { rules = rules; lengths = lengths; routes = routes; show_rules = some; show_lengths = known; show_routes = more; none = none }))
 
-  -- lengths that can't be merged are of no rule
-  pub damage_merged : (reason : Refusal) → ((reason ≡ Damaged) × (left_over rules lengths ≢ [])) ⊎ (reason ≡ NoMemory) → reason ≡ Damaged → ShowsDamage g conn
-  damage_merged reason (inl left) is = no_state (inl left.1)
-  damage_merged reason (inr memory) is = absurd (let other : Damaged ≡ NoMemory = sym is ∙ memory in cc)
-
-  -- rows of which no version is made are of no state
-  pub damage_whole : (result : Result State Refusal) → IfErr result (λ reason. ((reason ≡ Damaged) × RowsSpellNone count (merged rules lengths) routes) ⊎ (reason ≡ NoMemory)) → IfErr result (λ reason. reason ≡ Damaged → ShowsDamage g conn)
-  damage_whole (Ok stored) fails = tt
-  damage_whole (Err reason) (inl none) = λ is. no_state (inr none.1)
-  damage_whole (Err reason) (inr memory) = λ is. absurd (let other : Damaged ≡ NoMemory = sym is ∙ memory in cc)
-
-module _ {S : Type 0} (g : Ghosts S) (conn : Held S) (count : ℕ) (rules : List Rule) (lengths : List RuleLength) (routes : List Route) (one : ShowsCount g conn count) (some : ShowsRules g (count + 3) conn rules) (known : ShowsLengths g (count + 3) conn lengths)
-    (more : ShowsRoutes g conn routes) (rise : rowids_rise (map rule_row rules) ≡ true) (over : left_over rules lengths ≡ []) where
-  same_rules : map rule_row (merged rules lengths) ≡ map rule_row rules
-  same_rules = merged_map rule_row (λ rule. refl) rules lengths
-
-  all_ids : HaveOwnIds (merged rules lengths)
-  all_ids = ids_rise None (merged rules lengths) (subst (λ rows. rowids_rise rows ≡ true) (sym same_rules) rise)
-
-  shows_state : (stored : State) → RowsSpell count (merged rules lengths) routes stored → ShowsState g conn stored
-  shows_state stored spells = record {
+  -- what the parts show together is the state that was made of them
+  pub shows_state : left_over rules lengths ≡ [] → (stored : State) → RowsSpell count (merged rules lengths) routes stored → ShowsState g conn stored
+  shows_state over stored spells = record {
     count = subst (λ n. ShowsRows g conn read_meta (meta_rows n)) (sym spells.count) one.shown;
-    rules = (map rule_row rules, some.shown, subst (λ rows. IsPermutation rows (map rule_row stored.rules)) same_rules (IsPermutation-map rule_row (merged rules lengths) stored.rules spells.rules_are));
+    rules = (map rule_row rules, some.shown, subst (λ rows. IsPermutation rows (map rule_row stored.rules)) (merged_alike rules lengths) (IsPermutation-map rule_row (merged rules lengths) stored.rules spells.rules_are));
     lengths = (
       map suppress_row lengths,
       known.shown,
-      subst (λ l. IsPermutation (map suppress_row l) (map suppress_row (lengths_of stored.rules))) (own_lengths count rules lengths some.fit over) (lengths_alike (merged rules lengths) stored.rules all_ids spells.sound.distinct_ids spells.rules_are),
+      subst (λ l. IsPermutation (map suppress_row l) (map suppress_row (lengths_of stored.rules))) (own_lengths count rules lengths some.fit over)
+          (lengths_alike (merged rules lengths) stored.rules (merged_ids rules lengths some.rise) spells.sound.distinct_ids spells.rules_are),
     );
-    routes = (more.rows, more.shown, subst (λ rows. IsPermutation rows (map route_row stored.routes)) (sym more.parts) (IsPermutation-map route_row routes stored.routes spells.routes_are));
+    routes = (more.rows, more.shown, more.rise, subst (λ rows. IsPermutation rows (map route_row stored.routes)) (sym more.parts) (IsPermutation-map route_row routes stored.routes spells.routes_are));
     fits = fits_read count rules lengths some.fit routes stored more.fit spells;
   }
-
-  -- what the parts show together is the state that was made of them
-  pub state_shown : (result : Result State Refusal) → IfOk result (RowsSpell count (merged rules lengths) routes) → IfOk result (ShowsState g conn)
-  state_shown result = IfOk-weaker result (RowsSpell count (merged rules lengths) routes) (ShowsState g conn) shows_state

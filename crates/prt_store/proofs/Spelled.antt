@@ -7,7 +7,7 @@ use Rattle.sqlite.specs.Tree.{Trees}
 use Rattle.sqlite_catalog.proofs.ReadLemmas.{lists_once}
 use Rattle.prt_rows.specs.Format.{IsFormat2}
 use Rattle.prt_rows.specs.RuleRow.{IsRule}
-use Rattle.prt_store.proofs.Loads.{count_spelled, count_stored, routes_same, routes_spelled, rules_same}
+use Rattle.prt_store.proofs.Loads.{count_stored, routes_same, rules_same}
 use Rattle.prt_store.specs.Lengths.{plain}
 use Rattle.prt_store.specs.Stored.{Stores}
 use Rattle.prt_version.proofs.OneForm.{same_state}
@@ -25,9 +25,9 @@ pub stored_once : (schema other : Schema) (trees : Trees) (s t : State) → Stor
 stored_once schema other trees s t stores others =
     let db = database schema trees in
     let held = other_schema other schema trees t stores.tables others in
-    let number = count_stored db t held s.count (count_spelled db s stores) in
+    let number = count_stored db t held s.count stores.count in
     let rules_are = rules_same db t held (s.count + 3) s.rules stores.fits.sound.distinct_ids stores.fits.rules (λ rule there. subst (λ n. IsRule (n + 3) (plain rule)) number (held.fits.rules rule there)) stores.rules stores.lengths in
-    let routes_are = routes_same db t held s.routes (routes_spelled db s stores) in
+    let routes_are = routes_same db t held s.routes stores.routes stores.fits.routes in
     same_state s t stores.fits.sound others.fits.sound (sym number)
     (λ rule there. Contains-permutation s.rules t.rules rule rules_are there)
     (λ rule there. Contains-permutation t.rules s.rules rule (IsPermutation-sym s.rules t.rules rules_are) there)

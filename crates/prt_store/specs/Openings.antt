@@ -13,7 +13,7 @@ use Rattle.prt_addr.specs.Word.{Word}
 use Rattle.prt_addr.specs.declared.refusal.Refusal.{Refusal}
 use Rattle.prt_route.specs.Names.{default_table, local_table, main_table}
 use Rattle.prt_rows.specs.Effects.{IsOfFormat1, KeepsTables}
-use Rattle.prt_rows.specs.Format.{BeginsFormat2, IsFormat2, has_table}
+use Rattle.prt_rows.specs.Format.{BeginsFormat2, has_table}
 use Rattle.prt_rows.specs.Kept.{kept_count_1}
 use Rattle.prt_rows.specs.MetaRow.{IsCount, meta_row}
 use Rattle.prt_rows.specs.RuleRow.{rule_row}
@@ -120,12 +120,6 @@ NamesFormat1 db = (count : ℕ) × IsCount count × (db.trees meta_table.tree �
 abbrev pub IsDue : Database → Type 0
 IsDue db = (count : ℕ) × IsOfFormat1 db count
 
--- what was asked of the file, where our tables are the first; nothing was changed
-pub record Sees {S : Type 0} (g : Ghosts S) (P : Database → Type 0) (old new : Held S) (result : Result Bool Refusal) : Type 0 where
-  pub ok : HasCleanDisk (state g new) → IsFormat2 (state g old).now.schema → IfOk result (λ yes. MatchBool yes (P (state g old).now) (P (state g old).now → ⊥) × IsUnchanged (state g old) (state g new))
-  pub err : HasCleanDisk (state g new) → IsFormat2 (state g old).now.schema → IsTrue (state g new).is_open → (IsTrue (state g old).is_open → (state g old).now ≡ (state g old).committed) → OnErr result ((state g new).now ≡ (state g old).now)
-  pub quiet : (HasCleanDisk (state g old) → IsFormat2 (state g old).now.schema) → CommitsNothing g old new
-
 -- What an opening does to a connection, where the file has no tables or ours first. A crash leaves what it could leave before or what an opening leaves.
 pub record OpensTables {S : Type 0} (g : Ghosts S) (old new : Held S) (result : Result (Unit {0}) Refusal) : Type 0 where
   pub ok : HasCleanDisk (state g new) → BeginsFormat2 (state g old).now.schema → OnOk result (Adopts (state g old).now (state g new).now × IsSettled g new)
@@ -142,9 +136,10 @@ pub record MakesTable {S : Type 0} (g : Ghosts S) (table : OurTable) (old new : 
 abbrev pub MakesTables : {S : Type 0} → Ghosts S → Held S → Held S → Type 0
 MakesTables g = InTurn (MakesTable g ours.Rule) (InTurn (MakesTable g ours.Route) (InTurn (MakesTable g ours.Meta) (MakesTable g ours.Suppress)))
 
--- Nothing was changed. `Yes` holds where the answer was true, `No` where it was false.
+-- Nothing was changed. `Yes` holds where the answer was true, `No` where it was false. After a refusal the tables show what they showed, if the connection is still open and nothing was pending.
 pub record Finds {S : Type 0} (g : Ghosts S) (Yes No : Type 0) (old new : Held S) (result : Result Bool Refusal) : Type 0 where
   pub ok : HasCleanDisk (state g new) → IfOk result (λ found. IsUnchanged (state g old) (state g new) × MatchBool found Yes No)
+  pub err : HasCleanDisk (state g new) → IsTrue (state g new).is_open → (IsTrue (state g old).is_open → (state g old).now ≡ (state g old).committed) → OnErr result ((state g new).now ≡ (state g old).now)
   pub quiet : CommitsNothing g old new
 
 -- each statement that looks showed no row, and the opening state was put into the tables, in one transaction

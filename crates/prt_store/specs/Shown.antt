@@ -33,9 +33,10 @@ pub record ShowsCount {S : Type 0} (g : Ghosts S) (conn : Held S) (count : ℕ) 
   pub shown : ShowsRows g conn read_meta (meta_rows count)
   pub fits : IsCount count
 
--- `rule` showed one row for each of these rules, in this order, without its length; their ids are at most `last`
+-- `rule` showed one row for each of these rules, in this order, without its length; their ids rise, and are at most `last`
 pub record ShowsRules {S : Type 0} (g : Ghosts S) (last : ℕ) (conn : Held S) (rules : List Rule) : Type 0 where
   pub shown : ShowsRows g conn read_rules (map rule_row rules)
+  pub rise : rowids_rise (map rule_row rules) ≡ true
   pub fit : All (IsRule last) rules
 
 -- `suppress` showed one row for each of these lengths, in this order, of rules with ids of at most `last`
@@ -57,12 +58,12 @@ pub record ShowsRoutes {S : Type 0} (g : Ghosts S) (conn : Held S) (routes : Lis
 abbrev pub ShowsInSomeOrder : {S : Type 0} → Ghosts S → Held S → Word → List Row → Type 0
 ShowsInSomeOrder g conn sql rows = (shown : List Row) × ShowsRows g conn sql shown × IsPermutation shown rows
 
--- The four SELECTs showed exactly the rows of this state. `meta` gave its count. The others gave one row for each rule, length and route, in any order. A route's row begins with its rowid, which is left out.
+-- The four SELECTs showed exactly the rows of this state. `meta` gave its count. The others gave one row for each rule, length and route, in any order. A route's row begins with its rowid, which is left out; these rise.
 pub record ShowsState {S : Type 0} (g : Ghosts S) (conn : Held S) (stored : State) : Type 0 where
   pub count : ShowsRows g conn read_meta (meta_rows stored.count)
   pub rules : ShowsInSomeOrder g conn read_rules (map rule_row stored.rules)
   pub lengths : ShowsInSomeOrder g conn read_suppress (map suppress_row (lengths_of stored.rules))
-  pub routes : (shown : List Row) × ShowsRows g conn read_routes shown × IsPermutation (map (drop 1) shown) (map route_row stored.routes)
+  pub routes : (shown : List Row) × ShowsRows g conn read_routes shown × (rowids_rise shown ≡ true) × IsPermutation (map (drop 1) shown) (map route_row stored.routes)
   pub fits : FitsTables stored
 
 -- ---- damage

@@ -1,18 +1,13 @@
 //! The state that the tables spell, read.
 
-ghost use Rattle.std.specs.Prelude.{◌≡◌, IfErr, IfOk, IsTrue, drop, map};
-ghost use Rattle.sqlite.specs.Held.{state};
-ghost use Rattle.sqlite.specs.State.{HasCleanDisk};
-ghost use Rattle.prt_addr.specs.declared.refusal.Refusal.TheVariants.{Damaged};
+ghost use Rattle.std.specs.Prelude.{IfOk, drop};
 ghost use Rattle.prt_rows.specs.MetaRow.{IsCount};
 ghost use Rattle.prt_rows.specs.RouteRow.{IsInRange, route_row};
-ghost use Rattle.prt_rows.specs.Rowids.{rowids_rise};
 ghost use Rattle.prt_rows.specs.RuleRow.{IsRule, rule_row};
 ghost use Rattle.prt_rows.specs.Statements.{read_routes, read_rules, read_suppress};
 ghost use Rattle.prt_rows.specs.SuppressRow.{IsLength, suppress_row};
-ghost use Rattle.prt_store.specs.Loaded.{Reads, SpellsCount, SpellsLengths, SpellsRoutes, SpellsRules};
+ghost use Rattle.prt_store.specs.Loaded.{ReadsShown};
 ghost use Rattle.prt_store.specs.Shown.{ShowsBadRows, ShowsCount, ShowsDamage, ShowsLengths, ShowsNoCount, ShowsRoutes, ShowsRules, ShowsState};
-ghost use Rattle.prt_store.specs.Stored.{Stores};
 
 use crate::merging::merge;
 use prt_addr::Refusal;
@@ -25,9 +20,7 @@ use std::alloc::Global;
 
 /// Gives the count that the table `meta` spells.
 fn read_count<S: Alter>(conn: &mut Connection<S>) -> Result<u64, Refusal>
-    ensures read { Reads S.Store (λ count. count) SpellsCount conn.old conn.new result }
-    ensures shown { HasCleanDisk (state S.Store conn.new) → IfOk result (ShowsCount S.Store conn.old) }
-    ensures damage { HasCleanDisk (state S.Store conn.new) → IfErr result (λ reason. reason ≡ Damaged → ShowsNoCount S.Store conn.old) }
+    ensures read { ReadsShown S.Store (ShowsCount S.Store conn.old) (ShowsNoCount S.Store conn.old) conn.old conn.new result }
     ensures fits { IfOk result IsCount }
 {
     match conn.query_all("SELECT id, format, count FROM meta ORDER BY id", &[]) {
@@ -46,10 +39,8 @@ fn read_rules<S: Alter>(
     conn: &mut Connection<S>,
     last: u64,
 ) -> Result<Vec<Rule>, Refusal>
-    ensures read { Reads S.Store (λ (rules : _). rules.items) (SpellsRules last) conn.old conn.new result }
-    ensures shown { HasCleanDisk (state S.Store conn.new) → IfOk result (λ rules. ShowsRules S.Store last conn.old rules.items) }
-    ensures damage { HasCleanDisk (state S.Store conn.new) → IfErr result (λ reason. reason ≡ Damaged → ShowsBadRows S.Store conn.old read_rules rule_row (IsRule last) (λ row. row)) }
-    ensures rise { IfOk result (λ rules. IsTrue (rowids_rise (map rule_row rules.items))) }
+    ensures { ReadsShown S.Store (λ (rules : _). ShowsRules S.Store last conn.old rules.items)
+        (ShowsBadRows S.Store conn.old read_rules rule_row (IsRule last) (λ row. row)) conn.old conn.new result }
 {
     match conn.query_all(
         "SELECT id, priority, inverted, src_net, src_len, dst_net, dst_len, iif, mark, mask, act, tbl FROM rule ORDER BY id",
@@ -66,10 +57,8 @@ fn read_lengths<S: Alter>(
     conn: &mut Connection<S>,
     last: u64,
 ) -> Result<Vec<RuleLength>, Refusal>
-    ensures read { Reads S.Store (λ (lengths : _). lengths.items) (SpellsLengths last) conn.old conn.new result }
-    ensures shown { HasCleanDisk (state S.Store conn.new) → IfOk result (λ lengths. ShowsLengths S.Store last conn.old lengths.items) }
-    ensures damage { HasCleanDisk (state S.Store conn.new) → IfErr result (λ reason. reason ≡ Damaged → ShowsBadRows S.Store conn.old read_suppress suppress_row (IsLength last) (λ row. row)) }
-    ensures rise { IfOk result (λ lengths. IsTrue (rowids_rise (map suppress_row lengths.items))) }
+    ensures { ReadsShown S.Store (λ (lengths : _). ShowsLengths S.Store last conn.old lengths.items)
+        (ShowsBadRows S.Store conn.old read_suppress suppress_row (IsLength last) (λ row. row)) conn.old conn.new result }
 {
     match conn.query_all("SELECT rule, len FROM suppress ORDER BY rule", &[]) {
         Ok(rows) => lengths_of_rows(alloc, rows.as_slice(), last),
@@ -79,9 +68,8 @@ fn read_lengths<S: Alter>(
 
 /// Gives the routes that the table `route` spells.
 fn read_routes<S: Alter>(alloc: Global, conn: &mut Connection<S>) -> Result<Vec<Route>, Refusal>
-    ensures read { Reads S.Store (λ (routes : _). routes.items) SpellsRoutes conn.old conn.new result }
-    ensures shown { HasCleanDisk (state S.Store conn.new) → IfOk result (λ routes. ShowsRoutes S.Store conn.old routes.items) }
-    ensures damage { HasCleanDisk (state S.Store conn.new) → IfErr result (λ reason. reason ≡ Damaged → ShowsBadRows S.Store conn.old read_routes route_row IsInRange (drop 1)) }
+    ensures { ReadsShown S.Store (λ (routes : _). ShowsRoutes S.Store conn.old routes.items)
+        (ShowsBadRows S.Store conn.old read_routes route_row IsInRange (drop 1)) conn.old conn.new result }
 {
     match conn.query_all(
         "SELECT rowid, tbl, net, len, metric, kind, via, dev, src, proto, scope FROM route ORDER BY rowid",
@@ -98,9 +86,7 @@ fn read_routes<S: Alter>(alloc: Global, conn: &mut Connection<S>) -> Result<Vec<
 ///
 /// `Damaged` only where the rows that were read spell none; `OpenFailed` where a store call fails; `NoMemory`.
 pub(crate) fn load<S: Alter>(alloc: Global, conn: &mut Connection<S>) -> Result<Version, Refusal>
-    ensures read { Reads S.Store (λ version. version) Stores conn.old conn.new result }
-    ensures shown { HasCleanDisk (state S.Store conn.new) → IfOk result (ShowsState S.Store conn.old) }
-    ensures damage { HasCleanDisk (state S.Store conn.new) → IfErr result (λ reason. reason ≡ Damaged → ShowsDamage S.Store conn.old) }
+    ensures { ReadsShown S.Store (ShowsState S.Store conn.old) (ShowsDamage S.Store conn.old) conn.old conn.new result }
 {
     let count = read_count(conn)?;
     let listed = read_rules(alloc, conn, count + 3)?;

@@ -1,17 +1,18 @@
 //! The opening of a file: the four tables are made where they are missing, filled where they have no rows, and migrated
 //! where they are of format 1.
 
-ghost use Rattle.std.specs.Prelude.{◌≡◌, ◌<◌, ◌^◌, [], false, Err, IfErr, IsTrue, OnErr, OnOk};
+ghost use Rattle.std.specs.Prelude.{◌≡◌, ◌<◌, ◌^◌, [], ◌∷◌, false, Err, IfErr, IsTrue, OnErr, OnOk};
+ghost use Rattle.std.specs.List.{AllByRecursion as Each};
 ghost use Rattle.sqlite.specs.Held.{state};
 ghost use Rattle.sqlite.specs.State.{HasCleanDisk, Survives};
 ghost use Rattle.prt_addr.specs.declared.refusal.Refusal.TheVariants.{OpenFailed};
-ghost use Rattle.prt_rows.specs.Effects.{AreEmpty, Migrates};
+ghost use Rattle.prt_rows.specs.Effects.{Migrates};
 ghost use Rattle.prt_rows.specs.Format.{BeginsFormat2, HasFormat2, IsFormat2, SuitsFormat2};
 ghost use Rattle.prt_rows.specs.MetaRow.{meta_row};
 ghost use Rattle.prt_rows.specs.RuleRow.{rule_row};
 ghost use Rattle.prt_rows.specs.Statements.{insert_meta, insert_rule, migrate};
 ghost use Rattle.prt_store.specs.Adopted.{IsSettled, LeavesMigrated};
-ghost use Rattle.prt_store.specs.Openings.{Advances, Commits, Fills, Finds, InsertsRules, IsEmpty, IsDue, KeepsOrMigrates, MakesAndFills, MakesMissing, MakesTables, NamesFormat1, OpensTables, Ran, Sees, Takes, Works, create, table_of};
+ghost use Rattle.prt_store.specs.Openings.{Advances, Commits, Fills, Finds, InsertsRules, KeepsOrMigrates, MakesAndFills, MakesMissing, MakesTables, OpensTables, Ran, Takes, Works, create, table_of};
 ghost use Rattle.prt_store.specs.Shown.{ShowsContents, ShowsDue, ShowsFormat1, ShowsNoRow, ShowsNotDue, ShowsOtherFormat, ShowsSomeRow, look_at};
 ghost use Rattle.prt_store.specs.declared.opening.OurTable.{OurTable as OneTable};
 
@@ -195,7 +196,6 @@ fn look_at(table: OurTable) -> &'static str
 /// Tells whether a table has no rows.
 fn is_empty<S: Alter>(conn: &mut Connection<S>, table: OurTable) -> Result<bool, Refusal>
     ensures reason { IfErr result (λ reason. reason ≡ OpenFailed) }
-    ensures sees { Sees S.Store (IsEmpty table) conn.old conn.new result }
     ensures finds { Finds S.Store (ShowsNoRow S.Store conn.old table) (ShowsSomeRow S.Store conn.old table) conn.old conn.new result }
 {
     match conn.query_all(look_at(table), &[]) {
@@ -204,33 +204,39 @@ fn is_empty<S: Alter>(conn: &mut Connection<S>, table: OurTable) -> Result<bool,
     }
 }
 
+/// Tells whether a table and the others have no rows. Asks them in turn, up to the first that has one.
+fn have_no_rows<S: Alter>(
+    conn: &mut Connection<S>,
+    table: OurTable,
+    others: &[OurTable],
+) -> Result<bool, Refusal>
+    ensures reason { IfErr result (λ reason. reason ≡ OpenFailed) }
+    ensures finds { Finds S.Store (Each (ShowsNoRow S.Store conn.old) (table ∷ others.now)) (ShowsContents S.Store conn.old) conn.old conn.new result }
+{
+    if !is_empty(conn, table)? {
+        return Ok(false);
+    }
+    match others.split_first() {
+        None => Ok(true),
+        Some((next, rest)) => have_no_rows(conn, *next, rest),
+    }
+}
+
 /// Tells whether the four tables have no rows. Asks the table `meta` first, since it has a row in every file but a new
 /// one.
 fn are_empty<S: Alter>(conn: &mut Connection<S>) -> Result<bool, Refusal>
     ensures reason { IfErr result (λ reason. reason ≡ OpenFailed) }
-    ensures sees { Sees S.Store AreEmpty conn.old conn.new result }
     ensures finds { Finds S.Store ((table : OneTable) → ShowsNoRow S.Store conn.old table) (ShowsContents S.Store conn.old) conn.old conn.new result }
 {
-    if !is_empty(conn, OurTable::Meta)? {
-        return Ok(false);
-    }
-    if !is_empty(conn, OurTable::Rule)? {
-        return Ok(false);
-    }
-    if !is_empty(conn, OurTable::Route)? {
-        return Ok(false);
-    }
-    is_empty(conn, OurTable::Suppress)
+    let others = [OurTable::Rule, OurTable::Route, OurTable::Suppress];
+    have_no_rows(conn, OurTable::Meta, &others)
 }
 
 /// Tells whether the row of `meta` is that of format 1.
 fn names_format_1<S: Alter>(conn: &mut Connection<S>) -> Result<bool, Refusal>
     ensures reason { IfErr result (λ reason. reason ≡ OpenFailed) }
-    ensures sees { Sees S.Store NamesFormat1 conn.old conn.new result }
     ensures finds { Finds S.Store (ShowsFormat1 S.Store conn.old) (ShowsOtherFormat S.Store conn.old) conn.old conn.new result }
 {
-    // Recalls that the rows are as the schema has them.
-    let _live = conn.schema();
     match conn.query_all("SELECT id, format, count FROM meta ORDER BY id", &[]) {
         Ok(rows) => Ok(count_in_format_1(rows.as_slice()).is_some()),
         Err(_) => Err(Refusal::OpenFailed),
@@ -240,7 +246,6 @@ fn names_format_1<S: Alter>(conn: &mut Connection<S>) -> Result<bool, Refusal>
 /// Tells whether the file is to be migrated: its `meta` names format 1, and there are no lengths.
 fn is_due<S: Alter>(conn: &mut Connection<S>) -> Result<bool, Refusal>
     ensures reason { IfErr result (λ reason. reason ≡ OpenFailed) }
-    ensures sees { Sees S.Store IsDue conn.old conn.new result }
     ensures finds { Finds S.Store (ShowsDue S.Store conn.old) (ShowsNotDue S.Store conn.old) conn.old conn.new result }
 {
     if !names_format_1(conn)? {
@@ -272,6 +277,8 @@ pub fn migrate<S: Alter>(conn: &mut Connection<S>) -> Result<(), Refusal>
         Survives (state S.Store conn.old) (state S.Store conn.new) (LeavesMigrated (state S.Store conn.old).now) }
     ensures does { HasCleanDisk (state S.Store conn.new) → OnOk result (KeepsOrMigrates S.Store conn.old conn.new) }
 {
+    // Recalls that the rows are as the schema has them.
+    let _live = conn.schema();
     // The looks come before the transaction, so that a file of format 2 begins none. No other program can write the file
     // between them.
     if !is_due(conn)? {

@@ -1,28 +1,8 @@
 use Rattle.std.proofs.Common.{Ok, false, inl, subst}
 use Rattle.prt_store.proofs.Anywhere.{finds_as, finds_fails, finds_format, finds_not}
-use Rattle.prt_store.proofs.Looks.{is_due_if, named_if_due, sees_both, sees_fails, sees_not, sees_same}
-use Rattle.prt_store.specs.Openings.{Finds, IsDue, IsEmpty, NamesFormat1, Sees}
+use Rattle.prt_store.specs.Openings.{Finds}
 use Rattle.prt_store.specs.Shown.{ShowsDue, ShowsFormat1, ShowsNotDue, ShowsOtherFormat}
-use Rattle.prt_store.specs.declared.opening.OurTable.TheVariants.{Suppress}
 use Rattle.prt_store.proofs.opening.is_due.Goals as goal
-
-pub returns-in_err-names_format_1-clause-sees : goal.returns-in_err-names_format_1-clause-sees
-returns-in_err-names_format_1-clause-sees g c =
-    sees_fails g.S.Store NamesFormat1 IsDue c.args.conn.now c.names_format_1.new.conn c.in_err-names_format_1.field-0.0 c.from_residual.result c.from_residual.ensures.0 c.in_err-names_format_1.ensures.sees
-
-pub returns-then-not-branch-clause-sees : goal.returns-then-not-branch-clause-sees
-returns-then-not-branch-clause-sees g c =
-    let start = c.args.conn.now in
-    let first = c.names_format_1.new.conn in
-    sees_not g.S.Store NamesFormat1 IsDue start first (subst (λ b. Sees g.S.Store NamesFormat1 start first (Ok b)) c.if-not-branch.true c.in_ok-names_format_1.ensures.sees) (λ db t due. (named_if_due db t due).0)
-
-pub returns-clause-sees : goal.returns-clause-sees
-returns-clause-sees g c =
-    let start = c.args.conn.now in
-    let first = c.names_format_1.new.conn in
-    let second = c.is_empty.new.conn in
-    let one = subst (λ b. Sees g.S.Store NamesFormat1 start first (Ok b)) c.if-not-branch.false c.in_ok-names_format_1.ensures.sees in
-    sees_same g.S.Store (λ db. NamesFormat1 db × IsEmpty Suppress db) IsDue start second c.is_empty.result is_due_if named_if_due (sees_both g.S.Store NamesFormat1 (IsEmpty Suppress) start first second one c.is_empty.result c.is_empty.ensures.sees)
 
 pub returns-in_err-names_format_1-clause-finds : goal.returns-in_err-names_format_1-clause-finds
 returns-in_err-names_format_1-clause-finds g c =
