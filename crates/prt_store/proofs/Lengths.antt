@@ -1,5 +1,5 @@
 -- Rules and the lengths up to which they suppress prefixes, apart and together.
-use Rattle.std.proofs.Common.{◌≡◌, inl, inr, ℕ, suc, ◌<◌, pos, ℤ, int_lt, Bool, true, false, cond, List, [], ◌∷◌, Option, Some, None, drop, drop-cons, get_or, length, map, ◌++◌, append_assoc, IsPermutation, ◌==◌, refl, sym, ap, subst, ◌∙◌, arith}
+use Rattle.std.proofs.Common.{◌≡◌, inl, inr, ℕ, pos, ℤ, int_lt, Bool, true, false, cond, List, [], ◌∷◌, Option, Some, None, drop, length, map, IsPermutation, ◌==◌, refl, sym, ap, subst, ◌∙◌, arith}
 use Rattle.std.proofs.lemmas.Bool.{eqb-false, eqb-true, and_parts, ne_eqb}
 use Rattle.std.proofs.lemmas.Grind.{common_steps}
 use Rattle.std.proofs.lemmas.List.Sorted.{IsPermutation-sym}
@@ -80,15 +80,6 @@ one_by_id (r ∷ rules) distinct a b (inl is) (inl too) same = is ∙ sym too
 one_by_id (r ∷ rules) distinct a b (inl is) (inr later) same = absurd (eqb-false r.id b.id (all_has (λ (other : Rule). (r.id == other.id) ≡ false) rules b distinct.0 later) (ap (λ (rule : Rule). rule.id) (sym is) ∙ same))
 one_by_id (r ∷ rules) distinct a b (inr later) (inl is) same = absurd (eqb-false r.id a.id (all_has (λ (other : Rule). (r.id == other.id) ≡ false) rules a distinct.0 later) (ap (λ (rule : Rule). rule.id) (sym is) ∙ sym same))
 one_by_id (r ∷ rules) distinct a b (inr later) (inr also) same = one_by_id rules distinct.1 a b later also same
-
--- rules whose rows are keyed have ids of their own
-pub own_ids : (rules : List Rule) → IsDistinct has_same_rowid (map kept_rule rules) → HaveOwnIds rules
-unfolding IsDistinct
-own_ids [] once = tt
-own_ids (rule ∷ rules) once = (
-  all_from (λ (other : Rule). (rule.id == other.id) ≡ false) rules (λ other there. sym (id_cmp rule.id other.id) ∙ all_has (λ row. has_same_rowid (kept_rule rule) row ≡ false) (map kept_rule rules) (kept_rule other) once.0 (mapped_has kept_rule rules other there)),
-  own_ids rules once.1,
-)
 
 -- one more row
 once_one_more : (own : Option RuleLength) (lengths : List RuleLength) → ((one : RuleLength) → own ≡ Some one → (other : RuleLength) → Has lengths other → has_same_rowid (kept_length one) (kept_length other) ≡ false)
@@ -210,16 +201,6 @@ merged_lengths (rule ∷ rules) (length ∷ lengths) none over =
         → cons_option (length_of (cond {A = Rule × List RuleLength} b (with_len rule length.len, lengths) (rule, length ∷ lengths)).0) (lengths_of (merged rules (cond {A = Rule × List RuleLength} b (with_len rule length.len, lengths) (rule, length ∷ lengths)).1)) ≡ length ∷ lengths
     go true is over rest others = let own : length_at rule.id length.len ≡ length = ap (λ n. length_at n length.len) (sym (eqb-true length.rule rule.id is)) in λ i. own i ∷ rest over i
     go false is over rest others = ap (λ s. cons_option (option_map (length_at rule.id) s) (lengths_of (merged rules (length ∷ lengths)))) (none rule (inl refl)) ∙ others over
-
--- one rule more is merged
-pub merged_on : (rules items more whole : List Rule) (left rest over : List RuleLength) (at : ℕ) (rule own : Rule) → at < length rules → rule ≡ get_or rules at rule → own ≡ (merge_one rule left).0 → rest ≡ (merge_one rule left).1 → more ≡ items ++ own ∷ []
-    → (whole ≡ items ++ merged (drop at rules) left) × (over ≡ left_over (drop at rules) left) → (whole ≡ more ++ merged (drop (suc at) rules) rest) × (over ≡ left_over (drop (suc at) rules) rest)
-merged_on rules items more whole left rest over at rule own within here owned rested pushed before =
-    let later = drop (suc at) rules in
-    let split : drop at rules ≡ rule ∷ later = drop-cons rules at rule within ∙ ap (λ r. r ∷ later) (sym here) in (
-      before.0 ∙ ap (λ r. items ++ merged r left) split ∙ (λ i. items ++ (sym owned i ∷ merged later (sym rested i))) ∙ sym (append_assoc items (own ∷ []) (merged later rest)) ∙ ap (λ l. l ++ merged later rest) (sym pushed),
-      before.1 ∙ ap (λ r. left_over r left) split ∙ ap (left_over later) (sym rested),
-    )
 
 -- ---- nothing is left over
 

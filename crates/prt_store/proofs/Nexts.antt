@@ -1,5 +1,5 @@
 -- What a checked change makes of a state that may be stored may be stored too.
-use Rattle.std.proofs.Common.{◌≡◌, inl, inr, ℕ, ◌+◌, ◌≤◌, ◌<◌, ◌^◌, Bool, true, false, not, Option, Some, None, Result, Ok, Err, cond, refl, sym, ap, subst, ◌∙◌, arith}
+use Rattle.std.proofs.Common.{◌≡◌, inl, inr, ℕ, ◌+◌, ◌≤◌, Bool, true, false, not, Option, Some, None, Result, Ok, Err, cond, refl, sym, ap, subst, ◌∙◌, arith}
 use Rattle.std.specs.Prelude.{◌==◌, IfOk, IsTrue, nat_lt, ok_or, option_map}
 use Rattle.sqlite_rules.proofs.ListLemmas.{all_from, all_has, has_filtered, has_found}
 use Rattle.sqlite_rules.specs.Lists.{Has}
@@ -108,10 +108,6 @@ module _ (state : State) (made : Change) (number : ℕ) (next : IsNext state mad
 
   number_fits : number ≤ MOST_COMMANDS
   number_fits = subst (λ n. n ≤ MOST_COMMANDS) (sym number_is) next_is_sound.count_fits
-
-  -- what an integer of the file can be
-  pub small_number : number < 2 ^ 63
-  small_number = omega (arith, number_fits)
 
   pub small_ids : HasStorableIds made
   small_ids = by_change made suits

@@ -309,9 +309,6 @@ module _ {S : Type 0} (g : Ghosts S) (From Mid To : Schema → Type 0) (a b : He
 -- ---- the whole opening
 
 module _ {S : Type 0} (g : Ghosts S) (a b : Held S) where
-  pub opens_not : (reason other : Refusal) → Advances g BeginsFormat2 IsFormat2 a b (Err reason) → OpensTables g a b (Err other)
-  opens_not reason other one = record { ok = λ clean tables. tt; err = one.err; crash = one.crash }
-
   -- an opening that is refused at its end has done what one does that is not
   pub opened_in_part : (reason : Refusal) → OpensTables g a b (Ok tt) → OpensTables g a b (Err reason)
   opened_in_part reason opens = record {

@@ -33,10 +33,6 @@ ran_inside : {S : Type 0} (g : Ghosts S) (sql : Word) (params : Row) (a b : Held
     → RanInside g sql params a b × IsTrue (state g b).in_transaction
 ran_inside g sql params a b result fine runs quiet clean inside = let did = of_ok result fine ((statement_works g sql params a b result runs quiet).done clean inside) in ((did.0, quiet), did.1)
 
--- the call that writes was refused, and the transaction undone
-pub stopped_in_write : {S : Type 0} (g : Ghosts S) (old begun failed end : Held S) → begun ≡ begun_from old → CommitsNothing g begun failed → CommitsNothing g failed end → CommitsNothing g (begun_from old) end
-stopped_in_write g old begun failed end was one two = subst (λ h. CommitsNothing g h end) was (quiet_then g begun failed end one two)
-
 module _ {S : Type 0} (g : Ghosts S) (changes : List Change) (number : ℕ) (old begun written : Held S) (first : Result ℕ Error) (was : begun ≡ begun_from old) (typed : Each IsTyped changes) (fine : is_err first ≡ false)
     (writes : Works g (WritesAll g changes) begun written first) where
   pub wrote : HasCleanDisk (state g written) → WritesEach g changes old written × IsTrue (state g written).in_transaction

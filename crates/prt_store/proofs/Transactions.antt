@@ -43,19 +43,7 @@ statement_works g sql params old new (Err e) runs quiet = record {
   quiet = quiet;
 }
 
--- where nothing is to be done, nothing is
-pub works_nothing : {S : Type 0} (g : Ghosts S) (a : Held S) → Works g (λ old new. new ≡ old) a a (Ok 0)
-works_nothing g a = record {
-  done = λ clean inside. (refl, inside);
-  keeps = λ clean inside. record { was_open = λ still_open. still_open; committed = λ still_open. refl };
-  quiet = survives_itself (state g a) (λ _. ⊥);
-}
-
 module _ {S : Type 0} (g : Ghosts S) (First Next : Held S → Held S → Type 0) (a b : Held S) where
-  -- what fails at first fails in turn
-  pub works_not : (e : Error) → Works g First a b (Err e) → Works g Next a b (Err e)
-  works_not e works = record { done = λ clean inside. tt; keeps = works.keeps; quiet = works.quiet }
-
   pub works_then : (c : Held S) (n : ℕ) (result : Result ℕ Error) → Works g First a b (Ok n) → Works g Next b c result → Works g (InTurn First Next) a c result
   works_then c n result one two = record {
     done = λ clean inside.

@@ -1,16 +1,11 @@
 -- What is read of the tables.
-use Rattle.std.specs.Prelude.{◌≡◌, ℕ, [], ◌∷◌, IsTrue, Result, IfErr, IfOk, OnErr, OnOk}
-use Rattle.sqlite.specs.Effect.{Database}
+use Rattle.std.specs.Prelude.{◌≡◌, IsTrue, Result, IfErr, IfOk, OnErr, OnOk}
 use Rattle.sqlite.specs.Held.{Held, state}
-use Rattle.sqlite.specs.State.{HasCleanDisk, IsLive, IsUnchanged, State as Conn, Survives}
+use Rattle.sqlite.specs.State.{HasCleanDisk, IsUnchanged, Survives}
 use Rattle.sqlite.specs.Store.{Ghosts}
 use Rattle.prt_addr.specs.Opening.{IsOpenRefusal}
 use Rattle.prt_addr.specs.declared.refusal.Refusal.{Refusal}
 use Rattle.prt_addr.specs.declared.refusal.Refusal.TheVariants.{Damaged}
-use Rattle.prt_rows.specs.Kept.{kept_count}
-use Rattle.prt_rows.specs.MetaRow.{IsCount}
-use Rattle.prt_rows.specs.Tables.{meta_table}
-use Rattle.prt_rows.specs.Format.{IsFormat2}
 use Rattle.prt_store.specs.Adopted.{IsSettled}
 
 -- nothing is pending still, and the tables show what they showed

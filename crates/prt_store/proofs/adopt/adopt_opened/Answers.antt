@@ -9,12 +9,3 @@ returns-in-Ok-adopt-clause-ok g c = record {
   rest = c.in-Ok-adopt.ensures.at_rest;
   survives = c.in-Ok-adopt.ensures.survives_ok;
 }
-
-pub returns-in-Err-adopt-clause-err : goal.returns-in-Err-adopt-clause-err
-returns-in-Err-adopt-clause-err g c = record {
-  was = c.in-Ok.conn;
-  found = c.in-Ok.is;
-  part = c.in-Err-adopt.ensures.err;
-  other_columns = c.in-Err-adopt.ensures.other_columns;
-  survives = c.in-Err-adopt.ensures.crash_err;
-}

@@ -1,5 +1,5 @@
 use Rattle.std.proofs.Common.{Ok, subst}
-use Rattle.prt_store.proofs.Anywhere.{does_fill, does_keep, on_none}
+use Rattle.prt_store.proofs.Anywhere.{does_fill, does_keep}
 use Rattle.prt_store.proofs.Openings.{look_failed, opens_filled, opens_migrated, opens_refused}
 use Rattle.prt_store.specs.Openings.{Finds}
 use Rattle.prt_store.specs.Shown.{ShowsContents, ShowsNoRow}
@@ -27,12 +27,6 @@ returns-clause-opens g c =
     let seen = c.are_empty.new.conn in
     opens_filled g.S.Store c.args.conn.now made c.in_ok-make_tables.ensures.advances seen c.take.new.conn c.take.result (subst (λ b. Finds g.S.Store ((table : OurTable) → ShowsNoRow g.S.Store made table) (ShowsContents g.S.Store made) made seen (Ok b)) c.if-not-branch.false c.in_ok-are_empty.ensures.finds)
     c.take.ensures.commits
-
-pub returns-in_err-make_tables-clause-does : goal.returns-in_err-make_tables-clause-does
-returns-in_err-make_tables-clause-does g c clean = on_none _ c.from_residual.result c.from_residual.ensures.0
-
-pub returns-in_err-are_empty-clause-does : goal.returns-in_err-are_empty-clause-does
-returns-in_err-are_empty-clause-does g c clean = on_none _ c.from_residual-in_err-are_empty.result c.from_residual-in_err-are_empty.ensures.0
 
 pub returns-then-not-branch-clause-does : goal.returns-then-not-branch-clause-does
 returns-then-not-branch-clause-does g c clean =

@@ -1,6 +1,6 @@
 use Rattle.std.proofs.Common.{Err, Ok}
 use Rattle.prt_rows.specs.Format.{BeginsFormat2, BeginsWithMeta, BeginsWithRoutes, BeginsWithRules, IsFormat2}
-use Rattle.prt_store.proofs.Anywhere.{on_none, tables_made}
+use Rattle.prt_store.proofs.Anywhere.{tables_made}
 use Rattle.prt_store.proofs.Openings.{advances_not, advances_then, meta_made, routes_made, rules_made, suppress_made}
 use Rattle.prt_store.proofs.opening.make_tables.Goals as goal
 
@@ -41,15 +41,6 @@ returns-clause-advances g c =
     (routes_made g.S.Store first second (Ok tt) c.in_ok-make_missing-2.ensures.makes) in
     let three = advances_then g.S.Store BeginsFormat2 BeginsWithRoutes BeginsWithMeta start second third (Ok tt) two (meta_made g.S.Store second third (Ok tt) c.in_ok-make_missing-3.ensures.makes) in
     advances_then g.S.Store BeginsFormat2 BeginsWithMeta IsFormat2 start third fourth c.make_missing-4.result three (suppress_made g.S.Store third fourth c.make_missing-4.result c.make_missing-4.ensures.makes)
-
-pub returns-in_err-make_missing-clause-makes : goal.returns-in_err-make_missing-clause-makes
-returns-in_err-make_missing-clause-makes g c clean = on_none _ c.from_residual.result c.from_residual.ensures.0
-
-pub returns-in_err-make_missing-2-clause-makes : goal.returns-in_err-make_missing-2-clause-makes
-returns-in_err-make_missing-2-clause-makes g c clean = on_none _ c.from_residual-in_err-make_missing-2.result c.from_residual-in_err-make_missing-2.ensures.0
-
-pub returns-in_err-make_missing-3-clause-makes : goal.returns-in_err-make_missing-3-clause-makes
-returns-in_err-make_missing-3-clause-makes g c clean = on_none _ c.from_residual-in_err-make_missing-3.result c.from_residual-in_err-make_missing-3.ensures.0
 
 pub returns-clause-makes : goal.returns-clause-makes
 returns-clause-makes g c clean =

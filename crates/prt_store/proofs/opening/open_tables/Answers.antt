@@ -1,7 +1,6 @@
 use Rattle.std.proofs.Common.{subst}
 use Rattle.prt_addr.specs.declared.refusal.Refusal.TheVariants.{OpenFailed}
 use Rattle.prt_rows.specs.Format.{SuitsFormat2}
-use Rattle.prt_store.proofs.Anywhere.{on_none}
 use Rattle.prt_store.proofs.Openings.{opened_in_part, opens_nothing}
 use Rattle.prt_store.proofs.opening.open_tables.Goals as goal
 
@@ -19,9 +18,3 @@ returns-then-is_ready-clause-other_columns g c others = absurd (others (subst Su
 
 pub returns-else-is_ready-clause-other_columns : goal.returns-else-is_ready-clause-other_columns
 returns-else-is_ready-clause-other_columns g c others = absurd (others (subst SuitsFormat2 c.schema.ensures.value (c.suits_format_2.ensures.0 c.if-not-suits_format_2.false)))
-
-pub returns-in_err-make_and_fill-clause-does : goal.returns-in_err-make_and_fill-clause-does
-returns-in_err-make_and_fill-clause-does g c clean = on_none _ c.from_residual.result c.from_residual.ensures.0
-
-pub returns-then-is_ready-clause-does : goal.returns-then-is_ready-clause-does
-returns-then-is_ready-clause-does g c clean = c.in_ok-make_and_fill.ensures.does clean

@@ -7,6 +7,3 @@ use Rattle.prt_store.proofs.statements.delete_route.Goals as goal
 pub returns-clause-runs : goal.returns-clause-runs
 returns-clause-runs g c =
     runs_with g.S.Store delete_route _ (key_values c.args.key.now) c.args.tx.now.conn.now c.execute.new.self.conn.now c.execute.result c.execute.ensures.runs (search rules)
-
-pub returns-clause-survives : goal.returns-clause-survives
-returns-clause-survives g c = c.execute.ensures.survives

@@ -27,9 +27,6 @@ returns-in-Ok-clause-at_rest g c is_open =
 pub returns-in-Ok-clause-crash_ok : goal.returns-in-Ok-clause-crash_ok
 returns-in-Ok-clause-crash_ok g c clean tables = (returns-in-Ok-clause-at_rest g c (c.in-Ok.ensures.opens.ok clean tables).1.is_open).crash
 
-pub returns-in-Ok-clause-does : goal.returns-in-Ok-clause-does
-returns-in-Ok-clause-does g c clean = c.in-Ok.ensures.does clean
-
 pub returns-in-Ok-clause-same : goal.returns-in-Ok-clause-same
 returns-in-Ok-clause-same g c clean tables = keeps_or_fills g.S.Store c.args.conn c.open_tables.new.conn tables (c.in-Ok.ensures.does clean)
 

@@ -1,4 +1,4 @@
-use Rattle.std.proofs.Common.{◌≡◌, inl, inr, sym, ap, subst, ◌∙◌, arith}
+use Rattle.std.proofs.Common.{◌≡◌, inl, inr, sym, ap, subst, ◌∙◌}
 use Rattle.sqlite.specs.Effect.{Database}
 use Rattle.sqlite.specs.Held.{state}
 use Rattle.prt_addr.specs.declared.refusal.Refusal.TheVariants.{StoreFailed}
@@ -24,9 +24,6 @@ returns-in-Ok-clause-ok g c clean before next held =
 pub returns-in-Ok-clause-ran : goal.returns-in-Ok-clause-ran
 returns-in-Ok-clause-ran g c clean = (c.in-Ok.ensures.ok clean).1
 
-pub returns-in-Ok-clause-calls : goal.returns-in-Ok-clause-calls
-returns-in-Ok-clause-calls g c clean = c.in-Ok.ensures.calls clean
-
 pub returns-in-Err-clause-stopped : goal.returns-in-Err-clause-stopped
 returns-in-Err-clause-stopped g c clean call is =
     let same : c.in-Err.call ≡ call = cc in
@@ -36,9 +33,6 @@ pub returns-in-Err-clause-failure : goal.returns-in-Err-clause-failure
 returns-in-Err-clause-failure g c call is =
     let same : c.in-Err.call ≡ call = cc in
     subst (λ (failed : StoreCall). AllFailFor g.S.Store c.args.changes.now c.args.number c.args.self.now.conn failed c.make_changes.new.conn c.make_changes.new.failure) same c.in-Err.ensures.failure
-
-pub returns-in-Ok-clause-settled : goal.returns-in-Ok-clause-settled
-returns-in-Ok-clause-settled g c clean = (c.in-Ok.ensures.ok clean).2
 
 pub returns-in-Err-clause-still_settled : goal.returns-in-Err-clause-still_settled
 returns-in-Err-clause-still_settled g c clean still_open was =
@@ -54,15 +48,6 @@ returns-in-Err-clause-crash_err g c clean before next held trees leaves = elim (
       let all = makes_all_next g.S.Store c.args.changes.now c.args.number old it.0 before next made.1 held it.1 in
       inr (ap StoreFailed made.0, subst (MakesNext (state g.S.Store old).now (put_all before c.args.changes.now)) (λ i. record { schema = all.schema i; trees = sym it.2 i }) all)
 ]
-
-pub returns-in-Ok-clause-clean : goal.returns-in-Ok-clause-clean
-returns-in-Ok-clause-clean g c clean = c.in-Ok.ensures.clean clean
-
-pub returns-in-Err-clause-clean : goal.returns-in-Err-clause-clean
-returns-in-Err-clause-clean g c clean = omega (arith, c.in-Err.ensures.crash_err.clean, clean)
-
-pub returns-in-Err-clause-err : goal.returns-in-Err-clause-err
-returns-in-Err-clause-err g c clean still_open = (c.in-Err.ensures.err clean still_open).0
 
 pub returns-in-Ok-clause-crash_ok : goal.returns-in-Ok-clause-crash_ok
 returns-in-Ok-clause-crash_ok g c clean trees may =

@@ -1,4 +1,0 @@
-use Rattle.prt_store.proofs.statements.flush_rules.Goals as goal
-
-pub returns-clause-survives : goal.returns-clause-survives
-returns-clause-survives g c = c.execute.ensures.survives
