@@ -26,11 +26,6 @@ use Rattle.prt_store.specs.Shown.{ShowsContents, ShowsDue, ShowsFormat1, ShowsNo
 use Rattle.prt_store.specs.declared.opening.OurTable.{OurTable}
 use Rattle.prt_store.specs.declared.opening.OurTable.TheVariants as ours
 
--- an error promises nothing of what is fine
-pub on_none : {T E : Type 0} (P : Type 0) (r : Result T E) → IsErr r → OnOk r P
-on_none P (Ok x) bad = absurd (true≢false (sym bad))
-on_none P (Err e) bad = tt
-
 -- ---- the tables are made
 
 module _ {S : Type 0} (g : Ghosts S) (table : OurTable) (old new : Held S) (result : Result (Unit {0}) Refusal) (done : MakesMissing g table old new result) where

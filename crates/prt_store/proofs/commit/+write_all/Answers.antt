@@ -1,10 +1,6 @@
-use Rattle.std.proofs.Common.{List, sym, subst}
-use Rattle.prt_version.specs.declared.change.Change.{Change}
 use Rattle.prt_store.proofs.Failures.{fails_then}
 use Rattle.prt_store.proofs.Transactions.{works_then}
-use Rattle.prt_store.specs.Failures.{FailsInside, RefusesOneOf}
 use Rattle.prt_store.specs.Made.{WritesAll, WritesRows}
-use Rattle.prt_store.specs.Openings.{Works}
 use Rattle.prt_store.proofs.commit.+write_all.Goals as goal
 
 pub returns-in_default-clause-works : goal.returns-in_default-clause-works
@@ -14,7 +10,7 @@ returns-in_default-clause-works g t c =
     let old = c.args.tx.now.conn.now in
     let mid = c.write.new.tx.conn.now in
     let last = c.write_all.new.tx.conn.now in
-    subst (λ (all : List Change). Works g.S.Store (WritesAll g.S.Store all) old last c.write_all.result) (sym c.in-Some.ensures.cases.0)
+    rw c.in-Some.ensures.cases.0
     (works_then g.S.Store (WritesRows g.S.Store first) (WritesAll g.S.Store rest) old mid last c.in_default.field-0 c.write_all.result c.in_default.ensures.works c.write_all.ensures.works)
 
 pub returns-in_default-clause-fails : goal.returns-in_default-clause-fails
@@ -24,5 +20,5 @@ returns-in_default-clause-fails g t c =
     let old = c.args.tx.now.conn.now in
     let mid = c.write.new.tx.conn.now in
     let last = c.write_all.new.tx.conn.now in
-    subst (λ (all : List Change). FailsInside g.S.Store (RefusesOneOf g.S.Store all) old last c.write_all.result) (sym c.in-Some.ensures.cases.0)
+    rw c.in-Some.ensures.cases.0
     (fails_then g.S.Store first rest old mid last c.in_default.field-0 c.write_all.result c.in_default.ensures.works c.write_all.ensures.works.quiet c.write_all.ensures.fails)

@@ -1,9 +1,7 @@
-use Rattle.std.proofs.Common.{List, Ok, ◌∷◌, false, true, subst, sym}
+use Rattle.std.proofs.Common.{Ok, ◌∷◌, false, true}
 use Rattle.std.specs.List.{AllByRecursion as Each}
 use Rattle.prt_store.proofs.Anywhere.{each_of_none, finds_as, finds_fails, finds_next, finds_not}
-use Rattle.prt_store.specs.Openings.{Finds}
 use Rattle.prt_store.specs.Shown.{ShowsContents, ShowsNoRow, ShowsSomeRow}
-use Rattle.prt_store.specs.declared.opening.OurTable.{OurTable}
 use Rattle.prt_store.proofs.opening.+have_no_rows.Goals as goal
 
 pub returns-in_err-is_empty-clause-finds : goal.returns-in_err-is_empty-clause-finds
@@ -23,7 +21,7 @@ returns-then-not-branch-clause-finds g t c =
     let some = ShowsSomeRow g.S.Store start table in
     let contents = ShowsContents g.S.Store start in
     finds_not g.S.Store (none table) (Each none (table ∷ c.args.others.now)) contents start first
-    (finds_as g.S.Store (none table) (none table) some start first contents (Ok false) (λ it. it) (λ it. (table, it)) (subst (λ b. Finds g.S.Store (none table) some start first (Ok b)) c.if-not-branch.true c.in_ok-is_empty.ensures.finds))
+    (finds_as g.S.Store (none table) (none table) some start first contents (Ok false) (λ it. it) (λ it. (table, it)) (rw c.if-not-branch.true at c.in_ok-is_empty.ensures.finds))
 
 pub returns-in-None-clause-finds : goal.returns-in-None-clause-finds
 returns-in-None-clause-finds g t c =
@@ -34,7 +32,7 @@ returns-in-None-clause-finds g t c =
     let some = ShowsSomeRow g.S.Store start table in
     let others = c.args.others.now in
     finds_as g.S.Store (none table) (Each none (table ∷ others)) some start first (ShowsContents g.S.Store start) (Ok true) (λ it. (it, each_of_none none others c.in-None.ensures.cases)) (λ it. (table, it))
-    (subst (λ b. Finds g.S.Store (none table) some start first (Ok b)) c.if-not-branch.false c.in_ok-is_empty.ensures.finds)
+    (rw c.if-not-branch.false at c.in_ok-is_empty.ensures.finds)
 
 pub returns-in-Some-clause-finds : goal.returns-in-Some-clause-finds
 returns-in-Some-clause-finds g t c =
@@ -43,6 +41,6 @@ returns-in-Some-clause-finds g t c =
     let last = c.have_no_rows.new.conn in
     let none = ShowsNoRow g.S.Store start in
     let table = c.args.table in
-    let one = subst (λ b. Finds g.S.Store (none table) (ShowsSomeRow g.S.Store start table) start first (Ok b)) c.if-not-branch.false c.in_ok-is_empty.ensures.finds in
-    subst (λ (others : List OurTable). Finds g.S.Store (Each none (table ∷ others)) (ShowsContents g.S.Store start) start last c.have_no_rows.result) (sym c.in-Some.ensures.cases.0)
+    let one = rw c.if-not-branch.false at c.in_ok-is_empty.ensures.finds in
+    rw c.in-Some.ensures.cases.0
     (finds_next g.S.Store table (c.in-Some.next.now ∷ c.in-Some.rest.now) start first last c.have_no_rows.result one c.have_no_rows.ensures.finds)

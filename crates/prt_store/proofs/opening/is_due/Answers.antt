@@ -1,6 +1,5 @@
-use Rattle.std.proofs.Common.{Ok, false, inl, subst}
+use Rattle.std.proofs.Common.{Ok, false, inl}
 use Rattle.prt_store.proofs.Anywhere.{finds_as, finds_fails, finds_format, finds_not}
-use Rattle.prt_store.specs.Openings.{Finds}
 use Rattle.prt_store.specs.Shown.{ShowsDue, ShowsFormat1, ShowsNotDue, ShowsOtherFormat}
 use Rattle.prt_store.proofs.opening.is_due.Goals as goal
 
@@ -18,11 +17,11 @@ returns-then-not-branch-clause-finds g c =
     let other = ShowsOtherFormat g.S.Store start in
     let not_due = ShowsNotDue g.S.Store start in
     finds_not g.S.Store named (ShowsDue g.S.Store start) not_due start first
-    (finds_as g.S.Store named named other start first not_due (Ok false) (λ it. it) (λ it. inl it) (subst (λ b. Finds g.S.Store named other start first (Ok b)) c.if-not-branch.true c.in_ok-names_format_1.ensures.finds))
+    (finds_as g.S.Store named named other start first not_due (Ok false) (λ it. it) (λ it. inl it) (rw c.if-not-branch.true at c.in_ok-names_format_1.ensures.finds))
 
 pub returns-clause-finds : goal.returns-clause-finds
 returns-clause-finds g c =
     let start = c.args.conn.now in
     let first = c.names_format_1.new.conn in
-    let one = subst (λ b. Finds g.S.Store (ShowsFormat1 g.S.Store start) (ShowsOtherFormat g.S.Store start) start first (Ok b)) c.if-not-branch.false c.in_ok-names_format_1.ensures.finds in
+    let one = rw c.if-not-branch.false at c.in_ok-names_format_1.ensures.finds in
     finds_format g.S.Store start first c.is_empty.new.conn c.is_empty.result one c.is_empty.ensures.finds
