@@ -16,7 +16,7 @@ use Rattle.prt_rows.specs.Kept.{kept_count, kept_count_1, kept_length, kept_rule
 use Rattle.prt_rows.specs.RouteRow.{route_row}
 use Rattle.prt_rows.specs.Tables.{meta_table, our_tables, route_table, rule_table, suppress_table}
 use Rattle.prt_version.specs.State.{State, opening_state}
-use Rattle.prt_store.proofs.Looks.{no_rows, our_table}
+use Rattle.prt_store.proofs.Looks.{no_rows, our_table, ours_there}
 use Rattle.prt_store.specs.declared.opening.OurTable.TheVariants as ours
 use Rattle.prt_store.proofs.Openings.{due_after, filled_later, migrated_later, not_empty}
 use Rattle.prt_store.specs.Adopted.{Adopts, AdoptsOne, AdoptsPart, IsFilled, MigratesTables, RefusesOne}
@@ -76,14 +76,14 @@ opening_stored old new adopts empty = elim adopts.rows [
 -- the first three of our tables are there
 module _ (schema : Schema) (tables : BeginsWithMeta schema) where
   pub first_rules : Has schema.tables rule_table
-  first_rules = elim tables [ inl is ↦ subst (λ (s : Schema). Has s.tables rule_table) (sym is) (inl refl) | inr all ↦ our_table schema all rule_table (inl refl) ]
+  first_rules = elim tables [ inl is ↦ subst (λ (s : Schema). Has s.tables rule_table) (sym is) (inl refl) | inr all ↦ ours_there schema all ours.Rule ]
 
   pub first_routes : Has schema.tables route_table
-  first_routes = elim tables [ inl is ↦ subst (λ (s : Schema). Has s.tables route_table) (sym is) (inr (inl refl)) | inr all ↦ our_table schema all route_table (inr (inl refl)) ]
+  first_routes = elim tables [ inl is ↦ subst (λ (s : Schema). Has s.tables route_table) (sym is) (inr (inl refl)) | inr all ↦ ours_there schema all ours.Route ]
 
 -- what was migrated has no lengths
 no_lengths_made : (old new : Database) (migrated : MigratesTables old new) → IsFormat2 new.schema → new.trees 4 ≡ []
-no_lengths_made old new migrated tables = elim (migrated.made suppress_table (our_table new.schema tables suppress_table (inr (inr (inr (inl refl)))))) [
+no_lengths_made old new migrated tables = elim (migrated.made suppress_table (ours_there new.schema tables ours.Suppress)) [
   | inl was ↦ (migrated.kept suppress_table was (λ is. absurd (cc))).1 ∙ migrated.was.none was
   | inr made ↦ made.1
 ]

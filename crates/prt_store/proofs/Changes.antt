@@ -49,6 +49,8 @@ use Rattle.prt_version.specs.State.{State}
 use Rattle.prt_version.specs.declared.change.Change.{Change}
 use Rattle.prt_version.specs.declared.change.Change.TheVariants as change
 use Rattle.prt_store.proofs.Spelling.{Covers, IsLengthRow, IsRouteRow, IsRuleRow, covers_if_same, covers_left, covers_placed, filter_all, map_id}
+use Rattle.prt_store.proofs.Looks.{ours_there}
+use Rattle.prt_store.specs.declared.opening.OurTable.TheVariants as ours
 use Rattle.prt_store.proofs.Lengths.{HaveOwnIds, has_length, id_cmp, keyed_lengths, of_rule, one_by_id, was_length}
 use Rattle.prt_store.proofs.Members.{has_itself, has_other, inserted_has}
 use Rattle.prt_store.specs.Lengths.{length_of, lengths_of}
@@ -186,19 +188,6 @@ holds db state held = record {
   fits = held.fits;
 }
 
-module _ (db : Database) (tables : IsFormat2 db.schema) where
-  rule_table_there : Has db.schema.tables rule_table
-  rule_table_there = subst (λ (s : Schema). Has s.tables rule_table) (sym tables.is) (inl refl)
-
-  route_table_there : Has db.schema.tables route_table
-  route_table_there = subst (λ (s : Schema). Has s.tables route_table) (sym tables.is) (inr (inl refl))
-
-  meta_table_there : Has db.schema.tables meta_table
-  meta_table_there = subst (λ (s : Schema). Has s.tables meta_table) (sym tables.is) (inr (inr (inl refl)))
-
-  length_table_there : Has db.schema.tables suppress_table
-  length_table_there = subst (λ (s : Schema). Has s.tables suppress_table) (sym tables.is) (inr (inr (inr (inl refl))))
-
 module _ (old mid : Conn) (state : State) (held : Holds old.now state) (count : ℕ) where
   -- what was not the table of the statement stays
   stays : (table other : Table) → ChangesOnly table old.now mid.now → Has old.now.schema.tables other → (other.tree == table.tree) ≡ false → mid.now.trees other.tree ≡ old.now.trees other.tree
@@ -212,30 +201,30 @@ module _ (old mid : Conn) (state : State) (held : Holds old.now state) (count : 
     routes_keyed = keyed;
     rules = subst (λ rules. Covers IsRuleRow (mid.now.trees 0) rules) (sym same) (subst (λ rows. Covers IsRuleRow rows state.rules) (sym rows) held.rules);
     routes = routes;
-    count = stays route_table meta_table only (meta_table_there old.now held.tables) refl;
+    count = stays route_table meta_table only (ours_there old.now.schema held.tables ours.Meta) refl;
     lengths_keyed = subst IsKeyed (sym lengths) held.lengths_keyed;
     lengths = subst (λ rules. Covers IsLengthRow (mid.now.trees 4) (lengths_of rules)) (sym same) (subst (λ rows. Covers IsLengthRow rows (lengths_of state.rules)) (sym lengths) held.lengths);
     others = λ table there no_rules no_routes no_lengths. only.others table there no_routes;
   }
     where
       rows : mid.now.trees 0 ≡ old.now.trees 0
-      rows = stays route_table rule_table only (rule_table_there old.now held.tables) refl
+      rows = stays route_table rule_table only (ours_there old.now.schema held.tables ours.Rule) refl
 
       lengths : mid.now.trees 4 ≡ old.now.trees 4
-      lengths = stays route_table suppress_table only (length_table_there old.now held.tables) refl
+      lengths = stays route_table suppress_table only (ours_there old.now.schema held.tables ours.Suppress) refl
 
   -- the rules and their lengths are those of the next state
   rules_changed : (next : State) → next.routes ≡ state.routes → ChangesTwo rule_table suppress_table old.now mid.now → IsKeyed (mid.now.trees 0) → Covers IsRuleRow (mid.now.trees 0) next.rules → IsKeyed (mid.now.trees 4)
       → Covers IsLengthRow (mid.now.trees 4) (lengths_of next.rules) → IsChanged old.now mid.now next
   rules_changed next same only keyed rules lengths_keyed lengths =
-      let rows = only.others route_table (route_table_there old.now held.tables) (λ e. absurd (cc)) (λ e. absurd (cc)) in
+      let rows = only.others route_table (ours_there old.now.schema held.tables ours.Route) (λ e. absurd (cc)) (λ e. absurd (cc)) in
       record {
         schema = only.schema;
         rules_keyed = keyed;
         routes_keyed = subst IsKeyed (sym rows) held.routes_keyed;
         rules = rules;
         routes = subst (λ routes. Covers IsRouteRow (mid.now.trees 1) routes) (sym same) (subst (λ rows. Covers IsRouteRow rows state.routes) (sym rows) held.routes);
-        count = only.others meta_table (meta_table_there old.now held.tables) (λ e. absurd (cc)) (λ e. absurd (cc));
+        count = only.others meta_table (ours_there old.now.schema held.tables ours.Meta) (λ e. absurd (cc)) (λ e. absurd (cc));
         lengths_keyed = lengths_keyed;
         lengths = lengths;
         others = λ table there no_rules no_routes no_lengths. only.others table there no_rules no_lengths;
@@ -316,7 +305,7 @@ module _ (old mid : Conn) (state : State) (held : Holds old.now state) (count : 
   inserts rule none ran =
       let t = held.tables in
       let made = adds_rule t.tables t.indexes t.views t.others old mid rule count t.is ran in
-      let rows = stays rule_table suppress_table made.only (length_table_there old.now held.tables) refl in
+      let rows = stays rule_table suppress_table made.only (ours_there old.now.schema held.tables ours.Suppress) refl in
       rules_changed (put state (change.RulePut rule)) refl (record { schema = made.only.schema; others = λ table there no_rules no_lengths. made.only.others table there no_rules }) (made.keyed held.rules_keyed)
       (rule_placed rule made) (subst IsKeyed (sym rows) held.lengths_keyed)
       (subst (λ rows. Covers IsLengthRow rows (lengths_of (insert_by is_before rule state.rules))) (sym rows) (covers_more (old.now.trees 4) state.rules rule held.lengths none))
@@ -360,8 +349,8 @@ module _ (old mid last : Conn) (state : State) (held : Holds old.now state) (rul
       let is : mid.now.schema ≡ schema_with t.tables t.indexes t.views = rules.only.schema ∙ t.is in
       let made = adds_length t.tables t.indexes t.views t.others mid last length two is second in
       let in_mid = λ (table : Table) (there : Has old.now.schema.tables table). subst (λ (s : Schema). Has s.tables table) (sym rules.only.schema) there in
-      let rule_rows : last.now.trees 0 ≡ mid.now.trees 0 = made.only.others rule_table (in_mid rule_table (rule_table_there old.now held.tables)) (λ e. absurd (cc)) in
-      let length_rows : mid.now.trees 4 ≡ old.now.trees 4 = rules.only.others suppress_table (length_table_there old.now held.tables) (λ e. absurd (cc)) in
+      let rule_rows : last.now.trees 0 ≡ mid.now.trees 0 = made.only.others rule_table (in_mid rule_table (ours_there old.now.schema held.tables ours.Rule)) (λ e. absurd (cc)) in
+      let length_rows : mid.now.trees 4 ≡ old.now.trees 4 = rules.only.others suppress_table (ours_there old.now.schema held.tables ours.Suppress) (λ e. absurd (cc)) in
       let covers = subst (λ rows. Covers IsLengthRow rows (lengths_of state.rules)) (sym length_rows) held.lengths in
       rules_changed old last state held two (put state (change.RulePut rule)) refl (record {
         schema = made.only.schema ∙ rules.only.schema;
@@ -371,14 +360,9 @@ module _ (old mid last : Conn) (state : State) (held : Holds old.now state) (rul
 
 -- what the writing of a change leaves
 pub changed_by : {S : Type 0} (g : Ghosts S) (made : Change) (old mid : Held S) (state_now : State) → Holds (state g old).now state_now → IsTyped made → WritesRows g made old mid → IsChanged (state g old).now (state g mid).now (put state_now made)
-changed_by g (change.Route (Put route)) old mid now held typed ran = changed (state g old) (state g mid) now held ran.0 (change.Route (Put route)) refl typed ran.1
-changed_by g (change.Route (Remove key)) old mid now held typed ran = changed (state g old) (state g mid) now held ran.0 (change.Route (Remove key)) refl typed ran.1
-changed_by g (change.Route (Flush selector)) old mid now held typed ran = changed (state g old) (state g mid) now held ran.0 (change.Route (Flush selector)) refl typed ran.1
-changed_by g (change.RouteAdd route) old mid now held typed ran = changed (state g old) (state g mid) now held ran.0 (change.RouteAdd route) refl typed ran.1
-changed_by g (change.RuleDrop id) old mid now held typed ran = changed (state g old) (state g mid) now held ran.0 (change.RuleDrop id) refl typed ran.1
-changed_by g change.RuleFlush old mid now held typed ran = changed (state g old) (state g mid) now held ran.0 change.RuleFlush refl typed ran.1
 changed_by {S = S} g (change.RulePut rule) old mid now held typed ran = go (length_of rule) refl ran
   where
     go : (own : Option RuleLength) → length_of rule ≡ own → RunsWith g insert_rule (rule_row rule) own old mid → IsChanged (state g old).now (state g mid).now (put now (change.RulePut rule))
     go None is it = changed (state g old) (state g mid) now held it.0 (change.RulePut rule) is typed it.1
     go (Some length) is it = length_inserted (state g old) (state g it.0) (state g mid) now held rule length is it.1.0 it.2.0 it.1.1 it.2.1
+changed_by g made old mid now held typed ran = changed (state g old) (state g mid) now held ran.0 made refl typed ran.1

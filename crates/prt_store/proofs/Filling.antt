@@ -28,7 +28,7 @@ use Rattle.prt_rule.specs.declared.rule.Rule.{Rule}
 use Rattle.prt_version.proofs.Successor.{opens_sound}
 use Rattle.prt_version.specs.State.{opening_rules, opening_state, table_rule}
 use Rattle.prt_store.proofs.Changes.{among_others, keyed_rules}
-use Rattle.prt_store.proofs.Looks.{no_rows, our_table}
+use Rattle.prt_store.proofs.Looks.{no_rows, ours_there}
 use Rattle.prt_store.specs.declared.opening.OurTable.TheVariants as ours
 use Rattle.prt_store.proofs.Spelling.{same_rows}
 use Rattle.prt_store.specs.Adopted.{IsFilled}
@@ -128,21 +128,21 @@ module _ (a b c d e : Database) (tables : IsFormat2 a.schema) (empty : AreEmpty 
   no_count = no_rows a tables empty ours.Meta
 
   rules_stay : e.trees 0 ≡ d.trees 0
-  rules_stay = four.only.others rule_table (subst (λ (s : Schema). Has s.tables rule_table) (sym (three.only.schema ∙ two.only.schema ∙ one.only.schema)) (our_table a.schema tables rule_table (inl refl))) (λ is. absurd (cc))
+  rules_stay = four.only.others rule_table (subst (λ (s : Schema). Has s.tables rule_table) (sym (three.only.schema ∙ two.only.schema ∙ one.only.schema)) (ours_there a.schema tables ours.Rule)) (λ is. absurd (cc))
 
   meta_stays : d.trees 3 ≡ a.trees 3
   meta_stays =
-      let there = our_table a.schema tables meta_table (inr (inr (inl refl))) in
+      let there = ours_there a.schema tables ours.Meta in
       let in_b = subst (λ (s : Schema). Has s.tables meta_table) (sym one.only.schema) there in
       let in_c = subst (λ (s : Schema). Has s.tables meta_table) (sym two.only.schema) in_b in
       three.only.others meta_table in_c (λ is. absurd (cc)) ∙ two.only.others meta_table in_b (λ is. absurd (cc)) ∙ one.only.others meta_table there (λ is. absurd (cc))
 
   routes_stay : e.trees 1 ≡ a.trees 1
-  routes_stay = stays a b c d e one.only two.only three.only four.only route_table (our_table a.schema tables route_table (inr (inl refl))) (λ is. absurd (cc)) (λ is. absurd (cc))
+  routes_stay = stays a b c d e one.only two.only three.only four.only route_table (ours_there a.schema tables ours.Route) (λ is. absurd (cc)) (λ is. absurd (cc))
 
   no_lengths : e.trees 4 ≡ []
   no_lengths =
-      stays a b c d e one.only two.only three.only four.only suppress_table (our_table a.schema tables suppress_table (inr (inr (inr (inl refl))))) (λ is. absurd (cc)) (λ is. absurd (cc)) ∙ no_rows a tables empty ours.Suppress
+      stays a b c d e one.only two.only three.only four.only suppress_table (ours_there a.schema tables ours.Suppress) (λ is. absurd (cc)) (λ is. absurd (cc)) ∙ no_rows a tables empty ours.Suppress
 
   opened : Stores e opening_state
   opened = record {

@@ -77,9 +77,12 @@ ours_in ours.Route = inr (inl refl)
 ours_in ours.Meta = inr (inr (inl refl))
 ours_in ours.Suppress = inr (inr (inr (inl refl)))
 
+pub ours_there : (schema : Schema) → IsFormat2 schema → (table : OurTable) → Has schema.tables (table_of table)
+ours_there schema t table = our_table schema t (table_of table) (ours_in table)
+
 -- a table of ours that is empty has no rows
 pub no_rows : (db : Database) → IsFormat2 db.schema → AreEmpty db → (table : OurTable) → IsEmpty table db
-no_rows db t empty table = empty (table_of table) (ours_in table) (our_table db.schema t (table_of table) (ours_in table))
+no_rows db t empty table = empty (table_of table) (ours_in table) (ours_there db.schema t table)
 
 all_empty : (db : Database) → ((table : OurTable) → IsEmpty table db) → AreEmpty db
 all_empty db none table (inl is) there = subst (λ (t : Table). db.trees t.tree ≡ []) (sym is) (none ours.Rule)
@@ -102,7 +105,7 @@ module _ {S : Type 0} (g : Ghosts S) (conn : Held S) (tables : IsFormat2 (state 
 pub is_due_if : (db : Database) → IsFormat2 db.schema → NamesFormat1 db × IsEmpty ours.Suppress db → IsDue db
 is_due_if db t found =
     let named = found.0 in
-    (named.0, record { there = our_table db.schema t meta_table (inr (inr (inl refl))); fits = named.1; row = named.2; none = λ there. found.1 })
+    (named.0, record { there = ours_there db.schema t ours.Meta; fits = named.1; row = named.2; none = λ there. found.1 })
 
 pub named_if_due : (db : Database) → IsFormat2 db.schema → IsDue db → NamesFormat1 db × IsEmpty ours.Suppress db
-named_if_due db t due = ((due.0, due.1.fits, due.1.row), due.1.none (our_table db.schema t suppress_table (inr (inr (inr (inl refl))))))
+named_if_due db t due = ((due.0, due.1.fits, due.1.row), due.1.none (ours_there db.schema t ours.Suppress))

@@ -116,24 +116,21 @@ module _ (state : State) (made : Change) (number : ℕ) (next : IsNext state mad
       before = subst (λ n. n ≤ MOST_COMMANDS) next.counts number_fits
 
       by_change : (made : Change) → Suits state made → HasStorableIds made
-      by_change (change.Route edit) fits = tt
-      by_change (change.RouteAdd route) fits = tt
       by_change (change.RulePut rule) fits = omega (arith, fits.1, before)
       by_change (change.RuleDrop id) fits =
           let least : fits.0.id ≤ state.count + 3 = all_has (λ rule. rule.id ≤ state.count + 3) state.rules fits.0 next.sound.ids fits.1 in
           omega (arith, fits.2, least, before)
-      by_change change.RuleFlush fits = tt
+      by_change _ fits = tt
 
   -- what holds of each rule, and of the one that is put, holds of each rule of the next state
   rules_after : (P : Rule → Type 0) (made : Change) → PutsRule P made → ((rule : Rule) → Has state.rules rule → P rule) → (rule : Rule) → Has (put state made).rules rule → P rule
-  rules_after P (change.Route edit) new each rule there = each rule there
-  rules_after P (change.RouteAdd route) new each rule there = each rule there
   rules_after P (change.RulePut put_rule) new each rule there = elim (inserted_has is_before put_rule state.rules rule there) [
     | inl is ↦ subst P (sym is) new
     | inr was ↦ each rule was
   ]
   rules_after P (change.RuleDrop id) new each rule there = each rule (has_filtered (λ rule. not (rule.id == id)) state.rules rule there).0
   rules_after P change.RuleFlush new each rule there = each rule (has_filtered (λ rule. rule.priority == 0) state.rules rule there).0
+  rules_after P _ new each rule there = each rule there
 
   -- the same of routes
   put_after : (P : Route → Type 0) (added : Route) → P added → ((route : Route) → Has state.routes route → P route) → (route : Route) → Has (after_edit (Put added) state.routes) route → P route
@@ -147,42 +144,26 @@ module _ (state : State) (made : Change) (number : ℕ) (next : IsNext state mad
   routes_after P (change.Route (Remove key)) new each route there = each route (has_filtered (λ other. not (is_same_key (key_of other) key)) state.routes route there).0
   routes_after P (change.Route (Flush selector)) new each route there = each route (has_filtered (λ other. not (is_selected selector other)) state.routes route there).0
   routes_after P (change.RouteAdd added) new each route there = put_after P added new each route there
-  routes_after P (change.RulePut rule) new each route there = each route there
-  routes_after P (change.RuleDrop id) new each route there = each route there
-  routes_after P change.RuleFlush new each route there = each route there
+  routes_after P _ new each route there = each route there
 
   -- what is put is in range, and a table may hold it
   rule_in_range : (made : Change) → Suits state made → IsTyped made → PutsRule (λ rule. IsRule (state.count + 1 + 3) (plain rule)) made
-  rule_in_range (change.Route edit) fits typed = tt
-  rule_in_range (change.RouteAdd route) fits typed = tt
   rule_in_range (change.RulePut new) fits typed = up_to new.id (state.count + 1 + 3) (plain new) (omega (arith, fits.1)) (typed (omega (arith, fits.1)))
-  rule_in_range (change.RuleDrop id) fits typed = tt
-  rule_in_range change.RuleFlush fits typed = tt
+  rule_in_range _ fits typed = tt
 
   route_in_range : (made : Change) → IsTyped made → PutsRoute IsInRange made
   route_in_range (change.Route (Put route)) typed = typed
-  route_in_range (change.Route (Remove key)) typed = tt
-  route_in_range (change.Route (Flush selector)) typed = tt
   route_in_range (change.RouteAdd route) typed = typed
-  route_in_range (change.RulePut rule) typed = tt
-  route_in_range (change.RuleDrop id) typed = tt
-  route_in_range change.RuleFlush typed = tt
+  route_in_range _ typed = tt
 
   rule_storable : (made : Change) → Suits state made → PutsRule IsStorableRule made
-  rule_storable (change.Route edit) fits = tt
-  rule_storable (change.RouteAdd route) fits = tt
   rule_storable (change.RulePut rule) fits = fits.0
-  rule_storable (change.RuleDrop id) fits = tt
-  rule_storable change.RuleFlush fits = tt
+  rule_storable _ fits = tt
 
   route_storable : (made : Change) → Suits state made → PutsRoute IsStorableRoute made
   route_storable (change.Route (Put route)) fits = fits
-  route_storable (change.Route (Remove key)) fits = tt
-  route_storable (change.Route (Flush selector)) fits = tt
   route_storable (change.RouteAdd route) fits = fits
-  route_storable (change.RulePut rule) fits = tt
-  route_storable (change.RuleDrop id) fits = tt
-  route_storable change.RuleFlush fits = tt
+  route_storable _ fits = tt
 
   module _ (storable : FitsTables state) (typed : IsTyped made) where
     older_rules : (rule : Rule) → Has state.rules rule → IsRule (state.count + 1 + 3) (plain rule)
