@@ -58,16 +58,20 @@ use Rattle.prt_store.specs.Made.{RunsWith, WritesRows}
 use Rattle.prt_store.specs.Stored.{FitsTables, Stores}
 use Rattle.prt_store.specs.Written.{IsTyped, length_put, text_of, values_of}
 
+-- the tables keep the rules, their lengths and the routes of the state, whatever their order
+pub record Keeps (db : Database) (state : State) : Type 0 where
+  pub rules_keyed : IsKeyed (db.trees 0)
+  pub routes_keyed : IsKeyed (db.trees 1)
+  pub rules : Covers IsRuleRow (db.trees 0) state.rules
+  pub routes : Covers IsRouteRow (db.trees 1) state.routes
+  pub lengths_keyed : IsKeyed (db.trees 4)
+  pub lengths : Covers IsLengthRow (db.trees 4) (lengths_of state.rules)
+
 -- the rules and routes are those of the next state, and the count is still to be set
 pub record IsChanged (old mid : Database) (next : State) : Type 0 where
   pub schema : mid.schema ≡ old.schema
-  pub rules_keyed : IsKeyed (mid.trees 0)
-  pub routes_keyed : IsKeyed (mid.trees 1)
-  pub rules : Covers IsRuleRow (mid.trees 0) next.rules
-  pub routes : Covers IsRouteRow (mid.trees 1) next.routes
+  pub kept : Keeps mid next
   pub count : mid.trees 3 ≡ old.trees 3
-  pub lengths_keyed : IsKeyed (mid.trees 4)
-  pub lengths : Covers IsLengthRow (mid.trees 4) (lengths_of next.rules)
   pub others : (table : Table) → Has old.schema.tables table → (table.tree ≡ 0 → ⊥) → (table.tree ≡ 1 → ⊥) → (table.tree ≡ 4 → ⊥) → mid.trees table.tree ≡ old.trees table.tree
 
 -- a table of the file that is not ours is one of the others
@@ -168,23 +172,20 @@ module _ (old : Database) (state : State) (held : Stores old state) where
 -- The tables hold the rules, with their lengths, and the routes of this state, whatever their count.
 pub record Holds (db : Database) (state : State) : Type 0 where
   pub tables : IsFormat2 db.schema
-  pub rules_keyed : IsKeyed (db.trees 0)
-  pub routes_keyed : IsKeyed (db.trees 1)
-  pub rules : Covers IsRuleRow (db.trees 0) state.rules
-  pub routes : Covers IsRouteRow (db.trees 1) state.routes
-  pub lengths_keyed : IsKeyed (db.trees 4)
-  pub lengths : Covers IsLengthRow (db.trees 4) (lengths_of state.rules)
+  pub kept : Keeps db state
   pub fits : FitsTables state
 
 pub holds : (db : Database) (state : State) → Stores db state → Holds db state
 holds db state held = record {
   tables = held.tables;
-  rules_keyed = rules_keyed db state held;
-  routes_keyed = held.keyed;
-  rules = rules_covered db state held;
-  routes = routes_covered db state held;
-  lengths_keyed = lengths_are_keyed db state held;
-  lengths = lengths_covered db state held;
+  kept = record {
+    rules_keyed = rules_keyed db state held;
+    routes_keyed = held.keyed;
+    rules = rules_covered db state held;
+    routes = routes_covered db state held;
+    lengths_keyed = lengths_are_keyed db state held;
+    lengths = lengths_covered db state held;
+  };
   fits = held.fits;
 }
 
@@ -197,13 +198,15 @@ module _ (old mid : Conn) (state : State) (held : Holds old.now state) (count : 
   routes_changed : (next : State) → next.rules ≡ state.rules → ChangesOnly route_table old.now mid.now → IsKeyed (mid.now.trees 1) → Covers IsRouteRow (mid.now.trees 1) next.routes → IsChanged old.now mid.now next
   routes_changed next same only keyed routes = record {
     schema = only.schema;
-    rules_keyed = subst IsKeyed (sym rows) held.rules_keyed;
-    routes_keyed = keyed;
-    rules = subst (λ rules. Covers IsRuleRow (mid.now.trees 0) rules) (sym same) (subst (λ rows. Covers IsRuleRow rows state.rules) (sym rows) held.rules);
-    routes = routes;
+    kept = record {
+      rules_keyed = subst IsKeyed (sym rows) held.kept.rules_keyed;
+      routes_keyed = keyed;
+      rules = subst (λ rules. Covers IsRuleRow (mid.now.trees 0) rules) (sym same) (subst (λ rows. Covers IsRuleRow rows state.rules) (sym rows) held.kept.rules);
+      routes = routes;
+      lengths_keyed = subst IsKeyed (sym lengths) held.kept.lengths_keyed;
+      lengths = subst (λ rules. Covers IsLengthRow (mid.now.trees 4) (lengths_of rules)) (sym same) (subst (λ rows. Covers IsLengthRow rows (lengths_of state.rules)) (sym lengths) held.kept.lengths);
+    };
     count = stays route_table meta_table only (ours_there old.now.schema held.tables ours.Meta) refl;
-    lengths_keyed = subst IsKeyed (sym lengths) held.lengths_keyed;
-    lengths = subst (λ rules. Covers IsLengthRow (mid.now.trees 4) (lengths_of rules)) (sym same) (subst (λ rows. Covers IsLengthRow rows (lengths_of state.rules)) (sym lengths) held.lengths);
     others = λ table there no_rules no_routes no_lengths. only.others table there no_routes;
   }
     where
@@ -220,13 +223,15 @@ module _ (old mid : Conn) (state : State) (held : Holds old.now state) (count : 
       let rows = only.others route_table (ours_there old.now.schema held.tables ours.Route) (λ e. absurd (cc)) (λ e. absurd (cc)) in
       record {
         schema = only.schema;
-        rules_keyed = keyed;
-        routes_keyed = subst IsKeyed (sym rows) held.routes_keyed;
-        rules = rules;
-        routes = subst (λ routes. Covers IsRouteRow (mid.now.trees 1) routes) (sym same) (subst (λ rows. Covers IsRouteRow rows state.routes) (sym rows) held.routes);
+        kept = record {
+          rules_keyed = keyed;
+          routes_keyed = subst IsKeyed (sym rows) held.kept.routes_keyed;
+          rules = rules;
+          routes = subst (λ routes. Covers IsRouteRow (mid.now.trees 1) routes) (sym same) (subst (λ rows. Covers IsRouteRow rows state.routes) (sym rows) held.kept.routes);
+          lengths_keyed = lengths_keyed;
+          lengths = lengths;
+        };
         count = only.others meta_table (ours_there old.now.schema held.tables ours.Meta) (λ e. absurd (cc)) (λ e. absurd (cc));
-        lengths_keyed = lengths_keyed;
-        lengths = lengths;
         others = λ table there no_rules no_routes no_lengths. only.others table there no_rules no_lengths;
       }
 
@@ -239,18 +244,18 @@ module _ (old mid : Conn) (state : State) (held : Holds old.now state) (count : 
     lengths_left = record {
       sound = λ row there.
           let was = made.lengths_sound row there in
-          let length = held.lengths.sound row was.0 in
+          let length = held.kept.lengths.sound row was.0 in
           let rule = was_length state.rules length.0 length.1 in
-          let kept = held.rules.complete rule.0 rule.1 in
+          let kept = held.kept.rules.complete rule.0 rule.1 in
           let same : has_same_rowid row kept.0 ≡ true = (λ i. has_same_rowid (length.2 i) (kept.2 i)) ∙ own_row rule.0 length.0 rule.2 in
           let stays : remains rule.0 ≡ true = not-false (remains rule.0) (sym (agree rule.0 kept.0 rule.1 kept.2) ∙ was.1 kept.0 kept.1 same) in
           (length.0, has_length (filter remains state.rules) rule.0 length.0 (has_kept remains state.rules rule.0 rule.1 stays) rule.2, length.2);
       complete = λ length there.
           let rule = was_length (filter remains state.rules) length there in
           let left = has_filtered remains state.rules rule.0 rule.1 in
-          let row = held.lengths.complete length (has_length state.rules rule.0 length left.0 rule.2) in
+          let row = held.kept.lengths.complete length (has_length state.rules rule.0 length left.0 rule.2) in
           let none : IsOfNone tests params (old.now.trees 0) row.0 = λ other among same.
-          let whose = held.rules.sound other among in
+          let whose = held.kept.rules.sound other among in
           let ids : length.rule ≡ whose.0.id = eqb-true length.rule whose.0.id (sym (id_cmp length.rule whose.0.id) ∙ (λ i. has_same_rowid (sym row.2 i) (sym whose.2 i)) ∙ same) in
           let one : whose.0 ≡ rule.0 = one_by_id state.rules held.fits.sound.distinct_ids whose.0 rule.0 whose.1 left.0 (sym ids ∙ of_rule rule.0 length rule.2) in
           agree whose.0 other whose.1 whose.2 ∙ ap (λ r. not (remains r)) one ∙ ap not left.1 in
@@ -260,43 +265,43 @@ module _ (old mid : Conn) (state : State) (held : Holds old.now state) (count : 
   -- the row of the rule is there beside the others
   rule_placed : (rule : Rule) → Adds rule_table (kept_rule rule) old.now mid.now → Covers IsRuleRow (mid.now.trees 0) (insert_by is_before rule state.rules)
   rule_placed rule made =
-      let placed = covers_placed IsRuleRow (old.now.trees 0) (mid.now.trees 0) state.rules held.rules (λ _. false) (λ _. true) (λ _ _ _ _. refl) (λ row was _. made.complete row was) is_before rule
+      let placed = covers_placed IsRuleRow (old.now.trees 0) (mid.now.trees 0) state.rules held.kept.rules (λ _. false) (λ _. true) (λ _ _ _ _. refl) (λ row was _. made.complete row was) is_before rule
       (λ row there. elim (made.sound row there) [ inl is ↦ inl is | inr was ↦ inr (was, refl) ]) (kept_rule rule, made.here, refl) in
       subst (λ rules. Covers IsRuleRow (mid.now.trees 0) (insert_by is_before rule rules)) (filter_all state.rules) placed
 
   route_rows : AreRouteRows (old.now.trees 1)
-  route_rows row there = let was = held.routes.sound row there in (was.0, was.2)
+  route_rows row there = let was = held.kept.routes.sound row there in (was.0, was.2)
 
   route_placed : (route : Route) → Puts route old.now mid.now → IsChanged old.now mid.now (put state (change.Route (Put route)))
   route_placed route made =
       routes_changed (put state (change.Route (Put route))) refl made.only made.keyed
-      (covers_placed IsRouteRow (old.now.trees 1) (mid.now.trees 1) state.routes held.routes (passes has_key (key_values (key_of route))) (λ other. not (is_same_key (key_of other) (key_of route)))
+      (covers_placed IsRouteRow (old.now.trees 1) (mid.now.trees 1) state.routes held.kept.routes (passes has_key (key_values (key_of route))) (λ other. not (is_same_key (key_of other) (key_of route)))
       (λ other row there is. row_has_key row other route is ∙ not_not _) made.complete is_listed_before route made.sound made.here)
 
   puts : (route : Route) → Executes put_route (route_row route) old mid (Ok count) → IsChanged old.now mid.now (put state (change.Route (Put route)))
   puts route ran =
       let t = held.tables in
-      route_placed route (puts_route t.tables t.indexes t.views t.others t.free old mid route count t.is route_rows held.routes_keyed ran)
+      route_placed route (puts_route t.tables t.indexes t.views t.others t.free old mid route count t.is route_rows held.kept.routes_keyed ran)
 
   joins : (route : Route) → Executes insert_route (route_row route) old mid (Ok count) → IsChanged old.now mid.now (put state (change.RouteAdd route))
   joins route ran =
       let t = held.tables in
-      route_placed route (puts_beside route old.now mid.now (adds_route t.tables t.indexes t.views t.others t.free old mid route count t.is route_rows held.routes_keyed ran))
+      route_placed route (puts_beside route old.now mid.now (adds_route t.tables t.indexes t.views t.others t.free old mid route count t.is route_rows held.kept.routes_keyed ran))
 
   removes : (key : RouteKey) → Executes delete_route (key_values key) old mid (Ok count) → IsChanged old.now mid.now (put state (change.Route (Remove key)))
   removes key ran =
       let t = held.tables in
-      let made = deletes_route t.tables t.indexes t.views t.others old mid t.is (key_values key) count held.routes_keyed ran in
+      let made = deletes_route t.tables t.indexes t.views t.others old mid t.is (key_values key) count held.kept.routes_keyed ran in
       routes_changed (put state (change.Route (Remove key))) refl made.only made.keyed
-      (covers_left IsRouteRow (old.now.trees 1) (mid.now.trees 1) state.routes held.routes (passes has_key (key_values key)) (λ other. not (is_same_key (key_of other) key))
+      (covers_left IsRouteRow (old.now.trees 1) (mid.now.trees 1) state.routes held.kept.routes (passes has_key (key_values key)) (λ other. not (is_same_key (key_of other) key))
       (λ other row there is. ap (passes has_key (key_values key)) (split row other is) ∙ passes_key (rowid row) other key ∙ not_not _) made.complete made.sound)
 
   selects : (selector : Selector) → IsSelector selector → Executes flush_routes (selector_row selector) old mid (Ok count) → IsChanged old.now mid.now (put state (change.Route (Flush selector)))
   selects selector is ran =
       let t = held.tables in
-      let made = deletes_routes t.tables t.indexes t.views t.others old mid t.is (selector_row selector) count held.routes_keyed ran in
+      let made = deletes_routes t.tables t.indexes t.views t.others old mid t.is (selector_row selector) count held.kept.routes_keyed ran in
       routes_changed (put state (change.Route (Flush selector))) refl made.only made.keyed
-      (covers_left IsRouteRow (old.now.trees 1) (mid.now.trees 1) state.routes held.routes (passes is_flushed (selector_row selector)) (λ other. not (is_selected selector other))
+      (covers_left IsRouteRow (old.now.trees 1) (mid.now.trees 1) state.routes held.kept.routes (passes is_flushed (selector_row selector)) (λ other. not (is_selected selector other))
       (λ other row there same.
       ap (passes is_flushed (selector_row selector)) (split row other same) ∙ passes_selector (rowid row) other selector (held.fits.routes other there).prefix is ∙ not_not _)
       made.complete made.sound)
@@ -306,27 +311,27 @@ module _ (old mid : Conn) (state : State) (held : Holds old.now state) (count : 
       let t = held.tables in
       let made = adds_rule t.tables t.indexes t.views t.others old mid rule count t.is ran in
       let rows = stays rule_table suppress_table made.only (ours_there old.now.schema held.tables ours.Suppress) refl in
-      rules_changed (put state (change.RulePut rule)) refl (record { schema = made.only.schema; others = λ table there no_rules no_lengths. made.only.others table there no_rules }) (made.keyed held.rules_keyed)
-      (rule_placed rule made) (subst IsKeyed (sym rows) held.lengths_keyed)
-      (subst (λ rows. Covers IsLengthRow rows (lengths_of (insert_by is_before rule state.rules))) (sym rows) (covers_more (old.now.trees 4) state.rules rule held.lengths none))
+      rules_changed (put state (change.RulePut rule)) refl (record { schema = made.only.schema; others = λ table there no_rules no_lengths. made.only.others table there no_rules }) (made.keyed held.kept.rules_keyed)
+      (rule_placed rule made) (subst IsKeyed (sym rows) held.kept.lengths_keyed)
+      (subst (λ rows. Covers IsLengthRow rows (lengths_of (insert_by is_before rule state.rules))) (sym rows) (covers_more (old.now.trees 4) state.rules rule held.kept.lengths none))
 
   drops : (id : ℕ) → Executes delete_rule (id_values id) old mid (Ok count) → IsChanged old.now mid.now (put state (change.RuleDrop id))
   drops id ran =
       let t = held.tables in
-      let made = deletes_rule t.tables t.indexes t.views t.others old mid t.is (id_values id) count held.rules_keyed held.lengths_keyed ran in
+      let made = deletes_rule t.tables t.indexes t.views t.others old mid t.is (id_values id) count held.kept.rules_keyed held.kept.lengths_keyed ran in
       let agree = λ (rule : Rule) (row : Row) (there : Has state.rules rule) (is : IsRuleRow rule row). ap (passes has_id (id_values id)) is ∙ passes_id rule id ∙ not_not _ in
       rules_changed (put state (change.RuleDrop id)) refl made.only made.keyed
-      (covers_left IsRuleRow (old.now.trees 0) (mid.now.trees 0) state.rules held.rules (passes has_id (id_values id)) (λ rule. not (rule.id == id)) agree
+      (covers_left IsRuleRow (old.now.trees 0) (mid.now.trees 0) state.rules held.kept.rules (passes has_id (id_values id)) (λ rule. not (rule.id == id)) agree
       made.complete made.sound)
       made.lengths_keyed (lengths_left has_id (id_values id) (λ rule. not (rule.id == id)) agree made)
 
   flushes : Executes flush_rules [] old mid (Ok count) → IsChanged old.now mid.now (put state change.RuleFlush)
   flushes ran =
       let t = held.tables in
-      let made = flushes_rules t.tables t.indexes t.views t.others old mid t.is [] count held.rules_keyed held.lengths_keyed ran in
+      let made = flushes_rules t.tables t.indexes t.views t.others old mid t.is [] count held.kept.rules_keyed held.kept.lengths_keyed ran in
       let agree = λ (rule : Rule) (row : Row) (there : Has state.rules rule) (is : IsRuleRow rule row). ap (passes has_priority []) is ∙ passes_priority rule in
       rules_changed (put state change.RuleFlush) refl made.only made.keyed
-      (covers_left IsRuleRow (old.now.trees 0) (mid.now.trees 0) state.rules held.rules (passes has_priority []) (λ rule. rule.priority == 0) agree
+      (covers_left IsRuleRow (old.now.trees 0) (mid.now.trees 0) state.rules held.kept.rules (passes has_priority []) (λ rule. rule.priority == 0) agree
       made.complete made.sound)
       made.lengths_keyed (lengths_left has_priority [] (λ rule. rule.priority == 0) agree made)
 
@@ -351,12 +356,12 @@ module _ (old mid last : Conn) (state : State) (held : Holds old.now state) (rul
       let in_mid = λ (table : Table) (there : Has old.now.schema.tables table). subst (λ (s : Schema). Has s.tables table) (sym rules.only.schema) there in
       let rule_rows : last.now.trees 0 ≡ mid.now.trees 0 = made.only.others rule_table (in_mid rule_table (ours_there old.now.schema held.tables ours.Rule)) (λ e. absurd (cc)) in
       let length_rows : mid.now.trees 4 ≡ old.now.trees 4 = rules.only.others suppress_table (ours_there old.now.schema held.tables ours.Suppress) (λ e. absurd (cc)) in
-      let covers = subst (λ rows. Covers IsLengthRow rows (lengths_of state.rules)) (sym length_rows) held.lengths in
+      let covers = subst (λ rows. Covers IsLengthRow rows (lengths_of state.rules)) (sym length_rows) held.kept.lengths in
       rules_changed old last state held two (put state (change.RulePut rule)) refl (record {
         schema = made.only.schema ∙ rules.only.schema;
         others = λ table there no_rules no_lengths. made.only.others table (in_mid table there) no_lengths ∙ rules.only.others table there no_rules;
-      }) (subst IsKeyed (sym rule_rows) (rules.keyed held.rules_keyed)) (subst (λ rows. Covers IsRuleRow rows (insert_by is_before rule state.rules)) (sym rule_rows) (rule_placed old mid state held one rule rules))
-      (made.keyed (subst IsKeyed (sym length_rows) held.lengths_keyed)) (covers_one_more (mid.now.trees 4) (last.now.trees 4) state.rules rule length covers own made.sound made.here made.complete)
+      }) (subst IsKeyed (sym rule_rows) (rules.keyed held.kept.rules_keyed)) (subst (λ rows. Covers IsRuleRow rows (insert_by is_before rule state.rules)) (sym rule_rows) (rule_placed old mid state held one rule rules))
+      (made.keyed (subst IsKeyed (sym length_rows) held.kept.lengths_keyed)) (covers_one_more (mid.now.trees 4) (last.now.trees 4) state.rules rule length covers own made.sound made.here made.complete)
 
 -- what the writing of a change leaves
 pub changed_by : {S : Type 0} (g : Ghosts S) (made : Change) (old mid : Held S) (state_now : State) → Holds (state g old).now state_now → IsTyped made → WritesRows g made old mid → IsChanged (state g old).now (state g mid).now (put state_now made)

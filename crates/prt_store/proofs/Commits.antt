@@ -1,5 +1,5 @@
 -- The change and the count make the next state of what was stored.
-use Rattle.std.proofs.Common.{◌≡◌, ℕ, ◌&&◌, true, false, List, Ok, IsPermutation, drop, map, inl, inr, refl, sym, ap, subst, ◌∙◌}
+use Rattle.std.proofs.Common.{◌≡◌, ℕ, ◌&&◌, true, false, Ok, IsPermutation, drop, map, inl, inr, refl, sym, ap, subst, ◌∙◌}
 use Rattle.std.proofs.lemmas.Bool.{and_from, and_parts, eq-eqb, eqb-false, false_from_ne_true, not-true, true≢false}
 use Rattle.std.proofs.lemmas.Cmp.{tied_itself}
 use Rattle.std.specs.Ordering.{is_eq}
@@ -9,7 +9,6 @@ use Rattle.sqlite.specs.Schema.{Schema}
 use Rattle.sqlite.specs.State.{State as Conn, Executes}
 use Rattle.sqlite.specs.Tree.{rowid}
 use Rattle.sqlite_rules.proofs.ListLemmas.{all_has, some_from}
-use Rattle.sqlite_rules.proofs.ProbeLemmas.{has_mapped, mapped_has}
 use Rattle.sqlite_rules.proofs.TableLemmas.{int_is}
 use Rattle.sqlite_rules.specs.Lists.{Has}
 use Rattle.sqlite_schema.specs.Rules.{agree, clashes, differ}
@@ -34,8 +33,8 @@ use Rattle.prt_rows.specs.Format.{IsFormat2}
 use Rattle.prt_store.specs.Next.{MakesNext}
 use Rattle.prt_store.specs.Stored.{FitsTables, Stores}
 use Rattle.prt_store.proofs.Changes.{IsChanged, among_others, keyed_rules}
-use Rattle.prt_store.proofs.Once.{IsOnce, once_mapped}
-use Rattle.prt_store.proofs.Spelling.{Covers, IsLengthRow, IsRouteRow, IsRuleRow, map_id, same_if_covers, same_rows}
+use Rattle.prt_store.proofs.Once.{once_mapped}
+use Rattle.prt_store.proofs.Spelling.{Covers, IsLengthRow, IsRouteRow, IsRuleRow, rows_if_covers, same_if_covers}
 use Rattle.prt_store.proofs.Lengths.{keyed_lengths}
 use Rattle.prt_store.specs.Lengths.{lengths_of}
 
@@ -67,24 +66,6 @@ routes_spell db tables sound keyed state storable covers = same_if_covers route_
     let one : route ≡ other = same_route route other (storable.routes route there) (storable.routes other also) same in
     ap (λ x. same_key route x) (sym one) ∙ same_itself route))
 
-rules_spell : (rows : List Row) → IsKeyed rows → (state : State) → FitsTables state → Covers IsRuleRow rows state.rules → IsPermutation rows (map kept_rule state.rules)
-rules_spell rows keyed state storable covers =
-    subst (λ rows. IsPermutation rows (map kept_rule state.rules)) (map_id rows) (same_if_covers kept_rule (λ row. row) rows state.rules covers
-    (once_mapped (λ row. row) has_same_rowid rows keyed.once (λ row other there also same. ap (λ x. has_same_rowid row x) (sym same) ∙ ap is_eq (tied_itself value_cmp_total (rowid row))))
-    (subst IsOnce (map_id (map kept_rule state.rules))
-    (once_mapped (λ row. row) has_same_rowid (map kept_rule state.rules) (keyed_rules state.rules storable.sound.distinct_ids).once (λ row other there also same. ap (λ x. has_same_rowid row x) (sym same) ∙ ap is_eq (tied_itself value_cmp_total (rowid row))))))
-
-lengths_spell : (rows : List Row) → IsKeyed rows → (state : State) → FitsTables state → Covers IsLengthRow rows (lengths_of state.rules) → IsPermutation rows (map kept_length (lengths_of state.rules))
-lengths_spell rows keyed state storable covers = same_rows rows (map kept_length (lengths_of state.rules)) keyed (keyed_lengths state.rules storable.sound.distinct_ids) (record {
-  sound = λ row there.
-      let value = covers.sound row there in
-      subst (Has (map kept_length (lengths_of state.rules))) (sym value.2) (mapped_has kept_length (lengths_of state.rules) value.0 value.1);
-  complete = λ row there.
-      let m = has_mapped kept_length (lengths_of state.rules) row there in
-      let kept = covers.complete m.0 m.1 in
-      subst (Has rows) (kept.2 ∙ sym m.2) kept.1;
-})
-
 module _ (old mid last : Conn) (state next : State) (held : Stores old.now state) (made : IsChanged old.now mid.now next) (storable : FitsTables next) where
   tables_kept : IsFormat2 mid.now.schema
   tables_kept = subst IsFormat2 (sym made.schema) held.tables
@@ -100,15 +81,15 @@ module _ (old mid last : Conn) (state next : State) (held : Stores old.now state
       let rules : last.now.trees 0 ≡ mid.now.trees 0 = set.only.others rule_table (subst (λ (s : Schema). Has s.tables rule_table) (sym t.is) (inl refl)) (λ e. absurd (cc)) in
       let routes : last.now.trees 1 ≡ mid.now.trees 1 = set.only.others route_table (subst (λ (s : Schema). Has s.tables route_table) (sym t.is) (inr (inl refl))) (λ e. absurd (cc)) in
       let lengths : last.now.trees 4 ≡ mid.now.trees 4 = set.only.others suppress_table (subst (λ (s : Schema). Has s.tables suppress_table) (sym t.is) (inr (inr (inr (inl refl))))) (λ e. absurd (cc)) in
-      let keyed : IsKeyed (last.now.trees 1) = subst IsKeyed (sym routes) made.routes_keyed in
+      let keyed : IsKeyed (last.now.trees 1) = subst IsKeyed (sym routes) made.kept.routes_keyed in
       record {
         sound = w.sound;
         stores = record {
           tables = tables;
           keyed = keyed;
-          rules = rules_spell (last.now.trees 0) (subst IsKeyed (sym rules) made.rules_keyed) next storable (subst (λ rows. Covers IsRuleRow rows next.rules) (sym rules) made.rules);
-          routes = routes_spell last.now tables w.sound keyed next storable (subst (λ rows. Covers IsRouteRow rows next.routes) (sym routes) made.routes);
-          lengths = lengths_spell (last.now.trees 4) (subst IsKeyed (sym lengths) made.lengths_keyed) next storable (subst (λ rows. Covers IsLengthRow rows (lengths_of next.rules)) (sym lengths) made.lengths);
+          rules = rows_if_covers kept_rule (last.now.trees 0) next.rules (subst IsKeyed (sym rules) made.kept.rules_keyed) (keyed_rules next.rules storable.sound.distinct_ids) (subst (λ rows. Covers IsRuleRow rows next.rules) (sym rules) made.kept.rules);
+          routes = routes_spell last.now tables w.sound keyed next storable (subst (λ rows. Covers IsRouteRow rows next.routes) (sym routes) made.kept.routes);
+          lengths = rows_if_covers kept_length (last.now.trees 4) (lengths_of next.rules) (subst IsKeyed (sym lengths) made.kept.lengths_keyed) (keyed_lengths next.rules storable.sound.distinct_ids) (subst (λ rows. Covers IsLengthRow rows (lengths_of next.rules)) (sym lengths) made.kept.lengths);
           count = set.alone;
           fits = storable;
         };

@@ -1,5 +1,5 @@
 -- The rows that fill the empty tables spell the opening state.
-use Rattle.std.proofs.Common.{◌≡◌, ◌≤◌, inl, inr, ℕ, List, [], ◌∷◌, drop, map, IsPermutation, ◌==◌, refl, sym, subst, ◌∙◌, arith}
+use Rattle.std.proofs.Common.{◌≡◌, ◌≤◌, inl, inr, ℕ, List, [], ◌∷◌, drop, map, IsPermutation, refl, sym, subst, ◌∙◌, arith}
 use Rattle.std.proofs.lemmas.Bool.{eqb-false}
 use Rattle.std.proofs.lemmas.List.Sorted.{IsPermutation-refl, IsPermutation-sym}
 use Rattle.std.specs.List.{IsDistinct}
@@ -54,16 +54,10 @@ fits_rule id priority table least most fits few = record {
 }
 
 fits_opening : (rule : Rule) → Has opening_rules rule → IsRule 3 (plain rule)
-fits_opening rule there = elim there [
-  | inl is ↦ subst (λ r. IsRule 3 (plain r)) (sym is) (fits_rule 1 0 local_table (omega arith) (omega arith) (omega arith) (omega arith))
-  | inr more ↦ elim more [
-    | inl is ↦ subst (λ r. IsRule 3 (plain r)) (sym is) (fits_rule 2 32766 main_table (omega arith) (omega arith) (omega arith) (omega arith))
-    | inr last ↦ elim last [
-      | inl is ↦ subst (λ r. IsRule 3 (plain r)) (sym is) (fits_rule 3 32767 default_table (omega arith) (omega arith) (omega arith) (omega arith))
-      | inr none ↦ absurd none
-    ]
-  ]
-]
+fits_opening rule (inl is) = subst (λ r. IsRule 3 (plain r)) (sym is) (fits_rule 1 0 local_table (omega arith) (omega arith) (omega arith) (omega arith))
+fits_opening rule (inr (inl is)) = subst (λ r. IsRule 3 (plain r)) (sym is) (fits_rule 2 32766 main_table (omega arith) (omega arith) (omega arith) (omega arith))
+fits_opening rule (inr (inr (inl is))) = subst (λ r. IsRule 3 (plain r)) (sym is) (fits_rule 3 32767 default_table (omega arith) (omega arith) (omega arith) (omega arith))
+fits_opening rule (inr (inr (inr none))) = absurd none
 
 opening_fits : FitsTables opening_state
 opening_fits = record {
@@ -72,9 +66,6 @@ opening_fits = record {
   routes = λ route none. absurd none;
   storable = record { rules = (refl, (refl, (refl, tt))); routes = tt };
 }
-
-distinct_ids : IsDistinct (λ (rule other : Rule). rule.id == other.id) opening_rules
-distinct_ids = opening_fits.sound.distinct_ids
 
 -- ---- rows that are the same
 
@@ -148,7 +139,7 @@ module _ (a b c d e : Database) (tables : IsFormat2 a.schema) (empty : AreEmpty 
   opened = record {
     tables = subst IsFormat2 (sym (schema_stays a b c d e one.only two.only three.only four.only)) tables;
     rules = subst (λ rows. IsPermutation rows (map kept_rule opening_rules)) (sym rules_stay)
-        (same_rows (d.trees 0) (map kept_rule opening_rules) (three_keyed (table_rule 1 0 local_table) (table_rule 2 32766 main_table) (table_rule 3 32767 default_table) a b c d one two three no_rules) (keyed_rules opening_rules distinct_ids)
+        (same_rows (d.trees 0) (map kept_rule opening_rules) (three_keyed (table_rule 1 0 local_table) (table_rule 2 32766 main_table) (table_rule 3 32767 default_table) a b c d one two three no_rules) (keyed_rules opening_rules opening_fits.sound.distinct_ids)
         (turned _ _ _ (d.trees 0) (three_rules (table_rule 1 0 local_table) (table_rule 2 32766 main_table) (table_rule 3 32767 default_table) a b c d one two three no_rules)));
     routes = subst (λ rows. IsPermutation (map (drop 1) rows) []) (sym (routes_stay ∙ no_routes)) (IsPermutation-refl []);
     keyed = keyed_empty (e.trees 1) (routes_stay ∙ no_routes);

@@ -67,26 +67,16 @@ fits_all before (made ∷ more) fits all typed =
 chained : (old mid last : Database) (next final : State) → IsChanged old mid next → IsChanged mid last final → IsChanged old last final
 chained old mid last next final one two = record {
   schema = two.schema ∙ one.schema;
-  rules_keyed = two.rules_keyed;
-  routes_keyed = two.routes_keyed;
-  rules = two.rules;
-  routes = two.routes;
+  kept = two.kept;
   count = two.count ∙ one.count;
-  lengths_keyed = two.lengths_keyed;
-  lengths = two.lengths;
   others = λ table there no_rules no_routes no_lengths. two.others table (subst (λ (s : Schema). Has s.tables table) (sym one.schema) there) no_rules no_routes no_lengths ∙ one.others table there no_rules no_routes no_lengths;
 }
 
 unchanged : (db : Database) (before : State) → Holds db before → IsChanged db db before
 unchanged db before held = record {
   schema = refl;
-  rules_keyed = held.rules_keyed;
-  routes_keyed = held.routes_keyed;
-  rules = held.rules;
-  routes = held.routes;
+  kept = held.kept;
   count = refl;
-  lengths_keyed = held.lengths_keyed;
-  lengths = held.lengths;
   others = λ table there no_rules no_routes no_lengths. refl;
 }
 
@@ -97,16 +87,8 @@ changed_all g old last before (made ∷ more) held all typed did =
     let mid = did.0 in
     let one = changed_by g made old mid before held typed.0 did.1 in
     let next = first_next before made more held.fits.sound all in
-    let after : Holds (state g mid).now (put before made) = record {
-      tables = subst IsFormat2 (sym one.schema) held.tables;
-      rules_keyed = one.rules_keyed;
-      routes_keyed = one.routes_keyed;
-      rules = one.rules;
-      routes = one.routes;
-      lengths_keyed = one.lengths_keyed;
-      lengths = one.lengths;
-      fits = next_storable before made (before.count + 1) next held.fits typed.0;
-    } in
+    let after : Holds (state g mid).now (put before made) =
+    record { tables = subst IsFormat2 (sym one.schema) held.tables; kept = one.kept; fits = next_storable before made (before.count + 1) next held.fits typed.0 } in
     chained (state g old).now (state g mid).now (state g last).now (put before made) (put_all before (made ∷ more)) one (changed_all g mid last (put before made) more after all.1 typed.1 did.2)
 
 -- what was done makes the state after all changes of what was stored
