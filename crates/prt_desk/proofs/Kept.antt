@@ -6,7 +6,7 @@ use Rattle.sqlite.specs.Tree.{Trees}
 use Rattle.prt_command.specs.declared.request.Command.{Command}
 use Rattle.prt_publisher.specs.Standing.{Agrees, IsQuiet, Standing}
 use Rattle.prt_publisher.specs.declared.phase.Phase.{Phase}
-use Rattle.prt_publisher.specs.declared.phase.Phase.TheVariants.{Ready, Admitted, Prepared, Committed, Published, Closed}
+use Rattle.prt_publisher.specs.declared.phase.Phase.TheVariants.{Ready, Closed}
 use Rattle.prt_session.specs.Desk.{DeskState}
 use Rattle.prt_store.proofs.Exits.{found_is}
 use Rattle.prt_store.proofs.Spelled.{spelled_once}
@@ -21,22 +21,16 @@ with_stored state phase stored = record { published = state; stored = stored; cl
 module _ {S : Type 0} (g : Ghosts S) (ours_first : Bool) (tables : Held S) (shown : State) where
   published_by : (phase : Phase) (under : List Command) (desk : DeskState) → StandsBy g ours_first tables shown phase under desk → desk.published ≡ shown
   published_by Ready under desk is = ap (λ (d : DeskState). d.published) is
-  published_by Admitted under desk is = absurd is
-  published_by Prepared under desk is = absurd is
-  published_by Committed under desk is = absurd is
-  published_by Published under desk is = absurd is
   published_by Closed [] desk is = is.0
   published_by Closed (command ∷ commands) desk is = ap (λ (d : DeskState). d.published) is
+  published_by phase under desk is = absurd is
 
   durable_by : (phase : Phase) (under : List Command) → IsQuiet phase → IsKnown g ours_first tables → Agrees g phase under shown tables → (trees : Trees) → (state g tables).may_leave trees
       → (stored : State) × Spells trees stored × StandsBy g ours_first tables shown phase under (with_stored shown phase stored)
   durable_by Ready under quiet known kept trees may = (shown, kept.durable trees may, refl)
-  durable_by Admitted under quiet known kept trees may = absurd quiet
-  durable_by Prepared under quiet known kept trees may = absurd quiet
-  durable_by Committed under quiet known kept trees may = absurd quiet
-  durable_by Published under quiet known kept trees may = absurd quiet
   durable_by Closed [] quiet known kept trees may = let left = kept.durable trees may in (left.0, left.1, (refl, refl, inr (known, (trees, may, left.1))))
   durable_by Closed (command ∷ commands) quiet known kept trees may = (fold shown (command ∷ commands), kept.durable trees may, refl)
+  durable_by phase under quiet known kept trees may = absurd quiet
 
 module _ {S : Type 0} (g : Ghosts S) (desk : Standing (Held S)) where
   -- what it stands for is published
@@ -58,11 +52,8 @@ module _ {S : Type 0} (g : Ghosts S) (desk : Standing (Held S)) where
 -- no command is under way, and it is open
 pub ready_by : (phase : Phase) → IsQuiet phase → is_closed_at phase ≡ false → phase ≡ Ready
 ready_by Ready quiet is = refl
-ready_by Admitted quiet is = absurd quiet
-ready_by Prepared quiet is = absurd quiet
-ready_by Committed quiet is = absurd quiet
-ready_by Published quiet is = absurd quiet
 ready_by Closed quiet is = absurd (let both : true ≡ false = is in cc)
+ready_by phase quiet is = absurd quiet
 
 module _ {S : Type 0} (g : Ghosts S) (desk : Standing (Held S)) (kept : IsKept g desk) (is : is_shut desk ≡ false) (known : IsKnown g desk.ours_first desk.tables) where
   -- its state is stored

@@ -1,5 +1,5 @@
 -- What a crash leaves of a desk once commands are answered.
-use Rattle.std.proofs.Common.{◌≡◌, ◌⊎◌, inl, inr, ◌≤◌, Bool, true, false, List, [], ◌∷◌, length, Err, refl, sym, ap, subst, ◌∙◌, arith}
+use Rattle.std.proofs.Common.{◌≡◌, ◌⊎◌, inl, inr, ◌≤◌, Bool, true, false, List, [], length, Err, refl, sym, ap, subst, ◌∙◌}
 use Rattle.sqlite.specs.Held.{Held}
 use Rattle.sqlite.specs.Store.{Ghosts}
 use Rattle.prt_addr.specs.declared.refusal.Refusal.{Refusal}
@@ -7,8 +7,9 @@ use Rattle.prt_addr.specs.declared.refusal.Refusal.TheVariants.{CountFull, Exist
 use Rattle.prt_addr.specs.declared.refusal.StoreCall.TheVariants.{Commit}
 use Rattle.prt_command.specs.declared.request.Command.{Command}
 use Rattle.prt_front.specs.Line.{grown_by, line_state}
-use Rattle.prt_version.proofs.Refused.{IsOfState, all_refused_by, refused_by}
-use Rattle.prt_publisher.specs.Exits.{AreNotPrepared, AreNotPublished, AreNotStored, IsNotPrepared}
+use Rattle.prt_version.proofs.Refused.{IsOfState, all_refused_by}
+use Rattle.prt_publisher.proofs.Commits.{closed_stored}
+use Rattle.prt_publisher.specs.Exits.{AreNotAcknowledged, AreNotPrepared, AreNotPublished, AreNotStored}
 use Rattle.prt_publisher.specs.Standing.{Agrees, IsQuiet, Standing, Stands}
 use Rattle.prt_publisher.specs.declared.phase.Phase.{Phase}
 use Rattle.prt_publisher.specs.declared.phase.Phase.TheVariants as phases
@@ -26,10 +27,6 @@ abbrev is_unpublished : Refusal → Bool
 is_unpublished NotPublished = true
 is_unpublished reason = false
 
--- the reasons of such refusals
-abbrev pub IsOther : (Refusal → Type 0) → Type 0
-IsOther Refuses = (why : Refusal) → Refuses why → is_unpublished why ≡ false
-
 state_other : (why : Refusal) → IsOfState why → is_unpublished why ≡ false
 state_other Exists of = refl
 state_other NoSuch of = refl
@@ -37,12 +34,7 @@ state_other Full of = refl
 state_other CountFull of = refl
 state_other _ of = absurd of
 
-pub one_other : (state : State) (command : Command) → IsOther (λ why. IsNotPrepared phases.Ready state command why)
-one_other state command why (inl is) = state_other why (refused_by state command why is)
-one_other state command why (inr (none, inl is)) = ap is_unpublished is
-one_other state command why (inr (none, inr is)) = ap is_unpublished is
-
-pub all_other : (state : State) (commands : List Command) → IsOther (λ why. AreNotPrepared phases.Ready state commands why)
+all_other : (state : State) (commands : List Command) (why : Refusal) → AreNotPrepared phases.Ready state commands why → is_unpublished why ≡ false
 all_other state commands why (inl (inl is)) = state_other why (all_refused_by state commands why is)
 all_other state commands why (inl (inr (is, several))) = ap is_unpublished is
 all_other state commands why (inr (accepted, inl is)) = ap is_unpublished is
@@ -59,20 +51,14 @@ module _ {S : Type 0} (g : Ghosts S) (old : Standing (Held S)) (commands : List 
   abbrev after : State
   after = fold (published old) commands
 
-  -- commands that are stored and not published
-  closed_stored : (list : List Command) → 1 ≤ length list → Agrees g phases.Closed list (published old) new.tables → IsStored g new.tables (fold (published old) list)
-  closed_stored [] some kept = absurd (omega (arith, some))
-  closed_stored (command ∷ more) some kept = kept
-
   left_stored : (stored : State) → IsStored g new.tables stored → (left : State) → MayLeave g new.tables left → left ≡ stored
   left_stored stored holds left may = spelled_once may.0 left stored may.2 (holds.durable may.0 may.1)
 
   module _ (known : IsKnown g new.ours_first new.tables) (left : State) (may : MayLeave g new.tables left) where
     -- the state before, where they are not prepared
-    as_before : (Refuses : Phase → Refusal → Type 0) → IsOther (Refuses phases.Ready) → IsQuiet old.phase → is_shut old ≡ false → (why : Refusal) → new ≡ old → Refuses old.phase why → LeavesEither (Err why) (published old) after left
-    as_before Refuses other_than quiet open_is why same refuses =
-        let ready : old.phase ≡ phases.Ready = ready_by old.phase quiet open_is in
-        let other = other_than why (subst (λ (p : Phase). Refuses p why) ready refuses) in
+    as_before : IsQuiet old.phase → is_shut old ≡ false → (why : Refusal) → new ≡ old → AreNotPrepared old.phase (published old) commands why → LeavesEither (Err why) (published old) after left
+    as_before quiet open_is why same refuses =
+        let other = all_other (published old) commands why (subst (λ (p : Phase). AreNotPrepared p (published old) commands why) (ready_by old.phase quiet open_is) refuses) in
         let known_then = subst (λ (d : Standing (Held S)). IsKnown g d.ours_first d.tables) same known in
         let may_then = subst (λ (d : Standing (Held S)). MayLeave g d.tables left) same may in
         other_leaves why (published old) after left other (inl (left_open g old (quiet, subst (Stands g) same stands) open_is known_then left may_then))
@@ -84,14 +70,14 @@ module _ {S : Type 0} (g : Ghosts S) (old : Standing (Held S)) (commands : List 
     not_published : 1 ≤ length commands → (why : Refusal) → AreNotPublished g old commands why new → LeavesEither (Err why) (published old) after left
     not_published some why fails =
         let Agreed = λ (d : Standing (Held S)). Agrees g d.phase d.commands (line_state d.line) new.tables in
-        let stored : IsStored g new.tables after = closed_stored commands some (subst Agreed fails.left (stands known)) in
+        let stored : IsStored g new.tables after = closed_stored g commands (published old) new.tables some (subst Agreed fails.left (stands known)) in
         subst (λ (e : Refusal). LeavesEither (Err e) (published old) after left) (sym fails.why_is) (left_stored after stored left may)
 
-  pub refused_leaves : (Refuses : Phase → Refusal → Type 0) → IsOther (Refuses phases.Ready) → 1 ≤ length commands → IsQuiet old.phase → (why : Refusal)
-      → ((new ≡ old) × Refuses old.phase why) ⊎ (AreNotStored g old commands why new ⊎ AreNotPublished g old commands why new) → is_shut old ≡ false → IsKnown g new.ours_first new.tables → (left : State) → MayLeave g new.tables left → LeavesEither (Err why) (published old) after left
-  refused_leaves Refuses other_than some quiet why (inl same) open_is known left may = as_before known left may Refuses other_than quiet open_is why same.0 same.1
-  refused_leaves Refuses other_than some quiet why (inr (inl fails)) open_is known left may = not_stored known left may why fails
-  refused_leaves Refuses other_than some quiet why (inr (inr fails)) open_is known left may = not_published known left may some why fails
+  pub refused_leaves : 1 ≤ length commands → IsQuiet old.phase → (why : Refusal) → AreNotAcknowledged g old commands why new → is_shut old ≡ false → IsKnown g new.ours_first new.tables → (left : State) → MayLeave g new.tables left
+      → LeavesEither (Err why) (published old) after left
+  refused_leaves some quiet why (inl same) open_is known left may = as_before known left may quiet open_is why same.0 same.1
+  refused_leaves some quiet why (inr (inl fails)) open_is known left may = not_stored known left may why fails
+  refused_leaves some quiet why (inr (inr fails)) open_is known left may = not_published known left may some why fails
 
   pub accepted_leaves : new ≡ record old { phase = phases.Ready; line = grown_by old.line commands; commands = []; tables = new.tables } → IsKnown g new.ours_first new.tables → (left : State) → MayLeave g new.tables left → left ≡ after
   accepted_leaves is known left may =

@@ -1,22 +1,16 @@
 -- What a stop leaves that falls into the commit of commands.
-use Rattle.std.proofs.Common.{◌≡◌, ◌⊎◌, ◌+◌, List, length, refl, subst}
-use Rattle.sqlite.specs.Held.{Held}
+use Rattle.std.proofs.Common.{◌≡◌, ◌⊎◌, ◌+◌, length, refl, subst}
 use Rattle.sqlite.specs.Store.{Ghosts}
-use Rattle.prt_addr.specs.declared.refusal.StoreCall.{StoreCall}
 use Rattle.prt_addr.specs.declared.refusal.StoreCall.TheVariants.{Commit}
-use Rattle.prt_command.specs.Storable.{IsStorable}
-use Rattle.prt_command.specs.declared.request.Command.{Command}
-use Rattle.prt_publisher.specs.Standing.{Standing}
 use Rattle.prt_store.proofs.Accepted.{are_made, are_next}
 use Rattle.prt_store.proofs.StoppedCommits.{stopped_leaves}
-use Rattle.prt_store.specs.Exits.{IsKnown, IsStored}
+use Rattle.prt_store.specs.Exits.{IsStored}
 use Rattle.prt_store.specs.Next.{AreNext}
 use Rattle.prt_version.specs.Accepted.{changes_of}
 use Rattle.prt_version.specs.State.{State}
-use Rattle.std.specs.Prelude.{All}
 use Rattle.prt_desk.proofs.Kept.{left_open, stored_open}
-use Rattle.prt_desk.specs.StoreDesk.{IsKept, published}
-use Rattle.prt_desk.specs.Stops.{LeavesAState, StopsIn}
+use Rattle.prt_desk.specs.StoreDesk.{published}
+use Rattle.prt_desk.specs.Stops.{LeavesAState}
 
 -- a stop leaves the state before the commands or the one after all of them
 pub leaves_a_state : {S : Type 0} (g : Ghosts S) → LeavesAState g

@@ -4,107 +4,71 @@ use Rattle.sqlite.specs.Held.{Held, state}
 use Rattle.sqlite.specs.Store.{Ghosts}
 use Rattle.prt_addr.specs.declared.refusal.Refusal.{Refusal}
 use Rattle.prt_addr.specs.declared.refusal.Refusal.TheVariants as reasons
-use Rattle.prt_addr.specs.declared.refusal.StoreCall.{StoreCall}
 use Rattle.prt_addr.specs.declared.refusal.StoreCall.TheVariants.{Commit}
 use Rattle.prt_command.specs.declared.request.Command.{Command}
 use Rattle.prt_front.specs.Line.{Line, grown_by, line_state}
-use Rattle.prt_publisher.specs.Exits.{AreNotPrepared, AreNotPublished, AreNotStored, IsNotPrepared, TakesAll}
+use Rattle.prt_publisher.specs.Exits.{AreNotAcknowledged, AreNotPrepared, AreNotPublished, AreNotStored, TakesAll}
 use Rattle.prt_publisher.specs.Standing.{IsQuiet, Standing}
 use Rattle.prt_publisher.specs.declared.phase.Phase.{Phase}
 use Rattle.prt_publisher.specs.declared.phase.Phase.TheVariants as phases
-use Rattle.prt_session.proofs.Turns.{accepted_turn, memory_refused, refused_turn}
-use Rattle.prt_session.specs.Desk.{DeskState, IsNoMemory, Mishap, no_memory, no_room, store_fails, commit_kept, publication_fails, command_or_refusal, commands_or_refusal, settled, shut}
+use Rattle.prt_session.specs.Desk.{DeskState, ListTurn, Mishap, no_memory, no_room, store_fails, commit_kept, publication_fails, command_or_refusal, commands_or_refusal, settled, shut, submit, submit_all}
+use Rattle.prt_session.specs.Session.{Turn}
 use Rattle.prt_session.specs.Stands.{Explained, StandsForSome}
-use Rattle.prt_session.specs.Steps.{CommandGives, CommandsGive}
+use Rattle.prt_session.specs.Steps.{CommandGives, CommandsGive, reply_of}
 use Rattle.prt_version.proofs.Folds.{fold_append, none_refused}
-use Rattle.prt_version.specs.Accepted.{IsAccepted, refusal_all}
-use Rattle.prt_version.specs.Change.{apply, fold, refusal}
+use Rattle.prt_version.specs.Accepted.{IsAccepted, or_later, refusal_all}
+use Rattle.prt_version.specs.Change.{fold, refusal}
 use Rattle.prt_version.specs.State.{State}
 use Rattle.prt_desk.specs.StoreDesk.{IsPerhapsStored, IsStoreMishap, StandsBy, StandsFor, published}
 
 -- What a desk gives for commands that are made together, by what comes of them.
-pub record Turns (commands : List Command) (Gives : DeskState → Result ℕ Refusal → DeskState → Type 0) (Refuses : Phase → State → Refusal → Type 0) (state : State) : Type 0 where
-  pub refused : (why : Refusal) → Refuses phases.Ready state why → Gives (settled state) (Err why) (settled state)
+pub record Turns (commands : List Command) (Gives : DeskState → Result ℕ Refusal → DeskState → Type 0) (state : State) : Type 0 where
+  pub refused : (why : Refusal) → refusal_all state commands ≡ Some why → Gives (settled state) (Err why) (settled state)
+  -- memory was refused on the way to a refusal
+  pub several : 2 ≤ length commands → Gives (settled state) (Err reasons.NoMemory) (settled state)
   pub closed : (desk : DeskState) → desk.closed ≡ true → Gives desk (Err reasons.Closed) desk
-  pub closed_why : (why : Refusal) → Refuses phases.Closed state why → why ≡ reasons.Closed
-  -- a store call failed, and nothing is stored
-  pub failed : IsAccepted state commands → (call : StoreCall) → Gives (settled state) (Err (reasons.StoreFailed call)) (shut (settled state) state)
-  -- the commit failed, and yet all of it is stored
-  pub kept : IsAccepted state commands → Gives (settled state) (Err (reasons.StoreFailed Commit)) (shut (settled state) (fold state commands))
-  pub unpublished : IsAccepted state commands → Gives (settled state) (Err reasons.NotPublished) (shut (settled state) (fold state commands))
-  pub accepted : IsAccepted state commands → Gives (settled state) (Ok (fold state commands).count) (settled (fold state commands))
+  pub taken : IsAccepted state commands → (mishap : Option Mishap) → Gives (settled state) (submit_all (settled state) commands mishap).result (submit_all (settled state) commands mishap).desk
+
+all_may : (mishap : Option Mishap) → IfSome mishap IsStoreMishap
+all_may None = tt
+all_may (Some mishap) = tt
 
 -- ---- one command
 
--- what may befall a desk over lists may befall this one
-more_may : (mishap : Option Mishap) → IfSome mishap IsNoMemory → IfSome mishap IsStoreMishap
-more_may None may = tt
-more_may (Some mishap) may = tt
+one_refusal : (first : Option Refusal) → or_later first None ≡ first
+one_refusal None = refl
+one_refusal (Some reason) = refl
 
-gives_more : (before : DeskState) (command : Command) (result : Result ℕ Refusal) (after : DeskState) → CommandGives IsNoMemory before command result after → CommandGives IsStoreMishap before command result after
-gives_more before command result after gives = (gives.0, more_may gives.0 gives.1, gives.2, gives.3)
+one_reply : (desk : DeskState) (command : Command) (mishap : Option Mishap) → record { reply = reply_of (submit_all desk (command ∷ []) mishap).result; desk = (submit_all desk (command ∷ []) mishap).desk } ≡ submit desk command mishap
+one_reply desk command None = refl
+one_reply desk command (Some no_room) = refl
+one_reply desk command (Some mishap) = refl
 
--- old versions take no room
-busy_turn : (state : State) (command : Command) → refusal state command ≡ None → CommandGives IsStoreMishap (settled state) command (Err reasons.Busy) (settled state)
-busy_turn state command none = (
-  Some no_room,
-  tt,
-  ap (λ r. (command_or_refusal (settled state) command false r (Some no_room)).reply) (sym none),
-  ap (λ r. (command_or_refusal (settled state) command false r (Some no_room)).desk) (sym none),
-)
-
--- a store call failed, and the change is not stored
-failed_turn : (state : State) (command : Command) (call : StoreCall) → refusal state command ≡ None → CommandGives IsStoreMishap (settled state) command (Err (reasons.StoreFailed call)) (shut (settled state) state)
-failed_turn state command call none = (
-  Some (store_fails call),
-  tt,
-  ap (λ r. (command_or_refusal (settled state) command false r (Some (store_fails call))).reply) (sym none),
-  ap (λ r. (command_or_refusal (settled state) command false r (Some (store_fails call))).desk) (sym none),
-)
-
--- the commit failed, and yet the change is stored
-kept_turn : (state : State) (command : Command) → refusal state command ≡ None → CommandGives IsStoreMishap (settled state) command (Err (reasons.StoreFailed Commit)) (shut (settled state) (apply state command))
-kept_turn state command none = (
-  Some commit_kept,
-  tt,
-  ap (λ r. (command_or_refusal (settled state) command false r (Some commit_kept)).reply) (sym none),
-  ap (λ r. (command_or_refusal (settled state) command false r (Some commit_kept)).desk) (sym none),
-)
-
--- the change is stored, and its publication was refused
-unpublished_turn : (state : State) (command : Command) → refusal state command ≡ None → CommandGives IsStoreMishap (settled state) command (Err reasons.NotPublished) (shut (settled state) (apply state command))
-unpublished_turn state command none = (
-  Some publication_fails,
-  tt,
-  ap (λ r. (command_or_refusal (settled state) command false r (Some publication_fails)).reply) (sym none),
-  ap (λ r. (command_or_refusal (settled state) command false r (Some publication_fails)).desk) (sym none),
-)
-
--- a closed desk refuses
-closed_turn : (desk : DeskState) (command : Command) → desk.closed ≡ true → CommandGives IsStoreMishap desk command (Err reasons.Closed) desk
-closed_turn desk command is = (
-  None,
-  tt,
-  ap (λ closed. (command_or_refusal desk command closed (refusal desk.published command) None).reply) (sym is),
-  ap (λ closed. (command_or_refusal desk command closed (refusal desk.published command) None).desk) (sym is),
-)
-
-one_refused : (state : State) (command : Command) (why : Refusal) → IsNotPrepared phases.Ready state command why → CommandGives IsStoreMishap (settled state) command (Err why) (settled state)
-one_refused state command why (inl is) = gives_more (settled state) command (Err why) (settled state) (refused_turn state command why is)
-one_refused state command why (inr (none, inl is)) = subst (λ (e : Refusal). CommandGives IsStoreMishap (settled state) command (Err e) (settled state)) (sym is) (busy_turn state command none)
-one_refused state command why (inr (none, inr is)) =
-    subst (λ (e : Refusal). CommandGives IsStoreMishap (settled state) command (Err e) (settled state)) (sym is) (gives_more (settled state) command (Err reasons.NoMemory) (settled state) (memory_refused state command none))
-
-pub one_turns : (state : State) (command : Command) → Turns (command ∷ []) (λ before result after. CommandGives IsStoreMishap before command result after) (λ phase shown why. IsNotPrepared phase shown command why) state
+pub one_turns : (state : State) (command : Command) → Turns (command ∷ []) (λ before result after. CommandGives IsStoreMishap before command result after) state
 one_turns state command = record {
-  refused = one_refused state command;
-  closed = λ desk is. closed_turn desk command is;
-  closed_why = λ why is. is;
-  failed = λ accepted call. failed_turn state command call accepted.0;
-  kept = λ accepted. kept_turn state command accepted.0;
-  unpublished = λ accepted. unpublished_turn state command accepted.0;
-  accepted = λ accepted. gives_more (settled state) command (Ok (apply state command).count) (settled (apply state command)) (accepted_turn state (apply state command) command accepted.0 refl);
+  refused = λ why is. by (Some why) None (Err why) (settled state) is refl refl;
+  several = λ some. absurd (omega (arith, some));
+  closed = λ desk is. (
+    None,
+    tt,
+    ap (λ closed. (command_or_refusal desk command closed (refusal desk.published command) None).reply) (sym is),
+    ap (λ closed. (command_or_refusal desk command closed (refusal desk.published command) None).desk) (sym is),
+  );
+  taken = λ accepted mishap.
+      let same = one_reply (settled state) command mishap in
+      let made = submit_all (settled state) (command ∷ []) mishap in
+      by None mishap made.result made.desk (none_refused state (command ∷ []) accepted) (ap (λ (t : Turn DeskState). t.reply) same) (ap (λ (t : Turn DeskState). t.desk) same);
 }
+  where
+    by : (first : Option Refusal) (mishap : Option Mishap) (result : Result ℕ Refusal) (desk : DeskState) → refusal_all state (command ∷ []) ≡ first → reply_of result ≡ (command_or_refusal (settled state) command false first mishap).reply
+        → desk ≡ (command_or_refusal (settled state) command false first mishap).desk → CommandGives IsStoreMishap (settled state) command result desk
+    by first mishap result desk is reply left =
+        let same = sym is ∙ one_refusal (refusal state command) in (
+          mishap,
+          all_may mishap,
+          reply ∙ ap (λ r. (command_or_refusal (settled state) command false r mishap).reply) same,
+          left ∙ ap (λ r. (command_or_refusal (settled state) command false r mishap).desk) same,
+        )
 
 -- ---- commands of a file
 
@@ -113,47 +77,27 @@ module _ (state : State) (commands : List Command) where
   Gives result after = CommandsGive IsStoreMishap (settled state) commands result after
 
   -- what a mishap makes of commands of which this one is refused, or none
-  abbrev ends_by : Option Refusal → Option Mishap → Result ℕ Refusal × DeskState
-  ends_by first mishap = ((commands_or_refusal (settled state) commands false first mishap).result, (commands_or_refusal (settled state) commands false first mishap).desk)
+  abbrev ends_by : Option Refusal → Option Mishap → ListTurn
+  ends_by first mishap = commands_or_refusal (settled state) commands false first mishap
 
-  ends_so : (first : Option Refusal) (mishap : Option Mishap) → refusal_all state commands ≡ first → Gives (ends_by first mishap).0 (ends_by first mishap).1
-  ends_so first mishap is = (
-    mishap,
-    all_may mishap,
-    ap (λ r. (commands_or_refusal (settled state) commands false r mishap).result) (sym is),
-    ap (λ r. (commands_or_refusal (settled state) commands false r mishap).desk) (sym is),
-  ) where
-    all_may : (mishap : Option Mishap) → IfSome mishap IsStoreMishap
-    all_may None = tt
-    all_may (Some mishap) = tt
+  ends_so : (first : Option Refusal) (mishap : Option Mishap) → refusal_all state commands ≡ first → Gives (ends_by first mishap).result (ends_by first mishap).desk
+  ends_so first mishap is = (mishap, all_may mishap, ap (λ r. (ends_by r mishap).result) (sym is), ap (λ r. (ends_by r mishap).desk) (sym is))
 
   memory_ends : (first : Option Refusal) → refusal_all state commands ≡ first → Gives (Err reasons.NoMemory) (settled state)
   memory_ends None is = ends_so None (Some no_memory) is
   memory_ends (Some reason) is = ends_so (Some reason) (Some no_memory) is
 
-  all_refused : (why : Refusal) → AreNotPrepared phases.Ready state commands why → Gives (Err why) (settled state)
-  all_refused why (inl (inl is)) = ends_so (Some why) None is
-  all_refused why (inl (inr (is, several))) = subst (λ (e : Refusal). Gives (Err e) (settled state)) (sym is) (memory_ends (refusal_all state commands) refl)
-  all_refused why (inr (accepted, inl is)) = subst (λ (e : Refusal). Gives (Err e) (settled state)) (sym is) (ends_so None (Some no_room) (none_refused state commands accepted))
-  all_refused why (inr (accepted, inr is)) = subst (λ (e : Refusal). Gives (Err e) (settled state)) (sym is) (memory_ends (refusal_all state commands) refl)
-
-  all_closed : (desk : DeskState) → desk.closed ≡ true → CommandsGive IsStoreMishap desk commands (Err reasons.Closed) desk
-  all_closed desk is = (
-    None,
-    tt,
-    ap (λ closed. (commands_or_refusal desk commands closed (refusal_all desk.published commands) None).result) (sym is),
-    ap (λ closed. (commands_or_refusal desk commands closed (refusal_all desk.published commands) None).desk) (sym is),
-  )
-
-  pub all_turns : Turns commands (λ before result after. CommandsGive IsStoreMishap before commands result after) (λ phase shown why. AreNotPrepared phase shown commands why) state
+  pub all_turns : Turns commands (λ before result after. CommandsGive IsStoreMishap before commands result after) state
   all_turns = record {
-    refused = all_refused;
-    closed = all_closed;
-    closed_why = λ why is. is;
-    failed = λ accepted call. ends_so None (Some (store_fails call)) (none_refused state commands accepted);
-    kept = λ accepted. ends_so None (Some commit_kept) (none_refused state commands accepted);
-    unpublished = λ accepted. ends_so None (Some publication_fails) (none_refused state commands accepted);
-    accepted = λ accepted. ends_so None None (none_refused state commands accepted);
+    refused = λ why is. ends_so (Some why) None is;
+    several = λ _. memory_ends (refusal_all state commands) refl;
+    closed = λ desk is. (
+      None,
+      tt,
+      ap (λ closed. (commands_or_refusal desk commands closed (refusal_all desk.published commands) None).result) (sym is),
+      ap (λ closed. (commands_or_refusal desk commands closed (refusal_all desk.published commands) None).desk) (sym is),
+    );
+    taken = λ accepted mishap. ends_so None mishap (none_refused state commands accepted);
   }
 
 -- ---- the desk
@@ -165,12 +109,9 @@ module _ {S : Type 0} (g : Ghosts S) (ours_first : Bool) (tables : Held S) (show
 
   something_by : (phase : Phase) (under : List Command) → IsQuiet phase → (desk : DeskState) × StandsBy g ours_first tables shown phase under desk
   something_by phases.Ready under quiet = (settled shown, refl)
-  something_by phases.Admitted under quiet = absurd quiet
-  something_by phases.Prepared under quiet = absurd quiet
-  something_by phases.Committed under quiet = absurd quiet
-  something_by phases.Published under quiet = absurd quiet
   something_by phases.Closed [] quiet = (shut (settled shown) shown, (refl, refl, inl refl))
   something_by phases.Closed (command ∷ commands) quiet = (shut (settled shown) (fold shown (command ∷ commands)), refl)
+  something_by phase under quiet = absurd quiet
 
   unpublished_by : (under : List Command) → 1 ≤ length under → (desk : DeskState) → StandsBy g ours_first tables shown phases.Closed under desk → desk ≡ shut (settled shown) (fold shown under)
   unpublished_by [] some desk is = absurd (omega (arith, some))
@@ -180,7 +121,7 @@ module _ {S : Type 0} (g : Ghosts S) (ours_first : Bool) (tables : Held S) (show
 pub something : {S : Type 0} (g : Ghosts S) (desk : Standing (Held S)) → IsQuiet desk.phase → StandsForSome (StandsFor g) desk
 something g desk quiet = something_by g desk.ours_first desk.tables (published desk) desk.phase desk.commands quiet
 
-module _ {S : Type 0} (g : Ghosts S) (old : Standing (Held S)) (commands : List Command) (GivesAt : DeskState → Result ℕ Refusal → DeskState → Type 0) (Refuses : Phase → State → Refusal → Type 0) (turns : Turns commands GivesAt Refuses (published old)) where
+module _ {S : Type 0} (g : Ghosts S) (old : Standing (Held S)) {commands : List Command} {GivesAt : DeskState → Result ℕ Refusal → DeskState → Type 0} (turns : Turns commands GivesAt (published old)) where
   abbrev Explains : Standing (Held S) → Result ℕ Refusal → Type 0
   Explains new result = Explained (StandsFor g) old new (λ before after. GivesAt before result after)
 
@@ -201,13 +142,16 @@ module _ {S : Type 0} (g : Ghosts S) (old : Standing (Held S)) (commands : List 
       let by = subst (λ (p : Phase). StandsBy g old.ours_first old.tables (published old) p old.commands after) closed stands in
       (after, stands, turns.closed after (closed_by g old.ours_first old.tables (published old) old.commands after by))
 
-  refused_by : (phase : Phase) → old.phase ≡ phase → IsQuiet phase → (why : Refusal) → Refuses phase (published old) why → Explains old (Err why)
-  refused_by phases.Ready is quiet why refuses = as_settled is (Err why) (turns.refused why refuses)
-  refused_by phases.Admitted is quiet why refuses = absurd quiet
-  refused_by phases.Prepared is quiet why refuses = absurd quiet
-  refused_by phases.Committed is quiet why refuses = absurd quiet
-  refused_by phases.Published is quiet why refuses = absurd quiet
-  refused_by phases.Closed is quiet why refuses = subst (λ (e : Refusal). Explains old (Err e)) (sym (turns.closed_why why refuses)) (closed_refused is)
+  for_that : (why reason : Refusal) → why ≡ reason → Explains old (Err reason) → Explains old (Err why)
+  for_that why reason is explained = subst (λ (e : Refusal). Explains old (Err e)) (sym is) explained
+
+  refused_by : (phase : Phase) → old.phase ≡ phase → IsQuiet phase → (why : Refusal) → AreNotPrepared phase (published old) commands why → Explains old (Err why)
+  refused_by phases.Ready is quiet why (inl (inl first)) = as_settled is (Err why) (turns.refused why first)
+  refused_by phases.Ready is quiet why (inl (inr (memory, several))) = for_that why reasons.NoMemory memory (as_settled is (Err reasons.NoMemory) (turns.several several))
+  refused_by phases.Ready is quiet why (inr (accepted, inl busy)) = for_that why reasons.Busy busy (as_settled is (Err reasons.Busy) (turns.taken accepted (Some no_room)))
+  refused_by phases.Ready is quiet why (inr (accepted, inr memory)) = for_that why reasons.NoMemory memory (as_settled is (Err reasons.NoMemory) (turns.taken accepted (Some no_memory)))
+  refused_by phases.Closed is quiet why refuses = for_that why reasons.Closed refuses (closed_refused is)
+  refused_by phase is quiet why refuses = absurd quiet
 
   abbrev Fits : Refusal → DeskState → Type 0
   Fits why desk = GivesAt before (Err why) desk
@@ -227,10 +171,10 @@ module _ {S : Type 0} (g : Ghosts S) (old : Standing (Held S)) (commands : List 
         → (after.stored ≡ published old) ⊎ ((why ≡ reasons.StoreFailed Commit) × (after.stored ≡ fold (published old) commands)) → Fits why after
     fits after shown closed (inl is) =
         subst (Fits why) (shut_is after (published old) shown closed is)
-        (subst (λ (e : Refusal). Fits e (shut before (published old))) (sym fails.why_is) (turns.failed fails.takes.1 fails.call))
+        (subst (λ (e : Refusal). Fits e (shut before (published old))) (sym fails.why_is) (turns.taken fails.takes.1 (Some (store_fails fails.call))))
     fits after shown closed (inr made) =
         subst (Fits why) (shut_is after (fold (published old) commands) shown closed made.1)
-        (subst (λ (e : Refusal). Fits e (shut before (fold (published old) commands))) (sym made.0) (turns.kept fails.takes.1))
+        (subst (λ (e : Refusal). Fits e (shut before (fold (published old) commands))) (sym made.0) (turns.taken fails.takes.1 (Some commit_kept)))
 
     abbrev closed_then : Standing (Held S)
     closed_then = record old { phase = phases.Closed; commands = []; tables = new.tables }
@@ -250,13 +194,13 @@ module _ {S : Type 0} (g : Ghosts S) (old : Standing (Held S)) (commands : List 
     unpublished_explained after stands = (
       before,
       ready_stands fails.takes.0,
-      subst (Fits why) (sym (unpublished_by g old.ours_first new.tables (published old) commands some after stands)) (subst (λ (e : Refusal). Fits e (shut before (fold (published old) commands))) (sym fails.why_is) (turns.unpublished fails.takes.1)),
+      subst (Fits why) (sym (unpublished_by g old.ours_first new.tables (published old) commands some after stands)) (subst (λ (e : Refusal). Fits e (shut before (fold (published old) commands))) (sym fails.why_is) (turns.taken fails.takes.1 (Some publication_fails))),
     )
 
     publish_failed : Explains new (Err why)
     publish_failed = subst (λ (d : Standing (Held S)). Explains d (Err why)) (sym fails.left) unpublished_explained
 
-  pub refused_explained : IsQuiet old.phase → 1 ≤ length commands → (why : Refusal) (new : Standing (Held S)) → ((new ≡ old) × Refuses old.phase (published old) why) ⊎ (AreNotStored g old commands why new ⊎ AreNotPublished g old commands why new) → Explains new (Err why)
+  pub refused_explained : IsQuiet old.phase → 1 ≤ length commands → (why : Refusal) (new : Standing (Held S)) → AreNotAcknowledged g old commands why new → Explains new (Err why)
   refused_explained quiet some why new (inl same) = subst (λ (d : Standing (Held S)). Explains d (Err why)) (sym same.0) (refused_by old.phase refl quiet why same.1)
   refused_explained quiet some why new (inr (inl fails)) = store_failed why new fails
   refused_explained quiet some why new (inr (inr fails)) = publish_failed why new some fails
@@ -274,7 +218,7 @@ module _ {S : Type 0} (g : Ghosts S) (old : Standing (Held S)) (commands : List 
         let is : shown ≡ fold (published old) commands = fold_append old.line.base old.line.list commands in (
           before,
           ready_stands takes.0,
-          subst (λ (d : DeskState). GivesAt before (Ok shown.count) d) (sym stands) (subst (λ (s : State). GivesAt before (Ok s.count) (settled s)) (sym is) (turns.accepted takes.1)),
+          subst (λ (d : DeskState). GivesAt before (Ok shown.count) d) (sym stands) (subst (λ (s : State). GivesAt before (Ok s.count) (settled s)) (sym is) (turns.taken takes.1 None)),
         )
 
   pub accepted_explained : (new : Standing (Held S)) (receipt : Line) (number : ℕ) → TakesAll old commands → receipt ≡ grown_by old.line commands → number ≡ (line_state receipt).count

@@ -10,7 +10,7 @@ use Rattle.sqlite_rules.specs.Lists.{Has}
 use Rattle.prt_publisher.specs.Exits.{Spares}
 use Rattle.prt_publisher.specs.Standing.{Standing}
 use Rattle.prt_publisher.specs.declared.phase.Phase.{Phase}
-use Rattle.prt_publisher.specs.declared.phase.Phase.TheVariants.{Ready, Admitted, Prepared, Committed, Published, Closed}
+use Rattle.prt_publisher.specs.declared.phase.Phase.TheVariants.{Closed}
 use Rattle.prt_session.specs.Preorder.{IsPreorder}
 use Rattle.prt_store.specs.Exits.{IsKnown, SparesOthers}
 use Rattle.prt_desk.specs.StoreDesk.{is_closed_at, is_shut}
@@ -37,16 +37,12 @@ module _ {S : Type 0} (g : Ghosts S) (desk between last : Standing (Held S)) (fi
       (next.others known seen)
 
   others_on : (phase : Phase) → between.phase ≡ phase → Spares g desk last
-  others_on Ready is = others_through (λ closed. let both : Ready ≡ Closed = sym is ∙ closed in cc)
-  others_on Admitted is = others_through (λ closed. let both : Admitted ≡ Closed = sym is ∙ closed in cc)
-  others_on Prepared is = others_through (λ closed. let both : Prepared ≡ Closed = sym is ∙ closed in cc)
-  others_on Committed is = others_through (λ closed. let both : Committed ≡ Closed = sym is ∙ closed in cc)
-  others_on Published is = others_through (λ closed. let both : Published ≡ Closed = sym is ∙ closed in cc)
   others_on Closed is = λ known seen.
       let same : last ≡ between = next.closed (ap is_closed_at is) in
       let spares =
       first.others (subst (λ (d : Standing (Held S)). IsKnown g d.ours_first d.tables) same known) (subst (λ (d : Standing (Held S)). d.phase ≡ Closed → IsTrue (state g d.tables).is_open) same seen) in
       subst (λ (d : Standing (Held S)). SparesOthers (state g desk.tables).now (state g d.tables).now) (sym same) spares
+  others_on phase is = others_through (λ closed. let both : phase ≡ Closed = sym is ∙ closed in cc)
 
   remains_on : Remains g desk last
   remains_on = record {

@@ -1,5 +1,5 @@
 -- What a desk over a publisher stands for.
-use Rattle.std.specs.Prelude.{◌≡◌, ◌⊎◌, ℕ, Bool, true, false, List, [], ◌∷◌, Option, Result, Ok, Err, ⊤}
+use Rattle.std.specs.Prelude.{◌≡◌, ◌⊎◌, ℕ, Bool, true, false, List, [], ◌∷◌, Result, Ok, Err, ⊤}
 use Rattle.sqlite.specs.Effect.{Database, IsDatabase}
 use Rattle.sqlite.specs.Held.{Held, state}
 use Rattle.sqlite.specs.Store.{Ghosts}
@@ -10,7 +10,7 @@ use Rattle.prt_command.specs.declared.request.Command.{Command}
 use Rattle.prt_front.specs.Line.{line_state}
 use Rattle.prt_publisher.specs.Standing.{IsQuiet, Standing, Stands}
 use Rattle.prt_publisher.specs.declared.phase.Phase.{Phase}
-use Rattle.prt_publisher.specs.declared.phase.Phase.TheVariants.{Ready, Admitted, Prepared, Committed, Published, Closed}
+use Rattle.prt_publisher.specs.declared.phase.Phase.TheVariants.{Ready, Closed}
 use Rattle.prt_session.specs.Desk.{DeskState, Mishap, settled, shut}
 use Rattle.prt_store.specs.Exits.{IsKnown, MayLeave, Opens}
 use Rattle.prt_version.specs.Change.{fold}
@@ -21,12 +21,8 @@ abbrev pub published : {T : Type 0} → Standing T → State
 published desk = line_state desk.line
 
 abbrev pub is_closed_at : Phase → Bool
-is_closed_at Ready = false
-is_closed_at Admitted = false
-is_closed_at Prepared = false
-is_closed_at Committed = false
-is_closed_at Published = false
 is_closed_at Closed = true
+is_closed_at phase = false
 
 -- no command is accepted any more
 abbrev pub is_shut : {T : Type 0} → Standing T → Bool
@@ -43,12 +39,9 @@ IsPerhapsStored g ours_first tables published stored = (stored ≡ published) �
 -- after a refused publication the state after its commands is stored
 abbrev pub StandsBy : {S : Type 0} → Ghosts S → Bool → Held S → State → Phase → List Command → DeskState → Type 0
 StandsBy g ours_first tables published Ready commands desk = desk ≡ settled published
-StandsBy g ours_first tables published Admitted commands desk = ⊥
-StandsBy g ours_first tables published Prepared commands desk = ⊥
-StandsBy g ours_first tables published Committed commands desk = ⊥
-StandsBy g ours_first tables published Published commands desk = ⊥
 StandsBy g ours_first tables published Closed [] desk = (desk.published ≡ published) × (desk.closed ≡ true) × IsPerhapsStored g ours_first tables published desk.stored
 StandsBy g ours_first tables published Closed (command ∷ commands) desk = desk ≡ shut (settled published) (fold published (command ∷ commands))
+StandsBy g ours_first tables published phase commands desk = ⊥
 
 -- what a desk stands for: while it is open, its state, published and stored; once it is closed, that state is published, and stored is what may be
 abbrev pub StandsFor : {S : Type 0} → Ghosts S → Standing (Held S) → DeskState → Type 0

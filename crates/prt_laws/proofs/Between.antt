@@ -88,17 +88,16 @@ fetches w at offline = same w
 fetches w at (online announced held) = looker w at (online announced (Some w.published))
 
 announces : (w : World) (at : ℕ) (state : LookerState) → IsBeside w (world.announce w at state).world
-announces w at offline = same w
-announces w at (online announced None) = same w
 announces w at (online announced (Some held)) = looker w at (online held (Some held))
+announces w at state = same w
 
 offlines : (w : World) (at : ℕ) (state : LookerState) → IsBeside w (world.go_offline w at state).world
 offlines w at offline = same w
 offlines w at (online announced held) = looker w at offline
 
 looks : (w : World) (packet : Packet) (state : LookerState) → IsBeside w (world.look w packet state).world
-looks w packet offline = same w
 looks w packet (online announced None) = same w
+looks w packet offline = same w
 looks w packet (online announced (Some held)) = record { moment = refl; disk = refl; shown = refl; room = λ has. has; told = λ line h. h }
 
 reclaims : (w : World) → Holds w → IsBeside w (world.reclaim w).world
@@ -132,13 +131,10 @@ pub room_stays : (w : World) (event : Event) → is_lookers event ≡ true → I
 room_stays w event is reached room = (beside w event is reached).room room
 
 pub room_beside : (w v : World) (moment : Moment) → (has_room w ≡ true → has_room v ≡ true) → HasRoom w moment → HasRoom v moment
-room_beside w v world.Ready room h = tt
 room_beside w v (world.Prepared commands done call) room h = room h
 room_beside w v (world.Committed commands) room h = room h
 room_beside w v (world.Published commands) room h = room h
-room_beside w v (world.Noted commands) room h = tt
-room_beside w v world.Closed room h = tt
-room_beside w v world.Stopped room h = tt
+room_beside w v moment room h = tt
 
 -- a world is where it was after an event of a looker
 pub stays_there : (spot : Spot) (w : World) (event : Event) → is_lookers event ≡ true → IsAt spot w → IsAt spot (step w event).world

@@ -25,9 +25,8 @@ use Rattle.prt_world.specs.declared.outcome.Outcome.TheVariants as outcomes
 use Rattle.prt_laws.specs.Desks.{DeskHoldsAll, HasRoomFor, IsDeskOf, ListIsSteps, TurnIsSteps, Weaves, events_by, list_events_by, moment_between, reply_acks, result_acks, result_after, shown_reply, shown_result, submitted_events}
 use Rattle.prt_laws.specs.Events.{AsksSome, acks_to, asked, commit_events, commit_outcomes, fail_events, fail_outcomes, outcomes_before, own, own_outcomes, publish_events, publish_outcomes, submit_outcomes, unpublished_events, write_outcomes}
 use Rattle.prt_laws.specs.Spots.{IsAt, Spot}
-use Rattle.prt_laws.proofs.Acks.{asks_none, committed_none, event_keeps, failed_none, is_ack, woven_acks, woven_keeps}
+use Rattle.prt_laws.proofs.Acks.{asks_none, committed_none, event_keeps, failed_none, is_ack, woven_acks, woven_keeps, holds_all}
 use Rattle.prt_laws.proofs.Exits.{commit_goes, goes_on, kept_goes, lost_goes, publish_fails, publish_goes, spot}
-use Rattle.prt_laws.proofs.Headline.{holds_all}
 use Rattle.prt_laws.proofs.Joined.{shown_more, shown_own, split}
 use Rattle.prt_laws.proofs.Steps.{Moves, acknowledges, busy, holds_of, line_at, notes, placed, refuses, run_more, shut as closed, takes}
 use Rattle.prt_laws.proofs.Woven.{Goes, asks_own, woven}
@@ -261,12 +260,8 @@ module _ (w : World) (commands : List Command) (some : 1 ≤ length commands) (d
   list_by : (shuts : Bool) (reason : Option Refusal) (mishap : Option Mishap) → desk.closed ≡ shuts → refusal_all desk.published commands ≡ reason → (desk.closed ≡ false → refusal_all desk.published commands ≡ None → HasRoomFor w mishap)
       → (all : List Event) → Weaves (list_events_by commands shuts reason mishap) all → Is w all_event some (commands_or_refusal desk commands shuts reason mishap) all
   list_by true reason mishap is asked room all weaves = refused_shut w all_event some desk h is all weaves
-  list_by false (Some why) None is asked room all weaves = refused_open w all_event some desk h why is asked all weaves
-  list_by false (Some why) (Some no_room) is asked room all weaves = refused_open w all_event some desk h why is asked all weaves
   list_by false (Some why) (Some no_memory) is asked room all weaves = unread w all_event some desk h is all weaves
-  list_by false (Some why) (Some (store_fails call)) is asked room all weaves = refused_open w all_event some desk h why is asked all weaves
-  list_by false (Some why) (Some commit_kept) is asked room all weaves = refused_open w all_event some desk h why is asked all weaves
-  list_by false (Some why) (Some publication_fails) is asked room all weaves = refused_open w all_event some desk h why is asked all weaves
+  list_by false (Some why) mishap is asked room all weaves = refused_open w all_event some desk h why is asked all weaves
   list_by false None mishap is asked room all weaves = by_mishap w all_event some desk h is (accepted_all desk.published commands asked) mishap (room is asked) all weaves
 
 pub list_is_steps : ListIsSteps
@@ -281,10 +276,7 @@ as_turn turn = record { reply = reply_of turn.result; desk = turn.desk }
 as_one : (desk : DeskState) (command : Command) (mishap : Option Mishap) → as_turn (submit_all desk (command ∷ []) mishap) ≡ submit desk command mishap
 as_one desk command None = refl
 as_one desk command (Some no_room) = refl
-as_one desk command (Some no_memory) = refl
-as_one desk command (Some (store_fails call)) = refl
-as_one desk command (Some commit_kept) = refl
-as_one desk command (Some publication_fails) = refl
+as_one desk command (Some mishap) = refl
 
 acks_as_one : (command : Command) (result : Result ℕ Refusal) → result_acks (command ∷ []) result ≡ reply_acks command (reply_of result)
 acks_as_one command (Ok last) = let same : last - 0 ≡ last = omega arith in ap (λ n. record { number = n; command = command } ∷ []) same

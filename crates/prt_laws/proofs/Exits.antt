@@ -1,5 +1,5 @@
 -- The exits of a publisher's calls, and the events that match them.
-use Rattle.std.proofs.Common.{◌≡◌, ◌⊎◌, inl, inr, ℕ, ◌+◌, ◌<◌, ◌≤◌, Bool, true, false, arith, List, [], ◌∷◌, ◌++◌, Option, Some, None, refl, sym, ap, ◌∙◌, subst, cond}
+use Rattle.std.proofs.Common.{◌≡◌, ◌⊎◌, inl, inr, ℕ, ◌+◌, ◌<◌, ◌≤◌, Bool, true, false, arith, List, [], ◌∷◌, ◌++◌, refl, sym, ap, ◌∙◌, subst, cond}
 use Rattle.sqlite.specs.Held.{Held}
 use Rattle.sqlite.specs.Store.{Ghosts}
 use Rattle.prt_addr.specs.declared.refusal.Refusal.{Refusal}
@@ -25,7 +25,7 @@ use Rattle.prt_world.specs.declared.outcome.Outcome.{Outcome}
 use Rattle.prt_world.specs.declared.outcome.Outcome.TheVariants as outcomes
 use Rattle.prt_laws.specs.Laws.{DeclinesBy, FailsBy}
 use Rattle.prt_laws.specs.Spots.{IsAt, Spot}
-use Rattle.prt_laws.specs.Events.{AsksSome, asked, commit_events, commit_outcomes, events_before, fail_events, fail_outcomes, own, note_events, note_outcomes, outcomes_before, write_events, write_outcomes}
+use Rattle.prt_laws.specs.Events.{AsksSome, asked, commit_events, commit_outcomes, events_before, fail_events, fail_outcomes, own, own_outcomes, note_events, note_outcomes, outcomes_before, write_events, write_outcomes}
 use Rattle.prt_laws.specs.Publishers.{HasDisk, Leads, SawRoom, AreBothOf, IsPublisherOf, moment_of}
 use Rattle.prt_laws.specs.Registries.{IsRegistryOf, noted_at, registry_after}
 use Rattle.prt_grace.specs.Registry.{RegistryState, noted_by, reclaimed}
@@ -243,7 +243,32 @@ module _ {S : Type 0} (g : Ghosts S) where
         → (r ≡ registry_after before w events.Note) × Leads g w note_events (note_outcomes old.line) new
     noted before r phase is registry = (registry ∙ ap (noted_by before) (sym s.place.shown) ∙ ap (noted_at before (published_version w)) (sym (place_in Published phase).moment), noted_on phase is)
 
-  -- ---- a commit that failed
+  -- ---- the last of the store calls
+
+  -- One fails there, or everything stops: what is left is the published state or, within the commit call alone, the one after the commands. It is on disk in the world of the fate that fits.
+  pub ends_at : (old : Standing (Held S)) → old.phase ≡ Prepared → (ends : Fate → Event) (shown : StoreCall → Outcome) (moment : Moment)
+      → (lost : (line : Line) (disk : State) → 1 ≤ length old.commands → (call : StoreCall) → Goes (spot line disk (world.Prepared old.commands 0 calls.Begin)) (events_before old.commands call ++ ends Lost ∷ []) (outcomes_before old.commands call ++ shown call ∷ []) (spot line disk moment))
+      → (kept : (line : Line) (disk : State) → 1 ≤ length old.commands → Goes (spot line disk (world.Prepared old.commands 0 calls.Begin)) (events_before old.commands calls.Commit ++ ends Kept ∷ []) (outcomes_before old.commands calls.Commit ++ shown calls.Commit ∷ []) (spot line (fold (line_state line) old.commands) moment))
+      → (call : StoreCall) (left : State) → (left ≡ line_state old.line) ⊎ ((call ≡ calls.Commit) × (left ≡ fold (line_state old.line) old.commands))
+      → (fate : Fate) × ((w : World) → IsPublisherOf g old w → (all : List Event) → own all ≡ events_before old.commands call ++ ends fate ∷ [] → (own_outcomes w all ≡ outcomes_before old.commands call ++ shown call ∷ []) × IsAt (spot old.line left moment) (run_from w all))
+  ends_at old phase ends shown moment lost kept call left (inl same) = (
+    Lost,
+    λ w s all e.
+        let place = place_in old old w s Prepared phase in
+        let goes = lost old.line w.disk (some_prepared old.line w.disk old.commands w place) call in
+        let r = woven all (events_before old.commands call ++ ends Lost ∷ []) (outcomes_before old.commands call ++ shown call ∷ []) (spot old.line w.disk (world.Prepared old.commands 0 calls.Begin)) (spot old.line w.disk moment) w e goes place in
+        (r.0, subst (λ (d : State). IsAt (spot old.line d moment) (run_from w all)) (disk_before old.line w.disk w old.commands 0 place ∙ sym same) r.1),
+  )
+  ends_at old phase ends shown moment lost kept call left (inr more) = (
+    Kept,
+    λ w s all e.
+        let place = place_in old old w s Prepared phase in
+        let next : State = fold (line_state old.line) old.commands in
+        let e' : own all ≡ events_before old.commands calls.Commit ++ ends Kept ∷ [] = e ∙ ap (λ (k : StoreCall). events_before old.commands k ++ ends Kept ∷ []) more.0 in
+        let goes = kept old.line w.disk (some_prepared old.line w.disk old.commands w place) in
+        let r = woven all (events_before old.commands calls.Commit ++ ends Kept ∷ []) (outcomes_before old.commands calls.Commit ++ shown calls.Commit ∷ []) (spot old.line w.disk (world.Prepared old.commands 0 calls.Begin)) (spot old.line next moment) w e' goes place in
+        (r.0 ∙ ap (λ (k : StoreCall). outcomes_before old.commands k ++ shown k ∷ []) (sym more.0), subst (λ (d : State). IsAt (spot old.line d moment) (run_from w all)) (sym more.1) r.1),
+  )
 
   module _ (old new : Standing (Held S)) where
     -- what a failed commit may leave is the published state or, where the commit call failed, the one after the commands
@@ -252,39 +277,18 @@ module _ {S : Type 0} (g : Ghosts S) where
 
     pub failed : old.phase ≡ Prepared → new ≡ record old { phase = Closed; commands = []; tables = new.tables } → (why : Refusal) → (call : StoreCall) → why ≡ refusals.StoreFailed call → Leaves why
         → IsKnown g new.ours_first new.tables → (left : State) → MayLeave g new.tables left → (fate : Fate) × FailsBy g old new call fate left
-    failed phase is why call why_is leaves known left may = elim (leaves known left may) [
-      | inl same ↦ (
-        Lost,
-        λ w s all e.
-            let commands = old.commands in
-            let first = spot old.line w.disk (world.Prepared commands 0 calls.Begin) in
-            let place = place_in old new w s Prepared phase in
-            let goes = lost_goes old.line w.disk commands (some_prepared old.line w.disk commands w place) call in
-            let r = woven all (fail_events commands call Lost) (fail_outcomes commands call) first (spot old.line w.disk world.Closed) w e goes place in
-            let is_left : w.disk ≡ left = disk_before old.line w.disk w commands 0 place ∙ sym same in (
-              r.0,
-              subst (λ (p : Standing (Held S)). IsPublisherOf g p (run_from w all)) (sym is) (stands (record old { phase = Closed; commands = []; tables = new.tables }) (run_from w all) w.disk r.1 (λ known. subst (MayLeave g new.tables) (sym is_left) may) tt),
-              r.1.disk ∙ is_left,
-            ),
-      )
-      | inr more ↦ (
-        Kept,
-        λ w s all e.
-            let commands = old.commands in
-            let next : State = fold (line_state old.line) commands in
-            let first = spot old.line w.disk (world.Prepared commands 0 calls.Begin) in
-            let place = place_in old new w s Prepared phase in
-            let at : call ≡ calls.Commit = one_call why call calls.Commit why_is more.0 in
-            let e' : own all ≡ fail_events commands calls.Commit Kept = e ∙ ap (λ (k : StoreCall). fail_events commands k Kept) at in
-            let goes = kept_goes old.line w.disk commands (some_prepared old.line w.disk commands w place) in
-            let r = woven all (fail_events commands calls.Commit Kept) (fail_outcomes commands calls.Commit) first (spot old.line next world.Closed) w e' goes place in
-            let is_left : next ≡ left = sym more.1 in (
-              r.0 ∙ ap (fail_outcomes commands) (sym at),
-              subst (λ (p : Standing (Held S)). IsPublisherOf g p (run_from w all)) (sym is) (stands (record old { phase = Closed; commands = []; tables = new.tables }) (run_from w all) next r.1 (λ known. subst (MayLeave g new.tables) (sym is_left) may) tt),
-              r.1.disk ∙ is_left,
-            ),
-      )
-    ]
+    failed phase is why call why_is leaves known left may =
+        let either = elim (leaves known left may) as (λ _. (left ≡ line_state old.line) ⊎ ((call ≡ calls.Commit) × (left ≡ fold (line_state old.line) old.commands))) [
+          | inl same ↦ inl same
+          | inr more ↦ inr (one_call why call calls.Commit why_is more.0, more.1)
+        ] in
+        let at = ends_at old phase (λ fate. events.Fail fate) (λ k. outcomes.Refused (refusals.StoreFailed k)) world.Closed (λ line disk some k. lost_goes line disk old.commands some k) (λ line disk some. kept_goes line disk old.commands some) call left either in (
+          at.0,
+          λ w s all e.
+              let r = at.1 w s all e in
+              let closed = stands (record old { phase = Closed; commands = []; tables = new.tables }) (run_from w all) left r.1 (λ _. may) tt in
+              (r.0, subst (λ (p : Standing (Held S)). IsPublisherOf g p (run_from w all)) (sym is) closed, r.1.disk),
+        )
 
   -- ---- under the registry's lock
 

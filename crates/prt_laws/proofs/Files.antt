@@ -6,10 +6,9 @@ use Rattle.prt_addr.specs.declared.refusal.Refusal.{Refusal}
 use Rattle.prt_addr.specs.declared.refusal.Refusal.TheVariants.{Busy}
 use Rattle.prt_command.specs.declared.request.Command.{Command}
 use Rattle.prt_session.proofs.Collected.{collected_told, found}
-use Rattle.prt_session.specs.Atomic.{accepted_after, after_reading, list_replies}
-use Rattle.prt_session.specs.Desk.{DeskState, ListTurn, Mishap, commands_or_refusal, commands_turn, commit_kept, no_memory, no_room, publication_fails, settled, store_fails}
+use Rattle.prt_session.specs.Atomic.{accepted_after, after_reading, list_replies, collected}
+use Rattle.prt_session.specs.Desk.{DeskState, ListTurn, Mishap, commands_or_refusal, commands_turn, no_memory, no_room, settled}
 use Rattle.prt_session.specs.Session.{replies}
-use Rattle.prt_session.specs.Atomic.{collected}
 use Rattle.prt_session.specs.declared.reply.Reply.{Reply}
 use Rattle.prt_session.specs.declared.reply.Reply.TheVariants.{Accepted, Refused}
 use Rattle.prt_version.proofs.Folds.{accepted_all, count_fold}
@@ -25,10 +24,8 @@ use Rattle.prt_world.proofs.Claims.{answered_of}
 use Rattle.prt_laws.specs.Desks.{AreOffline, Does, FileIsRun, HasRoomFor, IsDeskOf, Sessions, SessionsHold, ShowsFile, ShowsList, Work, WorkTells, accepted_by, file, joined, list_events, list_events_by, read_commands, replies_acks, result_acks, script, work_acks}
 use Rattle.prt_laws.specs.Events.{own}
 use Rattle.prt_laws.specs.Spots.{IsReached}
-use Rattle.prt_laws.proofs.Acks.{acks_from, event_keeps}
-use Rattle.prt_laws.proofs.Answered.{list_had}
+use Rattle.prt_laws.proofs.Acks.{acks_from, event_keeps, list_had, holds_all}
 use Rattle.prt_laws.proofs.Desks.{list_is_steps}
-use Rattle.prt_laws.proofs.Headline.{holds_all}
 use Rattle.prt_laws.proofs.Scripts.{Reaches, lines_tell, list_seats, nothing_done, plain_list, reclaimed, reopened_desk, script_is_run}
 use Rattle.prt_laws.proofs.Steps.{holds_of, reached_run, run_more}
 
@@ -54,19 +51,10 @@ refused_acks (command ∷ commands) why = no_reply commands
 
 -- a list that is made has the numbers after that of the desk
 last_is : (desk : DeskState) (commands : List Command) (shuts : Bool) (reason : Option Refusal) (mishap : Option Mishap) (last : ℕ) → refusal_all desk.published commands ≡ reason → (commands_or_refusal desk commands shuts reason mishap).result ≡ Ok last → last ≡ desk.published.count + length commands
-last_is desk commands true reason mishap last asked is = absurd cc
-last_is desk commands false (Some why) None last asked is = absurd cc
-last_is desk commands false (Some why) (Some no_room) last asked is = absurd cc
-last_is desk commands false (Some why) (Some no_memory) last asked is = absurd cc
-last_is desk commands false (Some why) (Some (store_fails call)) last asked is = absurd cc
-last_is desk commands false (Some why) (Some commit_kept) last asked is = absurd cc
-last_is desk commands false (Some why) (Some publication_fails) last asked is = absurd cc
 last_is desk commands false None None last asked is = let same : (fold desk.published commands).count ≡ last = cc in sym same ∙ count_fold desk.published commands (accepted_all desk.published commands asked)
 last_is desk commands false None (Some no_room) last asked is = absurd cc
-last_is desk commands false None (Some no_memory) last asked is = absurd cc
-last_is desk commands false None (Some (store_fails call)) last asked is = absurd cc
-last_is desk commands false None (Some commit_kept) last asked is = absurd cc
-last_is desk commands false None (Some publication_fails) last asked is = absurd cc
+last_is desk commands false (Some why) (Some no_room) last asked is = absurd cc
+last_is desk commands shuts reason mishap last asked is = absurd cc
 
 told_acks : (desk : DeskState) (commands : List Command) (result : Result ℕ Refusal) → ((last : ℕ) → result ≡ Ok last → last ≡ desk.published.count + length commands) → result_acks commands result ≡ replies_acks commands (list_replies desk commands result)
 told_acks desk commands (Ok last) number = sym (acks_from commands desk.published.count last (number last refl)) ∙ sym (accepted_acks commands desk.published.count)
@@ -104,12 +92,9 @@ module _ (w : World) (desk : DeskState) (h : IsDeskOf desk w) (all : AreOffline 
       subst (Turned (Some no_room)) (sym turn) ([], inr (refl, refl, refl), h, all, sym (append-nil w.acks))
 
   turned : (mishap : Option Mishap) → Turned mishap (commands_turn desk commands mishap)
-  turned None = acted None (λ _ _. (reclaimed w desk h all).2)
   turned (Some no_room) = without_room desk.closed (refusal_all desk.published commands) refl refl
   turned (Some no_memory) = acted (Some no_memory) (λ _ _. tt)
-  turned (Some (store_fails call)) = acted (Some (store_fails call)) (λ _ _. (reclaimed w desk h all).2)
-  turned (Some commit_kept) = acted (Some commit_kept) (λ _ _. (reclaimed w desk h all).2)
-  turned (Some publication_fails) = acted (Some publication_fails) (λ _ _. (reclaimed w desk h all).2)
+  turned mishap = acted mishap (λ _ _. (reclaimed w desk h all).2)
 
 -- ---- an atomic file
 

@@ -4,7 +4,7 @@ use Rattle.sqlite.specs.Held.{Held}
 use Rattle.sqlite.specs.Store.{Ghosts}
 use Rattle.prt_publisher.specs.Standing.{Standing}
 use Rattle.prt_publisher.specs.declared.phase.Phase.{Phase}
-use Rattle.prt_publisher.specs.declared.phase.Phase.TheVariants.{Ready, Admitted, Prepared, Committed, Published, Closed}
+use Rattle.prt_publisher.specs.declared.phase.Phase.TheVariants.{Admitted}
 use Rattle.prt_world.specs.World.{World, has_room, run_from, step}
 use Rattle.prt_world.specs.declared.event.Event.{Event}
 use Rattle.prt_world.specs.declared.outcome.Outcome.{Outcome}
@@ -14,15 +14,11 @@ use Rattle.prt_version.specs.State.{State}
 use Rattle.prt_laws.proofs.Between.{room_stays, stays_there}
 use Rattle.prt_laws.proofs.Exits.{spot, stands}
 use Rattle.prt_laws.proofs.Steps.{run_more}
-use Rattle.prt_laws.proofs.Woven.{heads, own_by, tails}
+use Rattle.prt_laws.proofs.Woven.{heads, own_by, tails, by_own}
 
 saw_stays : (phase : Phase) (w v : World) → (has_room w ≡ true → has_room v ≡ true) → SawRoom phase w → SawRoom phase v
-saw_stays Ready w v stays room = tt
 saw_stays Admitted w v stays room = stays room
-saw_stays Prepared w v stays room = tt
-saw_stays Committed w v stays room = tt
-saw_stays Published w v stays room = tt
-saw_stays Closed w v stays room = tt
+saw_stays phase w v stays room = tt
 
 -- ---- lists of events in two parts
 
@@ -70,54 +66,42 @@ module _ {S : Type 0} (g : Ghosts S) where
 
   -- no event of its own
   pub idle : (p : Standing (Held S)) (w : World) → IsPublisherOf g p w → Leads g w [] [] p
-  idle p w s [] e = (refl, s)
-  idle p w s (event ∷ all) e = by (is_lookers event) refl (λ t. idle p (step w event).world t all)
-    where
-      by : (b : Bool) → is_lookers event ≡ b → (IsPublisherOf g p (step w event).world → own all ≡ [] → (own_outcomes (step w event).world all ≡ []) × IsPublisherOf g p (run_from (step w event).world all)) → (own_outcomes w (event ∷ all) ≡ []) × IsPublisherOf g p (run_from w (event ∷ all))
-      by true is again =
-          let r = again (stands_beside p w event is s) (sym (own_by event all true is) ∙ e) in
-          (shown_by w event all true is ∙ r.0, r.1)
-      by false is again =
-          let e' : event ∷ own all ≡ [] = sym (own_by event all false is) ∙ e in
-          absurd cc
+  idle p w s all e =
+      by_own (λ all list. (w : World) → IsPublisherOf g p w → list ≡ [] → (own_outcomes w all ≡ []) × IsPublisherOf g p (run_from w all)) (λ w s e. (refl, s))
+      (λ event all is again w s e. let r = again (step w event).world (stands_beside p w event is s) e in (shown_by w event all true is ∙ r.0, r.1))
+      (λ event all is again w s e. absurd cc)
+      all w s e
 
   -- one event
   pub leads_by : (old new : Standing (Held S)) (event : Event) (shown : Outcome) → ((v : World) → IsPublisherOf g old v → ((step v event).outcome ≡ shown) × IsPublisherOf g new (step v event).world)
       → (w : World) → IsPublisherOf g old w → Leads g w (event ∷ []) (shown ∷ []) new
-  leads_by old new event shown law w s [] e = absurd cc
-  leads_by old new event shown law w s (first ∷ all) e = by (is_lookers first) refl (λ t. leads_by old new event shown law (step w first).world t all)
-    where
-      by : (b : Bool) → is_lookers first ≡ b → (IsPublisherOf g old (step w first).world → own all ≡ event ∷ [] → (own_outcomes (step w first).world all ≡ shown ∷ []) × IsPublisherOf g new (run_from (step w first).world all)) → (own_outcomes w (first ∷ all) ≡ shown ∷ []) × IsPublisherOf g new (run_from w (first ∷ all))
-      by true is again =
-          let r = again (stands_beside old w first is s) (sym (own_by first all true is) ∙ e) in
-          (shown_by w first all true is ∙ r.0, r.1)
-      by false is again =
-          let e' : first ∷ own all ≡ event ∷ [] = sym (own_by first all false is) ∙ e in
-          let m : ((step w first).outcome ≡ shown) × IsPublisherOf g new (step w first).world = subst (λ (ev : Event). ((step w ev).outcome ≡ shown) × IsPublisherOf g new (step w ev).world) (heads first event (own all) [] e') (law w s) in
-          let r = idle new (step w first).world m.1 all (tails first event (own all) [] e') in
-          (shown_by w first all false is ∙ ap (λ o. o ∷ own_outcomes (step w first).world all) m.0 ∙ ap (λ os. shown ∷ os) r.0, r.1)
+  leads_by old new event shown law w s all e =
+      by_own (λ all list. (w : World) → IsPublisherOf g old w → list ≡ event ∷ [] → (own_outcomes w all ≡ shown ∷ []) × IsPublisherOf g new (run_from w all)) (λ w s e. absurd cc)
+      (λ first all is again w s e. let r = again (step w first).world (stands_beside old w first is s) e in (shown_by w first all true is ∙ r.0, r.1))
+      (λ first all is again w s e.
+      let m : ((step w first).outcome ≡ shown) × IsPublisherOf g new (step w first).world = subst (λ (ev : Event). ((step w ev).outcome ≡ shown) × IsPublisherOf g new (step w ev).world) (heads first event (own all) [] e) (law w s) in
+      let r = idle new (step w first).world m.1 all (tails first event (own all) [] e) in
+      (shown_by w first all false is ∙ ap (λ o. o ∷ own_outcomes (step w first).world all) m.0 ∙ ap (λ os. shown ∷ os) r.0, r.1))
+      all w s e
 
-  -- one list of events after another
-  pub leads_then : (w : World) (mid last : Standing (Held S)) (first rest : List Event) (shown others : List Outcome) → Leads g w first shown mid → ((v : World) → IsPublisherOf g mid v → Leads g v rest others last)
-      → Leads g w (first ++ rest) (shown ++ others) last
-  leads_then w mid last first rest shown others leads law all e =
+  -- one list of events after another, to a world of which that holds
+  leads_there : (There : World → Type 0) (w : World) (mid : Standing (Held S)) (first rest : List Event) (shown others : List Outcome) → Leads g w first shown mid
+      → ((v : World) → IsPublisherOf g mid v → (all : List Event) → own all ≡ rest → (own_outcomes v all ≡ others) × There (run_from v all)) → (all : List Event) → own all ≡ first ++ rest → (own_outcomes w all ≡ shown ++ others) × There (run_from w all)
+  leads_there There w mid first rest shown others leads law all e =
       let p = split all first rest e in
       let r = leads p.0 p.3 in
       let v : World = run_from w p.0 in
       let t = law v r.1 p.1 p.4 in
       let out : own_outcomes w (p.0 ++ p.1) ≡ shown ++ others = shown_more w p.0 p.1 ∙ ap (λ os. os ++ own_outcomes v p.1) r.0 ∙ ap (λ os. shown ++ os) t.0 in
-      let there : IsPublisherOf g last (run_from w (p.0 ++ p.1)) = subst (IsPublisherOf g last) (sym (run_more w p.0 p.1)) t.1 in
-      subst (λ (es : List Event). (own_outcomes w es ≡ shown ++ others) × IsPublisherOf g last (run_from w es)) (sym p.2) (out, there)
+      subst (λ (es : List Event). (own_outcomes w es ≡ shown ++ others) × There (run_from w es)) (sym p.2) (out, subst There (sym (run_more w p.0 p.1)) t.1)
+
+  pub leads_then : (w : World) (mid last : Standing (Held S)) (first rest : List Event) (shown others : List Outcome) → Leads g w first shown mid → ((v : World) → IsPublisherOf g mid v → Leads g v rest others last)
+      → Leads g w (first ++ rest) (shown ++ others) last
+  leads_then w mid last first rest shown others leads law = leads_there (IsPublisherOf g last) w mid first rest shown others leads law
 
   -- and to one whose disk is that state
   pub leads_then_to : (w : World) (mid last : Standing (Held S)) (left : State) (first rest : List Event) (shown others : List Outcome) → Leads g w first shown mid → ((v : World) → IsPublisherOf g mid v → LeadsTo g v rest others last left)
       → LeadsTo g w (first ++ rest) (shown ++ others) last left
   leads_then_to w mid last left first rest shown others leads law all e =
-      let p = split all first rest e in
-      let r = leads p.0 p.3 in
-      let v : World = run_from w p.0 in
-      let t = law v r.1 p.1 p.4 in
-      let out : own_outcomes w (p.0 ++ p.1) ≡ shown ++ others = shown_more w p.0 p.1 ∙ ap (λ os. os ++ own_outcomes v p.1) r.0 ∙ ap (λ os. shown ++ os) t.0 in
-      let there : IsPublisherOf g last (run_from w (p.0 ++ p.1)) = subst (IsPublisherOf g last) (sym (run_more w p.0 p.1)) t.1 in
-      let disk : (run_from w (p.0 ++ p.1)).disk ≡ left = ap (λ (u : World). u.disk) (run_more w p.0 p.1) ∙ t.2 in
-      subst (λ (es : List Event). (own_outcomes w es ≡ shown ++ others) × IsPublisherOf g last (run_from w es) × ((run_from w es).disk ≡ left)) (sym p.2) (out, there, disk)
+      let there = leads_there (λ v. IsPublisherOf g last v × (v.disk ≡ left)) w mid first rest shown others leads (λ v s all e. let t = law v s all e in (t.0, (t.1, t.2))) all e in
+      (there.0, there.1.0, there.1.1)

@@ -52,7 +52,6 @@ module _ {X : Type 0} (f : World → X) where
     submit_keeps : (w : World) (commands : List Command) (moment : Moment) → Keeps w (world.submit w commands moment)
     submit_keeps w [] moment = refl
     submit_keeps w (first ∷ more) world.Ready = prepare_keeps w (first ∷ more) (refusal_all (published_version w) (first ∷ more)) (has_room w)
-    submit_keeps w (first ∷ more) world.Closed = refl
     submit_keeps w (first ∷ more) moment = refl
 
     call_keeps : (w : World) (moment : Moment) → Keeps w (world.call w moment)
@@ -111,9 +110,8 @@ module _ {X : Type 0} (f : World → X) where
     fetch_keeps w at (online announced held) = seat_keeps w at (online announced (Some w.published))
 
     announce_keeps : (w : World) (at : ℕ) (state : LookerState) → Keeps w (world.announce w at state)
-    announce_keeps w at offline = refl
-    announce_keeps w at (online announced None) = refl
     announce_keeps w at (online announced (Some held)) = seat_keeps w at (online held (Some held))
+    announce_keeps w at state = refl
 
     offline_keeps : (w : World) (at : ℕ) (state : LookerState) → Keeps w (world.go_offline w at state)
     offline_keeps w at offline = refl
@@ -127,16 +125,8 @@ module _ {X : Type 0} (f : World → X) where
         let left : State = world.stopped w fate w.phase in
         apart w w.accepted w.last left left world.Stopped w.published w.noted w.versions w.lookers
 
-    storing : (w : World) (event : Event) → is_storing event ≡ true → Keeps w (step w event)
-    storing w event is = storing_keeps (λ w accepted last disk pending moment. apart w accepted last disk pending moment w.published w.noted w.versions w.lookers) w event is
-
     pub most_keep : (w : World) (event : Event) → is_record event ≡ false → Keeps w (step w event)
-    most_keep w (events.Submit command) is = storing w (events.Submit command) refl
-    most_keep w (events.SubmitAll commands) is = storing w (events.SubmitAll commands) refl
-    most_keep w events.Call is = storing w events.Call refl
-    most_keep w (events.Fail fate) is = storing w (events.Fail fate) refl
     most_keep w events.Publish is = publish_keeps w w.phase
-    most_keep w events.PublishFail is = storing w events.PublishFail refl
     most_keep w events.Note is = note_keeps w w.phase
     most_keep w events.Ack is = absurd cc
     most_keep w (events.Online at) is = unless_keeps w (world.go_online w at (looker_state w at)) (world.is_stopped w.phase) (online_keeps w at (looker_state w at))
@@ -147,3 +137,4 @@ module _ {X : Type 0} (f : World → X) where
     most_keep w events.Reclaim is = unless_keeps w (world.reclaim w) (world.is_stopped w.phase) (reclaim_keeps w)
     most_keep w (events.Stop fate) is = unless_keeps w (world.stop w fate) (world.is_stopped w.phase) (stop_keeps w fate)
     most_keep w events.Reopen is = reopen_keeps w w.phase
+    most_keep w event is = storing_keeps (λ w accepted last disk pending moment. apart w accepted last disk pending moment w.published w.noted w.versions w.lookers) w event refl

@@ -44,6 +44,10 @@ pub sits_there : (w : World) (i : ℕ) (state : LookerState) → i < length w.lo
 sits_there w i state within = get_or-set_same w.lookers i state offline within
 
 module _ (r new : RegistryState) (before place : Place) (has : HasPlace r before) where
+  -- a looker sits where its place says, once both have moved
+  sits_then : (s t : Step) (told holds : Option ℕ) → place ≡ record before { announced = told } → s ≡ t → looker_state t.world before.index ≡ seat told holds → looker_state s.world place.index ≡ seat place.announced holds
+  sits_then s t told holds moved to sat = ap (λ (p : Place). looker_state s.world p.index) moved ∙ ap (λ (x : Step). looker_state x.world before.index) to ∙ sat ∙ sym (ap (λ (p : Place). seat p.announced holds) moved)
+
   -- ---- online
 
   pub onlined : (told : Option ℕ) (number : ℕ) → before.announced ≡ told → number ≡ unwrap_or told r.noted.count → place ≡ record before { announced = Some number } → new ≡ with_place r before.index (places.Online number) → IsOnline r new before place
@@ -52,22 +56,16 @@ module _ (r new : RegistryState) (before place : Place) (has : HasPlace r before
       let noted : number ≡ w.noted = counted ∙ s.noted in
       let to : step w (events.Online before.index) ≡ world.go_online w before.index offline = runs w (world.go_online w before.index (looker_state w before.index)) going ∙ ap (world.go_online w before.index) was in (
         registry ∙ ap (λ n. with_place r before.index (places.Online n)) counted ∙ sym (ap (brought_online r before.index) was),
-        ap (λ (p : Place). looker_state (step w (events.Online before.index)).world p.index) moved
-            ∙ ap (λ (t : Step). looker_state t.world before.index) to
-            ∙ sits_there w before.index (online w.noted None) (has_looker r w before s has)
-            ∙ ap (λ n. online n None) (sym noted)
-            ∙ sym (ap (λ (p : Place). seat p.announced (held_online before.announced held)) moved ∙ ap (λ a. seat (Some number) (held_online a held)) is),
+        sits_then (step w (events.Online before.index)) (world.go_online w before.index offline) (Some number) (held_online before.announced held) moved to
+            (sits_there w before.index (online w.noted None) (has_looker r w before s has) ∙ ap (λ n. online n None) (sym noted) ∙ sym (ap (λ a. seat (Some number) (held_online a held)) is)),
       )
   onlined (Some told) number is counted moved registry held w going s sat =
       let was : looker_state w before.index ≡ online told held = sat ∙ ap (λ a. seat a held) is in
       let to : step w (events.Online before.index) ≡ world.go_online w before.index (online told held) = runs w (world.go_online w before.index (looker_state w before.index)) going ∙ ap (world.go_online w before.index) was in
       let there : slice_get r.places before.index ≡ Some (places.Online number) = has.1 ∙ ap (λ a. Some (announcing a)) is ∙ ap (λ n. Some (places.Online n)) (sym counted) in (
         registry ∙ ap (λ (ps : List PlaceState). record r { places = ps }) (set_same r.places before.index (places.Online number) there) ∙ sym (ap (brought_online r before.index) was),
-        ap (λ (p : Place). looker_state (step w (events.Online before.index)).world p.index) moved
-            ∙ ap (λ (t : Step). looker_state t.world before.index) to
-            ∙ was
-            ∙ ap (λ n. online n held) (sym counted)
-            ∙ sym (ap (λ (p : Place). seat p.announced (held_online before.announced held)) moved ∙ ap (λ a. seat (Some number) (held_online a held)) is),
+        sits_then (step w (events.Online before.index)) (world.go_online w before.index (online told held)) (Some number) (held_online before.announced held) moved to
+            (was ∙ ap (λ n. online n held) (sym counted) ∙ sym (ap (λ a. seat (Some number) (held_online a held)) is)),
       )
 
   pub online_shows : (number : ℕ) → number ≡ unwrap_or before.announced r.noted.count → ShowsOnline r new before place number
@@ -84,10 +82,7 @@ module _ (r new : RegistryState) (before place : Place) (has : HasPlace r before
       let was : looker_state w before.index ≡ online told (Some number) = sat ∙ ap (λ a. seat a (Some number)) is in
       let to : step w (events.Announce before.index) ≡ world.announce w before.index (online told (Some number)) = runs w (world.announce w before.index (looker_state w before.index)) going ∙ ap (world.announce w before.index) was in (
         registry ∙ sym (ap (told_number r before.index) was),
-        ap (λ (p : Place). looker_state (step w (events.Announce before.index)).world p.index) moved
-            ∙ ap (λ (t : Step). looker_state t.world before.index) to
-            ∙ sits_there w before.index (online number (Some number)) (has_looker r w before s has)
-            ∙ sym (ap (λ (p : Place). seat p.announced (Some number)) moved),
+        sits_then (step w (events.Announce before.index)) (world.announce w before.index (online told (Some number))) (Some number) (Some number) moved to (sits_there w before.index (online number (Some number)) (has_looker r w before s has)),
       )
 
   pub announces : (number : ℕ) (told : Option ℕ) → before.announced ≡ told → IsSome before.announced → place ≡ record before { announced = Some number } → new ≡ with_place r before.index (places.Online number) → IsAnnounce r new before place number
@@ -102,16 +97,13 @@ module _ (r new : RegistryState) (before place : Place) (has : HasPlace r before
       let to : step w (events.Offline before.index) ≡ world.go_offline w before.index offline = runs w (world.go_offline w before.index (looker_state w before.index)) going ∙ ap (world.go_offline w before.index) was in
       let there : slice_get r.places before.index ≡ Some places.Offline = has.1 ∙ ap (λ a. Some (announcing a)) is in (
         registry ∙ ap (λ (ps : List PlaceState). record r { places = ps }) (set_same r.places before.index places.Offline there) ∙ sym (ap (taken_offline r before.index) was),
-        ap (λ (p : Place). looker_state (step w (events.Offline before.index)).world p.index) moved ∙ ap (λ (t : Step). looker_state t.world before.index) to ∙ was ∙ sym (ap (λ (p : Place). seat p.announced None) moved),
+        sits_then (step w (events.Offline before.index)) (world.go_offline w before.index offline) None None moved to was,
       )
   offlined (Some told) is moved registry held w going s sat =
       let was : looker_state w before.index ≡ online told held = sat ∙ ap (λ a. seat a held) is in
       let to : step w (events.Offline before.index) ≡ world.go_offline w before.index (online told held) = runs w (world.go_offline w before.index (looker_state w before.index)) going ∙ ap (world.go_offline w before.index) was in (
         registry ∙ sym (ap (taken_offline r before.index) was),
-        ap (λ (p : Place). looker_state (step w (events.Offline before.index)).world p.index) moved
-            ∙ ap (λ (t : Step). looker_state t.world before.index) to
-            ∙ sits_there w before.index offline (has_looker r w before s has)
-            ∙ sym (ap (λ (p : Place). seat p.announced None) moved),
+        sits_then (step w (events.Offline before.index)) (world.go_offline w before.index (online told held)) None None moved to (sits_there w before.index offline (has_looker r w before s has)),
       )
 
 -- ---- join and part

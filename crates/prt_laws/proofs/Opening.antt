@@ -1,5 +1,5 @@
 -- A database that is opened, first or again.
-use Rattle.std.proofs.Common.{◌≡◌, ◌⊎◌, inl, inr, ℕ, ◌+◌, ◌≤◌, false, List, [], ◌∷◌, length, refl, sym, ap, ◌∙◌, subst, cond, arith}
+use Rattle.std.proofs.Common.{◌≡◌, ◌⊎◌, inl, inr, ℕ, ◌+◌, false, List, [], ◌∷◌, length, refl, sym, ap, ◌∙◌, subst, cond, arith}
 use Rattle.sqlite.specs.Held.{Held, state}
 use Rattle.sqlite.specs.State.{HasCleanDisk}
 use Rattle.sqlite.specs.Store.{Ghosts}
@@ -11,7 +11,7 @@ use Rattle.prt_store.proofs.Accepted.{are_made, are_next}
 use Rattle.prt_store.specs.Exits.{IsKnown, IsStored, MayLeave, Spells}
 use Rattle.prt_publisher.specs.Standing.{Agrees, Standing, Stands}
 use Rattle.prt_publisher.specs.declared.phase.Phase.{Phase}
-use Rattle.prt_publisher.specs.declared.phase.Phase.TheVariants.{Ready, Admitted, Prepared, Committed, Published, Closed}
+use Rattle.prt_publisher.specs.declared.phase.Phase.TheVariants.{Ready, Prepared}
 use Rattle.prt_store.proofs.Spelled.{spelled_once, stored_once}
 use Rattle.prt_rows.specs.Effects.{AreEmpty}
 use Rattle.prt_store.specs.Adopted.{Adopts}
@@ -19,8 +19,8 @@ use Rattle.prt_store.specs.Stored.{Stores}
 use Rattle.std.specs.Prelude.{take}
 use Rattle.std.proofs.lemmas.List.{take-take}
 use Rattle.prt_world.specs.Durability.{state_after}
-use Rattle.prt_world.proofs.Phases.{Holds}
-use Rattle.prt_laws.proofs.Steps.{holds_of, told_opened}
+use Rattle.prt_world.proofs.Phases.{Holds, version_kept}
+use Rattle.prt_laws.proofs.Steps.{holds_of, told_opened, Moves, moved, pending}
 use Rattle.prt_version.specs.Accepted.{changes_of}
 use Rattle.prt_version.specs.Change.{fold}
 use Rattle.prt_version.specs.State.{State, opening_state}
@@ -31,7 +31,6 @@ use Rattle.prt_world.specs.declared.event.Event.TheVariants as events
 use Rattle.prt_world.specs.declared.event.Fate.TheVariants.{Kept, Lost}
 use Rattle.prt_world.specs.declared.outcome.Outcome.TheVariants as outcomes
 use Rattle.prt_world.proofs.KeptVersions.{kept_alone}
-use Rattle.prt_world.proofs.Phases.{version_kept}
 use Rattle.prt_laws.specs.Laws.{AdoptsStopped, BeginsAt, IsCutShort, OpensAgain}
 use Rattle.prt_laws.specs.Registries.{IsRegistryOf}
 use Rattle.prt_laws.proofs.Registering.{registers_opened, registers_started}
@@ -43,12 +42,10 @@ use Rattle.prt_grace.specs.Registry.{new_registry}
 use Rattle.prt_store.proofs.Adoptions.{opening_stored}
 use Rattle.prt_world.specs.declared.event.Fate.{Fate}
 use Rattle.sqlite.specs.Tree.{Trees}
-use Rattle.prt_laws.specs.Spots.{IsAt, Spot}
+use Rattle.prt_laws.specs.Spots.{IsAt}
 use Rattle.prt_laws.specs.Events.{own, own_outcomes, stop_events, stop_outcomes}
 use Rattle.prt_laws.specs.Publishers.{HasDisk, SawRoom, IsPublisherOf, moment_of}
-use Rattle.prt_laws.proofs.Steps.{Moves, disk_before, moved, pending}
-use Rattle.prt_laws.proofs.Woven.{Goes, woven}
-use Rattle.prt_laws.proofs.Exits.{place_in, some_prepared, spot, stands, then_goes, written_at}
+use Rattle.prt_laws.proofs.Exits.{ends_at, spot, stands, then_goes, written_at}
 
 -- ---- one event
 
@@ -73,11 +70,7 @@ reopens line opened disk w loaded none h =
 
 pub open_moment : (phase : Phase) (commands : List Command) → world.is_stopped (moment_of phase commands) ≡ false
 open_moment Ready commands = refl
-open_moment Admitted commands = refl
-open_moment Prepared commands = refl
-open_moment Committed commands = refl
-open_moment Published commands = refl
-open_moment Closed commands = refl
+open_moment phase commands = refl
 
 module _ {S : Type 0} (g : Ghosts S) where
   -- a publisher that was opened stores what it publishes
@@ -142,42 +135,15 @@ stops_kept line disk commands done w h =
     ap (λ m. cond (world.is_stopped m) (world.unmet w) (record { world = world.with_disk w (world.stopped w Kept m) world.Stopped; outcome = outcomes.Stopped })) h.moment in
     moved w (events.Stop Kept) there (spot line (fold (line_state line) commands) world.Stopped) h.reached is refl (pending line disk w commands done h) h.shown h.told tt
 
-module _ (line : Line) (disk : State) (commands : List Command) (some : 1 ≤ length commands) where
-  abbrev first : Spot
-  first = spot line disk (world.Prepared commands 0 calls.Begin)
-
-  pub cut_goes : (call : StoreCall) → Goes first (stop_events commands call Lost) (stop_outcomes commands call) (spot line disk world.Stopped)
-  cut_goes call = then_goes line disk commands some call (events.Stop Lost) outcomes.Stopped (spot line disk world.Stopped) (λ w h. stops line disk (world.Prepared commands (written_at line disk commands call) call) w refl h)
-
-  pub cut_kept_goes : Goes first (stop_events commands calls.Commit Kept) (stop_outcomes commands calls.Commit) (spot line (fold (line_state line) commands) world.Stopped)
-  cut_kept_goes = then_goes line disk commands some calls.Commit (events.Stop Kept) outcomes.Stopped (spot line (fold (line_state line) commands) world.Stopped) (λ w h. stops_kept line disk commands (length commands) w h)
-
 module _ {S : Type 0} (g : Ghosts S) where
   -- Stopped within a store call of a commit: what is left is the published state or, within the commit call alone, the one after the commands. It is on disk in a world that is stopped there.
   pub stopped_at : (old : Standing (Held S)) → old.phase ≡ Prepared → (call : StoreCall) (left : State) → (left ≡ line_state old.line) ⊎ ((call ≡ calls.Commit) × (left ≡ fold (line_state old.line) old.commands))
       → (fate : Fate) × ((w : World) → IsPublisherOf g old w → (all : List Event) → own all ≡ stop_events old.commands call fate → (own_outcomes w all ≡ stop_outcomes old.commands call) × IsAt (spot old.line left world.Stopped) (run_from w all))
-  stopped_at old phase call left may = elim may [
-    | inl same ↦ (
-      Lost,
-      λ w s all e.
-          let commands = old.commands in
-          let place = place_in g old old w s Prepared phase in
-          let some = some_prepared old.line w.disk commands w place in
-          let r = woven all (stop_events commands call Lost) (stop_outcomes commands call) (spot old.line w.disk (world.Prepared commands 0 calls.Begin)) (spot old.line w.disk world.Stopped) w e (cut_goes old.line w.disk commands some call) place in
-          (r.0, subst (λ (d : State). IsAt (spot old.line d world.Stopped) (run_from w all)) (disk_before old.line w.disk w commands 0 place ∙ sym same) r.1),
-    )
-    | inr more ↦ (
-      Kept,
-      λ w s all e.
-          let commands = old.commands in
-          let next : State = fold (line_state old.line) commands in
-          let place = place_in g old old w s Prepared phase in
-          let some = some_prepared old.line w.disk commands w place in
-          let e' : own all ≡ stop_events commands calls.Commit Kept = e ∙ ap (λ (k : StoreCall). stop_events commands k Kept) more.0 in
-          let r = woven all (stop_events commands calls.Commit Kept) (stop_outcomes commands calls.Commit) (spot old.line w.disk (world.Prepared commands 0 calls.Begin)) (spot old.line next world.Stopped) w e' (cut_kept_goes old.line w.disk commands some) place in
-          (r.0 ∙ ap (stop_outcomes commands) (sym more.0), subst (λ (d : State). IsAt (spot old.line d world.Stopped) (run_from w all)) (sym more.1) r.1),
-    )
-  ]
+  stopped_at old phase call left may =
+      ends_at g old phase (λ fate. events.Stop fate) (λ _. outcomes.Stopped) world.Stopped
+      (λ line disk some k. then_goes line disk old.commands some k (events.Stop Lost) outcomes.Stopped (spot line disk world.Stopped) (λ w h. stops line disk (world.Prepared old.commands (written_at line disk old.commands k) k) w refl h))
+      (λ line disk some. then_goes line disk old.commands some calls.Commit (events.Stop Kept) outcomes.Stopped (spot line (fold (line_state line) old.commands) world.Stopped) (λ w h. stops_kept line disk old.commands (length old.commands) w h))
+      call left may
 
   -- Whatever file is left of a commit that was stopped there spells the published state or, within the commit call alone, the one after the commands.
   pub cut_left : (old : Standing (Held S)) (call : StoreCall) (now : Held S) → Stands g old → IsCutShort g old call now → IsKnown g old.ours_first now → (trees : Trees) → (state g now).may_leave trees

@@ -1,5 +1,5 @@
 -- A registry of grace periods and the world.
-use Rattle.std.proofs.Common.{◌≡◌, ℕ, ◌+◌, ◌<◌, ◌≤◌, Bool, true, false, List, [], ◌∷◌, ◌++◌, Option, Some, None, length, map, get_or, set, replicate, zero, suc, refl, sym, ap, ◌∙◌, subst, arith, cond}
+use Rattle.std.proofs.Common.{◌≡◌, ℕ, ◌+◌, ◌<◌, ◌≤◌, Bool, true, false, List, [], ◌∷◌, ◌++◌, Some, None, length, map, get_or, set, replicate, zero, suc, refl, sym, ap, ◌∙◌, subst, arith, cond}
 use Rattle.std.specs.Prelude.{◌==◌, ◌&&◌, filter, nat_lt, unwrap_or}
 use Rattle.std.specs.List.{AllByRecursion as Each}
 use Rattle.std.proofs.lemmas.Bool.Decides.{nat_tests}
@@ -177,46 +177,33 @@ module _ (r : RegistryState) (w : World) (s : IsRegistryOf r w) where
         ∙ sym (map-set announced_by w.lookers i state);
   }
 
-  pub goes_online : (i : ℕ) → IsRegistryOf (with_place r i (places.Online r.noted.count)) (world.go_online w i offline).world
-  goes_online i = sits i (places.Online r.noted.count) (online w.noted None) (ap Some s.noted)
+  -- a place is taken or freed, of a looker that is offline
+  pub joins : (i : ℕ) (place past : PlaceState) → announced place ≡ announced (get_or r.places i past) → IsRegistryOf (with_place r i place) w
+  joins i place past same = record { noted = s.noted; below = s.below; all = s.all; told = map_set_same announced r.places i place past same ∙ s.told }
 
-  pub announces_held : (i before held : ℕ) → IsRegistryOf (with_place r i (places.Online held)) (world.announce w i (online before (Some held))).world
-  announces_held i before held = sits i (places.Online held) (online held (Some held)) refl
+  -- ---- an event of a looker, by the state that the looker is in
 
-  pub goes_offline : (i before : ℕ) (held : Option ℕ) → IsRegistryOf (with_place r i places.Offline) (world.go_offline w i (online before held)).world
-  goes_offline i before held = sits i places.Offline offline refl
+  onlines : (i : ℕ) (state : LookerState) → IsRegistryOf (brought_online r i state) (world.go_online w i state).world
+  onlines i offline = sits i (places.Online r.noted.count) (online w.noted None) (ap Some s.noted)
+  onlines i (online announced held) = s
 
   -- what a looker fetches or looks up is nothing to the registry
-  pub fetches_one : (i before : ℕ) (held : Option ℕ) → looker_state w i ≡ online before held → IsRegistryOf r (world.fetch w i (online before held)).world
-  fetches_one i before held is = record {
+  fetches : (i : ℕ) (state : LookerState) → looker_state w i ≡ state → IsRegistryOf r (world.fetch w i state).world
+  fetches i offline is = s
+  fetches i (online before held) is = record {
     noted = s.noted;
     below = s.below;
     all = s.all;
     told = s.told ∙ sym (map_set_same announced_by w.lookers i (online before (Some w.published)) offline (sym (ap announced_by is)));
   }
 
-  -- a place is taken or freed, of a looker that is offline
-  pub joins : (i : ℕ) (place past : PlaceState) → announced place ≡ announced (get_or r.places i past) → IsRegistryOf (with_place r i place) w
-  joins i place past same = record { noted = s.noted; below = s.below; all = s.all; told = map_set_same announced r.places i place past same ∙ s.told }
-
-  -- an event of a looker, by the state that the looker is in
-
-  onlines : (i : ℕ) (state : LookerState) → IsRegistryOf (brought_online r i state) (world.go_online w i state).world
-  onlines i offline = goes_online i
-  onlines i (online announced held) = s
-
-  fetches : (i : ℕ) (state : LookerState) → looker_state w i ≡ state → IsRegistryOf r (world.fetch w i state).world
-  fetches i offline is = s
-  fetches i (online announced held) is = fetches_one i announced held is
-
   announces : (i : ℕ) (state : LookerState) → IsRegistryOf (told_number r i state) (world.announce w i state).world
-  announces i offline = s
-  announces i (online announced None) = s
-  announces i (online announced (Some held)) = announces_held i announced held
+  announces i (online announced (Some held)) = sits i (places.Online held) (online held (Some held)) refl
+  announces i state = s
 
   offlines : (i : ℕ) (state : LookerState) → IsRegistryOf (taken_offline r i state) (world.go_offline w i state).world
   offlines i offline = s
-  offlines i (online announced held) = goes_offline i announced held
+  offlines i (online announced held) = sits i places.Offline offline refl
 
   looks : (packet : _) (state : LookerState) → IsRegistryOf r (world.look w packet state).world
   looks packet offline = s

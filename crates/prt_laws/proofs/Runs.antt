@@ -3,13 +3,13 @@ use Rattle.std.proofs.Common.{◌≡◌, ℕ, true, false, List, [], ◌∷◌, 
 use Rattle.std.specs.List.{AllByRecursion as Each}
 use Rattle.prt_addr.proofs.Each.{each_append}
 use Rattle.std.proofs.lemmas.List.{append-nil, append_assoc}
-use Rattle.sqlite.specs.Held.{Held}
+use Rattle.sqlite.specs.Held.{Held, state}
 use Rattle.sqlite.specs.Store.{Ghosts}
 use Rattle.prt_command.specs.declared.request.Command.{Command}
 use Rattle.prt_store.specs.Exits.{IsKnown, IsStored, MayLeave, Spells}
 use Rattle.prt_publisher.specs.Standing.{Standing}
 use Rattle.prt_publisher.specs.declared.phase.Phase.{Phase}
-use Rattle.prt_publisher.specs.declared.phase.Phase.TheVariants.{Ready, Admitted, Prepared, Committed, Published, Closed}
+use Rattle.prt_publisher.specs.declared.phase.Phase.TheVariants.{Ready, Committed, Published, Closed}
 use Rattle.prt_version.specs.State.{State}
 use Rattle.prt_world.specs.Durability.{IsAnswered}
 use Rattle.prt_world.specs.declared.outcome.Outcome.TheVariants as outcomes
@@ -21,20 +21,17 @@ use Rattle.prt_world.specs.declared.event.Fate.TheVariants.{Lost}
 use Rattle.prt_front.specs.Line.{grown_by, line_state}
 use Rattle.prt_grace.specs.Registry.{RegistryState, new_registry}
 use Rattle.prt_grace.specs.declared.place.PlaceState.TheVariants.{Free}
-use Rattle.sqlite.specs.Held.{state}
 use Rattle.sqlite.specs.Tree.{Trees}
 use Rattle.prt_laws.specs.Laws.{BeginsAt}
 use Rattle.prt_laws.specs.Registries.{IsRegistryOf, registry_through}
 use Rattle.prt_laws.proofs.Exits.{asks_registers, note_goes, place_in, spot}
 use Rattle.prt_laws.proofs.Registering.{joins, registers_beside}
-use Rattle.prt_laws.specs.Events.{acks_to, asked, commit_events, fail_events, note_events, note_outcomes, own, publish_events, publish_outcomes, stop_events, submit_events, submit_outcomes, unpublished_events}
+use Rattle.prt_laws.specs.Events.{acks_to, asked, commit_events, fail_events, note_events, note_outcomes, own, publish_events, publish_outcomes, stop_events, submit_events, submit_outcomes, unpublished_events, is_going}
 use Rattle.prt_laws.specs.Runs.{EveryRunStands, HoldsAll, ActsAll, Act, Acts, adopted, admitted, answers_of, beside, committed, declined, events_of, failed, looked, noted, planned, prepared, published, receipts_of, refused, seated, shown, stopped, submit_failed, submit_unpublished, submitted, act_answers, act_events, act_receipts, unplanned, unshown}
 use Rattle.prt_laws.specs.Publishers.{HasDisk, AreBothOf, IsPublisherOf}
-use Rattle.prt_laws.proofs.Acks.{asks_none, committed_none, event_keeps, failed_none, list_keeps, lookers_none, stopped_none, woven_acks, woven_keeps}
+use Rattle.prt_laws.proofs.Acks.{asks_none, committed_none, event_keeps, failed_none, list_keeps, lookers_none, stopped_none, woven_acks, woven_keeps, list_had, unless_shows, holds_all, is_ack}
 use Rattle.prt_laws.proofs.Desks.{accepted_there, published_there}
 use Rattle.prt_laws.proofs.Through.{all_go_on, asks_go_on, committed_go_on, failed_go_on, registers_event, through}
-use Rattle.prt_laws.proofs.Answered.{list_had, unless_shows}
-use Rattle.prt_laws.proofs.Headline.{holds_all}
 use Rattle.prt_laws.proofs.Joined.{stands_beside}
 use Rattle.prt_laws.proofs.Opening.{left_is, open_moment}
 use Rattle.prt_laws.proofs.Steps.{holds_of, notes, run_more}
@@ -51,6 +48,12 @@ module _ {S : Type 0} (g : Ghosts S) where
 
   runs : (old : Standing (Held S)) (w : World) → IsPublisherOf g old w → world.is_stopped w.phase ≡ false
   runs old w s = ap world.is_stopped s.place.moment ∙ open_moment old.phase old.commands
+
+  -- events of which none acknowledges anything
+  silent : (old new : Standing (Held S)) (r after : RegistryState) (w : World) → IsPublisherOf g old w → IsRegistryOf r w → (all list : List Event) → own all ≡ list → Each (λ event. is_going event ≡ true) list → Each (λ event. is_ack event ≡ false) list
+      → IsPublisherOf g new (run_from w all) → after ≡ registry_through r w all → Reaches new after w all []
+  silent old new r after w s h all list e going none there is =
+      (there, kept is (through all (all_go_on all list e going) r w (runs old w s) s.place.reached h), woven_keeps all list e none w ∙ sym (append-nil w.acks))
 
   pub acted : (old new : Standing (Held S)) (r after : RegistryState) (w : World) (act : Act) → IsPublisherOf g old w → IsRegistryOf r w → Acts g old r w act new after → Reaches new after w (act_events act) (act_receipts act)
   acted old new r after w (beside event) s h t =
@@ -69,16 +72,9 @@ module _ {S : Type 0} (g : Ghosts S) where
   acted old new r after w (planned event) s h t = ((t.2.1 w s (event ∷ []) (own_asked event [] t.0)).1, kept t.1 (asks_registers event t.0 r w h), list_keeps (event ∷ []) (asks_none event t.0, tt) w)
   acted old new r after w unplanned s h t = ((t.1.2 w s [] refl).1, kept t.0 h, sym (append-nil w.acks))
   acted old new r after w (committed all) s h t =
-      let e : own all ≡ commit_events old.commands ++ [] = t.0 ∙ sym (append-nil (commit_events old.commands)) in (
-        (t.2.1 w s all t.0).1,
-        kept t.1 (through all (all_go_on all (commit_events old.commands ++ []) e (committed_go_on old.commands [] tt)) r w (runs old w s) s.place.reached h),
-        woven_keeps all (commit_events old.commands ++ []) e (committed_none old.commands [] tt) w ∙ sym (append-nil w.acks),
-      )
-  acted old new r after w (failed call fate left all) s h t = (
-    (t.2 w s all t.0).1,
-    kept t.1 (through all (all_go_on all (fail_events old.commands call fate) t.0 (failed_go_on old.commands call fate)) r w (runs old w s) s.place.reached h),
-    woven_keeps all (fail_events old.commands call fate) t.0 (failed_none old.commands call fate) w ∙ sym (append-nil w.acks),
-  )
+      let e : own all ≡ commit_events old.commands ++ [] = t.0 ∙ sym (append-nil (commit_events old.commands)) in
+      silent old new r after w s h all (commit_events old.commands ++ []) e (committed_go_on old.commands [] tt) (committed_none old.commands [] tt) (t.2.1 w s all t.0).1 t.1
+  acted old new r after w (failed call fate left all) s h t = silent old new r after w s h all (fail_events old.commands call fate) t.0 (failed_go_on old.commands call fate) (failed_none old.commands call fate) (t.2 w s all t.0).1 t.1
   acted old new r after w shown s h t = ((t.1.1 w s (events.Publish ∷ []) refl).1, kept t.0 (registers_event r w s.place.reached h events.Publish refl (runs old w s)), list_keeps (events.Publish ∷ []) (refl, tt) w)
   acted old new r after w unshown s h t = ((t.2.2 w s (events.PublishFail ∷ []) refl).1, kept t.0 (registers_event r w s.place.reached h events.PublishFail refl (runs old w s)), list_keeps (events.PublishFail ∷ []) (refl, tt) w)
   acted old new r after w (noted commands told more) s h t =
@@ -132,34 +128,20 @@ module _ {S : Type 0} (g : Ghosts S) where
       same_submit commands a b is = cc
   acted old new r after w (refused event why) s h t = ((t.3.1 w s t.1).1, kept t.2 (asks_registers event t.0 r w h), list_keeps (event ∷ []) (asks_none event t.0, tt) w)
   acted old new r after w (submit_failed event call fate left more) s h t =
-      let some = t.0 in
-      let commands = asked event in
-      let own_is : own (event ∷ more) ≡ event ∷ fail_events commands call fate = own_asked event more some ∙ ap (λ xs. event ∷ xs) t.1 in (
-        (t.4 w s t.2 (event ∷ more) own_is).1,
-        kept t.3 (through (event ∷ more) (asks_go_on event some, all_go_on more (fail_events commands call fate) t.1 (failed_go_on commands call fate)) r w (runs old w s) s.place.reached h),
-        woven_keeps (event ∷ more) (event ∷ fail_events commands call fate) own_is (asks_none event some, failed_none commands call fate) w ∙ sym (append-nil w.acks),
-      )
+      let list = event ∷ fail_events (asked event) call fate in
+      let own_is : own (event ∷ more) ≡ list = own_asked event more t.0 ∙ ap (λ xs. event ∷ xs) t.1 in
+      silent old new r after w s h (event ∷ more) list own_is (asks_go_on event t.0, failed_go_on (asked event) call fate) (asks_none event t.0, failed_none (asked event) call fate) (t.4 w s t.2 (event ∷ more) own_is).1 t.3
   acted old new r after w (submit_unpublished event more) s h t =
-      let some = t.0 in
-      let commands = asked event in
       let last = events.PublishFail ∷ [] in
-      let own_is : own (event ∷ more) ≡ unpublished_events event = own_asked event more some ∙ ap (λ xs. event ∷ xs) t.1 in (
-        (t.4.3 w s t.2 (event ∷ more) own_is).1,
-        kept t.3 (through (event ∷ more) (asks_go_on event some, all_go_on more (commit_events commands ++ last) t.1 (committed_go_on commands last (refl, tt))) r w (runs old w s) s.place.reached h),
-        woven_keeps (event ∷ more) (unpublished_events event) own_is (asks_none event some, committed_none commands last (refl, tt)) w ∙ sym (append-nil w.acks),
-      )
+      let own_is : own (event ∷ more) ≡ unpublished_events event = own_asked event more t.0 ∙ ap (λ xs. event ∷ xs) t.1 in
+      silent old new r after w s h (event ∷ more) (unpublished_events event) own_is (asks_go_on event t.0, committed_go_on (asked event) last (refl, tt)) (asks_none event t.0, committed_none (asked event) last (refl, tt)) (t.4.3 w s t.2 (event ∷ more) own_is).1 t.3
   acted old new r after w (adopted trees) s h t =
       let there = t.2.1 old w s (spelled_by old.phase old.commands old.tables w.disk trees refl refl t.1.1 t.1.2 (s.stored t.1.0)) in
       (there.1.0, kept t.0 there.1.1, list_keeps (events.Stop Lost ∷ events.Reopen ∷ []) (refl, (refl, tt)) w)
     where
       spelled_by : (phase : Phase) (commands : List Command) (tables : Held S) (disk : State) (trees : Trees) → old.phase ≡ phase → old.commands ≡ commands → (state g tables).may_leave trees → (old.phase ≡ Closed → old.commands ≡ [] → Spells trees disk) → HasDisk g phase commands tables disk → Spells trees disk
-      spelled_by Ready commands tables disk trees at under may closed held = held.durable trees may
-      spelled_by Admitted commands tables disk trees at under may closed held = held.durable trees may
-      spelled_by Prepared commands tables disk trees at under may closed held = held.durable trees may
-      spelled_by Committed commands tables disk trees at under may closed held = held.durable trees may
-      spelled_by Published commands tables disk trees at under may closed held = held.durable trees may
       spelled_by Closed [] tables disk trees at under may closed held = closed at under
-      spelled_by Closed (command ∷ commands) tables disk trees at under may closed held = held.durable trees may
+      spelled_by phase commands tables disk trees at under may closed held = held.durable trees may
   acted old new r after w (stopped call fate all) s h t =
       let there = t.2.1 w s all t.0 in
       let v : World = run_from w all in
@@ -198,13 +180,8 @@ module _ {S : Type 0} (g : Ghosts S) where
   -- ---- what a crash leaves after a run
 
   left_in : (phase : Phase) (commands : List Command) (tables : Held S) (disk left : State) → HasDisk g phase commands tables disk → (phase ≡ Closed → commands ≡ [] → left ≡ disk) → (IsStored g tables disk → left ≡ disk) → left ≡ disk
-  left_in Ready commands tables disk left h shut stored = stored h
-  left_in Admitted commands tables disk left h shut stored = stored h
-  left_in Prepared commands tables disk left h shut stored = stored h
-  left_in Committed commands tables disk left h shut stored = stored h
-  left_in Published commands tables disk left h shut stored = stored h
   left_in Closed [] tables disk left h shut stored = shut refl refl
-  left_in Closed (command ∷ commands) tables disk left h shut stored = stored h
+  left_in phase commands tables disk left h shut stored = stored h
 
   -- after a run, in its world; after a failed commit in that of the state which is left
   pub leaves_all : (acts : List Act) (old new : Standing (Held S)) (after : RegistryState) → BeginsAt g old start → ActsAll g old (new_registry (line_state old.line)) start acts new after

@@ -28,7 +28,7 @@ use Rattle.prt_version.specs.Change.{refusal}
 use Rattle.prt_version.specs.State.{State}
 use Rattle.prt_version.specs.declared.answer.Answer.{Answer}
 use Rattle.prt_world.specs.World as world
-use Rattle.prt_world.specs.World.{Phase as Moment, Ack, LookerState, Lookup, Step, World, announced_by, has_room, looker_state, offline, online, outcomes_from, published_version, run_from, start, step}
+use Rattle.prt_world.specs.World.{Phase as Moment, Ack, LookerState, Lookup, Step, World, announced_by, has_room, looker_state, offline, online, outcomes_from, published_version, run_from, step}
 use Rattle.prt_world.specs.declared.event.Event.{Event}
 use Rattle.prt_world.specs.declared.event.Event.TheVariants as events
 use Rattle.prt_world.specs.declared.event.Fate.TheVariants.{Kept, Lost}
@@ -39,17 +39,15 @@ use Rattle.prt_world.proofs.KeptVersions.{each_replicate}
 use Rattle.prt_laws.specs.Desks.{AllTell, AnswersOrNot, AreOffline, DeskHasRoom, HasRoomFor, IsDeskOf, Lines, ReopenedDesk, ScriptIsRun, ShowsAnswer, ShowsReply, ShowsTurn, Tells, Weaves, accepted_in, desk_events, events_by, joined, list_events_by, lookup_events, lookup_outcomes, moment_between, reply_acks, request_acks, submitted_events}
 use Rattle.prt_laws.specs.Events.{AsksSome, asked, commit_events, fail_events, is_lookers, own, publish_events}
 use Rattle.prt_laws.specs.Spots.{HasRoom, IsAt}
-use Rattle.prt_laws.proofs.Acks.{event_keeps}
-use Rattle.prt_laws.proofs.Answered.{list_had, unless_shows}
+use Rattle.prt_laws.proofs.Acks.{event_keeps, list_had, unless_shows}
 use Rattle.prt_laws.proofs.Between.{stays_there}
-use Rattle.prt_laws.proofs.Calling.{calls_then, committed_then}
+use Rattle.prt_laws.proofs.Woven.{calls_then, committed_then, own_all, own_asked}
 use Rattle.prt_laws.proofs.Desks.{desk_of, turn_is_steps}
 use Rattle.prt_laws.proofs.Exits.{spot}
 use Rattle.prt_laws.proofs.Keeping.{Keeps, is_storing, storing_keeps}
 use Rattle.prt_laws.proofs.Looking.{runs}
 use Rattle.prt_laws.proofs.Opening.{reopens, stops}
 use Rattle.prt_laws.proofs.Steps.{line_at, placed, reached_run, run_more}
-use Rattle.prt_laws.proofs.Woven.{own_all, own_asked}
 
 -- ---- a desk's events leave lookers as they are
 
@@ -68,30 +66,15 @@ ack_seats : (w : World) (moment : Moment) → Seats w (world.acknowledge w momen
 ack_seats w (world.Noted commands) = refl
 ack_seats w moment = refl
 
-storing_seats : (w : World) (event : Event) → is_storing event ≡ true → Seats w (step w event)
-storing_seats = storing_keeps (λ w. w.lookers) (λ w accepted last disk pending moment. refl)
-
 abbrev pub is_command : Event → Bool
-is_command (events.Submit command) = true
-is_command (events.SubmitAll commands) = true
-is_command events.Call = true
-is_command (events.Fail fate) = true
 is_command events.Publish = true
-is_command events.PublishFail = true
 is_command events.Note = true
 is_command events.Ack = true
-is_command event = false
+is_command event = is_storing event
 
 command_own : (event : Event) → is_command event ≡ true → is_lookers event ≡ false
-command_own (events.Submit command) is = refl
-command_own (events.SubmitAll commands) is = refl
 command_own events.Call is = refl
-command_own (events.Fail fate) is = refl
-command_own events.Publish is = refl
-command_own events.PublishFail is = refl
-command_own events.Note is = refl
-command_own events.Ack is = refl
-command_own event is = absurd cc
+command_own event is = cc
 
 asks_command : (event : Event) → AsksSome event → is_command event ≡ true
 asks_command (events.Submit command) some = refl
@@ -99,15 +82,10 @@ asks_command (events.SubmitAll commands) some = refl
 asks_command event some = absurd (omega (arith, some))
 
 pub event_seats : (w : World) (event : Event) → is_command event ≡ true → Seats w (step w event)
-event_seats w (events.Submit command) is = storing_seats w (events.Submit command) refl
-event_seats w (events.SubmitAll commands) is = storing_seats w (events.SubmitAll commands) refl
-event_seats w events.Call is = storing_seats w events.Call refl
-event_seats w (events.Fail fate) is = storing_seats w (events.Fail fate) refl
 event_seats w events.Publish is = publish_seats w w.phase
-event_seats w events.PublishFail is = storing_seats w events.PublishFail refl
 event_seats w events.Note is = note_seats w w.phase
 event_seats w events.Ack is = ack_seats w w.phase
-event_seats w event is = absurd cc
+event_seats w event is = storing_keeps (λ w. w.lookers) (λ w accepted last disk pending moment. refl) w event is
 
 pub list_seats : (list : List Event) → Each (λ event. is_command event ≡ true) list → (w : World) → (run_from w list).lookers ≡ w.lookers
 list_seats [] all w = refl
@@ -143,12 +121,8 @@ plain command false None mishap = plain_submitted (events.Submit command) mishap
 
 pub plain_list : (commands : List Command) (shuts : Bool) (reason : Option Refusal) (mishap : Option Mishap) → 1 ≤ length commands → IsPlain (list_events_by commands shuts reason mishap)
 plain_list commands true reason mishap some = plain_with (events.SubmitAll commands) [] some tt
-plain_list commands false (Some why) None some = plain_with (events.SubmitAll commands) [] some tt
-plain_list commands false (Some why) (Some no_room) some = plain_with (events.SubmitAll commands) [] some tt
 plain_list commands false (Some why) (Some no_memory) some = (tt, refl, refl)
-plain_list commands false (Some why) (Some (store_fails call)) some = plain_with (events.SubmitAll commands) [] some tt
-plain_list commands false (Some why) (Some commit_kept) some = plain_with (events.SubmitAll commands) [] some tt
-plain_list commands false (Some why) (Some publication_fails) some = plain_with (events.SubmitAll commands) [] some tt
+plain_list commands false (Some why) mishap some = plain_with (events.SubmitAll commands) [] some tt
 plain_list commands false None mishap some = plain_submitted (events.SubmitAll commands) mishap some
 
 -- ---- a reclaim where no looker is online
@@ -277,12 +251,9 @@ module _ (w : World) (desk : DeskState) (h : IsDeskOf desk w) (all : AreOffline 
       subst (Turned w command (Some no_room)) (sym turn) ([], inr (refl, refl, refl), h, all, sym (append-nil w.acks))
 
   commanded : (command : Command) (mishap : Option Mishap) → Turned w command mishap (command_turn desk command mishap)
-  commanded command None = acted command None (λ _ _. reclaimed.2)
   commanded command (Some no_room) = without_room command desk.closed (refusal desk.published command) refl refl
   commanded command (Some no_memory) = acted command (Some no_memory) (λ _ _. tt)
-  commanded command (Some (store_fails call)) = acted command (Some (store_fails call)) (λ _ _. reclaimed.2)
-  commanded command (Some commit_kept) = acted command (Some commit_kept) (λ _ _. reclaimed.2)
-  commanded command (Some publication_fails) = acted command (Some publication_fails) (λ _ _. reclaimed.2)
+  commanded command mishap = acted command mishap (λ _ _. reclaimed.2)
 
   -- a lookup shows the answer of the published version, and leaves all but the answers as they were
   looked : (packet : Packet) → Reaches w (λ list. ShowsAnswer w list (Get packet) (Answered (query_text desk.published (Get packet)))) desk []
@@ -302,12 +273,8 @@ module _ (w : World) (desk : DeskState) (h : IsDeskOf desk w) (all : AreOffline 
   answered (Get packet) = looked packet
 
   queried : (query : Query) (mishap : Option Mishap) → Reaches w (λ list. AnswersOrNot w list query mishap (query_turn desk query mishap).reply) (query_turn desk query mishap).desk []
-  queried query None = answered query
-  queried query (Some no_room) = answered query
   queried query (Some no_memory) = nothing_done (λ list. AnswersOrNot w list query (Some no_memory) (Refused NoMemory)) (refl, refl)
-  queried query (Some (store_fails call)) = answered query
-  queried query (Some commit_kept) = answered query
-  queried query (Some publication_fails) = answered query
+  queried query mishap = answered query
 
   lined : (asked : Result (Option Request) Refusal) (mishap : Option Mishap)
       → Reaches w (λ list. ShowsReply w list asked mishap (turn_on request_turn desk asked mishap).reply) (turn_on request_turn desk asked mishap).desk (request_acks asked (turn_on request_turn desk asked mishap).reply)
@@ -370,17 +337,12 @@ module _ (P : Lookup → Type 0) where
   query_tells w part (Get packet) reply shows all = get_tells w part packet reply shows all
 
   query_or_not : (w : World) (part : List Event) (query : Query) (mishap : Option Mishap) (reply : Reply) → AnswersOrNot w part query mishap reply → Each P (run_from w part).answers → Tells P (Ok (Some (requests.Query query))) reply
-  query_or_not w part query None reply shows all = query_tells w part query reply shows all
-  query_or_not w part query (Some no_room) reply shows all = query_tells w part query reply shows all
   query_or_not w part query (Some no_memory) reply shows all = subst (Tells P (Ok (Some (requests.Query query)))) (sym shows.1) (unanswered query)
     where
       unanswered : (query : Query) → Tells P (Ok (Some (requests.Query query))) (Refused NoMemory)
-      unanswered (RouteShow selector) = tt
-      unanswered RuleShow = tt
       unanswered (Get packet) = tt
-  query_or_not w part query (Some (store_fails call)) reply shows all = query_tells w part query reply shows all
-  query_or_not w part query (Some commit_kept) reply shows all = query_tells w part query reply shows all
-  query_or_not w part query (Some publication_fails) reply shows all = query_tells w part query reply shows all
+      unanswered query = tt
+  query_or_not w part query mishap reply shows all = query_tells w part query reply shows all
 
   line_tells : (w : World) (part : List Event) (asked : Result (Option Request) Refusal) (mishap : Option Mishap) (reply : Reply) → ShowsReply w part asked mishap reply → Each P (run_from w part).answers → Tells P asked reply
   line_tells w part (Err reason) mishap reply shows all = tt

@@ -1,5 +1,5 @@
 -- One event of a publisher's call.
-use Rattle.std.proofs.Common.{◌≡◌, ℕ, ◌+◌, ◌≤◌, length, take, true, false, List, [], ◌∷◌, ◌++◌, Some, None, refl, sym, ap, ◌∙◌, subst, arith}
+use Rattle.std.proofs.Common.{◌≡◌, ℕ, ◌+◌, ◌≤◌, Bool, length, take, true, false, List, [], ◌∷◌, ◌++◌, Option, Some, None, refl, sym, ap, ◌∙◌, subst, arith}
 use Rattle.prt_addr.specs.declared.refusal.Refusal.{Refusal}
 use Rattle.prt_addr.specs.declared.refusal.Refusal.TheVariants as refusals
 use Rattle.prt_addr.specs.declared.refusal.StoreCall.{StoreCall}
@@ -137,15 +137,18 @@ module _ (line : Line) (disk : State) (w : World) where
 
   -- ---- what an event submits is checked
 
+  asked_here : (event : Event) → AsksSome event → (first : Option Refusal) (room : Bool) → refusal_all (line_state line) (asked event) ≡ first → has_room w ≡ room → Here world.Ready → step w event ≡ world.prepare w (asked event) first room
+  asked_here event some first room is has h =
+      asked_ready w event some h.moment
+      ∙ ap (λ (s : State). world.prepare w (asked event) (refusal_all s (asked event)) (has_room w)) h.shown
+      ∙ ap (λ r. world.prepare w (asked event) r (has_room w)) is
+      ∙ ap (world.prepare w (asked event) first) has
+
   pub takes : (event : Event) → AsksSome event → IsAccepted (line_state line) (asked event) → has_room w ≡ true → Here world.Ready
       → Moves w event (outcomes.Prepared ((line_state line).count + length (asked event))) (record { line = line; disk = disk; moment = world.Prepared (asked event) 0 calls.Begin })
   takes event some allowed room h =
       let commands = asked event in
-      let is : step w event ≡ world.prepare w commands None true =
-      asked_ready w event some h.moment
-      ∙ ap (λ (s : State). world.prepare w commands (refusal_all s commands) (has_room w)) h.shown
-      ∙ ap (λ r. world.prepare w commands r (has_room w)) (none_refused (line_state line) commands allowed)
-      ∙ ap (world.prepare w commands None) room in
+      let is = asked_here event some None true (none_refused (line_state line) commands allowed) room h in
       let there : Spot = record { line = line; disk = disk; moment = world.Prepared commands 0 calls.Begin } in
       let number = number_of (record { line = line; disk = disk; moment = world.Ready }) w h in
       subst (λ n. Moves w event (outcomes.Prepared (n + length commands)) there) (sym number)
@@ -153,22 +156,13 @@ module _ (line : Line) (disk : State) (w : World) where
 
   pub refuses : (event : Event) (why : Refusal) → AsksSome event → refusal_all (line_state line) (asked event) ≡ Some why → Here world.Ready → Moves w event (outcomes.Refused why) (record { line = line; disk = disk; moment = world.Ready })
   refuses event why some refused h =
-      let commands = asked event in
-      let is : step w event ≡ world.prepare w commands (Some why) (has_room w) =
-      asked_ready w event some h.moment
-      ∙ ap (λ (s : State). world.prepare w commands (refusal_all s commands) (has_room w)) h.shown
-      ∙ ap (λ r. world.prepare w commands r (has_room w)) refused in
-      moved w event (world.prepare w commands (Some why) (has_room w)) (record { line = line; disk = disk; moment = world.Ready }) h.reached is h.moment h.disk h.shown h.told tt
+      let is = asked_here event some (Some why) (has_room w) refused refl h in
+      moved w event (world.prepare w (asked event) (Some why) (has_room w)) (record { line = line; disk = disk; moment = world.Ready }) h.reached is h.moment h.disk h.shown h.told tt
 
   pub busy : (event : Event) → AsksSome event → IsAccepted (line_state line) (asked event) → has_room w ≡ false → Here world.Ready → Moves w event (outcomes.Refused refusals.Busy) (record { line = line; disk = disk; moment = world.Ready })
   busy event some allowed none h =
-      let commands = asked event in
-      let is : step w event ≡ world.prepare w commands None false =
-      asked_ready w event some h.moment
-      ∙ ap (λ (s : State). world.prepare w commands (refusal_all s commands) (has_room w)) h.shown
-      ∙ ap (λ r. world.prepare w commands r (has_room w)) (none_refused (line_state line) commands allowed)
-      ∙ ap (world.prepare w commands None) none in
-      moved w event (world.prepare w commands None false) (record { line = line; disk = disk; moment = world.Ready }) h.reached is h.moment h.disk h.shown h.told tt
+      let is = asked_here event some None false (none_refused (line_state line) (asked event) allowed) none h in
+      moved w event (world.prepare w (asked event) None false) (record { line = line; disk = disk; moment = world.Ready }) h.reached is h.moment h.disk h.shown h.told tt
 
   pub shut : (event : Event) → AsksSome event → Here world.Closed → Moves w event (outcomes.Refused refusals.Closed) (record { line = line; disk = disk; moment = world.Closed })
   shut event some h =

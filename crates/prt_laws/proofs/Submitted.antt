@@ -1,5 +1,5 @@
--- Commands that are prepared, published or submitted with a domain: their steps, one after the other.
-use Rattle.std.proofs.Common.{◌≡◌, ◌⊎◌, inl, inr, ℕ, ◌+◌, ◌≤◌, true, List, [], ◌∷◌, ◌++◌, length, Option, Some, None, refl, sym, ap, ◌∙◌, subst, arith}
+-- Commands that are checked, planned, prepared, published or submitted: their steps, one after the other.
+use Rattle.std.proofs.Common.{◌≡◌, ◌⊎◌, inl, inr, ℕ, ◌+◌, ◌≤◌, true, List, [], ◌∷◌, ◌++◌, length, Some, refl, sym, ap, ◌∙◌, subst, arith, ◌<◌, false}
 use Rattle.sqlite.specs.Held.{Held}
 use Rattle.sqlite.specs.Store.{Ghosts}
 use Rattle.prt_addr.specs.declared.refusal.Refusal.{Refusal}
@@ -7,26 +7,34 @@ use Rattle.prt_addr.specs.declared.refusal.Refusal.TheVariants as refusals
 use Rattle.prt_command.specs.declared.request.Command.{Command}
 use Rattle.prt_front.specs.Line.{Line, grown_by, line_state}
 use Rattle.prt_publisher.proofs.Lists.{state_grown}
-use Rattle.prt_publisher.specs.Exits.{AreNotAcknowledged, AreNotChecked, AreNotPrepared, AreNotPublished, AreNotStored, IsNotAcknowledged, IsNotPrepared, TakesAll}
+use Rattle.prt_publisher.specs.Exits.{AreNotAcknowledged, AreNotChecked, AreNotPrepared, AreNotPublished, AreNotStored, TakesAll}
 use Rattle.prt_publisher.specs.Standing.{Agrees, IsQuiet, Standing, Stands}
 use Rattle.prt_publisher.specs.declared.phase.Phase.{Phase}
 use Rattle.prt_publisher.specs.declared.phase.Phase.TheVariants.{Ready, Admitted, Prepared, Committed, Published, Closed}
 use Rattle.prt_store.specs.Exits.{IsKnown, IsStored}
 use Rattle.prt_version.proofs.Folds.{count_fold}
-use Rattle.prt_version.specs.Accepted.{IsAccepted, or_later, refusal_all}
+use Rattle.prt_version.specs.Accepted.{IsAccepted, refusal_all}
 use Rattle.prt_version.specs.Change.{fold}
 use Rattle.prt_version.specs.State.{State}
-use Rattle.prt_world.specs.World as world
 use Rattle.prt_world.specs.World.{World, has_room, step}
 use Rattle.prt_world.specs.declared.event.Event.{Event}
 use Rattle.prt_world.specs.declared.event.Event.TheVariants as events
 use Rattle.prt_world.specs.declared.outcome.Outcome.TheVariants as outcomes
 use Rattle.prt_laws.specs.Events.{AsksSome, asked, commit_events, commit_outcomes, fail_events, fail_outcomes, note_events, note_outcomes, publish_events, publish_outcomes, submit_events, submit_outcomes}
-use Rattle.prt_laws.specs.Laws.{ChecksNot, PlansNot, Prepares, PreparesNot, Publishes, Refuses, SubmitFails, SubmitUnpublished, Submits, SubmitsNot}
+use Rattle.prt_laws.specs.Laws.{ChecksNot, PlansNot, Prepares, PreparesNot, Publishes, Refuses, SubmitFails, SubmitUnpublished, Submits, SubmitsNot, Plans, Admits, DeclinesBy}
 use Rattle.prt_laws.specs.Publishers.{Leads, IsPublisherOf}
-use Rattle.prt_laws.proofs.Exits.{as_it_was, committed, failed, not_published, noted_on, place_in, planned, published, stands, stored_in}
+use Rattle.prt_laws.proofs.Exits.{as_it_was, committed, failed, not_published, noted_on, place_in, planned, published, stands, stored_in, not_planned, admits, asks_registers, declines_full}
 use Rattle.prt_laws.proofs.Joined.{idle, leads_by, leads_then, leads_then_to}
 use Rattle.prt_laws.proofs.Steps.{busy, refuses, shut}
+use Rattle.std.specs.List.{AllByRecursion as Each}
+use Rattle.prt_grace.specs.Registry.{RegistryState, reclaimed}
+use Rattle.prt_grace.specs.declared.limits.TheConstants.{MOST_RETIRED}
+use Rattle.prt_publisher.specs.Step.{AreChecked, commands_checked}
+use Rattle.prt_publisher.specs.declared.checked.Checked.{Checked}
+use Rattle.prt_laws.specs.Registries.{registry_through}
+use Rattle.prt_laws.proofs.Woven.{only_committed}
+use Rattle.prt_publisher.proofs.Checks.{checked_accepted}
+use Rattle.prt_publisher.proofs.Commits.{closed_stored}
 
 module _ {S : Type 0} (g : Ghosts S) where
   -- ---- the phases between
@@ -94,19 +102,16 @@ module _ {S : Type 0} (g : Ghosts S) where
     no_memory : (why : Refusal) → old.phase ≡ Ready → why ≡ refusals.NoMemory → PlansNot g old new why
     no_memory why ready memory = (memory, ap (λ (p : Standing (Held S)). p.phase) is ∙ ready, λ w s. idle g new w (subst (λ (p : Standing (Held S)). IsPublisherOf g p w) (sym is) s))
 
-    pub prepares_none : (why : Refusal) → IsQuiet old.phase → AreNotPrepared old.phase (line_state old.line) (asked event) why → PreparesNot g old new event why
-    prepares_none why quiet refused = by old.phase refl quiet refused
+    pub prepares_not : (why : Refusal) → IsQuiet old.phase → AreNotPrepared old.phase (line_state old.line) (asked event) why → PreparesNot g old new event why
+    prepares_not why quiet refused = by old.phase refl quiet refused
       where
         by : (phase : Phase) → old.phase ≡ phase → IsQuiet phase → AreNotPrepared phase (line_state old.line) (asked event) why → PreparesNot g old new event why
         by Ready ready quiet (inl (inl reason)) = inr (refuses_by why (refused_there why ready reason))
         by Ready ready quiet (inl (inr (memory, several))) = inl (no_memory why ready memory)
         by Ready ready quiet (inr (allowed, inl full)) = inr (refuses_full why ready allowed full)
         by Ready ready quiet (inr (allowed, inr memory)) = inl (no_memory why ready memory)
-        by Admitted at quiet refused = absurd quiet
-        by Prepared at quiet refused = absurd quiet
-        by Committed at quiet refused = absurd quiet
-        by Published at quiet refused = absurd quiet
         by Closed closed quiet refused = inr (refuses_by why (shut_there why closed refused))
+        by phase at quiet refused = absurd quiet
 
   -- outside the lock
   pub checks_not : (old : Standing (Held S)) (commands : List Command) (why : Refusal) → 1 ≤ length commands → IsQuiet old.phase → AreNotChecked old.phase (line_state old.line) commands why → ChecksNot g old old commands why
@@ -119,24 +124,8 @@ module _ {S : Type 0} (g : Ghosts S) where
           → ((why ≡ refusals.NoMemory) × (2 ≤ length commands)) ⊎ ((event : Event) → commands ≡ asked event → (w : World) → IsPublisherOf g old w → ((step w event).outcome ≡ outcomes.Refused why) × IsPublisherOf g old (step w event).world)
       by Ready ready quiet (inl reason) = inr (λ event same. refused_there old old refl event (asks event same) why ready (ap (refusal_all (line_state old.line)) (sym same) ∙ reason))
       by Ready ready quiet (inr several) = inl several
-      by Admitted at quiet refused = absurd quiet
-      by Prepared at quiet refused = absurd quiet
-      by Committed at quiet refused = absurd quiet
-      by Published at quiet refused = absurd quiet
       by Closed closed quiet refused = inr (λ event same. shut_there old old refl event (asks event same) why closed refused)
-
-  -- one command that is not prepared is a list of one
-  one_not_prepared : (phase : Phase) (published : State) (command : Command) (why : Refusal) → IsQuiet phase → IsNotPrepared phase published command why → AreNotPrepared phase published (command ∷ []) why
-  one_not_prepared Ready published command why quiet (inl reason) = inl (inl (ap (λ (r : Option Refusal). or_later r None) reason))
-  one_not_prepared Ready published command why quiet (inr allowed) = inr ((allowed.0, tt), allowed.1)
-  one_not_prepared Admitted published command why quiet refused = absurd quiet
-  one_not_prepared Prepared published command why quiet refused = absurd quiet
-  one_not_prepared Committed published command why quiet refused = absurd quiet
-  one_not_prepared Published published command why quiet refused = absurd quiet
-  one_not_prepared Closed published command why quiet refused = refused
-
-  pub prepares_not : (old new : Standing (Held S)) → new ≡ old → (command : Command) (why : Refusal) → IsQuiet old.phase → IsNotPrepared old.phase (line_state old.line) command why → PreparesNot g old new (events.Submit command) why
-  prepares_not old new is command why quiet refused = prepares_none old new is (events.Submit command) (omega arith) why quiet (one_not_prepared old.phase (line_state old.line) command why quiet refused)
+      by phase at quiet refused = absurd quiet
 
   -- ---- published
 
@@ -208,27 +197,55 @@ module _ {S : Type 0} (g : Ghosts S) where
           let mid = committed_as old commands new.tables in
           let held : IsKnown g old.ours_first new.tables → Agrees g Closed commands (line_state old.line) new.tables =
           subst (λ (p : Standing (Held S)). IsKnown g p.ours_first new.tables → Agrees g p.phase p.commands (line_state p.line) new.tables) fails.left kept in
-          let stored : IsKnown g old.ours_first new.tables → IsStored g new.tables after = λ known. closed_stored commands (line_state old.line) new.tables some (held known) in
+          let stored : IsKnown g old.ours_first new.tables → IsStored g new.tables after = λ known. closed_stored g commands (line_state old.line) new.tables some (held known) in
           leads_then g w mid new (event ∷ commit_events commands) (events.PublishFail ∷ []) (outcomes.Prepared (last_number old event) ∷ commit_outcomes commands) (outcomes.Refused refusals.NotPublished ∷ [])
           (committed_there stored w s room) (λ v t. not_published g mid new v t refl fails.left),
     )
-      where
-        closed_stored : (commands : List Command) (published : State) (tables : Held S) → 1 ≤ length commands → Agrees g Closed commands published tables → IsStored g tables (fold published commands)
-        closed_stored [] published tables some held = absurd (omega (arith, some))
-        closed_stored (command ∷ commands) published tables some held = held
 
   -- ---- not acknowledged
 
-  pub submits_none : (old new : Standing (Held S)) (event : Event) (why : Refusal) → AsksSome event → IsQuiet old.phase → AreNotAcknowledged g old (asked event) why new → Stands g new → SubmitsNot g old new event why
-  submits_none old new event why some quiet exit kept = elim exit [
-    | inl refused ↦ inl (prepares_none old new refused.0 event some why quiet refused.1)
+  pub submits_not : (old new : Standing (Held S)) (event : Event) (why : Refusal) → AsksSome event → IsQuiet old.phase → AreNotAcknowledged g old (asked event) why new → Stands g new → SubmitsNot g old new event why
+  submits_not old new event why some quiet exit kept = elim exit [
+    | inl refused ↦ inl (prepares_not old new refused.0 event some why quiet refused.1)
     | inr more ↦ elim more [
       | inl fails ↦ inr (inl (submit_fails old new event some fails.takes why fails))
       | inr fails ↦ inr (inr (submit_unpublished old new event some fails.takes why fails kept))
     ]
   ]
 
-  pub submits_not : (old new : Standing (Held S)) (command : Command) (why : Refusal) → IsQuiet old.phase → IsNotAcknowledged g old command why new → Stands g new → SubmitsNot g old new (events.Submit command) why
-  submits_not old new command why quiet exit kept =
-      submits_none old new (events.Submit command) why (omega arith) quiet
-      (elim exit [ inl refused ↦ inl (refused.0, one_not_prepared old.phase (line_state old.line) command why quiet refused.1) | inr more ↦ inr more ]) kept
+-- ---- the steps in one registry: commands are checked outside its lock, and admitted under it
+
+-- store calls are nothing to the registry
+calls_through : (list : List Event) → Each (λ event. events.Call ≡ event) list → (r : RegistryState) (w : World) → r ≡ registry_through r w list
+calls_through [] each r w = refl
+calls_through (event ∷ list) each r w = subst (λ (x : Event). r ≡ registry_through r w (x ∷ list)) each.0 (calls_through list each.1 r (step w events.Call).world)
+
+pub commit_through : (commands : List Command) (r : RegistryState) (w : World) → r ≡ registry_through r w (commit_events commands)
+commit_through commands r w = calls_through (commit_events commands) (only_committed (λ event. events.Call ≡ event) refl commands) r w
+
+module _ {S : Type 0} (g : Ghosts S) (old new : Standing (Held S)) where
+  pub plans : old.phase ≡ Admitted → new ≡ record old { phase = Prepared } → IsAccepted (line_state old.line) old.commands → Plans g old new
+  plans phase is allowed event some under =
+      let there : new ≡ record old { phase = Prepared; commands = asked event } = is ∙ ap (λ (commands : List Command). record old { phase = Prepared; commands = commands }) under in
+      let taken : IsAccepted (line_state old.line) (asked event) = subst (IsAccepted (line_state old.line)) under allowed in (
+        ap (λ (p : Standing (Held S)). p.phase) is,
+        leads_by g old new event (outcomes.Prepared ((line_state old.line).count + length (asked event))) (λ v s. planned g old new v s event some phase there taken),
+      )
+
+  pub plans_not : old.phase ≡ Admitted → new ≡ record old { phase = Ready; commands = [] } → (w : World) → IsPublisherOf g old w → Leads g w [] [] new
+  plans_not phase is w s = idle g new w (not_planned g old new w s phase is)
+
+  -- what the world refuses it refuses under the lock, too
+  pub declines_checked : (commands : List Command) (why : Refusal) → ChecksNot g old new commands why → (event : Event) → AsksSome event → commands ≡ asked event → (r : RegistryState) → ((why ≡ refusals.NoMemory) × (2 ≤ length commands)) ⊎ DeclinesBy g old new false r r event why
+  declines_checked commands why refused event some same r = elim refused.1 [
+    | inl memory ↦ inl memory
+    | inr law ↦ inr (refused.0, λ w h. let m = law event same w h.0 in (m.0, (m.1, asks_registers event some r w h.1)))
+  ]
+
+  module _ (before r : RegistryState) (ready : old.phase ≡ Ready) (checked : Checked) (are : AreChecked (line_state old.line) checked) (registry : r ≡ reclaimed before) where
+    pub admits_checked : new ≡ record old { phase = Admitted; commands = commands_checked checked } → length r.retired < MOST_RETIRED → Admits g old new before r
+    admits_checked is room = (ap (λ (p : Standing (Held S)). p.phase) is, λ w h. admits g old new before r w h.0 h.1 (commands_checked checked) is ready (registry, room))
+
+    pub declines_full_checked : (why : Refusal) → why ≡ refusals.Busy → new ≡ old → MOST_RETIRED ≤ length r.retired → (event : Event) → AsksSome event → commands_checked checked ≡ asked event → DeclinesBy g old new true before r event why
+    declines_full_checked why busy same full event some asks =
+        declines_full g old new same event some before r why ready (subst (IsAccepted (line_state old.line)) asks (checked_accepted (line_state old.line) checked are)) registry busy full

@@ -1,16 +1,39 @@
--- Lists of a publisher's events, whatever lookers do between them.
-use Rattle.std.proofs.Common.{◌≡◌, Bool, true, false, not, List, [], ◌∷◌, refl, sym, ap, ◌∙◌, subst, cond, arith}
+-- Lists of a publisher's events, with the store calls of commands that are made together, whatever lookers do between them.
+use Rattle.std.proofs.Common.{List, [], ◌∷◌, ◌++◌, subst, sym, ◌≡◌, Bool, true, false, not, refl, ap, ◌∙◌, cond, arith}
 use Rattle.std.specs.List.{AllByRecursion as Each}
+use Rattle.std.proofs.lemmas.List.{append-nil, append_assoc}
+use Rattle.prt_addr.specs.declared.refusal.StoreCall.{StoreCall}
+use Rattle.prt_addr.specs.declared.refusal.StoreCall.TheVariants as calls
 use Rattle.prt_command.specs.declared.request.Command.{Command}
-use Rattle.prt_world.specs.World.{World, run_from, step}
 use Rattle.prt_world.specs.declared.event.Event.{Event}
 use Rattle.prt_world.specs.declared.event.Event.TheVariants as events
+use Rattle.prt_laws.specs.Events.{commit_events, events_before, write_events, AsksSome, is_lookers, own, own_outcomes}
+use Rattle.prt_world.specs.World.{World, run_from, step}
 use Rattle.prt_world.specs.declared.outcome.Outcome.{Outcome}
 use Rattle.prt_laws.specs.Spots.{IsAt, Spot}
-use Rattle.prt_laws.specs.Events.{AsksSome, commit_events, is_lookers, own, own_outcomes}
-use Rattle.prt_laws.proofs.Calling.{only_committed}
 use Rattle.prt_laws.proofs.Between.{stays_there}
 use Rattle.prt_laws.proofs.Steps.{Moves}
+
+-- what holds of a call, and of each event that comes after them, holds of all
+module _ (P : Event → Type 0) (one : P events.Call) where
+  writes_then : (commands : List Command) (rest : List Event) → Each P rest → Each P (write_events commands ++ rest)
+  writes_then [] rest each = each
+  writes_then (command ∷ commands) rest each = (one, writes_then commands rest each)
+
+  pub calls_then : (commands : List Command) (call : StoreCall) (rest : List Event) → Each P rest → Each P (events_before commands call ++ rest)
+  calls_then commands calls.Begin rest each = each
+  calls_then commands calls.Write rest each = (one, each)
+  calls_then commands calls.Count rest each = (one, writes_then commands rest each)
+  calls_then commands calls.Commit rest each = (one, subst (λ (xs : List Event). Each P xs) (sym (append_assoc (write_events commands) (events.Call ∷ []) rest)) (writes_then commands (events.Call ∷ rest) (one, each)))
+
+  pub only_calls : (commands : List Command) (call : StoreCall) → Each P (events_before commands call)
+  only_calls commands call = subst (λ (xs : List Event). Each P xs) (append-nil (events_before commands call)) (calls_then commands call [] tt)
+
+  pub only_committed : (commands : List Command) → Each P (commit_events commands)
+  only_committed commands = calls_then commands calls.Commit (events.Call ∷ []) (one, tt)
+
+  pub committed_then : (commands : List Command) (rest : List Event) → Each P rest → Each P (commit_events commands ++ rest)
+  committed_then commands rest each = subst (λ (xs : List Event). Each P xs) (sym (append_assoc (events_before commands calls.Commit) (events.Call ∷ []) rest)) (calls_then commands calls.Commit (events.Call ∷ rest) (one, each))
 
 -- from each world of the first spot the events show this, and lead to one of the last
 abbrev pub Goes : Spot → List Event → List Outcome → Spot → Type 0
@@ -40,6 +63,16 @@ IsWoven all = (list : List Event) (shown : List Outcome) (spot last : Spot) (w :
 
 pub own_by : (event : Event) (all : List Event) (b : Bool) → is_lookers event ≡ b → own (event ∷ all) ≡ cond (not b) (event ∷ own all) (own all)
 own_by event all b is = ap (λ b. cond (not b) (event ∷ own all) (own all)) is
+
+-- what holds of no event holds of each list beside its own ones, where an event keeps it, of a looker or of the publisher
+pub by_own : (P : List Event → List Event → Type 0) → P [] [] → ((event : Event) (all : List Event) → is_lookers event ≡ true → P all (own all) → P (event ∷ all) (own all))
+    → ((event : Event) (all : List Event) → is_lookers event ≡ false → P all (own all) → P (event ∷ all) (event ∷ own all)) → (all : List Event) → P all (own all)
+by_own P none beside next [] = none
+by_own P none beside next (event ∷ all) = by (is_lookers event) refl (by_own P none beside next all)
+  where
+    by : (b : Bool) → is_lookers event ≡ b → P all (own all) → P (event ∷ all) (own (event ∷ all))
+    by true is rest = subst (P (event ∷ all)) (sym (own_by event all true is)) (beside event all is rest)
+    by false is rest = subst (P (event ∷ all)) (sym (own_by event all false is)) (next event all is rest)
 
 pub asks_own : (event : Event) → AsksSome event → is_lookers event ≡ false
 asks_own (events.Submit command) some = refl

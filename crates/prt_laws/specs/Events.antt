@@ -27,22 +27,13 @@ AsksSome event = 1 ≤ length (asked event)
 
 -- an event of a looker, or a reclaim
 abbrev pub is_lookers : Event → Bool
-is_lookers (events.Submit command) = false
-is_lookers (events.SubmitAll commands) = false
-is_lookers events.Call = false
-is_lookers (events.Fail fate) = false
-is_lookers events.Publish = false
-is_lookers events.PublishFail = false
-is_lookers events.Note = false
-is_lookers events.Ack = false
 is_lookers (events.Online looker) = true
 is_lookers (events.Fetch looker) = true
 is_lookers (events.Announce looker) = true
 is_lookers (events.Offline looker) = true
 is_lookers (events.Look looker packet) = true
 is_lookers events.Reclaim = true
-is_lookers (events.Stop fate) = false
-is_lookers events.Reopen = false
+is_lookers event = false
 
 -- no stop, and no opening
 abbrev pub is_going : Event → Bool

@@ -1,5 +1,5 @@
 -- Which worlds a publisher stands for.
-use Rattle.std.specs.Prelude.{◌≡◌, true, List, [], ◌∷◌}
+use Rattle.std.specs.Prelude.{◌≡◌, true, List, []}
 use Rattle.sqlite.specs.Held.{Held}
 use Rattle.sqlite.specs.Store.{Ghosts}
 use Rattle.prt_addr.specs.declared.refusal.StoreCall.TheVariants as calls
@@ -29,22 +29,13 @@ moment_of Closed commands = world.Closed
 
 -- the world's disk is what is stored; after a failed commit it is a state that a crash may leave
 abbrev pub HasDisk : {S : Type 0} → Ghosts S → Phase → List Command → Held S → State → Type 0
-HasDisk g Ready commands tables disk = IsStored g tables disk
-HasDisk g Admitted commands tables disk = IsStored g tables disk
-HasDisk g Prepared commands tables disk = IsStored g tables disk
-HasDisk g Committed commands tables disk = IsStored g tables disk
-HasDisk g Published commands tables disk = IsStored g tables disk
 HasDisk g Closed [] tables disk = MayLeave g tables disk
-HasDisk g Closed (command ∷ commands) tables disk = IsStored g tables disk
+HasDisk g phase commands tables disk = IsStored g tables disk
 
 -- an admitted command has room for one more retired version
 abbrev pub SawRoom : Phase → World → Type 0
-SawRoom Ready w = Unit {0}
 SawRoom Admitted w = has_room w ≡ true
-SawRoom Prepared w = Unit {0}
-SawRoom Committed w = Unit {0}
-SawRoom Published w = Unit {0}
-SawRoom Closed w = Unit {0}
+SawRoom phase w = Unit {0}
 
 pub record IsPublisherOf {S : Type 0} (g : Ghosts S) (p : Standing (Held S)) (w : World) : Type 0 where
   pub place : IsAt (record { line = p.line; disk = w.disk; moment = moment_of p.phase p.commands }) w

@@ -14,13 +14,10 @@ IsReached w = (list : List Event) × (w ≡ run_from start list)
 
 -- from their preparation to their note commands have room for one more retired version
 abbrev pub HasRoom : World → Moment → Type 0
-HasRoom w world.Ready = Unit {0}
 HasRoom w (world.Prepared commands done call) = has_room w ≡ true
 HasRoom w (world.Committed commands) = has_room w ≡ true
 HasRoom w (world.Published commands) = has_room w ≡ true
-HasRoom w (world.Noted commands) = Unit {0}
-HasRoom w world.Closed = Unit {0}
-HasRoom w world.Stopped = Unit {0}
+HasRoom w moment = Unit {0}
 
 -- what is published, what is on disk, and how far the world is with commands
 pub record Spot : Type 0 where

@@ -1,11 +1,9 @@
 -- One command more after others.
 use Rattle.std.proofs.Common.{◌≡◌, inl, inr, ◌≤◌, List, [], ◌∷◌, ◌++◌, length, Option, Some, None, Result, Ok, Err, refl, sym, ap, ◌∙◌, subst, arith}
 use Rattle.std.proofs.lemmas.List.{length-append}
-use Rattle.std.specs.Prelude.{All, IfErr}
+use Rattle.std.specs.Prelude.{All}
 use Rattle.std.specs.Arc.{arc_value}
 use Rattle.std.specs.Result.{result_err}
-use Rattle.sqlite.specs.Held.{Held}
-use Rattle.sqlite.specs.Store.{Ghosts}
 use Rattle.prt_addr.specs.declared.refusal.Refusal.{Refusal}
 use Rattle.prt_command.specs.Storable.{IsStorable}
 use Rattle.prt_command.specs.declared.request.Command.{Command}
@@ -14,14 +12,10 @@ use Rattle.prt_version.specs.Accepted.{IsAccepted, IsRefusedFor, changes_of, or_
 use Rattle.prt_version.specs.Change.{apply, check, fold, put, put_if, refusal}
 use Rattle.prt_version.specs.State.{State}
 use Rattle.prt_version.specs.declared.change.Change.{Change}
-use Rattle.prt_front.specs.Line.{line_state}
-use Rattle.prt_publisher.specs.Exits.{AreNotAcknowledged, AreNotPrepared, AreRefused, IsNotAcknowledged, IsNotPrepared}
+use Rattle.prt_publisher.specs.Exits.{AreRefused}
 use Rattle.prt_publisher.specs.Step.{AreChecked, IsPlan, commands_checked, version_met}
 use Rattle.prt_publisher.specs.declared.checked.Checked.{Checked}
-use Rattle.prt_publisher.specs.declared.phase.Phase.{Phase}
-use Rattle.prt_publisher.specs.declared.phase.Phase.TheVariants.{Ready, Admitted, Prepared, Committed, Published, Closed}
 use Rattle.prt_publisher.specs.declared.plan.Plan.{Plan}
-use Rattle.prt_publisher.specs.Standing.{IsQuiet, Standing}
 
 -- ---- the changes, and the state
 
@@ -112,32 +106,3 @@ last_refused published all commands command why is accepted met same made =
 pub last_accepted : (published : State) (all commands : List Command) (command : Command) (change : Change) → all ≡ commands ++ command ∷ [] → IsAccepted published commands → (met : State) → met ≡ fold published commands → check met command ≡ Ok change → IsAccepted published all
 last_accepted published all commands command change is accepted met same made =
     subst (IsAccepted published) (sym is) (accepted_grown published commands command accepted (ap (λ (state : State). refusal state command) (sym same) ∙ ap result_err made))
-
--- ---- a list of one
-
-first_refused : (first : Option Refusal) (why : Refusal) → or_later first None ≡ Some why → first ≡ Some why
-first_refused (Some reason) why is = is
-first_refused None why is = absurd (cc is)
-
-pub one_not_prepared : (phase : Phase) (published : State) (command : Command) (why : Refusal) → IsQuiet phase → AreNotPrepared phase published (command ∷ []) why → IsNotPrepared phase published command why
-one_not_prepared Ready published command why quiet refused = elim refused [
-  | inl first ↦ elim first [ inl reason ↦ inl (first_refused (refusal published command) why reason) | inr several ↦ absurd (omega (arith, several.1)) ]
-  | inr allowed ↦ inr (allowed.0.0, allowed.1)
-]
-one_not_prepared Admitted published command why quiet refused = absurd quiet
-one_not_prepared Prepared published command why quiet refused = absurd quiet
-one_not_prepared Committed published command why quiet refused = absurd quiet
-one_not_prepared Published published command why quiet refused = absurd quiet
-one_not_prepared Closed published command why quiet refused = refused
-
-module _ {S : Type 0} (g : Ghosts S) (old : Standing (Held S)) (command : Command) (new : Standing (Held S)) (quiet : IsQuiet old.phase) where
-  pub one_not_acknowledged : (why : Refusal) → AreNotAcknowledged g old (command ∷ []) why new → IsNotAcknowledged g old command why new
-  one_not_acknowledged why exit = elim exit [
-    | inl refused ↦ inl (refused.0, one_not_prepared old.phase (line_state old.line) command why quiet refused.1)
-    | inr more ↦ inr more
-  ]
-
--- what is said of an error
-pub err_more : {T : Type 0} {P Q : Refusal → Type 0} (r : Result T Refusal) → ((why : Refusal) → P why → Q why) → IfErr r P → IfErr r Q
-err_more (Ok x) more h = tt
-err_more (Err why) more h = more why h

@@ -96,6 +96,6 @@ have_committed g old published conn new commands changes number shown under held
     (subst (λ (n : ℕ). HasDone g (MakesChanges g changes n) conn (state g new).committed) counted done))
 
 -- commands that are stored and not published
-pub closed_agrees : {S : Type 0} (g : Ghosts S) (commands : List Command) (published : State) (tables : Held S) → 1 ≤ length commands → IsStored g tables (fold published commands) → Agrees g Closed commands published tables
-closed_agrees g [] published tables some stored = absurd (omega (arith, some))
-closed_agrees g (command ∷ commands) published tables some stored = stored
+pub closed_stored : {S : Type 0} (g : Ghosts S) (commands : List Command) (published : State) (tables : Held S) → 1 ≤ length commands → Agrees g Closed commands published tables → IsStored g tables (fold published commands)
+closed_stored g [] published tables some kept = absurd (omega (arith, some))
+closed_stored g (command ∷ commands) published tables some kept = kept

@@ -1,5 +1,5 @@
 -- What the exits of a publisher's calls say.
-use Rattle.std.specs.Prelude.{◌≡◌, ◌⊎◌, ◌+◌, ◌≤◌, List, [], ◌∷◌, length, IsTrue, Some, None}
+use Rattle.std.specs.Prelude.{◌≡◌, ◌⊎◌, ◌+◌, ◌≤◌, List, [], ◌∷◌, length, IsTrue, Some}
 use Rattle.sqlite.specs.Held.{Held, state}
 use Rattle.sqlite.specs.Store.{Ghosts}
 use Rattle.prt_addr.specs.declared.refusal.Refusal.{Refusal}
@@ -16,7 +16,7 @@ use Rattle.prt_store.specs.Made.{MakesChanges}
 use Rattle.prt_store.specs.Openings.{HasDone}
 use Rattle.prt_store.specs.Stored.{Stores}
 use Rattle.prt_version.specs.Accepted.{IsAccepted, changes_of, refusal_all}
-use Rattle.prt_version.specs.Change.{fold, refusal}
+use Rattle.prt_version.specs.Change.{fold}
 use Rattle.prt_version.specs.State.{State}
 
 -- it is ready, and the commands are refused for nothing, each in the state after those before it
@@ -43,8 +43,7 @@ AreNotPrepared p published commands why = AreRefused published commands why ⊎ 
 
 -- why a command is not prepared
 abbrev pub IsNotPrepared : Phase → State → Command → Refusal → Type 0
-IsNotPrepared Closed published command why = why ≡ reason.Closed
-IsNotPrepared p published command why = (refusal published command ≡ Some why) ⊎ ((refusal published command ≡ None) × ((why ≡ reason.Busy) ⊎ (why ≡ reason.NoMemory)))
+IsNotPrepared phase published command why = AreNotPrepared phase published (command ∷ []) why
 
 -- The commit failed: closed, with the old state in the tables while they can be seen. A crash leaves it too or, only where the commit call failed, possibly the one after all of the commands.
 pub record AreNotStored {S : Type 0} (g : Ghosts S) (old : Standing (Held S)) (commands : List Command) (why : Refusal) (new : Standing (Held S)) : Type 0 where
@@ -61,15 +60,14 @@ pub record AreNotPublished {S : Type 0} (g : Ghosts S) (old : Standing (Held S))
   pub why_is : why ≡ reason.NotPublished
   pub left : new ≡ record old { phase = Closed; commands = commands; tables = new.tables }
 
--- why a command is not acknowledged, and what that leaves
-abbrev pub IsNotAcknowledged : {S : Type 0} → Ghosts S → Standing (Held S) → Command → Refusal → Standing (Held S) → Type 0
-IsNotAcknowledged g old command why new =
-    ((new ≡ old) × IsNotPrepared old.phase (line_state old.line) command why) ⊎ (AreNotStored g old (command ∷ []) why new ⊎ AreNotPublished g old (command ∷ []) why new)
-
 -- why commands are not acknowledged, and what that leaves
 abbrev pub AreNotAcknowledged : {S : Type 0} → Ghosts S → Standing (Held S) → List Command → Refusal → Standing (Held S) → Type 0
 AreNotAcknowledged g old commands why new =
     ((new ≡ old) × AreNotPrepared old.phase (line_state old.line) commands why) ⊎ (AreNotStored g old commands why new ⊎ AreNotPublished g old commands why new)
+
+-- why a command is not acknowledged, and what that leaves
+abbrev pub IsNotAcknowledged : {S : Type 0} → Ghosts S → Standing (Held S) → Command → Refusal → Standing (Held S) → Type 0
+IsNotAcknowledged g old command why new = AreNotAcknowledged g old (command ∷ []) why new
 
 -- the changes that the commands make of the published state ran in one transaction on the tables as they were, and what that left is committed, whatever the file
 abbrev pub HaveCommitted : {S : Type 0} → Ghosts S → Standing (Held S) → List Command → Held S → Type 0

@@ -10,7 +10,7 @@ use Rattle.prt_front.specs.Line.{Line, line_state}
 use Rattle.prt_front.specs.contracts.known.Known as known
 use Rattle.prt_publisher.specs.contracts.phase.Phase as phase
 use Rattle.prt_publisher.specs.declared.phase.Phase.{Phase}
-use Rattle.prt_publisher.specs.declared.phase.Phase.TheVariants.{Ready, Admitted, Prepared, Committed, Published, Closed}
+use Rattle.prt_publisher.specs.declared.phase.Phase.TheVariants.{Ready, Committed, Published, Closed}
 use Rattle.prt_store.specs.Exits.{IsKnown, IsStored, Spells}
 use Rattle.prt_store.specs.Stored.{Stores}
 use Rattle.prt_version.specs.Accepted.{IsAccepted}
@@ -35,20 +35,13 @@ standing_code {T} tables =
 -- no command is under way
 abbrev pub IsQuiet : Phase → Type 0
 IsQuiet Ready = Unit {0}
-IsQuiet Admitted = ⊥
-IsQuiet Prepared = ⊥
-IsQuiet Committed = ⊥
-IsQuiet Published = ⊥
 IsQuiet Closed = Unit {0}
+IsQuiet phase = ⊥
 
 -- how many published commands are still to be noted, with the version after them
 abbrev pub unnoted : Phase → List Command → ℕ
-unnoted Ready commands = 0
-unnoted Admitted commands = 0
-unnoted Prepared commands = 0
-unnoted Committed commands = 0
 unnoted Published commands = length commands
-unnoted Closed commands = 0
+unnoted phase commands = 0
 
 -- ---- the tables beside the published state
 
@@ -61,13 +54,10 @@ pub record IsLeft {S : Type 0} (g : Ghosts S) (tables : Held S) (published : Sta
 
 -- what the tables hold, and what a crash leaves of them: the published state; from the commit on the one after the commands
 abbrev pub Agrees : {S : Type 0} → Ghosts S → Phase → List Command → State → Held S → Type 0
-Agrees g Ready commands published tables = IsStored g tables published
-Agrees g Admitted commands published tables = IsStored g tables published
-Agrees g Prepared commands published tables = IsStored g tables published
 Agrees g Committed commands published tables = IsStored g tables (fold published commands)
-Agrees g Published commands published tables = IsStored g tables published
 Agrees g Closed [] published tables = IsLeft g tables published
 Agrees g Closed (command ∷ commands) published tables = IsStored g tables (fold published (command ∷ commands))
+Agrees g phase commands published tables = IsStored g tables published
 
 -- what stands in the tables of a file that is known
 abbrev pub Stands : {S : Type 0} → Ghosts S → Standing (Held S) → Type 0

@@ -231,6 +231,7 @@ impl<S: Alter + Drop, R: Wait + Drop> Publisher<S, R> {
         ensures ok { IfOk result (λ checked. AreChecked (line_state self.now.line) checked × (commands_checked checked ≡ commands.now)) }
         ensures took { OnOk result (TakesAll self.now commands.now × (self.now.commands ≡ [])) }
         ensures err { IfErr result (AreNotChecked self.now.phase (line_state self.now.line) commands.now) }
+        ensures stands { Stands S.Store self.now }
     {
         if let Err(reason) = self.see_ready() {
             return Err(reason);
@@ -416,8 +417,6 @@ impl<S: Alter + Drop, R: Wait + Drop> Publisher<S, R> {
         ensures err { IfErr result (λ reason. (self.new ≡ self.old) × AreNotPrepared self.old.phase (line_state self.old.line) commands.now reason) }
         ensures stands { Stands S.Store self.new }
     {
-        // Recalls what is stored.
-        let _phase = self.phase();
         let checked = match self.check_all(commands) {
             Ok(checked) => checked,
             Err(reason) => return Err(reason),
@@ -502,8 +501,6 @@ impl<S: Alter + Drop, R: Wait + Drop> Publisher<S, R> {
         ensures stands { Stands S.Store self.new }
         ensures ran { HasCleanDisk (state S.Store self.new.tables) → OnOk result (HaveCommitted S.Store self.old commands.now self.new.tables) }
     {
-        // Recalls what is stored.
-        let _phase = self.phase();
         if let Err(reason) = self.prepare_all(rt, domain, commands) {
             return Err(reason);
         }

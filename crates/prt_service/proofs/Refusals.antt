@@ -6,8 +6,8 @@ use Rattle.prt_addr.specs.declared.refusal.Refusal.{Refusal}
 use Rattle.prt_addr.specs.declared.refusal.Refusal.TheVariants.{CountFull, Exists, Full, NoSuch}
 use Rattle.prt_command.specs.declared.request.Command.{Command}
 use Rattle.prt_front.specs.Line.{line_state}
-use Rattle.prt_version.proofs.Refused.{IsOfState, all_refused_by, refused_by}
-use Rattle.prt_publisher.specs.Exits.{AreNotAcknowledged, AreNotPrepared, IsNotAcknowledged, IsNotPrepared}
+use Rattle.prt_version.proofs.Refused.{IsOfState, all_refused_by}
+use Rattle.prt_publisher.specs.Exits.{AreNotAcknowledged, AreNotPrepared}
 use Rattle.prt_publisher.specs.Standing.{Standing}
 use Rattle.prt_publisher.specs.declared.phase.Phase.{Phase}
 use Rattle.prt_publisher.specs.declared.phase.Phase.TheVariants as phase
@@ -21,25 +21,14 @@ state_fine Full of = tt
 state_fine CountFull of = tt
 state_fine _ of = absurd of
 
-prepared_fine : (p : Phase) (state : State) (command : Command) (why : Refusal) → IsNotPrepared p state command why → IsServiceRefusal why
-prepared_fine phase.Closed state command why is = subst IsServiceRefusal (sym is) tt
-prepared_fine p state command why (inl is) = state_fine why (refused_by state command why is)
-prepared_fine p state command why (inr (_, inl is)) = subst IsServiceRefusal (sym is) tt
-prepared_fine p state command why (inr (_, inr is)) = subst IsServiceRefusal (sym is) tt
+prepared_fine : (p : Phase) (state : State) (commands : List Command) (why : Refusal) → AreNotPrepared p state commands why → IsServiceRefusal why
+prepared_fine phase.Closed state commands why is = subst IsServiceRefusal (sym is) tt
+prepared_fine p state commands why (inl (inl is)) = state_fine why (all_refused_by state commands why is)
+prepared_fine p state commands why (inl (inr (is, _))) = subst IsServiceRefusal (sym is) tt
+prepared_fine p state commands why (inr (_, inl is)) = subst IsServiceRefusal (sym is) tt
+prepared_fine p state commands why (inr (_, inr is)) = subst IsServiceRefusal (sym is) tt
 
-all_prepared_fine : (p : Phase) (state : State) (commands : List Command) (why : Refusal) → AreNotPrepared p state commands why → IsServiceRefusal why
-all_prepared_fine phase.Closed state commands why is = subst IsServiceRefusal (sym is) tt
-all_prepared_fine p state commands why (inl (inl is)) = state_fine why (all_refused_by state commands why is)
-all_prepared_fine p state commands why (inl (inr (is, _))) = subst IsServiceRefusal (sym is) tt
-all_prepared_fine p state commands why (inr (_, inl is)) = subst IsServiceRefusal (sym is) tt
-all_prepared_fine p state commands why (inr (_, inr is)) = subst IsServiceRefusal (sym is) tt
-
-pub acknowledged_fine : {S : Type 0} (g : Ghosts S) (old : Standing (Held S)) (command : Command) (why : Refusal) (new : Standing (Held S)) → IsNotAcknowledged g old command why new → IsServiceRefusal why
-acknowledged_fine g old command why new (inl (_, refused)) = prepared_fine old.phase (line_state old.line) command why refused
-acknowledged_fine g old command why new (inr (inl failed)) = subst IsServiceRefusal (sym failed.why_is) tt
-acknowledged_fine g old command why new (inr (inr failed)) = subst IsServiceRefusal (sym failed.why_is) tt
-
-pub all_acknowledged_fine : {S : Type 0} (g : Ghosts S) (old : Standing (Held S)) (commands : List Command) (why : Refusal) (new : Standing (Held S)) → AreNotAcknowledged g old commands why new → IsServiceRefusal why
-all_acknowledged_fine g old commands why new (inl (_, refused)) = all_prepared_fine old.phase (line_state old.line) commands why refused
-all_acknowledged_fine g old commands why new (inr (inl failed)) = subst IsServiceRefusal (sym failed.why_is) tt
-all_acknowledged_fine g old commands why new (inr (inr failed)) = subst IsServiceRefusal (sym failed.why_is) tt
+pub acknowledged_fine : {S : Type 0} (g : Ghosts S) (old : Standing (Held S)) (commands : List Command) (why : Refusal) (new : Standing (Held S)) → AreNotAcknowledged g old commands why new → IsServiceRefusal why
+acknowledged_fine g old commands why new (inl (_, refused)) = prepared_fine old.phase (line_state old.line) commands why refused
+acknowledged_fine g old commands why new (inr (inl failed)) = subst IsServiceRefusal (sym failed.why_is) tt
+acknowledged_fine g old commands why new (inr (inr failed)) = subst IsServiceRefusal (sym failed.why_is) tt

@@ -1,4 +1,4 @@
-use Rattle.prt_laws.proofs.Together.{admits_checked, declines_full_checked}
+use Rattle.prt_laws.proofs.Submitted.{admits_checked, declines_full_checked}
 use Rattle.prt_laws.proofs.calls.admit.Goals as goal
 
 pub returns-in-Ok-clause-ok : goal.returns-in-Ok-clause-ok

@@ -1,7 +1,7 @@
 use Rattle.std.proofs.Common.{ap}
 use Rattle.sqlite.specs.Held.{Held}
 use Rattle.prt_publisher.specs.Standing.{Standing}
-use Rattle.prt_laws.proofs.Planned.{plans, plans_not}
+use Rattle.prt_laws.proofs.Submitted.{plans, plans_not}
 use Rattle.prt_laws.proofs.calls.plan.Goals as goal
 
 pub returns-in-Ok-clause-ok : goal.returns-in-Ok-clause-ok

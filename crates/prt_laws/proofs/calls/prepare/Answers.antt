@@ -7,4 +7,4 @@ pub returns-in-Ok-clause-ok : goal.returns-in-Ok-clause-ok
 returns-in-Ok-clause-ok g c = prepares g.S.Store c.args.publisher.now c.prepare.new.self (events.Submit c.args.command.now) (omega arith) c.in-Ok.ensures.ok.0 c.in-Ok.ensures.ok.1
 
 pub returns-in-Err-clause-err : goal.returns-in-Err-clause-err
-returns-in-Err-clause-err g c = prepares_not g.S.Store c.args.publisher.now c.prepare.new.self c.in-Err.ensures.err.0 c.args.command.now c.in-Err.reason c.requires.quiet c.in-Err.ensures.err.1
+returns-in-Err-clause-err g c = prepares_not g.S.Store c.args.publisher.now c.prepare.new.self c.in-Err.ensures.err.0 (events.Submit c.args.command.now) (omega arith) c.in-Err.reason c.requires.quiet c.in-Err.ensures.err.1

@@ -6,7 +6,7 @@ use Rattle.prt_world.specs.declared.event.Event.{Event}
 use Rattle.prt_world.specs.declared.event.Event.TheVariants.{Reclaim}
 use Rattle.prt_laws.specs.Events.{AsksSome, asked, commit_events, own}
 use Rattle.prt_laws.specs.Laws.{PublishesNot}
-use Rattle.prt_laws.proofs.Together.{commit_through, declines_checked}
+use Rattle.prt_laws.proofs.Submitted.{commit_through, declines_checked}
 use Rattle.prt_laws.proofs.Woven.{own_commit}
 use Rattle.prt_laws.proofs.calls.submit_by_steps.Goals as goal
 

@@ -5,48 +5,38 @@ use Rattle.prt_version.specs.Change.{fold}
 use Rattle.prt_version.specs.State.{State}
 use Rattle.prt_store.specs.Exits.{IsStored}
 use Rattle.prt_publisher.specs.Standing.{Agrees, unnoted}
-use Rattle.prt_publisher.specs.Step.{commands_of, phase_of}
+use Rattle.prt_publisher.specs.Step.{IsStep, commands_of, phase_of}
 use Rattle.prt_publisher.specs.declared.publisher.Step.{Step}
 use Rattle.prt_publisher.specs.declared.publisher.Step.TheVariants as step
 use Rattle.prt_version.proofs.Folds.{count_fold}
 use Rattle.prt_publisher.proofs.Commits.{was_committed}
 use Rattle.prt_publisher.proofs.Lists.{number_next, state_grown}
+use Rattle.prt_publisher.proofs.publisher.Publisher.show.Given as given
 use Rattle.prt_publisher.proofs.publisher.Publisher.show.Goals as goal
+use Rattle.prt_publisher.proofs.publisher.Publisher.show.Goals.{In-Committed}
+
+-- the commands were committed
+was : (g : given.Over) (c : goal.In-Committed g) → IsStep (line_state c.self.inside.front) (step.Committed c.in-Committed.plan c.in-Committed.stamp)
+was g c = was_committed (line_state c.self.inside.front) c.self.inside.step c.in-Committed.plan c.in-Committed.stamp _ c.replace.ensures.value c.in-Committed.is c.self.invariant.3
 
 pub publish_all-requires-clause-stamp : goal.publish_all-requires-clause-stamp
 publish_all-requires-clause-stamp g c =
-    let old = c.self.inside.front in
-    let plan = c.in-Committed.plan in
-    let kept = was_committed (line_state old) c.self.inside.step plan c.in-Committed.stamp _ c.replace.ensures.value c.in-Committed.is c.self.invariant.3 in
-    number_next old c.in-Committed.stamp.number (length plan.commands.items) c.self.invariant.2 kept.1
+    number_next c.self.inside.front c.in-Committed.stamp.number (length c.in-Committed.plan.commands.items) c.self.invariant.2 (was g (goal.at.publish_all-requires-clause-stamp g c).In-Committed).1
 
 pub publish_all-requires-clause-some : goal.publish_all-requires-clause-some
-publish_all-requires-clause-some g c =
-    let old = c.self.inside.front in
-    let plan = c.in-Committed.plan in
-    let kept = was_committed (line_state old) c.self.inside.step plan c.in-Committed.stamp _ c.replace.ensures.value c.in-Committed.is c.self.invariant.3 in
-    kept.0.some
+publish_all-requires-clause-some g c = (was g (goal.at.publish_all-requires-clause-some g c).In-Committed).0.some
 
 pub publish_all-requires-clause-accepted : goal.publish_all-requires-clause-accepted
-publish_all-requires-clause-accepted g c =
-    let old = c.self.inside.front in
-    let plan = c.in-Committed.plan in
-    let kept = was_committed (line_state old) c.self.inside.step plan c.in-Committed.stamp _ c.replace.ensures.value c.in-Committed.is c.self.invariant.3 in
-    kept.0.accepted
+publish_all-requires-clause-accepted g c = (was g (goal.at.publish_all-requires-clause-accepted g c).In-Committed).0.accepted
 
 pub publish_all-requires-clause-next : goal.publish_all-requires-clause-next
-publish_all-requires-clause-next g c =
-    let old = c.self.inside.front in
-    let plan = c.in-Committed.plan in
-    let kept = was_committed (line_state old) c.self.inside.step plan c.in-Committed.stamp _ c.replace.ensures.value c.in-Committed.is c.self.invariant.3 in
-    kept.0.shown
+publish_all-requires-clause-next g c = (was g (goal.at.publish_all-requires-clause-next g c).In-Committed).0.shown
 
 pub returns-in-Ok-clause-stands : goal.returns-in-Ok-clause-stands
 returns-in-Ok-clause-stands g c known =
     let old = c.self.inside.front in
     let plan = c.in-Committed.plan in
     let is : c.self.inside.step ≡ step.Committed plan c.in-Committed.stamp = sym c.replace.ensures.value ∙ c.in-Committed.is in
-    let kept = was_committed (line_state old) c.self.inside.step plan c.in-Committed.stamp _ c.replace.ensures.value c.in-Committed.is c.self.invariant.3 in
     let conn = c.self.inside.store.conn in
     let agrees : IsStored g.S.Store conn (fold (line_state old) plan.commands.items) = subst (λ (x : Step). Agrees g.S.Store (phase_of x) (commands_of x) (line_state old) conn) is (c.self.invariant.4 known) in
     subst (IsStored g.S.Store conn) (sym (state_grown old c.publish_all.new.self plan.commands.items c.in-Ok.ensures.list.0)) agrees
@@ -56,7 +46,7 @@ invariant_of-self g c =
     let old = c.self.inside.front in
     let plan = c.in-Committed.plan in
     let is : c.self.inside.step ≡ step.Committed plan c.in-Committed.stamp = sym c.replace.ensures.value ∙ c.in-Committed.is in
-    let kept = was_committed (line_state old) c.self.inside.step plan c.in-Committed.stamp _ c.replace.ensures.value c.in-Committed.is c.self.invariant.3 in
+    let kept = was g (goal.at.invariant_of-self g c).In-Committed in
     let front : c.publish_all.new.self ≡ grown_by old plan.commands.items = c.in-Ok.ensures.list.0 in
     let next : arc_value plan.next ≡ line_state c.publish_all.new.self = kept.0.next ∙ sym (state_grown old c.publish_all.new.self plan.commands.items front) in
     let noted : arc_value plan.noted ≡ arc_value plan.next = kept.0.noted ∙ sym kept.0.next in

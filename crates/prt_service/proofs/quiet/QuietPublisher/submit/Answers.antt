@@ -6,7 +6,7 @@ use Rattle.prt_service.proofs.Refusals.{acknowledged_fine}
 use Rattle.prt_service.proofs.quiet.QuietPublisher.submit.Goals as goal
 
 pub returns-in-Err-clause-reason : goal.returns-in-Err-clause-reason
-returns-in-Err-clause-reason g c = acknowledged_fine g.S.Store _ c.args.command.now c.in-Err.reason _ c.in-Err.ensures.err
+returns-in-Err-clause-reason g c = acknowledged_fine g.S.Store _ (c.args.command.now ∷ []) c.in-Err.reason _ c.in-Err.ensures.err
 
 pub returns-clause-ran : goal.returns-clause-ran
 returns-clause-ran g c = λ clean.

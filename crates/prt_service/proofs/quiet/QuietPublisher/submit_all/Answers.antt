@@ -2,11 +2,11 @@ use Rattle.std.proofs.Common.{◌≡◌, subst}
 use Rattle.sqlite.specs.Held.{Held}
 use Rattle.prt_publisher.specs.Exits.{HaveCommitted}
 use Rattle.prt_publisher.specs.Standing.{Standing}
-use Rattle.prt_service.proofs.Refusals.{all_acknowledged_fine}
+use Rattle.prt_service.proofs.Refusals.{acknowledged_fine}
 use Rattle.prt_service.proofs.quiet.QuietPublisher.submit_all.Goals as goal
 
 pub returns-in-Err-clause-reason : goal.returns-in-Err-clause-reason
-returns-in-Err-clause-reason g c = all_acknowledged_fine g.S.Store _ c.args.commands.now c.in-Err.reason _ c.in-Err.ensures.err
+returns-in-Err-clause-reason g c = acknowledged_fine g.S.Store _ c.args.commands.now c.in-Err.reason _ c.in-Err.ensures.err
 
 pub returns-clause-ran : goal.returns-clause-ran
 returns-clause-ran g c = λ clean.
