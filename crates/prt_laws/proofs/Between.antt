@@ -1,5 +1,5 @@
 -- Events of lookers, and reclaims, leave a world where it is with commands.
-use Rattle.std.proofs.Common.{◌≡◌, ℕ, ◌+◌, ◌≤◌, Bool, true, false, List, [], ◌∷◌, ◌++◌, Some, None, length, map, refl, sym, ap, ◌∙◌, subst, arith, cond}
+use Rattle.std.proofs.Common.{◌≡◌, ℕ, ◌+◌, ◌<◌, ◌≤◌, Bool, true, false, List, [], ◌∷◌, ◌++◌, Some, None, length, map, refl, sym, ap, ◌∙◌, subst, arith, cond}
 use Rattle.std.specs.Prelude.{filter, nat_lt, unwrap_or}
 use Rattle.std.proofs.lemmas.Bool.Decides.{nat_tests}
 use Rattle.std.proofs.lemmas.List.{append-nil}
@@ -44,8 +44,11 @@ fewer : (p q : State → Bool) (versions : List State) → length (filter p (fil
 fewer p q [] = omega arith
 fewer p q (state ∷ versions) = fewer_by p state (filter q versions) versions (q state) (p state) refl (fewer p q versions)
 
-above : (noted count : ℕ) → noted ≤ count → nat_lt count noted ≡ false
-above noted count high = grind (arith, nat_tests)
+pub is_less : (n m : ℕ) → n < m → nat_lt n m ≡ true
+is_less n m less = grind (arith, nat_tests)
+
+pub is_not_less : (n m : ℕ) → m ≤ n → nat_lt n m ≡ false
+is_not_less n m more = grind (arith, nat_tests)
 
 -- a version above the noted one takes no room
 pub room_published : (w : World) (line : Line) (disk : State) (commands : List Command) → IsAt (record { line = line; disk = disk; moment = world.Committed commands }) w → HasRoom (world.publish w (world.Committed commands)).world (world.Published commands)
@@ -57,7 +60,7 @@ room_published w line disk commands h =
     let made : after ≡ w.disk = ap (λ (s : State). fold s commands) h.shown ∙ sym (disk_after line disk w commands h) in
     let next : w.disk.count ≡ w.published + length commands = phased.next in
     let known : w.noted ≡ w.published = phased.known in
-    let high : p w.disk ≡ false = above w.noted w.disk.count (omega arith) in
+    let high : p w.disk ≡ false = is_not_less w.disk.count w.noted (omega arith) in
     let none : filter p (after ∷ []) ≡ [] = ap (λ (s : State). filter p (s ∷ [])) made ∙ ap (λ b. cond b (w.disk ∷ []) []) high in
     let same : filter p (w.versions ++ after ∷ []) ≡ filter p w.versions =
     filter-append p w.versions (after ∷ []) ∙ ap (λ xs. filter p w.versions ++ xs) none ∙ append-nil (filter p w.versions) in

@@ -30,20 +30,13 @@ use Rattle.prt_laws.specs.Publishers.{HasDisk, Leads, SawRoom, AreBothOf, IsPubl
 use Rattle.prt_laws.specs.Registries.{IsRegistryOf, noted_at, registry_after}
 use Rattle.prt_grace.specs.Registry.{RegistryState, noted_by, reclaimed}
 use Rattle.prt_grace.specs.declared.limits.TheConstants.{MOST_RETIRED}
-use Rattle.prt_laws.proofs.Between.{room_published, stays_there}
+use Rattle.prt_laws.proofs.Between.{is_less, is_not_less, room_published, stays_there}
 use Rattle.prt_laws.proofs.Keeping.{asks_storing, is_storing, storing_keeps}
 use Rattle.prt_laws.proofs.Registering.{registers_reclaimed, room_is}
 use Rattle.std.specs.Prelude.{nat_lt, length}
-use Rattle.std.proofs.lemmas.Bool.Decides.{nat_tests}
 use Rattle.prt_world.proofs.Phases.{Phased}
 use Rattle.prt_laws.proofs.Steps.{Moves, acknowledges, begins, busy, commits, counts, disk_before, keeps, loses, notes, phased_of, publishes, publishes_not, takes, writes}
 use Rattle.prt_laws.proofs.Woven.{Goes, woven}
-
-is_less : (n m : ℕ) → n < m → nat_lt n m ≡ true
-is_less n m less = grind (arith, nat_tests)
-
-is_not_less : (n m : ℕ) → m ≤ n → nat_lt n m ≡ false
-is_not_less n m more = grind (arith, nat_tests)
 
 -- ---- lists of events
 

@@ -16,7 +16,7 @@ use Rattle.prt_laws.proofs.Scripts.{event_seats}
 use Rattle.prt_laws.specs.Seated.{Others, Runs, Seated, held_number, is_others, IsMade, Learns, Looks, Refreshes, RefreshesNot, Rests, announcing_at, fetching}
 use Rattle.prt_addr.specs.declared.refusal.Refusal.{Refusal}
 use Rattle.prt_command.specs.declared.request.Command.{Command}
-use Rattle.prt_version.proofs.Folds.{put_count}
+use Rattle.prt_version.proofs.Folds.{fold_append, put_count}
 use Rattle.prt_version.specs.Change.{apply, check, fold, put_if}
 use Rattle.prt_version.specs.Select.{select}
 use Rattle.prt_version.specs.State.{State, opening_state}
@@ -195,10 +195,6 @@ count_most state (command ∷ commands) =
     let rest = count_most (apply state command) commands in
     omega (arith, first, rest)
 
-fold_joined : (state : State) (xs ys : List Command) → fold state (xs ++ ys) ≡ fold (fold state xs) ys
-fold_joined state [] ys = refl
-fold_joined state (command ∷ xs) ys = fold_joined (apply state command) xs ys
-
 -- the numbers of a list that begins the published one: each of its commands was accepted
 number_by : (base part rest all first last : ℕ) → first ≤ base + part → last ≤ first + rest → last ≡ all → all ≡ base + (part + rest) → (first ≡ base + part) × (first ≤ all)
 number_by base part rest all first last low high is sum = (omega arith, omega arith)
@@ -228,7 +224,7 @@ module _ (spot : Spot) (w : World) (h : IsAt spot w) (line : Line) (begins : Beg
 
   number_is : ((line_state line).count ≡ line.base.count + length line.list) × ((line_state line).count ≤ w.published)
   number_is =
-      let full : line_state spot.line ≡ fold (line_state line) rest = ap (λ (state : State). fold state spot.line.list) base_is ∙ ap (fold line.base) (sym whole) ∙ fold_joined line.base line.list rest in
+      let full : line_state spot.line ≡ fold (line_state line) rest = ap (λ (state : State). fold state spot.line.list) base_is ∙ ap (fold line.base) (sym whole) ∙ fold_append line.base line.list rest in
       let last : (fold (line_state line) rest).count ≡ w.published = sym (ap (λ (state : State). state.count) full) ∙ number_of spot w h in
       number_by line.base.count (length line.list) (length rest) w.published (line_state line).count (fold (line_state line) rest).count (count_most line.base line.list) (count_most (line_state line) rest) last all_length
 
@@ -253,7 +249,7 @@ module _ (spot : Spot) (w : World) (h : IsAt spot w) (line : Line) (begins : Beg
       ∙ take_all n xs (omega arith) in
       sym (
       ap (fold opening_state) taken
-      ∙ fold_joined opening_state (take b w.accepted) line.list
+      ∙ fold_append opening_state (take b w.accepted) line.list
       ∙ ap (λ (state : State). fold state line.list) (sym h.told.base ∙ base_is)
       )
 

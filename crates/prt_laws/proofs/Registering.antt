@@ -2,7 +2,6 @@
 use Rattle.std.proofs.Common.{◌≡◌, ℕ, ◌+◌, ◌<◌, ◌≤◌, Bool, true, false, List, [], ◌∷◌, ◌++◌, Some, None, length, map, get_or, set, replicate, zero, suc, refl, sym, ap, ◌∙◌, subst, arith, cond}
 use Rattle.std.specs.Prelude.{◌==◌, ◌&&◌, filter, nat_lt, unwrap_or}
 use Rattle.std.specs.List.{AllByRecursion as Each}
-use Rattle.std.proofs.lemmas.Bool.Decides.{nat_tests}
 use Rattle.std.proofs.lemmas.List.{append-nil, append_assoc, map-set}
 use Rattle.std.proofs.lemmas.List.Elements.{filter-append}
 use Rattle.prt_addr.proofs.Each.{each_append, each_filtered, each_implies}
@@ -26,6 +25,7 @@ use Rattle.prt_world.proofs.SideBySide.{all_pass, map_set_same, none_pass}
 use Rattle.prt_laws.specs.Spots.{IsAt, IsReached, Spot}
 use Rattle.prt_laws.specs.Events.{is_lookers}
 use Rattle.prt_laws.specs.Registries.{IsRegistryOf, brought_online, registry_after, taken_offline, told_number}
+use Rattle.prt_laws.proofs.Between.{is_less, is_not_less}
 use Rattle.prt_laws.proofs.Steps.{holds_of, number_of, phased_of, shown_number}
 
 -- the version that is published and not noted
@@ -38,12 +38,6 @@ each_unnoted_version P false state here = (here, tt)
 
 abbrev tops : RegistryState → World → List State
 tops r w = r.noted ∷ unnoted_version (w.noted == w.published) (published_version w)
-
-is_low : (noted count : ℕ) → count < noted → nat_lt count noted ≡ true
-is_low noted count low = grind (arith, nat_tests)
-
-is_high : (noted count : ℕ) → noted ≤ count → nat_lt count noted ≡ false
-is_high noted count high = grind (arith, nat_tests)
 
 -- the versions that are not retired have the noted number or a later one
 tops_high : (r : RegistryState) (w : World) → w.noted ≤ w.published → (published_version w).count ≡ w.published → IsRegistryOf r w → Each (λ state. w.noted ≤ state.count) (tops r w)
@@ -60,9 +54,9 @@ module _ (r : RegistryState) (w : World) (reached : IsReached w) (s : IsRegistry
       let p = λ (state : State). is_retired w.noted state.count in
       ap (filter p) s.all
       ∙ filter-append p r.retired (tops r w)
-      ∙ ap (λ xs. filter p r.retired ++ xs) (none_pass p (tops r w) (each_implies (λ state. w.noted ≤ state.count) (λ state. p state ≡ false) (λ state high. is_high w.noted state.count high) (tops r w) highs))
+      ∙ ap (λ xs. filter p r.retired ++ xs) (none_pass p (tops r w) (each_implies (λ state. w.noted ≤ state.count) (λ state. p state ≡ false) (λ state high. is_not_less state.count w.noted high) (tops r w) highs))
       ∙ append-nil (filter p r.retired)
-      ∙ all_pass p r.retired (each_implies (λ state. state.count < w.noted) (λ state. p state ≡ true) (λ state low. is_low w.noted state.count low) r.retired s.below)
+      ∙ all_pass p r.retired (each_implies (λ state. state.count < w.noted) (λ state. p state ≡ true) (λ state low. is_less state.count w.noted low) r.retired s.below)
 
   -- the world has room exactly where the registry has
   pub room_is : has_room w ≡ nat_lt (length r.retired) MOST_RETIRED
@@ -123,7 +117,7 @@ module _ (line : Line) (disk : State) (commands : List Command) (r : RegistrySta
       let noted : r.noted.count ≡ w.noted = s.noted in
       let count : version.count ≡ w.published = ap (λ state. state.count) is ∙ number_of spot w h in
       let room : nat_lt (length r.retired) MOST_RETIRED ≡ true = sym (room_is r w h.reached s) ∙ h.room in
-      let later : nat_lt r.noted.count version.count ≡ true = is_low version.count r.noted.count (omega arith) in
+      let later : nat_lt r.noted.count version.count ≡ true = is_less r.noted.count version.count (omega arith) in
       let notes : noted_by r version ≡ with_noted r version =
       ap (λ b. cond (b && nat_lt r.noted.count version.count) (with_noted r version) r) room ∙ ap (λ b. cond (true && b) (with_noted r version) r) later in
       let shown : published_version w ≡ version = h.shown ∙ sym is in
