@@ -199,25 +199,6 @@ impl<S: Alter + Drop, R: Wait + Drop> Publisher<S, R> {
         self.store.release()
     }
 
-    /// Sees that it takes commands.
-    ///
-    /// # Errors
-    ///
-    /// `Closed`, where it is closed.
-    fn see_ready(&self) -> Result<(), Refusal>
-        requires { IsQuiet self.now.phase }
-        ensures ready { OnOk result ((self.now.phase ≡ Phase.Ready) × (self.now.commands ≡ [])) }
-        ensures closed { IfErr result (λ reason. (reason ≡ Closed) × (self.now.phase ≡ Phase.Closed)) }
-        ensures stands { Stands S.Store self.now }
-    {
-        match self.step {
-            Step::Ready => Ok(()),
-            Step::Closed(_) => Err(Refusal::Closed),
-            Step::Admitted(_) | Step::Prepared(_) | Step::Committed(_, _) | Step::Published(_, _) =>
-                unreachable!(),
-        }
-    }
-
     /// Checks commands one after the other. Needs no lock, and of one command no memory.
     ///
     /// # Errors
@@ -233,10 +214,12 @@ impl<S: Alter + Drop, R: Wait + Drop> Publisher<S, R> {
         ensures err { IfErr result (AreNotChecked self.now.phase (line_state self.now.line) commands.now) }
         ensures stands { Stands S.Store self.now }
     {
-        if let Err(reason) = self.see_ready() {
-            return Err(reason);
+        match self.step {
+            Step::Ready => check_all(&self.version, commands),
+            Step::Closed(_) => Err(Refusal::Closed),
+            Step::Admitted(_) | Step::Prepared(_) | Step::Committed(_, _) | Step::Published(_, _) =>
+                unreachable!(),
         }
-        check_all(&self.version, commands)
     }
 
     /// Has the registry give up the versions that nobody can hold, and sees that it has room for one more: then the
