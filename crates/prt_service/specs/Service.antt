@@ -28,7 +28,11 @@ IsServiceRefusal (StoreFailed call) = Unit {0}
 IsServiceRefusal NotPublished = Unit {0}
 IsServiceRefusal _ = ⊥
 
--- What became of a command of the named front: a receipt of its published list, which ends with the command, or why there is none.
+-- What became of commands of the named front together: a receipt of its published list, which ends with them, or why there is none.
+abbrev pub AreAnswered : Book → State → List Command → Result Line Refusal → Type 0
+AreAnswered book base commands result =
+    IfOk result (λ receipt. (receipt.book ≡ book) × (receipt.base ≡ base) × EndsWithAll receipt.list commands) × IfErr result IsServiceRefusal
+
+-- what became of a command
 abbrev pub IsAnswer : Book → State → Command → Result Line Refusal → Type 0
-IsAnswer book base command result =
-    IfOk result (λ receipt. (receipt.book ≡ book) × (receipt.base ≡ base) × EndsWith receipt.list command) × IfErr result IsServiceRefusal
+IsAnswer book base command result = AreAnswered book base (command ∷ []) result

@@ -1,13 +1,12 @@
 //! Commands that wait and are submitted together.
 ghost use Rattle.std.specs.Prelude.{◌≡◌, []};
-ghost use Rattle.prt_service.specs.Service.{EndsWithAll, IsServiceRefusal};
 
 use crate::Naming;
 use crate::quiet::QuietPublisher;
+use crate::submitted::Submitted;
 use crate::waiting::Waiting;
 use prt_command::{Command, Refusal};
 use prt_grace::Domain;
-use prt_publisher::Receipt;
 use prt_version::Version;
 use sqlite::Alter;
 use std::alloc::Global;
@@ -69,23 +68,23 @@ impl<J: Naming> Group<J> {
         }
     }
 
-    /// Submits its commands together, and answers those who wait for them.
+    /// Submits its commands together. `None` where they were let go, and nothing has changed.
     fn submit<S: Alter + Drop, R: Wait + Drop, W: Wait>(
         self,
         publisher: &mut QuietPublisher<S, R, J>,
         rt: &W,
         domain: &Domain,
-    ) {
+    ) -> Option<Submitted<J>> {
         let Group { waiting, commands } = self;
         if commands.is_empty() {
-            return;
+            return None;
         }
         match publisher.submit_all(rt, domain, commands.as_slice()) {
-            Ok(last) => acknowledge(rt, waiting, &last),
-            Err(reason @ (Refusal::StoreFailed(_) | Refusal::NotPublished)) => refuse(
-                rt, waiting, reason,
-            ),
-            Err(_) => {}
+            Ok(last) => Some(Submitted::new(waiting, Ok(last))),
+            Err(reason @ (Refusal::StoreFailed(_) | Refusal::NotPublished)) => {
+                Some(Submitted::new(waiting, Err(reason)))
+            }
+            Err(_) => None,
         }
     }
 }
@@ -103,56 +102,20 @@ fn version_after(version: &Version, command: &Command) -> Result<Version, Refusa
     version.next(&change)
 }
 
-/// Answers each command of a group with its own receipt; `last` is that of the last.
-fn acknowledge<J: Naming, W: Wait>(rt: &W, waiting: Vec<Waiting<J>>, last: &Receipt)
-    requires of { (last.now.book ≡ J.book) × (last.now.base ≡ J.base) }
-    requires last { EndsWithAll last.now.list waiting.items }
-{
-    let mut later = waiting.len();
-    for one in waiting {
-        later -= 1;
-        let receipt = last.of_earlier(later as u64);
-        one.answer(rt, Ok(receipt));
-    }
-}
-
-/// Refuses all commands for one reason.
-fn refuse<J: Naming, W: Wait>(rt: &W, waiting: Vec<Waiting<J>>, reason: Refusal)
-    requires { IsServiceRefusal reason }
-{
-    for one in waiting {
-        one.answer(rt, Err(reason));
-    }
-}
-
-/// Submits a command by itself.
-fn submit_one<S: Alter + Drop, R: Wait + Drop, J: Naming, W: Wait>(
-    publisher: &mut QuietPublisher<S, R, J>,
-    rt: &W,
-    domain: &Domain,
-    one: Waiting<J>,
-) {
-    let result = publisher.submit(rt, domain, one.command());
-    one.answer(rt, result);
-}
-
-/// Submits the commands that wait, in one transaction those that are accepted one after the other. Each of these gets its
-/// own receipt once they are published, or why they were not. The others are let go, as are all where the publisher has no
-/// room or no memory for them together: who waits for one submits it by itself.
+/// Submits the commands that wait, in one transaction those that are accepted one after the other. The others are let go, as
+/// are all where the publisher has no room or no memory for them together: who waits for one submits it by itself.
 pub(crate) fn submit_waiting<S: Alter + Drop, R: Wait + Drop, J: Naming, W: Wait>(
     publisher: &mut QuietPublisher<S, R, J>,
     rt: &W,
     alloc: Global,
     domain: &Domain,
-    mut waiting: Vec<Waiting<J>>,
-) {
-    if waiting.len() == 1 {
-        if let Some(one) = waiting.pop() {
-            submit_one(publisher, rt, domain, one);
-        }
-        return;
+    waiting: Vec<Waiting<J>>,
+) -> Option<Submitted<J>> {
+    if let [one] = waiting.as_slice() {
+        let became = publisher.submit(rt, domain, one.command());
+        return Some(Submitted::new(waiting, became));
     }
     let mut group = Group::new(alloc);
     group.add_accepted(publisher.published(), waiting);
-    group.submit(publisher, rt, domain);
+    group.submit(publisher, rt, domain)
 }

@@ -14,6 +14,7 @@ mod naming;
 mod quiet;
 mod service;
 mod spare;
+mod submitted;
 mod waiting;
 
 pub use departure::Departure;

@@ -95,11 +95,16 @@ impl<S: Alter + Drop, R: Wait + Drop, J: Naming> Service<S, R, J> {
         replies.recv(rt).ok()?.for_command(command)
     }
 
-    /// Submits the commands that wait once the publisher is free.
+    /// Submits the commands that wait once the publisher is free, and answers those that were submitted.
     fn submit_waiting<W: Wait>(&self, rt: &W) {
         let mut publisher = self.publisher.lock(rt);
         let waiting = self.lobby.lock(rt).take_all(self.alloc);
-        submit_waiting(&mut publisher, rt, self.alloc, &self.domain, waiting);
+        let submitted = submit_waiting(&mut publisher, rt, self.alloc, &self.domain, waiting);
+        // Lets the next ones be submitted while the answers are sent.
+        drop(publisher);
+        if let Some(submitted) = submitted {
+            submitted.answer(rt);
+        }
     }
 
     /// Has commands stored, published and noted together: all of them or none. The receipt's list ends with them, and its

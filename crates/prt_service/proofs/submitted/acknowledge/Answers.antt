@@ -3,7 +3,7 @@ use Rattle.prt_command.specs.declared.request.Command.{Command}
 use Rattle.prt_front.specs.Line.{Line}
 use Rattle.prt_service.specs.Service.{EndsWith, EndsWithAll}
 use Rattle.prt_service.proofs.Receipts.{first_ends, later_end}
-use Rattle.prt_service.proofs.group.acknowledge.Goals as goal
+use Rattle.prt_service.proofs.submitted.acknowledge.Goals as goal
 
 pub answer-requires : goal.answer-requires
 answer-requires g c =

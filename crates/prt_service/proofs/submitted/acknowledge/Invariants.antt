@@ -1,6 +1,6 @@
 use Rattle.std.proofs.Common.{◌≡◌, length}
 use Rattle.prt_service.specs.Service.{EndsWithAll}
-use Rattle.prt_service.proofs.group.acknowledge.Given as goal
+use Rattle.prt_service.proofs.submitted.acknowledge.Given as goal
 
 -- the receipts that are left are those of the last commands of the list
 abbrev pub invariant-loop-one : goal.invariant-loop-one
