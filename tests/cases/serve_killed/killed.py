@@ -1,6 +1,6 @@
 """Kills servers under 32 writers, each at another moment, and looks at what each file holds.
 
-KILLS says how often (100 where it isn't set), half of them with SIGKILL and half with SIGTERM. Each writer adds routes of
+KILLS says how often (50 where it isn't set), half of them with SIGKILL and half with SIGTERM. Each writer adds routes of
 its own, one after another. The file then holds each route whose `ok N` was received, of each writer the first so many
 routes, and as many routes as it counts commands.
 """
@@ -15,7 +15,7 @@ from threading import Thread
 
 from serving import Client, Server, batch
 
-KILLS = int(os.environ.get("KILLS", "100"))
+KILLS = int(os.environ.get("KILLS", "50"))
 WRITERS = 32
 
 
