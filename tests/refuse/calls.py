@@ -66,11 +66,14 @@ def refuse_word(word, script, preloaded, is_whole, met, step=1):
 
 
 def give_none(preloaded):
-    """Gives no memory after the mark: tells whether none was asked for, and each call answered as before."""
+    """Gives no memory after the mark: tells whether each call answered as before, and one alone asked for some.
+
+    That one is of a command which a service refuses: it asks for a place to wait, and does without.
+    """
     with tempfile.TemporaryDirectory() as folder:
         ended = run([PROGRAM, "quiet"], "", preloaded, folder, REFUSE_AFTER=MARK.rstrip())
-    is_right = ended[:3] == (0, MARK + "ok 1\nerror 21 Exists\n", "") and ended.told[2] == 0
-    print("calls of quiet: " + ("no request after the mark" if is_right else f"wrong: {ended.told}\n{show(ended)}"))
+    is_right = ended[:3] == (0, MARK + "ok 1\nerror 21 Exists\n", "") and ended.told[2] == 1
+    print("calls of quiet: " + ("one request after the mark" if is_right else f"wrong: {ended.told}\n{show(ended)}"))
     return is_right
 
 
