@@ -5,4 +5,3 @@ pub mod Blocks
 pub mod Ranges
 pub mod Each
 pub mod Orders
-pub mod RefusalText

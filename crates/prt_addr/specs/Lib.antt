@@ -1,4 +1,3 @@
-pub mod Refusal
 pub mod Word
 pub mod Given
 pub mod Decimal
@@ -10,4 +9,3 @@ pub mod Order
 pub mod Rising
 pub mod Sound
 pub mod Steps
-pub mod Opening

@@ -5,8 +5,8 @@ use Rattle.prt_addr.specs.Decimal.{decimal_within}
 use Rattle.prt_addr.specs.Addr.{address, addr_text}
 use Rattle.prt_addr.specs.Block.{Block, host_bits}
 use Rattle.prt_addr.specs.declared.addr.Addr.{Addr}
-use Rattle.prt_addr.specs.declared.refusal.Refusal.{Refusal}
-use Rattle.prt_addr.specs.declared.refusal.Refusal.TheVariants.{BadPrefix, HostBits}
+use Rattle.prt_refusals.specs.declared.refusal.Refusal.{Refusal}
+use Rattle.prt_refusals.specs.declared.refusal.Refusal.TheVariants.{BadPrefix, HostBits}
 
 -- Basic Match: the address has the prefix's bits, as far as the prefix's length
 abbrev pub contains : Block → Addr → Bool

@@ -1,13 +1,13 @@
 ghost use Rattle.std.specs.Prelude.{◌≡◌, option_map, Some};
 ghost use Rattle.std.specs.Option.{ok_or};
 ghost use Rattle.prt_addr.specs.Addr.{address, addr_text, address_of};
-ghost use Rattle.prt_addr.specs.declared.refusal.Refusal.TheVariants.{BadAddress};
+ghost use Rattle.prt_refusals.specs.declared.refusal.Refusal.TheVariants.{BadAddress};
 
-use crate::Refusal;
 use crate::decimal::read_decimal;
 use crate::word::split_first_part;
 use arrayvec::ArrayString;
 use itoa::Buffer;
+use prt_refusals::Refusal;
 use std::fmt;
 
 /// An IPv4 address as a number, whose highest byte is the first of the four dotted parts.

@@ -2,9 +2,10 @@ ghost use Rattle.std.specs.Prelude.{◌≡◌, ◌<◌, IfSome};
 ghost use Rattle.std.specs.Option.{ok_or};
 ghost use Rattle.prt_addr.specs.Decimal.{at_most};
 ghost use Rattle.prt_addr.specs.Number.{hex_digit_of, hex_value, number};
-ghost use Rattle.prt_addr.specs.declared.refusal.Refusal.TheVariants.{BadNumber};
+ghost use Rattle.prt_refusals.specs.declared.refusal.Refusal.TheVariants.{BadNumber};
 
-use crate::{Refusal, decimal};
+use crate::decimal;
+use prt_refusals::Refusal;
 
 /// Reads a number of 0 to 2^32 - 1, in decimal digits, or in hexadecimal ones of either case after `0x` or `0X`.
 ///

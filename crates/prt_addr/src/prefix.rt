@@ -5,14 +5,15 @@ ghost use Rattle.prt_addr.specs.Block.{Block};
 ghost use Rattle.prt_addr.specs.Sound.{IsPrefix};
 ghost use Rattle.prt_addr.specs.Prefix.{contains, masked, net, prefix, prefix_text, block, everything_words, within};
 ghost use Rattle.prt_addr.specs.Steps.{block_from};
-ghost use Rattle.prt_addr.specs.declared.refusal.Refusal.TheVariants.{BadPrefix};
+ghost use Rattle.prt_refusals.specs.declared.refusal.Refusal.TheVariants.{BadPrefix};
 
 use crate::addr::parse_addr;
 use crate::decimal::read_decimal;
 use crate::word::{is, split_first_part};
-use crate::{Addr, Refusal, addr_text};
+use crate::{Addr, addr_text};
 use arrayvec::ArrayString;
 use itoa::Buffer;
+use prt_refusals::Refusal;
 use std::fmt;
 use std::marker::Model;
 

@@ -3,7 +3,7 @@ use Rattle.std.proofs.Common.{◌≡◌, zero, List, [], ◌∷◌, ◌++◌, Bo
 use Rattle.std.specs.Prelude.{◌||◌, if◌then◌else◌}
 use Rattle.std.proofs.lemmas.List.{append-nil}
 use Rattle.prt_addr.specs.Word.{Word}
-use Rattle.prt_addr.specs.declared.refusal.Refusal.{Refusal}
+use Rattle.prt_refusals.specs.declared.refusal.Refusal.{Refusal}
 use Rattle.prt_command.specs.FaultWord.{IsAbout, Step, about, bare_role, first_role, from_object, is_last, items_fault, object_fault, object_fault_by, of_item, of_object, of_verb, role_of, plain_role, prefix_role, step, stop_or, value_step, verb_fault, verb_fault_by, words_fault}
 use Rattle.prt_command.specs.Grammar.{AreItems, EachOnce, FirstFault, Good, IsFault, IsItem, IsPlain, IsValue, ItemPlace, MustBeFollowed, after_to, alone, alone_before, any_word, at_value, bad_value, bare, before_prefix, followed, further, given_before, keyword, more, no_word, none, nothing_after, put_all, second_bare, start, to_word, unknown_word, valued, word_after_to}
 use Rattle.prt_command.specs.Items.{has, no_items, put, slot_of}

@@ -6,10 +6,10 @@ use Rattle.prt_addr.specs.Addr.{address}
 use Rattle.prt_addr.specs.Block.{Block, host_bits}
 use Rattle.prt_addr.specs.Number.{number}
 use Rattle.prt_addr.specs.Prefix.{block, net, without_host_bits}
-use Rattle.prt_addr.specs.Refusal.{code_of}
+use Rattle.prt_refusals.specs.Refusal.{code_of}
 use Rattle.prt_addr.specs.Word.{Word}
-use Rattle.prt_addr.specs.declared.refusal.Refusal.{Refusal}
-use Rattle.prt_addr.specs.declared.refusal.Refusal.TheVariants.{UnknownWord, BadAddress, BadPrefix, HostBits, BadNumber, BadTable, BadName}
+use Rattle.prt_refusals.specs.declared.refusal.Refusal.{Refusal}
+use Rattle.prt_refusals.specs.declared.refusal.Refusal.TheVariants.{UnknownWord, BadAddress, BadPrefix, HostBits, BadNumber, BadTable, BadName}
 use Rattle.prt_route.specs.Dev.{device}
 use Rattle.prt_route.specs.Names.{protocol, scope, table}
 use Rattle.prt_command.proofs.Results.{ok_result, err_result, err_inj}

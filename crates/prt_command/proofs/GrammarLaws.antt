@@ -3,7 +3,7 @@ use Rattle.std.proofs.Common.{◌≡◌, ℕ, zero, suc, ◌+◌, ◌≤◌, Lis
 use Rattle.std.proofs.lemmas.List.{take-append-drop, append-nil}
 use Rattle.std.proofs.Math.Seq.{drop-append_seam}
 use Rattle.prt_addr.specs.Word.{Word}
-use Rattle.prt_addr.specs.declared.refusal.Refusal.{Refusal}
+use Rattle.prt_refusals.specs.declared.refusal.Refusal.{Refusal}
 use Rattle.prt_command.specs.Grammar.{start, IsItem, AreItems, none, more, EachOnce, IsFault, Good, FirstFault, put_all}
 use Rattle.prt_command.specs.LineKinds.{LineKind}
 use Rattle.prt_command.specs.Items.{slot_of, has, no_items, put}

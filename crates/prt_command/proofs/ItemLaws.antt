@@ -2,8 +2,8 @@
 use Rattle.std.proofs.Common.{◌≡◌, ℕ, ◌≤◌, List, [], ◌∷◌, ◌++◌, Bool, true, false, Some, None, Option, Result, Ok, Err, refl, length, take, ◌∙◌, ap, sym, subst, arith}
 use Rattle.std.specs.Prelude.{if◌then◌else◌}
 use Rattle.prt_addr.specs.Word.{Word}
-use Rattle.prt_addr.specs.declared.refusal.Refusal.{Refusal}
-use Rattle.prt_addr.specs.declared.refusal.Refusal.TheVariants.{UnknownWord, Repeated}
+use Rattle.prt_refusals.specs.declared.refusal.Refusal.{Refusal}
+use Rattle.prt_refusals.specs.declared.refusal.Refusal.TheVariants.{UnknownWord, Repeated}
 use Rattle.prt_command.specs.Grammar.{ItemPlace, start, after_to, at_value, IsPlain, no_word, word_after_to, MustBeFollowed, keyword, to_word, before_prefix, IsValue, bare, any_word, IsItem, alone, valued, followed, IsFault, unknown_word, second_bare, nothing_after, given_before, alone_before, bad_value, further}
 use Rattle.prt_command.specs.LineKinds.{LineKind, word_in, is_to}
 use Rattle.prt_command.specs.Scan.{Scanned, item_ends, one_more, what_follows, plain_by, plain_from, plain_item, item_by, item_or_fault}

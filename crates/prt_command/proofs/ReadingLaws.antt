@@ -1,7 +1,7 @@
 -- What a verb and its words ask for.
 use Rattle.std.proofs.Common.{◌≡◌, zero, List, Result, Ok, Err, refl, ◌∙◌, ap, sym, arith}
 use Rattle.prt_addr.specs.Word.{Word}
-use Rattle.prt_addr.specs.declared.refusal.Refusal.{Refusal}
+use Rattle.prt_refusals.specs.declared.refusal.Refusal.{Refusal}
 use Rattle.prt_command.specs.Scan.{items_of}
 use Rattle.prt_command.specs.Items.{no_items}
 use Rattle.prt_command.specs.Reading.{Meaning, items_request}

@@ -1,6 +1,6 @@
 -- What is in a result or an option.
 use Rattle.std.proofs.Common.{◌≡◌, Option, Some, Result, Ok, Err}
-use Rattle.prt_addr.specs.declared.refusal.Refusal.{Refusal}
+use Rattle.prt_refusals.specs.declared.refusal.Refusal.{Refusal}
 
 abbrev pub ok_result : {X : Type 0} → X → Result X Refusal
 ok_result x = Ok x

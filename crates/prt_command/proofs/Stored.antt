@@ -7,11 +7,11 @@ use Rattle.std.specs.Option.{ok_or, option_or}
 use Rattle.prt_addr.specs.Block.{Block}
 use Rattle.prt_addr.specs.Decimal.{decimal_value}
 use Rattle.prt_addr.specs.Number.{begins_hex, hex_value, number}
-use Rattle.prt_addr.specs.Refusal.{code_of}
+use Rattle.prt_refusals.specs.Refusal.{code_of}
 use Rattle.prt_addr.specs.Word.{Word, is_one_of, keep}
 use Rattle.prt_addr.specs.declared.addr.Addr.{Addr}
-use Rattle.prt_addr.specs.declared.refusal.Refusal.{Refusal}
-use Rattle.prt_addr.specs.declared.refusal.Refusal.TheVariants.{UnknownObject, UnknownVerb, MissingDestination, NoNextHop, NextHopNotAllowed, SuppressNotAllowed, TooBroad, BadTable}
+use Rattle.prt_refusals.specs.declared.refusal.Refusal.{Refusal}
+use Rattle.prt_refusals.specs.declared.refusal.Refusal.TheVariants.{UnknownObject, UnknownVerb, MissingDestination, NoNextHop, NextHopNotAllowed, SuppressNotAllowed, TooBroad, BadTable}
 use Rattle.prt_route.specs.Names.{default_table, local_table, main_table, number_in, spelled_number, table, tables}
 use Rattle.prt_route.specs.Storable.{is_storable_route, suits}
 use Rattle.prt_route.specs.declared.kind.Kind.{Kind}

@@ -1,7 +1,7 @@
 -- The value of an item is an item of that name.
 use Rattle.std.proofs.Common.{◌≡◌, Option, Result, Ok, Err, refl, sym, ap, subst}
 use Rattle.prt_addr.specs.Word.{Word}
-use Rattle.prt_addr.specs.declared.refusal.Refusal.{Refusal}
+use Rattle.prt_refusals.specs.declared.refusal.Refusal.{Refusal}
 use Rattle.prt_command.specs.Items.{slot_of}
 use Rattle.prt_command.specs.Then.{map_ok}
 use Rattle.prt_command.specs.Values.{value}

@@ -1,7 +1,7 @@
 -- The word that the first fault of a line is about.
 use Rattle.std.specs.Prelude.{◌≡◌, ℕ, ◌≤◌, ◌-◌, ◌||◌, Bool, true, false, if◌then◌else◌, List, [], ◌∷◌, length, take, drop, Option, Some, None, Result, Ok, Err, codes}
 use Rattle.prt_addr.specs.Word.{Word}
-use Rattle.prt_addr.specs.declared.refusal.Refusal.{Refusal}
+use Rattle.prt_refusals.specs.declared.refusal.Refusal.{Refusal}
 use Rattle.prt_command.specs.Grammar.{ItemPlace, FirstFault, IsFault, further}
 use Rattle.prt_command.specs.Items.{slot_of, has, no_items, put}
 use Rattle.prt_command.specs.LineKinds.{LineKind, is_to, word_in}

@@ -1,8 +1,8 @@
 -- Lines of items in any order, each at most once, and the first fault of one.
 use Rattle.std.specs.Prelude.{◌≡◌, true, false, List, [], ◌∷◌, ◌++◌, Option, Some, None, Ok, Err}
 use Rattle.prt_addr.specs.Word.{Word}
-use Rattle.prt_addr.specs.declared.refusal.Refusal.{Refusal}
-use Rattle.prt_addr.specs.declared.refusal.Refusal.TheVariants.{UnknownWord, MissingValue, Repeated}
+use Rattle.prt_refusals.specs.declared.refusal.Refusal.{Refusal}
+use Rattle.prt_refusals.specs.declared.refusal.Refusal.TheVariants.{UnknownWord, MissingValue, Repeated}
 use Rattle.prt_command.specs.Items.{slot_of, has, put}
 use Rattle.prt_command.specs.LineKinds.{LineKind, is_to, word_in}
 use Rattle.prt_command.specs.Values.{prefix_word, value}

@@ -18,7 +18,7 @@ pub use Rattle.prt_addr.specs.Decimal
 pub use Rattle.prt_addr.specs.Given
 pub use Rattle.prt_addr.specs.Number
 pub use Rattle.prt_addr.specs.Prefix
-pub use Rattle.prt_addr.specs.Refusal
+pub use Rattle.prt_refusals.specs.Refusal
 pub use Rattle.prt_addr.specs.Word
 pub use Rattle.prt_route.specs.Best
 pub use Rattle.prt_route.specs.Dev

@@ -3,8 +3,8 @@ use Rattle.std.specs.Prelude.{ℕ, ◌+◌, ◌==◌, Bool, take, drop, position
 use Rattle.std.specs.Option.{ok_or}
 use Rattle.prt_addr.specs.Number.{number}
 use Rattle.prt_addr.specs.Word.{Word}
-use Rattle.prt_addr.specs.declared.refusal.Refusal.{Refusal}
-use Rattle.prt_addr.specs.declared.refusal.Refusal.TheVariants.{BadNumber}
+use Rattle.prt_refusals.specs.declared.refusal.Refusal.{Refusal}
+use Rattle.prt_refusals.specs.declared.refusal.Refusal.TheVariants.{BadNumber}
 use Rattle.prt_rule.specs.declared.rule.Mark.{Mark}
 use Rattle.prt_command.specs.Then.{◌>>=◌}
 

@@ -3,8 +3,8 @@ use Rattle.std.specs.Prelude.{ℕ, Bool, true, false, not, ◌&&◌, ◌||◌, �
 use Rattle.std.specs.List.{before_first, list_all, slice_split}
 use Rattle.std.specs.Option.{ok_or}
 use Rattle.prt_addr.specs.Word.{Word, is_white, is_one_of}
-use Rattle.prt_addr.specs.declared.refusal.Refusal.{Refusal}
-use Rattle.prt_addr.specs.declared.refusal.Refusal.TheVariants.{LineTooLong, NotAscii, UnknownObject, UnknownVerb}
+use Rattle.prt_refusals.specs.declared.refusal.Refusal.{Refusal}
+use Rattle.prt_refusals.specs.declared.refusal.Refusal.TheVariants.{LineTooLong, NotAscii, UnknownObject, UnknownVerb}
 use Rattle.prt_command.specs.Items.{no_items}
 use Rattle.prt_command.specs.Lines.{longest_line}
 use Rattle.prt_command.specs.LineKinds.{LineKind, bare_line, route_edit_line, route_get_line, route_list_line, rule_edit_line}

@@ -5,8 +5,8 @@ use Rattle.prt_addr.specs.Block.{Block}
 use Rattle.prt_addr.specs.Prefix.{everything}
 use Rattle.prt_addr.specs.Word.{keep}
 use Rattle.prt_addr.specs.declared.addr.Addr.{Addr}
-use Rattle.prt_addr.specs.declared.refusal.Refusal.{Refusal}
-use Rattle.prt_addr.specs.declared.refusal.Refusal.TheVariants.{MissingDestination, NoNextHop, NextHopNotAllowed, SuppressNotAllowed, TooBroad}
+use Rattle.prt_refusals.specs.declared.refusal.Refusal.{Refusal}
+use Rattle.prt_refusals.specs.declared.refusal.Refusal.TheVariants.{MissingDestination, NoNextHop, NextHopNotAllowed, SuppressNotAllowed, TooBroad}
 use Rattle.prt_route.specs.Names.{boot_protocol, global_scope, link_scope, main_table}
 use Rattle.prt_route.specs.RouteChoice.{is_same_kind}
 use Rattle.prt_route.specs.declared.choice.Range.TheVariants as ranges

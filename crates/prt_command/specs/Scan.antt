@@ -1,8 +1,8 @@
 -- The items of a line, or its first fault, as a function; what it gives is said by the definitions of the grammar (the laws `first_faults` and `readings`).
 use Rattle.std.specs.Prelude.{ℕ, zero, suc, Bool, true, false, if◌then◌else◌, List, [], ◌∷◌, Option, Some, None, Result, Ok, Err}
 use Rattle.prt_addr.specs.Word.{Word}
-use Rattle.prt_addr.specs.declared.refusal.Refusal.{Refusal}
-use Rattle.prt_addr.specs.declared.refusal.Refusal.TheVariants.{UnknownWord, MissingValue, Repeated}
+use Rattle.prt_refusals.specs.declared.refusal.Refusal.{Refusal}
+use Rattle.prt_refusals.specs.declared.refusal.Refusal.TheVariants.{UnknownWord, MissingValue, Repeated}
 use Rattle.prt_command.specs.Items.{slot_of, has, put}
 use Rattle.prt_command.specs.LineKinds.{LineKind, word_in, is_to}
 use Rattle.prt_command.specs.Then.{◌>>=◌}

@@ -1,7 +1,7 @@
 -- What the words of a verb spell: a request, or a first fault.
 use Rattle.std.specs.Prelude.{◌≡◌, List, Ok, Err}
 use Rattle.prt_addr.specs.Word.{Word}
-use Rattle.prt_addr.specs.declared.refusal.Refusal.{Refusal}
+use Rattle.prt_refusals.specs.declared.refusal.Refusal.{Refusal}
 use Rattle.prt_command.specs.Grammar.{FirstFault, Good, put_all}
 use Rattle.prt_command.specs.Items.{no_items}
 use Rattle.prt_command.specs.Reading.{Meaning}

@@ -1,7 +1,7 @@
 -- What the steps of reading a line give.
 use Rattle.std.specs.Prelude.{Bool, true, false, List, Result}
 use Rattle.prt_addr.specs.Word.{Word}
-use Rattle.prt_addr.specs.declared.refusal.Refusal.{Refusal}
+use Rattle.prt_refusals.specs.declared.refusal.Refusal.{Refusal}
 use Rattle.prt_command.specs.Items.{put}
 use Rattle.prt_command.specs.LineKinds.{LineKind}
 use Rattle.prt_command.specs.Scan.{Scanned, items_after}

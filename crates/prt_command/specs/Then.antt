@@ -1,6 +1,6 @@
 -- One reading after another.
 use Rattle.std.specs.Prelude.{Result, Ok, Err}
-use Rattle.prt_addr.specs.declared.refusal.Refusal.{Refusal}
+use Rattle.prt_refusals.specs.declared.refusal.Refusal.{Refusal}
 
 -- the second reading, of what the first gives, or the first's refusal
 infixl 10 ◌>>=◌

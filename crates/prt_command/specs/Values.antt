@@ -6,8 +6,8 @@ use Rattle.prt_addr.specs.Block.{Block}
 use Rattle.prt_addr.specs.Number.{number}
 use Rattle.prt_addr.specs.Prefix.{net, prefix}
 use Rattle.prt_addr.specs.Word.{Word, keep}
-use Rattle.prt_addr.specs.declared.refusal.Refusal.{Refusal}
-use Rattle.prt_addr.specs.declared.refusal.Refusal.TheVariants.{UnknownWord, BadAddress, BadName, BadNumber, BadPrefix, BadTable}
+use Rattle.prt_refusals.specs.declared.refusal.Refusal.{Refusal}
+use Rattle.prt_refusals.specs.declared.refusal.Refusal.TheVariants.{UnknownWord, BadAddress, BadName, BadNumber, BadPrefix, BadTable}
 use Rattle.prt_route.specs.Dev.{device}
 use Rattle.prt_route.specs.Kind.{kind_name}
 use Rattle.prt_route.specs.Names.{protocol, scope, table}

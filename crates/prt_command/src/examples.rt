@@ -1,6 +1,6 @@
 //! Lines with what they ask for, computed with the definitions alone.
 ghost use Rattle.std.specs.Prelude.{◌≡◌, ◌∷◌, [], ◌++◌, Err, None, Ok, Some, codes, false, replicate, true};
-ghost use Rattle.prt_addr.specs.declared.refusal.Refusal.TheVariants.{BadAddress, BadName, BadNumber, BadPrefix, BadTable, HostBits, LineTooLong, MissingDestination, MissingValue, NextHopNotAllowed, NoNextHop, NotAscii, Repeated, SuppressNotAllowed, TooBroad, UnknownObject, UnknownVerb, UnknownWord};
+ghost use Rattle.prt_refusals.specs.declared.refusal.Refusal.TheVariants.{BadAddress, BadName, BadNumber, BadPrefix, BadTable, HostBits, LineTooLong, MissingDestination, MissingValue, NextHopNotAllowed, NoNextHop, NotAscii, Repeated, SuppressNotAllowed, TooBroad, UnknownObject, UnknownVerb, UnknownWord};
 ghost use Rattle.prt_command.specs.Reading.{reading};
 ghost use Rattle.prt_command.specs.declared.request.Command.TheVariants.{RouteAdd, RouteChange, RouteDel, RouteFlush, RouteReplace, RuleAdd, RuleDel, RuleFlush};
 ghost use Rattle.prt_command.specs.declared.request.Query.TheVariants.{Get, RouteShow, RuleShow};

@@ -1,7 +1,7 @@
 //! Laws of the definitions, which no program calls: what the function that reads gives, in the words of the grammar.
 ghost use Rattle.std.specs.Prelude.{◌≡◌, ◌≤◌, ◌↔◌, List, [], ◌∷◌, ◌++◌, Ok, Err, length};
 ghost use Rattle.prt_addr.specs.Word.{Word};
-ghost use Rattle.prt_addr.specs.declared.refusal.Refusal.{Refusal};
+ghost use Rattle.prt_refusals.specs.declared.refusal.Refusal.{Refusal};
 ghost use Rattle.prt_command.specs.Grammar.{AreItems, FirstFault, Good, put_all};
 ghost use Rattle.prt_command.specs.LineKinds.{LineKind};
 ghost use Rattle.prt_command.specs.Reading.{Meaning, items_request};

@@ -1,5 +1,5 @@
 ghost use Rattle.std.specs.Prelude.{◌≡◌, ◌≤◌, ◌∷◌, [], codes, Err, IfErr, IfOk, MatchOption, MatchResult, Ok};
-ghost use Rattle.prt_addr.specs.Refusal.{code_of};
+ghost use Rattle.prt_refusals.specs.Refusal.{code_of};
 ghost use Rattle.prt_command.specs.Reading.{line_words, object_request, reading, skip_word, verb_request, words, words_request};
 ghost use Rattle.prt_command.specs.Storable.{IsStorableLine};
 

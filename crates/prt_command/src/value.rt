@@ -1,7 +1,7 @@
 //! The values of items.
 ghost use Rattle.std.specs.Prelude.{◌≡◌, false, true, Option};
 ghost use Rattle.std.specs.Option.{ok_or};
-ghost use Rattle.prt_addr.specs.declared.refusal.Refusal.TheVariants.{BadNumber, UnknownWord};
+ghost use Rattle.prt_refusals.specs.declared.refusal.Refusal.TheVariants.{BadNumber, UnknownWord};
 ghost use Rattle.prt_command.specs.Steps.{is_of_queries, is_of_rules};
 ghost use Rattle.prt_command.specs.declared.item.PrefixWord.{PrefixWord};
 ghost use Rattle.prt_command.specs.Values.{kind_before, kind_of, length_number, lookup, range, target, value, which_tables};

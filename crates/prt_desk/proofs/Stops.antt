@@ -1,7 +1,7 @@
 -- What a stop leaves that falls into the commit of commands.
 use Rattle.std.proofs.Common.{◌≡◌, ◌⊎◌, ◌+◌, length, refl, subst}
 use Rattle.sqlite.specs.Store.{Ghosts}
-use Rattle.prt_addr.specs.declared.refusal.StoreCall.TheVariants.{Commit}
+use Rattle.prt_refusals.specs.declared.refusal.StoreCall.TheVariants.{Commit}
 use Rattle.prt_store.proofs.Accepted.{are_made, are_next}
 use Rattle.prt_store.proofs.StoppedCommits.{stopped_leaves}
 use Rattle.prt_store.specs.Exits.{IsStored}

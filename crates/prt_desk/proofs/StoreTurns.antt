@@ -2,9 +2,9 @@
 use Rattle.std.proofs.Common.{◌≡◌, ◌⊎◌, inl, inr, ℕ, ◌≤◌, Bool, true, false, List, [], ◌∷◌, length, Option, Some, None, Result, Ok, Err, IfSome, refl, sym, ap, subst, ◌∙◌, arith}
 use Rattle.sqlite.specs.Held.{Held, state}
 use Rattle.sqlite.specs.Store.{Ghosts}
-use Rattle.prt_addr.specs.declared.refusal.Refusal.{Refusal}
-use Rattle.prt_addr.specs.declared.refusal.Refusal.TheVariants as reasons
-use Rattle.prt_addr.specs.declared.refusal.StoreCall.TheVariants.{Commit}
+use Rattle.prt_refusals.specs.declared.refusal.Refusal.{Refusal}
+use Rattle.prt_refusals.specs.declared.refusal.Refusal.TheVariants as reasons
+use Rattle.prt_refusals.specs.declared.refusal.StoreCall.TheVariants.{Commit}
 use Rattle.prt_command.specs.declared.request.Command.{Command}
 use Rattle.prt_front.specs.Line.{Line, grown_by, line_state}
 use Rattle.prt_publisher.specs.Exits.{AreNotAcknowledged, AreNotPrepared, AreNotPublished, AreNotStored, TakesAll}

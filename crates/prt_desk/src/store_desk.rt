@@ -2,8 +2,8 @@ ghost use Rattle.std.specs.Prelude.{◌≡◌, ◌≤◌, ◌++◌, ◌↔◌, I
 ghost use Rattle.std.specs.List.{All};
 ghost use Rattle.sqlite.specs.Held.{state};
 ghost use Rattle.sqlite.specs.State.{HasCleanDisk, Survives};
-ghost use Rattle.prt_addr.specs.Opening.{IsOpenRefusal};
-ghost use Rattle.prt_addr.specs.declared.refusal.Refusal.TheVariants.{Damaged};
+ghost use Rattle.prt_refusals.specs.Opening.{IsOpenRefusal};
+ghost use Rattle.prt_refusals.specs.declared.refusal.Refusal.TheVariants.{Damaged};
 ghost use Rattle.prt_desk.specs.Remains.{Remains};
 ghost use Rattle.prt_desk.specs.StoreDesk.{IsKept, is_shut, published};
 ghost use Rattle.prt_publisher.specs.Standing.{IsQuiet};

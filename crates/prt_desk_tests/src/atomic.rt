@@ -2,7 +2,7 @@
 
 use crate::disks::{Faults, Mode, Ran, calls_made, copies, new_files, run_in};
 use crate::each_call::{HELD, LISTINGS, is_told};
-use prt_addr::StoreCall;
+use prt_refusals::StoreCall;
 use prt_session::Refusal;
 use std::alloc::Global;
 use std::sync::Wait;

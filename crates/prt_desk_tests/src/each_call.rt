@@ -1,7 +1,7 @@
 //! A script over files of which each call in turn is the last that works, or the only one that fails.
 
 use crate::disks::{Faults, Mode, Ran, calls_made, copies, new_files, run_in};
-use prt_addr::StoreCall;
+use prt_refusals::StoreCall;
 use prt_session::Refusal;
 use std::alloc::Global;
 use std::sync::Wait;

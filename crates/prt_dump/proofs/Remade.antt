@@ -10,7 +10,7 @@ use Rattle.std.proofs.lemmas.List.Sorted.{Contains-permutation, IsPermutation-fi
 use Rattle.std.proofs.lemmas.Map.Keys.{IsDistinct-IsPermutation}
 use Rattle.prt_addr.specs.Order.{insert_by}
 use Rattle.prt_addr.specs.Rising.{IsRising}
-use Rattle.prt_addr.specs.declared.refusal.Refusal.TheVariants.{Exists, Full, CountFull}
+use Rattle.prt_refusals.specs.declared.refusal.Refusal.TheVariants.{Exists, Full, CountFull}
 use Rattle.prt_addr.proofs.Each.{any_none, each_append, each_implies}
 use Rattle.prt_addr.proofs.Orders.{each_inserted, inserted_rises, length_inserted, same_risings}
 use Rattle.std.proofs.lemmas.List.{length-append}

@@ -11,8 +11,8 @@ use Rattle.prt_addr.specs.Prefix.{everything, prefix, prefix_text}
 use Rattle.prt_addr.specs.Sound.{IsPrefix}
 use Rattle.prt_addr.specs.Word.{Word, keep}
 use Rattle.prt_addr.specs.declared.addr.Addr.{Addr}
-use Rattle.prt_addr.specs.declared.refusal.Refusal.{Refusal}
-use Rattle.prt_addr.specs.declared.refusal.Refusal.TheVariants.{BadAddress, BadName, BadNumber, BadTable, NoNextHop}
+use Rattle.prt_refusals.specs.declared.refusal.Refusal.{Refusal}
+use Rattle.prt_refusals.specs.declared.refusal.Refusal.TheVariants.{BadAddress, BadName, BadNumber, BadTable, NoNextHop}
 use Rattle.prt_route.specs.Dev.{device}
 use Rattle.prt_route.specs.Kind.{kind_name}
 use Rattle.prt_route.specs.Names.{protocol, protocols, scope, scopes, table, tables}

@@ -10,8 +10,8 @@ use Rattle.prt_addr.specs.Number.{number}
 use Rattle.prt_addr.specs.Prefix.{everything, net, prefix_text}
 use Rattle.prt_addr.specs.Sound.{IsPrefix}
 use Rattle.prt_addr.specs.Word.{Word, keep}
-use Rattle.prt_addr.specs.declared.refusal.Refusal.{Refusal}
-use Rattle.prt_addr.specs.declared.refusal.Refusal.TheVariants.{BadName, BadNumber, BadPrefix, BadTable, Repeated, SuppressNotAllowed}
+use Rattle.prt_refusals.specs.declared.refusal.Refusal.{Refusal}
+use Rattle.prt_refusals.specs.declared.refusal.Refusal.TheVariants.{BadName, BadNumber, BadPrefix, BadTable, Repeated, SuppressNotAllowed}
 use Rattle.prt_route.specs.Names.{tables}
 use Rattle.prt_rule.specs.Storable.{is_length, is_storable_rule}
 use Rattle.prt_rule.specs.declared.rule.Action as rule

@@ -4,8 +4,8 @@ use Rattle.std.specs.Prelude.{codes, ◌==◌, is_none, is_some, nat_lt}
 use Rattle.std.specs.List.{list_all, AllByRecursion as Each}
 use Rattle.std.proofs.lemmas.Bool.Decides.{nat_tests}
 use Rattle.std.proofs.lemmas.List.{length-append}
-use Rattle.prt_addr.specs.declared.on_refusal.OnRefusal.{OnRefusal}
-use Rattle.prt_addr.specs.declared.on_refusal.OnRefusal.TheVariants.{GoOn, Stop}
+use Rattle.prt_refusals.specs.declared.on_refusal.OnRefusal.{OnRefusal}
+use Rattle.prt_refusals.specs.declared.on_refusal.OnRefusal.TheVariants.{GoOn, Stop}
 use Rattle.prt_addr.proofs.Each.{each_append, each_filtered}
 use Rattle.prt_route.specs.declared.route.Route.{Route}
 use Rattle.prt_rule.specs.declared.rule.Rule.{Rule}

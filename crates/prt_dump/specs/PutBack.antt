@@ -1,7 +1,7 @@
 -- What a dump gives that is put back.
 use Rattle.std.specs.Prelude.{◌≡◌, ℕ, ◌+◌, true, not, List, [], ◌∷◌, map, position, Option, Some, None}
 use Rattle.std.specs.List.{AllByRecursion as Each}
-use Rattle.prt_addr.specs.declared.on_refusal.OnRefusal.{OnRefusal}
+use Rattle.prt_refusals.specs.declared.on_refusal.OnRefusal.{OnRefusal}
 use Rattle.prt_command.specs.declared.request.Query.{Query}
 use Rattle.prt_command.specs.declared.request.Query.TheVariants.{Get}
 use Rattle.prt_listing.specs.QueryText.{lines_text, query_text}

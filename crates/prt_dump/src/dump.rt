@@ -1,6 +1,6 @@
 //! The lines that put a version back.
 ghost use Rattle.std.specs.Prelude.{◌≡◌, ◌+◌, ◌≤◌, ◌++◌, ◌∷◌, [], IfErr, IfOk, OnOk, codes, drop, if◌then◌else◌, length, map};
-ghost use Rattle.prt_addr.specs.declared.on_refusal.OnRefusal.{OnRefusal};
+ghost use Rattle.prt_refusals.specs.declared.on_refusal.OnRefusal.{OnRefusal};
 ghost use Rattle.prt_listing.specs.QueryText.{lines_text};
 ghost use Rattle.prt_dump.specs.Dump.{gateways_last, has_unsaid_scope, route_line, rule_line};
 ghost use Rattle.prt_dump.specs.PutBack.{IsPlainState, IsPutBack, IsWhyNot, dump_text, session_of};

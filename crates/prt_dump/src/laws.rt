@@ -6,7 +6,7 @@ ghost use Rattle.prt_addr.specs.Number.{number};
 ghost use Rattle.prt_addr.specs.Prefix.{prefix, prefix_text};
 ghost use Rattle.prt_addr.specs.Sound.{IsPrefix};
 ghost use Rattle.prt_addr.specs.declared.addr.Addr.{Addr};
-ghost use Rattle.prt_addr.specs.declared.on_refusal.OnRefusal.{OnRefusal};
+ghost use Rattle.prt_refusals.specs.declared.on_refusal.OnRefusal.{OnRefusal};
 ghost use Rattle.prt_route.specs.Names.{protocol, protocols, scope, scopes, table};
 ghost use Rattle.prt_route.specs.declared.route.Route.{Route};
 ghost use Rattle.prt_rule.specs.declared.rule.Mark.{Mark};

@@ -1,7 +1,8 @@
 //! The readers of words and lines.
 
-use prt_addr::{Addr, Prefix, Refusal, read_addr, read_net, read_number, read_prefix};
+use prt_addr::{Addr, Prefix, read_addr, read_net, read_number, read_prefix};
 use prt_command::read_line;
+use prt_refusals::Refusal;
 use prt_route::read_dev;
 
 /// Tells whether this is what comes of a word that is read as an address.

@@ -4,7 +4,7 @@ use Rattle.sqlite.specs.Held.{Held, state}
 use Rattle.sqlite.specs.State.{HasCleanDisk}
 use Rattle.sqlite.specs.Store.{Ghosts}
 use Rattle.prt_addr.specs.Word.{Word}
-use Rattle.prt_addr.specs.declared.refusal.Refusal.{Refusal}
+use Rattle.prt_refusals.specs.declared.refusal.Refusal.{Refusal}
 use Rattle.prt_desk.proofs.Kept.{durable_is, shows}
 use Rattle.prt_desk.specs.Remains.{Remains}
 use Rattle.prt_desk.specs.StoreDesk.{IsKept, IsStoreMishap, LeavesFound, MayBeStored, StandsFor, desk_with}

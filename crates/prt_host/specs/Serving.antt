@@ -2,7 +2,7 @@
 use Rattle.std.specs.Prelude.{◌≡◌, ◌⊎◌, ℕ, List, Option, Some, None}
 use Rattle.sqlite.specs.Held.{Held}
 use Rattle.sqlite.specs.Store.{Ghosts}
-use Rattle.prt_addr.specs.declared.refusal.Refusal.{Refusal}
+use Rattle.prt_refusals.specs.declared.refusal.Refusal.{Refusal}
 use Rattle.prt_publisher.specs.Openings.{OpensOne}
 use Rattle.prt_publisher.specs.Standing.{Standing}
 use Rattle.prt_host.specs.Closing.{IsClosedAgain, LeavesNoneOpen}

@@ -1,6 +1,6 @@
 //! Publishers and desks over the databases of a machine.
 ghost use Rattle.std.specs.Prelude.{◌≡◌, IfErr, IfOk};
-ghost use Rattle.prt_addr.specs.Opening.{IsOpenRefusal};
+ghost use Rattle.prt_refusals.specs.Opening.{IsOpenRefusal};
 ghost use Rattle.prt_desk.specs.StoreDesk.{StandsFor, published};
 ghost use Rattle.prt_front.specs.Line.{line_state};
 ghost use Rattle.prt_host.specs.Closing.{LeavesNoneOpen};

@@ -15,7 +15,7 @@ use Rattle.prt_world.specs.declared.event.Event.TheVariants as events
 use Rattle.prt_world.specs.declared.outcome.Outcome.TheVariants as outcomes
 use Rattle.prt_laws.proofs.Keeping.{most_keep, Keeps, unless_keeps}
 use Rattle.std.proofs.lemmas.List.{append-nil}
-use Rattle.prt_addr.specs.declared.refusal.StoreCall.{StoreCall}
+use Rattle.prt_refusals.specs.declared.refusal.StoreCall.{StoreCall}
 use Rattle.prt_command.specs.declared.request.Command.{Command}
 use Rattle.prt_front.specs.Line.{Line, line_state}
 use Rattle.prt_world.specs.declared.event.Fate.{Fate}

@@ -2,10 +2,10 @@
 use Rattle.std.proofs.Common.{◌≡◌, ℕ, ◌+◌, ◌-◌, ◌≤◌, Bool, true, false, List, [], ◌∷◌, ◌++◌, length, Option, Some, None, Result, Ok, Err, refl, sym, ap, ◌∙◌, subst, arith}
 use Rattle.std.specs.List.{AllByRecursion as Each}
 use Rattle.std.proofs.lemmas.List.{append-nil, append_assoc}
-use Rattle.prt_addr.specs.declared.refusal.Refusal.{Refusal}
-use Rattle.prt_addr.specs.declared.refusal.Refusal.TheVariants as refusals
-use Rattle.prt_addr.specs.declared.refusal.StoreCall.{StoreCall}
-use Rattle.prt_addr.specs.declared.refusal.StoreCall.TheVariants as calls
+use Rattle.prt_refusals.specs.declared.refusal.Refusal.{Refusal}
+use Rattle.prt_refusals.specs.declared.refusal.Refusal.TheVariants as refusals
+use Rattle.prt_refusals.specs.declared.refusal.StoreCall.{StoreCall}
+use Rattle.prt_refusals.specs.declared.refusal.StoreCall.TheVariants as calls
 use Rattle.prt_command.specs.declared.request.Command.{Command}
 use Rattle.prt_front.specs.Line.{Line, grown_by, line_state}
 use Rattle.prt_session.specs.Desk.{DeskState, ListTurn, Mishap, command_or_refusal, commands_or_refusal, commit_kept, no_memory, no_room, publication_fails, settled, shut, store_fails, submit, submit_all}

@@ -1,7 +1,7 @@
 -- A run with the fates that fit what is left: two worlds that are alike but for what is on disk, as after a call that failed with one fate or the other.
 use Rattle.std.proofs.Common.{◌≡◌, ℕ, Bool, true, false, List, [], ◌∷◌, ◌++◌, None, map, refl, sym, ap, ◌∙◌, subst, cond, ◌⊎◌, inl, inr, ◌≤◌, length, arith}
 use Rattle.std.specs.List.{AllByRecursion as Each}
-use Rattle.prt_addr.specs.declared.refusal.StoreCall.{StoreCall}
+use Rattle.prt_refusals.specs.declared.refusal.StoreCall.{StoreCall}
 use Rattle.prt_command.specs.declared.request.Command.{Command}
 use Rattle.prt_grace.specs.Registry.{RegistryState, new_registry}
 use Rattle.prt_rule.specs.declared.packet.Packet.{Packet}
@@ -19,7 +19,7 @@ use Rattle.std.proofs.lemmas.List.{map-append}
 use Rattle.sqlite.specs.Held.{Held, state}
 use Rattle.sqlite.specs.Store.{Ghosts}
 use Rattle.sqlite.specs.Tree.{Trees}
-use Rattle.prt_addr.specs.declared.refusal.Refusal.TheVariants.{StoreFailed}
+use Rattle.prt_refusals.specs.declared.refusal.Refusal.TheVariants.{StoreFailed}
 use Rattle.prt_front.specs.Line.{line_state}
 use Rattle.prt_store.specs.Exits.{IsKnown, IsStored, MayLeave, Spells}
 use Rattle.prt_publisher.specs.Standing.{Agrees, Standing}

@@ -1,7 +1,7 @@
 -- Fields of a world that an event leaves as they are.
 use Rattle.std.proofs.Common.{◌≡◌, ℕ, ◌+◌, ◌++◌, Bool, true, false, List, [], ◌∷◌, Option, Some, None, length, replicate, take, refl, cond, arith}
-use Rattle.prt_addr.specs.declared.refusal.Refusal.{Refusal}
-use Rattle.prt_addr.specs.declared.refusal.StoreCall.TheVariants as calls
+use Rattle.prt_refusals.specs.declared.refusal.Refusal.{Refusal}
+use Rattle.prt_refusals.specs.declared.refusal.StoreCall.TheVariants as calls
 use Rattle.prt_command.specs.declared.request.Command.{Command}
 use Rattle.prt_grace.specs.declared.limits.TheConstants.{PLACES}
 use Rattle.prt_version.specs.Accepted.{refusal_all}

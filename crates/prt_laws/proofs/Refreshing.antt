@@ -14,7 +14,7 @@ use Rattle.prt_laws.specs.Lookers.{seat}
 use Rattle.prt_laws.proofs.Looking.{runs, sits_there}
 use Rattle.prt_laws.proofs.Scripts.{event_seats}
 use Rattle.prt_laws.specs.Seated.{Others, Runs, Seated, held_number, is_others, IsMade, Learns, Looks, Refreshes, RefreshesNot, Rests, announcing_at, fetching}
-use Rattle.prt_addr.specs.declared.refusal.Refusal.{Refusal}
+use Rattle.prt_refusals.specs.declared.refusal.Refusal.{Refusal}
 use Rattle.prt_command.specs.declared.request.Command.{Command}
 use Rattle.prt_version.proofs.Folds.{fold_append, put_count}
 use Rattle.prt_version.specs.Change.{apply, check, fold, put_if}

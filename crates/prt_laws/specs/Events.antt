@@ -1,8 +1,8 @@
 -- The events of a publisher's calls, apart from those of lookers.
 use Rattle.std.specs.Prelude.{ℕ, ◌≤◌, ◌-◌, ◌++◌, Bool, true, false, not, if◌then◌else◌, List, [], ◌∷◌, filter, length}
-use Rattle.prt_addr.specs.declared.refusal.Refusal.TheVariants as refusals
-use Rattle.prt_addr.specs.declared.refusal.StoreCall.{StoreCall}
-use Rattle.prt_addr.specs.declared.refusal.StoreCall.TheVariants as calls
+use Rattle.prt_refusals.specs.declared.refusal.Refusal.TheVariants as refusals
+use Rattle.prt_refusals.specs.declared.refusal.StoreCall.{StoreCall}
+use Rattle.prt_refusals.specs.declared.refusal.StoreCall.TheVariants as calls
 use Rattle.prt_command.specs.declared.request.Command.{Command}
 use Rattle.prt_front.specs.Line.{Line, line_state}
 use Rattle.prt_world.specs.World.{Ack, World, step}

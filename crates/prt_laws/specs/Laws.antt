@@ -3,9 +3,9 @@ use Rattle.std.specs.Prelude.{◌≡◌, ◌⊎◌, ℕ, Bool, true, false, ◌+
 use Rattle.sqlite.specs.Held.{Held, state}
 use Rattle.sqlite.specs.Store.{Ghosts}
 use Rattle.sqlite.specs.Tree.{Trees}
-use Rattle.prt_addr.specs.declared.refusal.Refusal.{Refusal}
-use Rattle.prt_addr.specs.declared.refusal.Refusal.TheVariants.{Busy, NoMemory, NotPublished, StoreFailed}
-use Rattle.prt_addr.specs.declared.refusal.StoreCall.{StoreCall}
+use Rattle.prt_refusals.specs.declared.refusal.Refusal.{Refusal}
+use Rattle.prt_refusals.specs.declared.refusal.Refusal.TheVariants.{Busy, NoMemory, NotPublished, StoreFailed}
+use Rattle.prt_refusals.specs.declared.refusal.StoreCall.{StoreCall}
 use Rattle.prt_command.specs.Storable.{IsStorable}
 use Rattle.prt_command.specs.declared.request.Command.{Command}
 use Rattle.prt_front.specs.Line.{Line, line_state}

@@ -9,7 +9,7 @@ pub mod Example
 pub use Rattle.prt_addr.specs.Addr
 pub use Rattle.prt_addr.specs.Block
 pub use Rattle.prt_addr.specs.Prefix
-pub use Rattle.prt_addr.specs.Refusal
+pub use Rattle.prt_refusals.specs.Refusal
 pub use Rattle.prt_addr.specs.Word
 pub use Rattle.prt_route.specs.Kind
 pub use Rattle.prt_route.specs.Names

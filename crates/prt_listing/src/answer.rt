@@ -1,5 +1,5 @@
 ghost use Rattle.std.specs.Prelude.{◌≡◌, ◌++◌, IsOkUnless, OnErr, OnOk};
-ghost use Rattle.prt_addr.specs.declared.refusal.Refusal.TheVariants.{NoMemory};
+ghost use Rattle.prt_refusals.specs.declared.refusal.Refusal.TheVariants.{NoMemory};
 ghost use Rattle.prt_listing.specs.AnswerText.{answer_text, rule_part};
 ghost use Rattle.prt_listing.specs.Keeps.{Keeps};
 ghost use Rattle.prt_listing.specs.Steps.{part_text};
@@ -8,7 +8,7 @@ use crate::part::{Part, Value, table_value};
 use crate::push::{push_parts, push_text, whole_or_nothing};
 use crate::route::{TablePart, push_route};
 use crate::rule::action_part;
-use prt_addr::Refusal;
+use prt_refusals::Refusal;
 use prt_version::{Answer, Verdict};
 use std::alloc::AllocError;
 

@@ -1,5 +1,5 @@
 ghost use Rattle.std.specs.Prelude.{◌≡◌, ◌++◌, ◌↔◌, IsOk, IsOkUnless, OnErr, OnOk, decimal, map, take};
-ghost use Rattle.prt_addr.specs.declared.refusal.Refusal.TheVariants.{NoMemory};
+ghost use Rattle.prt_refusals.specs.declared.refusal.Refusal.TheVariants.{NoMemory};
 ghost use Rattle.prt_listing.specs.Keeps.{Keeps};
 ghost use Rattle.prt_listing.specs.Parts.{hex_text, mark_text, spaced};
 ghost use Rattle.prt_listing.specs.Steps.{part_of, part_text, value_text};
@@ -7,7 +7,8 @@ ghost use Rattle.prt_listing.specs.Steps.{part_of, part_text, value_text};
 use crate::hexadecimal::{MOST_DIGITS, write_hexadecimal};
 use crate::part::{Part, Value};
 use itoa::Buffer;
-use prt_addr::{Refusal, addr_text, prefix_text};
+use prt_addr::{addr_text, prefix_text};
+use prt_refusals::Refusal;
 use prt_rule::Mark;
 use std::alloc::AllocError;
 

@@ -1,8 +1,8 @@
 ghost use Rattle.std.specs.Prelude.{◌≡◌, ◌++◌, IsOkUnless, OnErr, OnOk};
-ghost use Rattle.prt_addr.specs.Refusal.{refusal_text};
-ghost use Rattle.prt_addr.specs.declared.refusal.Refusal.TheVariants.{NoMemory};
+ghost use Rattle.prt_refusals.specs.Refusal.{refusal_text};
+ghost use Rattle.prt_refusals.specs.declared.refusal.Refusal.TheVariants.{NoMemory};
 
-use prt_addr::Refusal;
+use prt_refusals::Refusal;
 
 /// Appends `error`, and the number and the name of a refusal.
 ///

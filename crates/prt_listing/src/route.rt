@@ -1,12 +1,12 @@
 ghost use Rattle.std.specs.Prelude.{◌≡◌, ◌++◌, IsOkUnless, OnErr, OnOk, map};
-ghost use Rattle.prt_addr.specs.declared.refusal.Refusal.TheVariants.{NoMemory};
+ghost use Rattle.prt_refusals.specs.declared.refusal.Refusal.TheVariants.{NoMemory};
 ghost use Rattle.prt_listing.specs.Keeps.{Keeps};
 ghost use Rattle.prt_listing.specs.RouteText.{kind_part, metric_part, protocol_part, route_parts, route_text, scope_part, table_part};
 ghost use Rattle.prt_listing.specs.Steps.{part_of};
 
 use crate::part::{Part, Value, addr_part, dev_part, name_or_number, prefix_or, table_value};
 use crate::push::{push_parts, whole_or_nothing};
-use prt_addr::Refusal;
+use prt_refusals::Refusal;
 use prt_route::{BOOT_PROTOCOL, GLOBAL_SCOPE, Kind, MAIN_TABLE, Route, protocol_name, scope_name};
 use std::alloc::AllocError;
 

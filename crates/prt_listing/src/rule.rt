@@ -1,5 +1,5 @@
 ghost use Rattle.std.specs.Prelude.{◌≡◌, ◌++◌, IsOkUnless, OnErr, OnOk, codes, decimal, map, option_map};
-ghost use Rattle.prt_addr.specs.declared.refusal.Refusal.TheVariants.{NoMemory};
+ghost use Rattle.prt_refusals.specs.declared.refusal.Refusal.TheVariants.{NoMemory};
 ghost use Rattle.prt_listing.specs.Keeps.{Keeps};
 ghost use Rattle.prt_listing.specs.Parts.{part};
 ghost use Rattle.prt_listing.specs.RuleText.{action_text, mark_part, not_part, rule_parts, rule_text, to_part};
@@ -7,7 +7,8 @@ ghost use Rattle.prt_listing.specs.Steps.{part_of, part_text};
 
 use crate::part::{Part, Value, dev_part, is_everything, prefix_or, table_value};
 use crate::push::{push_number, push_parts, push_text, whole_or_nothing};
-use prt_addr::{Prefix, Refusal};
+use prt_addr::Prefix;
+use prt_refusals::Refusal;
 use prt_rule::{Action, Mark, Rule};
 use std::alloc::AllocError;
 

@@ -1,9 +1,9 @@
 -- Why the program runs nothing.
 use Rattle.std.specs.Prelude.{◌≡◌, ◌⊎◌, Option, Some, None}
-use Rattle.prt_addr.specs.Opening.{IsOpenRefusal}
+use Rattle.prt_refusals.specs.Opening.{IsOpenRefusal}
 use Rattle.prt_addr.specs.Word.{Word}
-use Rattle.prt_addr.specs.declared.refusal.Refusal.{Refusal}
-use Rattle.prt_addr.specs.declared.refusal.Refusal.TheVariants.{NoMemory, ReadFault}
+use Rattle.prt_refusals.specs.declared.refusal.Refusal.{Refusal}
+use Rattle.prt_refusals.specs.declared.refusal.Refusal.TheVariants.{NoMemory, ReadFault}
 use Rattle.prt_words.specs.Faults.{IsStatusOf, fault_status}
 use Rattle.prt_words.specs.Invocation.{Invocation, batch}
 use Rattle.prt_words.specs.declared.fault.Fault.{Fault}

@@ -1,9 +1,9 @@
 -- What is told on standard error while a script is run.
 use Rattle.std.specs.Prelude.{ℕ, nat_lt, ◌==◌, ◌&&◌, ◌||◌, if◌then◌else◌, List, [], ◌++◌, map, codes, decimal, Option, Some, None}
-use Rattle.prt_addr.specs.Refusal.{refusal_text}
+use Rattle.prt_refusals.specs.Refusal.{refusal_text}
 use Rattle.prt_addr.specs.Word.{Word}
-use Rattle.prt_addr.specs.declared.refusal.Refusal.{Refusal}
-use Rattle.prt_addr.specs.declared.refusal.Refusal.TheVariants.{LineTooLong, ReadFault, StoreFailed}
+use Rattle.prt_refusals.specs.declared.refusal.Refusal.{Refusal}
+use Rattle.prt_refusals.specs.declared.refusal.Refusal.TheVariants.{LineTooLong, ReadFault, StoreFailed}
 use Rattle.prt_command.specs.FaultWord.{fault_word}
 use Rattle.prt_replay.specs.TraceText.{call_name}
 

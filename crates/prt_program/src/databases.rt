@@ -1,6 +1,6 @@
 //! Databases that are opened by their paths.
 ghost use Rattle.std.specs.Prelude.{IfErr, IfOk};
-ghost use Rattle.prt_addr.specs.Opening.{IsOpenRefusal};
+ghost use Rattle.prt_refusals.specs.Opening.{IsOpenRefusal};
 ghost use Rattle.prt_session.specs.Open.{IsOpenOn};
 ghost use Rattle.prt_version.specs.State.{State};
 
@@ -11,7 +11,7 @@ use std::fmt::Display;
 /// Opens databases.
 pub trait Databases {
     ghost use Rattle.std.specs.Prelude.{◌≡◌, List, ℕ};
-    ghost use Rattle.prt_addr.specs.declared.refusal.Refusal.{Refusal};
+    ghost use Rattle.prt_refusals.specs.declared.refusal.Refusal.{Refusal};
     ghost use Rattle.prt_session.specs.Desk.{DeskState};
     ghost use Rattle.prt_version.specs.State.{State};
 

@@ -1,9 +1,9 @@
 //! The runs of the program.
 ghost use Rattle.std.specs.Prelude.{◌≡◌, ◌≢◌, ◌⊎◌, IfErr, IfOk, MatchResult, OnErr, None, option_map};
 ghost use Rattle.std.specs.Io.Buffered.{reader_remaining};
-ghost use Rattle.prt_addr.specs.Opening.{IsOpenRefusal};
-ghost use Rattle.prt_addr.specs.declared.refusal.Refusal.{Refusal};
-ghost use Rattle.prt_addr.specs.declared.refusal.Refusal.TheVariants.{NoMemory, ReadFault};
+ghost use Rattle.prt_refusals.specs.Opening.{IsOpenRefusal};
+ghost use Rattle.prt_refusals.specs.declared.refusal.Refusal.{Refusal};
+ghost use Rattle.prt_refusals.specs.declared.refusal.Refusal.TheVariants.{NoMemory, ReadFault};
 ghost use Rattle.prt_program.specs.Faults.{IsDatabaseFault, IsFault, IsOpening, IsScriptFault, database_of};
 ghost use Rattle.prt_program.specs.Program.{IfDump, IfExit, IfServe, IsUntouched, LeavesDatabases, LeavesInput, LeavesInputFor, Runs, RunsAt, RunsBatch, RunsCheck, RunsNothing, RunsOn, RunsOver, RunsReplay, SessionIs, exit_status, streams_of};
 ghost use Rattle.prt_session.specs.Open.{IsOpenOn};

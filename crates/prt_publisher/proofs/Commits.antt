@@ -6,9 +6,9 @@ use Rattle.sqlite.specs.Effect.{Database}
 use Rattle.sqlite.specs.Held.{Held, state}
 use Rattle.sqlite.specs.Store.{Ghosts}
 use Rattle.sqlite.specs.Tree.{Trees}
-use Rattle.prt_addr.specs.declared.refusal.Refusal.{Refusal}
-use Rattle.prt_addr.specs.declared.refusal.Refusal.TheVariants.{StoreFailed}
-use Rattle.prt_addr.specs.declared.refusal.StoreCall.TheVariants.{Commit}
+use Rattle.prt_refusals.specs.declared.refusal.Refusal.{Refusal}
+use Rattle.prt_refusals.specs.declared.refusal.Refusal.TheVariants.{StoreFailed}
+use Rattle.prt_refusals.specs.declared.refusal.StoreCall.TheVariants.{Commit}
 use Rattle.prt_command.specs.declared.request.Command.{Command}
 use Rattle.prt_store.proofs.Accepted.{are_made, are_next}
 use Rattle.prt_store.specs.Exits.{IsKnown, IsStored, MayLeave, Spells}

@@ -7,9 +7,9 @@ use Rattle.sqlite.specs.Held.{Held, state}
 use Rattle.sqlite.specs.State.{HasCleanDisk, IsUnchanged, Survives}
 use Rattle.sqlite.specs.Store.{Ghosts}
 use Rattle.sqlite.specs.Tree.{Trees}
-use Rattle.prt_addr.specs.Opening.{IsOpenRefusal}
-use Rattle.prt_addr.specs.declared.refusal.Refusal.{Refusal}
-use Rattle.prt_addr.specs.declared.refusal.Refusal.TheVariants.{Damaged, NoMemory}
+use Rattle.prt_refusals.specs.Opening.{IsOpenRefusal}
+use Rattle.prt_refusals.specs.declared.refusal.Refusal.{Refusal}
+use Rattle.prt_refusals.specs.declared.refusal.Refusal.TheVariants.{Damaged, NoMemory}
 use Rattle.prt_rows.specs.Effects.{AreEmpty}
 use Rattle.prt_rows.specs.Format.{BeginsFormat2, IsFormat2, SuitsFormat2}
 use Rattle.prt_store.specs.Adopted.{Adopts, AdoptsPart, IsSettled, LeavesPart}

@@ -2,10 +2,10 @@
 use Rattle.std.specs.Prelude.{◌≡◌, ◌⊎◌, ◌+◌, ◌≤◌, List, [], ◌∷◌, length, IsTrue, Some}
 use Rattle.sqlite.specs.Held.{Held, state}
 use Rattle.sqlite.specs.Store.{Ghosts}
-use Rattle.prt_addr.specs.declared.refusal.Refusal.{Refusal}
-use Rattle.prt_addr.specs.declared.refusal.Refusal.TheVariants as reason
-use Rattle.prt_addr.specs.declared.refusal.StoreCall.{StoreCall}
-use Rattle.prt_addr.specs.declared.refusal.StoreCall.TheVariants.{Commit}
+use Rattle.prt_refusals.specs.declared.refusal.Refusal.{Refusal}
+use Rattle.prt_refusals.specs.declared.refusal.Refusal.TheVariants as reason
+use Rattle.prt_refusals.specs.declared.refusal.StoreCall.{StoreCall}
+use Rattle.prt_refusals.specs.declared.refusal.StoreCall.TheVariants.{Commit}
 use Rattle.prt_command.specs.declared.request.Command.{Command}
 use Rattle.prt_front.specs.Line.{line_state}
 use Rattle.prt_publisher.specs.Standing.{Standing}

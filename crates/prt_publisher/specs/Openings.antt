@@ -3,9 +3,9 @@ use Rattle.std.specs.Prelude.{◌≡◌, ◌↔◌, [], true, IsTrue}
 use Rattle.sqlite.specs.Held.{Held, state}
 use Rattle.sqlite.specs.State.{HasCleanDisk, IsUnchanged, Survives}
 use Rattle.sqlite.specs.Store.{Ghosts}
-use Rattle.prt_addr.specs.Opening.{IsOpenRefusal}
-use Rattle.prt_addr.specs.declared.refusal.Refusal.{Refusal}
-use Rattle.prt_addr.specs.declared.refusal.Refusal.TheVariants.{Damaged}
+use Rattle.prt_refusals.specs.Opening.{IsOpenRefusal}
+use Rattle.prt_refusals.specs.declared.refusal.Refusal.{Refusal}
+use Rattle.prt_refusals.specs.declared.refusal.Refusal.TheVariants.{Damaged}
 use Rattle.prt_front.specs.Line.{line_state}
 use Rattle.prt_publisher.specs.Standing.{Standing}
 use Rattle.prt_rows.specs.Format.{BeginsFormat2, SuitsFormat2}

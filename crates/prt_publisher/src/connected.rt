@@ -1,7 +1,7 @@
 //! Publishers over the database of a connection that is still to be had.
 ghost use Rattle.std.specs.Prelude.{◌≡◌, Err, IfErr, IfOk, Ok};
-ghost use Rattle.prt_addr.specs.Opening.{IsOpenRefusal};
-ghost use Rattle.prt_addr.specs.declared.refusal.Refusal.TheVariants.{OpenFailed};
+ghost use Rattle.prt_refusals.specs.Opening.{IsOpenRefusal};
+ghost use Rattle.prt_refusals.specs.declared.refusal.Refusal.TheVariants.{OpenFailed};
 ghost use Rattle.prt_front.specs.Line.{line_state};
 ghost use Rattle.prt_publisher.specs.Openings.{OpensOne, RefusesToOpen};
 ghost use Rattle.prt_publisher.specs.Standing.{IsQuiet};

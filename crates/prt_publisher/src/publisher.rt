@@ -2,10 +2,10 @@
 ghost use Rattle.std.specs.Prelude.{◌≡◌, ◌⊎◌, ◌+◌, ◌<◌, ◌≤◌, ◌↔◌, [], ◌∷◌, All, length, IfErr, IfOk, IsErrAnd, IsTrue, OnErr, OnOk, true};
 ghost use Rattle.sqlite.specs.Held.{Held, state};
 ghost use Rattle.sqlite.specs.State.{HasCleanDisk, IsUnchanged, Survives};
-ghost use Rattle.prt_addr.specs.Opening.{IsOpenRefusal};
-ghost use Rattle.prt_addr.specs.declared.refusal.Refusal.TheVariants.{Busy, Closed, Damaged, NoMemory, NotPublished, StoreFailed};
-ghost use Rattle.prt_addr.specs.declared.refusal.StoreCall.{StoreCall};
-ghost use Rattle.prt_addr.specs.declared.refusal.StoreCall.TheVariants.{Commit};
+ghost use Rattle.prt_refusals.specs.Opening.{IsOpenRefusal};
+ghost use Rattle.prt_refusals.specs.declared.refusal.Refusal.TheVariants.{Busy, Closed, Damaged, NoMemory, NotPublished, StoreFailed};
+ghost use Rattle.prt_refusals.specs.declared.refusal.StoreCall.{StoreCall};
+ghost use Rattle.prt_refusals.specs.declared.refusal.StoreCall.TheVariants.{Commit};
 ghost use Rattle.prt_command.specs.Storable.{IsStorable};
 ghost use Rattle.prt_front.specs.Line.{grown, grown_by, line_state};
 ghost use Rattle.prt_grace.specs.Registry.{noted_by, reclaimed};

@@ -10,7 +10,7 @@ use Rattle.sqlite.specs.Store.{Ghosts}
 use Rattle.sqlite.specs.State.{Shown, State as Conn}
 use Rattle.sqlite.specs.declared.rows.Row.{Row as ReadRow}
 use Rattle.sqlite_value.specs.Order.{Row}
-use Rattle.prt_addr.specs.declared.refusal.Refusal.{Refusal}
+use Rattle.prt_refusals.specs.declared.refusal.Refusal.{Refusal}
 use Rattle.prt_rows.proofs.Quiet.{IsQuiet, quiet_read_meta, quiet_read_routes, quiet_read_rules, quiet_read_suppress}
 use Rattle.prt_rows.proofs.Reading.{reads_meta, reads_routes, reads_rules, reads_suppress}
 use Rattle.prt_rows.proofs.Shapes.{meta_is_read, routes_are_read, rules_are_read, suppress_is_read}

@@ -6,8 +6,8 @@ use Rattle.sqlite.specs.State.{HasCleanDisk, IsLive, State as Conn}
 use Rattle.sqlite.specs.Store.{Ghosts}
 use Rattle.sqlite_value.specs.Order.{Row}
 use Rattle.prt_addr.specs.Word.{Word}
-use Rattle.prt_addr.specs.declared.refusal.Refusal.{Refusal}
-use Rattle.prt_addr.specs.declared.refusal.Refusal.TheVariants.{Damaged}
+use Rattle.prt_refusals.specs.declared.refusal.Refusal.{Refusal}
+use Rattle.prt_refusals.specs.declared.refusal.Refusal.TheVariants.{Damaged}
 use Rattle.prt_rows.specs.Format.{IsFormat2}
 use Rattle.prt_rows.specs.Kept.{with_key_column}
 use Rattle.prt_rows.specs.Statements.{read_meta, read_routes, read_rules, read_suppress}

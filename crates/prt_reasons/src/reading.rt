@@ -8,7 +8,7 @@ ghost use Rattle.prt_store.specs.Loaded.{ReadsShown};
 
 use crate::rows::{AllRows, reason_in};
 use crate::{Reason, Table};
-use prt_addr::Refusal;
+use prt_refusals::Refusal;
 use sqlite::{Alter, Connection, Row};
 
 /// Gives the statement that reads a table.

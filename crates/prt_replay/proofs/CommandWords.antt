@@ -3,8 +3,8 @@ use Rattle.std.proofs.Common.{◌≡◌, ℕ, Bool, true, false, List, [], ◌�
 use Rattle.std.specs.List.{onto_first, slice_split, AllByRecursion as Each}
 use Rattle.std.proofs.lemmas.List.{append-nil}
 use Rattle.prt_addr.specs.Word.{Word, is_white}
-use Rattle.prt_addr.specs.declared.refusal.Refusal.{Refusal}
-use Rattle.prt_addr.specs.declared.refusal.Refusal.TheVariants.{NoMemory}
+use Rattle.prt_refusals.specs.declared.refusal.Refusal.{Refusal}
+use Rattle.prt_refusals.specs.declared.refusal.Refusal.TheVariants.{NoMemory}
 use Rattle.prt_command.proofs.Results.{ok_result}
 use Rattle.prt_command.specs.Reading.{has_bytes, words}
 use Rattle.prt_command.specs.Then.{◌>>=◌, map_ok}

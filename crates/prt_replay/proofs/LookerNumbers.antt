@@ -4,8 +4,8 @@ use Rattle.std.proofs.lemmas.Bool.Decides.{nat_tests}
 use Rattle.prt_addr.specs.Decimal.{at_most}
 use Rattle.prt_addr.specs.Number.{number}
 use Rattle.prt_addr.specs.Word.{Word}
-use Rattle.prt_addr.specs.declared.refusal.Refusal.{Refusal}
-use Rattle.prt_addr.specs.declared.refusal.Refusal.TheVariants.{BadNumber}
+use Rattle.prt_refusals.specs.declared.refusal.Refusal.{Refusal}
+use Rattle.prt_refusals.specs.declared.refusal.Refusal.TheVariants.{BadNumber}
 use Rattle.prt_command.proofs.Results.{err_result, ok_inj}
 use Rattle.prt_replay.specs.ReadEvents.{looker}
 

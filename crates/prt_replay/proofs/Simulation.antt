@@ -5,9 +5,9 @@ use Rattle.std.specs.List.{AllZip, AllByRecursion as Each}
 use Rattle.std.proofs.lemmas.Bool.Decides.{nat_tests}
 use Rattle.std.proofs.lemmas.List.{append-nil, take-append-le}
 use Rattle.std.proofs.lemmas.List.Elements.{filter-append}
-use Rattle.prt_addr.specs.declared.refusal.Refusal.{Refusal}
-use Rattle.prt_addr.specs.declared.refusal.StoreCall.{StoreCall}
-use Rattle.prt_addr.specs.declared.refusal.StoreCall.TheVariants.{Begin, Write, Count, Commit}
+use Rattle.prt_refusals.specs.declared.refusal.Refusal.{Refusal}
+use Rattle.prt_refusals.specs.declared.refusal.StoreCall.{StoreCall}
+use Rattle.prt_refusals.specs.declared.refusal.StoreCall.TheVariants.{Begin, Write, Count, Commit}
 use Rattle.prt_addr.proofs.Each.{each_implies}
 use Rattle.prt_command.specs.declared.request.Command.{Command}
 use Rattle.prt_grace.specs.GracePeriod.{is_retired}

@@ -5,8 +5,8 @@ use Rattle.std.specs.Option.{ok_or}
 use Rattle.prt_addr.specs.Decimal.{at_most}
 use Rattle.prt_addr.specs.Number.{number}
 use Rattle.prt_addr.specs.Word.{Word}
-use Rattle.prt_addr.specs.declared.refusal.Refusal.{Refusal}
-use Rattle.prt_addr.specs.declared.refusal.Refusal.TheVariants.{BadNumber, MissingDestination, MissingValue, TooManyLines, UnknownVerb, UnknownWord}
+use Rattle.prt_refusals.specs.declared.refusal.Refusal.{Refusal}
+use Rattle.prt_refusals.specs.declared.refusal.Refusal.TheVariants.{BadNumber, MissingDestination, MissingValue, TooManyLines, UnknownVerb, UnknownWord}
 use Rattle.prt_command.specs.Lines.{limits, lines_of}
 use Rattle.prt_command.specs.Reading.{line_words, words_request}
 use Rattle.prt_command.specs.Requests.{refuse_if}

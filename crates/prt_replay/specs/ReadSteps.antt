@@ -1,7 +1,7 @@
 -- What the loops over the words of a line and the lines of a file keep.
 use Rattle.std.specs.Prelude.{◌≡◌, ℕ, ◌-◌, List, [], ◌∷◌, ◌++◌, length, Result, Ok}
 use Rattle.prt_addr.specs.Word.{Word}
-use Rattle.prt_addr.specs.declared.refusal.Refusal.{Refusal}
+use Rattle.prt_refusals.specs.declared.refusal.Refusal.{Refusal}
 use Rattle.prt_command.specs.Then.{map_ok}
 use Rattle.prt_command.specs.declared.request.Command.{Command}
 use Rattle.prt_replay.specs.ReadEvents.{command, events_of_lines, most_events}

@@ -1,8 +1,8 @@
 -- What a replay answers, and what a run of it reads and writes.
 use Rattle.std.specs.Prelude.{◌≡◌, ◌⊎◌, ℕ, nat_lt, Bool, true, false, List, [], ◌++◌, length, codes, Option, Some, None, IfSome, Result, Ok, Err}
-use Rattle.prt_addr.specs.Refusal.{refusal_text}
-use Rattle.prt_addr.specs.declared.refusal.Refusal.{Refusal}
-use Rattle.prt_addr.specs.declared.refusal.Refusal.TheVariants.{NoMemory, ReadFault, TooManyLines, WriteFault}
+use Rattle.prt_refusals.specs.Refusal.{refusal_text}
+use Rattle.prt_refusals.specs.declared.refusal.Refusal.{Refusal}
+use Rattle.prt_refusals.specs.declared.refusal.Refusal.TheVariants.{NoMemory, ReadFault, TooManyLines, WriteFault}
 use Rattle.prt_command.specs.Requests.{refuse_if}
 use Rattle.prt_command.specs.Then.{◌>>=◌}
 use Rattle.prt_session.specs.Session.{Input, end_of_input, is_fault}

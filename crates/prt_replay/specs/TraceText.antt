@@ -1,8 +1,8 @@
 -- The text of a trace: a line for each outcome.
 use Rattle.std.specs.Prelude.{ℕ, List, ◌++◌, map, codes, decimal}
-use Rattle.prt_addr.specs.Refusal.{refusal_text}
-use Rattle.prt_addr.specs.declared.refusal.StoreCall.{StoreCall}
-use Rattle.prt_addr.specs.declared.refusal.StoreCall.TheVariants.{Begin, Write, Count, Commit}
+use Rattle.prt_refusals.specs.Refusal.{refusal_text}
+use Rattle.prt_refusals.specs.declared.refusal.StoreCall.{StoreCall}
+use Rattle.prt_refusals.specs.declared.refusal.StoreCall.TheVariants.{Begin, Write, Count, Commit}
 use Rattle.prt_listing.specs.AnswerText.{answer_text}
 use Rattle.prt_listing.specs.QueryText.{lines_text}
 use Rattle.prt_world.specs.declared.outcome.Outcome.{Outcome}

@@ -1,7 +1,7 @@
 //! Lines of replay files with their events, and lines of outcomes, computed with the definitions alone.
 ghost use Rattle.std.specs.Prelude.{◌≡◌, [], ◌∷◌, ◌++◌, Err, None, Ok, Some, codes, replicate};
-ghost use Rattle.prt_addr.specs.declared.refusal.Refusal.TheVariants.{BadAddress, BadNumber, BadPrefix, Closed, LineTooLong, MissingDestination, MissingValue, NoNextHop, NotAscii, NotPublished, StoreFailed, TooManyLines, UnknownObject, UnknownVerb, UnknownWord};
-ghost use Rattle.prt_addr.specs.declared.refusal.StoreCall.TheVariants.{Begin, Commit, Count, Write};
+ghost use Rattle.prt_refusals.specs.declared.refusal.Refusal.TheVariants.{BadAddress, BadNumber, BadPrefix, Closed, LineTooLong, MissingDestination, MissingValue, NoNextHop, NotAscii, NotPublished, StoreFailed, TooManyLines, UnknownObject, UnknownVerb, UnknownWord};
+ghost use Rattle.prt_refusals.specs.declared.refusal.StoreCall.TheVariants.{Begin, Commit, Count, Write};
 ghost use Rattle.prt_command.specs.declared.request.Command.TheVariants.{RouteAdd, RuleFlush};
 ghost use Rattle.prt_replay.specs.Example.{default_route, get, no_answer, route_answer};
 ghost use Rattle.prt_replay.specs.ReadEvents.{events_of, events_of_lines, line_event};

@@ -3,7 +3,7 @@ ghost use Rattle.std.specs.Prelude.{◌≡◌, IfOk, None, true};
 ghost use Rattle.std.specs.Arc.{arc_value};
 ghost use Rattle.prt_version.specs.Change.{fold};
 ghost use Rattle.prt_version.specs.State.{opening_state};
-ghost use Rattle.prt_addr.specs.declared.refusal.StoreCall.TheVariants.{Write};
+ghost use Rattle.prt_refusals.specs.declared.refusal.StoreCall.TheVariants.{Write};
 ghost use Rattle.prt_world.specs.declared.outcome.Outcome.TheVariants as outcomes;
 ghost use Rattle.prt_replay.specs.declared.stage.Stage.TheVariants.{Prepared, Ready, Stopped};
 ghost use Rattle.prt_replay.specs.Machine.{acknowledge_by, announce_by, announced_at, at_stage, call_by, can_announce, commit_by, fail_by, fail_publication_by, fetch_by, is_stopped_at, left_by, look_by, machine_step, note_by, offline_by, online_by, opened, prepare_all, publish_by, reclaim_by, reopen_by, running_step, seat_of, stop_by, submit_by, submit_some};

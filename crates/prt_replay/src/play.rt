@@ -1,6 +1,6 @@
 //! Lists of events that are played.
 ghost use Rattle.std.specs.Prelude.{◌≡◌, IfErr, IfOk};
-ghost use Rattle.prt_addr.specs.declared.refusal.Refusal.TheVariants.{NoMemory};
+ghost use Rattle.prt_refusals.specs.declared.refusal.Refusal.TheVariants.{NoMemory};
 ghost use Rattle.prt_replay.specs.Machine.{machine_outcomes};
 ghost use Rattle.prt_world.specs.World.{outcomes_from, start};
 

@@ -1,13 +1,14 @@
 //! The event of a line.
 ghost use Rattle.std.specs.Prelude.{◌≡◌, ◌⊎◌, ◌++◌, Err, IfErr, MatchResult, Ok, OnOk, codes};
-ghost use Rattle.prt_addr.specs.declared.refusal.Refusal.TheVariants.{NoMemory};
+ghost use Rattle.prt_refusals.specs.declared.refusal.Refusal.TheVariants.{NoMemory};
 ghost use Rattle.prt_command.specs.Reading.{words};
 ghost use Rattle.prt_replay.specs.ReadSteps.{IsAdded};
 ghost use Rattle.prt_replay.specs.ReadEvents.{at_end, command, commands, event_of, fate, line_event, line_request, lone_fate, lone_looker, look, looker, packet, value_word};
 
 use crate::words::{EventWord, event_word};
-use prt_addr::{Refusal, read_number};
+use prt_addr::read_number;
 use prt_command::{Command, Packet, Query, Request, is, line_text, next_word, read_text};
+use prt_refusals::Refusal;
 use prt_world::{Commands, Event, Fate, LookerNumber};
 use std::alloc::Global;
 

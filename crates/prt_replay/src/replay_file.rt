@@ -1,13 +1,13 @@
 //! The events of a replay file.
 ghost use Rattle.std.specs.Prelude.{◌≡◌, ◌<◌, ◌≤◌, ◌+◌, ◌==◌, ◌⊎◌, ℕ, List, [], ◌∷◌, ◌++◌, Err, IfErr, IfSome, MatchOption, MatchResult, Ok, OnOk, Some, length, position};
-ghost use Rattle.prt_addr.specs.declared.refusal.Refusal.TheVariants.{NoMemory, TooManyLines};
+ghost use Rattle.prt_refusals.specs.declared.refusal.Refusal.TheVariants.{NoMemory, TooManyLines};
 ghost use Rattle.prt_replay.specs.ReadEvents.{contents, events_of, refused_from};
 ghost use Rattle.prt_replay.specs.ReadSteps.{with_lines};
 
 use crate::Event;
 use crate::read::read_event_line;
-use prt_addr::Refusal;
 use prt_command::MOST_LINES;
+use prt_refusals::Refusal;
 use std::alloc::Global;
 
 /// The most bytes of a replay file; one byte more is `TooManyLines`.

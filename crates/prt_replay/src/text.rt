@@ -1,12 +1,12 @@
 //! The text of a trace.
 ghost use Rattle.std.specs.Prelude.{◌≡◌, ◌++◌, IfErr, IfOk, OnOk, codes, decimal};
-ghost use Rattle.prt_addr.specs.declared.refusal.Refusal.TheVariants.{NoMemory};
+ghost use Rattle.prt_refusals.specs.declared.refusal.Refusal.TheVariants.{NoMemory};
 ghost use Rattle.prt_replay.specs.TraceText.{call_name, numbered, of_looker, outcome_text, trace_text};
 
 use crate::Trace;
 use itoa::Buffer;
-use prt_addr::{Refusal, StoreCall};
 use prt_listing::{answer_text, refusal_text};
+use prt_refusals::{Refusal, StoreCall};
 use prt_world::{LookerNumber, Outcome};
 use std::alloc::{AllocError, Global};
 

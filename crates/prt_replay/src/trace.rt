@@ -1,8 +1,8 @@
 ghost use Rattle.std.specs.Prelude.{◌≡◌, [], ◌∷◌, ◌++◌, IsOkUnless, OnErr, OnOk};
-ghost use Rattle.prt_addr.specs.declared.refusal.Refusal.TheVariants.{NoMemory};
+ghost use Rattle.prt_refusals.specs.declared.refusal.Refusal.TheVariants.{NoMemory};
 
 use crate::Outcome;
-use prt_addr::Refusal;
+use prt_refusals::Refusal;
 use std::alloc::Global;
 use std::marker::Model;
 

@@ -15,5 +15,5 @@ pub use Rattle.prt_addr.specs.Given
 pub use Rattle.prt_addr.specs.Number
 pub use Rattle.prt_addr.specs.Order
 pub use Rattle.prt_addr.specs.Prefix
-pub use Rattle.prt_addr.specs.Refusal
+pub use Rattle.prt_refusals.specs.Refusal
 pub use Rattle.prt_addr.specs.Word

@@ -4,7 +4,7 @@ ghost use Rattle.std.specs.Option.{ok_or};
 ghost use Rattle.prt_addr.specs.Word.{is_one_of};
 ghost use Rattle.prt_route.specs.Dev.{device};
 ghost use Rattle.prt_route.specs.Name.{is_barred, is_name};
-ghost use Rattle.prt_addr.specs.declared.refusal.Refusal.TheVariants.{BadName};
+ghost use Rattle.prt_refusals.specs.declared.refusal.Refusal.TheVariants.{BadName};
 
 use crate::Refusal;
 use std::marker::Model;

@@ -16,5 +16,6 @@ pub use names::{
     BOOT_PROTOCOL, DEFAULT_TABLE, GLOBAL_SCOPE, LINK_SCOPE, LOCAL_TABLE, MAIN_TABLE, protocol_name,
     read_protocol, read_scope, read_table, scope_name, table_name,
 };
-pub use prt_addr::{Addr, Prefix, Refusal};
+pub use prt_addr::{Addr, Prefix};
+pub use prt_refusals::Refusal;
 pub use route::{Route, RouteKey};

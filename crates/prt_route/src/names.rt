@@ -1,7 +1,7 @@
 //! Tables, protocols and scopes: numbers of which some have names (`ip-route(8)`).
 ghost use Rattle.std.specs.Prelude.{◌≡◌, map, option_map};
 ghost use Rattle.std.specs.Option.{ok_or};
-ghost use Rattle.prt_addr.specs.declared.refusal.Refusal.TheVariants.{BadNumber, BadTable};
+ghost use Rattle.prt_refusals.specs.declared.refusal.Refusal.TheVariants.{BadNumber, BadTable};
 ghost use Rattle.prt_route.specs.Names.{name_in, number_in, protocol, protocols, scope, scopes, spelled_byte, spelled_number, table, tables};
 
 use crate::Refusal;

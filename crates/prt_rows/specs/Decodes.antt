@@ -1,7 +1,7 @@
 -- What it says to read back what was written.
 use Rattle.std.specs.Prelude.{◌≡◌, ◌≢◌, ◌⊎◌, List, Any, Option, Some, None}
-use Rattle.prt_addr.specs.declared.refusal.Refusal.{Refusal}
-use Rattle.prt_addr.specs.declared.refusal.Refusal.TheVariants.{Damaged, NoMemory}
+use Rattle.prt_refusals.specs.declared.refusal.Refusal.{Refusal}
+use Rattle.prt_refusals.specs.declared.refusal.Refusal.TheVariants.{Damaged, NoMemory}
 
 -- x fits and is written as v, or nothing that fits is written as v
 abbrev pub Decodes : {V X : Type 0} → (X → V) → (X → Type 0) → V → Option X → Type 0

@@ -10,7 +10,7 @@ ghost use Rattle.prt_rows.specs.SuppressRow.{IsLength, suppress_row};
 
 use crate::column::ROWID;
 use crate::{RuleLength, cell, length_of_row, route_of_row, rule_of_row};
-use prt_addr::Refusal;
+use prt_refusals::Refusal;
 use prt_route::Route;
 use prt_rule::Rule;
 use sqlite::Row;

@@ -9,7 +9,7 @@ pub use Rattle.prt_addr.specs.Decimal
 pub use Rattle.prt_addr.specs.Given
 pub use Rattle.prt_addr.specs.Order
 pub use Rattle.prt_addr.specs.Prefix
-pub use Rattle.prt_addr.specs.Refusal
+pub use Rattle.prt_refusals.specs.Refusal
 pub use Rattle.prt_addr.specs.Word
 pub use Rattle.prt_route.specs.RouteChoice
 pub use Rattle.prt_route.specs.Dev

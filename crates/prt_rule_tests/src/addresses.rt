@@ -1,7 +1,7 @@
 use prt_addr::{
-    Addr, Prefix, Refusal, StoreCall, addr_text, prefix_text, read_addr, read_net, read_number,
-    read_prefix,
+    Addr, Prefix, addr_text, prefix_text, read_addr, read_net, read_number, read_prefix,
 };
+use prt_refusals::{Refusal, StoreCall};
 
 /// Gives the first of these words that is read as another address than it spells.
 fn misread_address() -> Option<&'static str> {

@@ -1,5 +1,6 @@
 use crate::values::{GATEWAY, route, ten_one};
-use prt_addr::{Addr, Prefix, Refusal};
+use prt_addr::{Addr, Prefix};
+use prt_refusals::Refusal;
 use prt_route::{
     Dev, Kind, MAIN_TABLE, Range, RouteChoice, Selector, protocol_name, read_dev, read_protocol,
     read_scope, read_table, scope_name, table_name,

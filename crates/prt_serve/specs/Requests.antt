@@ -1,7 +1,7 @@
 -- What a service that others share replies to the requests of a session.
 use Rattle.std.specs.Prelude.{ℕ, ◌+◌, length, Option, Some, None}
-use Rattle.prt_addr.specs.declared.refusal.Refusal.{Refusal}
-use Rattle.prt_addr.specs.declared.refusal.Refusal.TheVariants as reasons
+use Rattle.prt_refusals.specs.declared.refusal.Refusal.{Refusal}
+use Rattle.prt_refusals.specs.declared.refusal.Refusal.TheVariants as reasons
 use Rattle.prt_command.specs.declared.request.Request.{Request}
 use Rattle.prt_command.specs.declared.request.Request.TheVariants as requests
 use Rattle.prt_front.specs.Line.{Line, Begins, line_state}

@@ -5,7 +5,7 @@ use Rattle.prt_serve.specs.Lists.{Shows}
 use Rattle.prt_serve.specs.Requests.{service_may, service_turn}
 use Rattle.prt_session.specs.Run.{RunIs}
 use Rattle.prt_session.specs.Session.{session}
-use Rattle.prt_addr.specs.declared.on_refusal.OnRefusal.TheVariants.{GoOn}
+use Rattle.prt_refusals.specs.declared.on_refusal.OnRefusal.TheVariants.{GoOn}
 use Rattle.prt_session.specs.declared.script_end.ScriptEnd.{ScriptEnd}
 
 -- A session ran with force, what its exchanges show of the published list, and the most bytes that it takes: a million lines of 65,537 bytes each, and one byte more.

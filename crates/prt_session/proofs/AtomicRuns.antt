@@ -2,9 +2,9 @@
 use Rattle.std.proofs.Common.{Bool, is_some, length, arith, ◌≡◌, ◌≢◌, ◌⊎◌, ℕ, true, false, List, [], ◌∷◌, ◌++◌, Option, Some, None, IfSome, inl, inr, refl, sym, ap, ◌∙◌, subst}
 use Rattle.std.specs.Prelude.{find}
 use Rattle.std.specs.Io.KnownBytes.{Appends}
-use Rattle.prt_addr.specs.declared.on_refusal.OnRefusal.TheVariants.{Stop}
-use Rattle.prt_addr.specs.declared.refusal.Refusal.{Refusal}
-use Rattle.prt_addr.specs.declared.refusal.Refusal.TheVariants.{WriteFault}
+use Rattle.prt_refusals.specs.declared.on_refusal.OnRefusal.TheVariants.{Stop}
+use Rattle.prt_refusals.specs.declared.refusal.Refusal.{Refusal}
+use Rattle.prt_refusals.specs.declared.refusal.Refusal.TheVariants.{WriteFault}
 use Rattle.prt_command.specs.declared.request.Command.{Command}
 use Rattle.prt_session.proofs.Collected.{IsReading, alone, collected_alike, collected_told, found, its_refusal, refused_or_fault, says_alone}
 use Rattle.prt_session.proofs.Known.{Gives, appends_more, gives_all, gives_beyond, left_of}

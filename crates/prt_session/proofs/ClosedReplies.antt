@@ -2,7 +2,7 @@
 use Rattle.std.proofs.Common.{◌≡◌, ℕ, ◌-◌, ◌==◌, ◌&&◌, nat_lt, true, not, List, [], ◌∷◌, drop, length, Option, Some, None, Result, Ok, Err, inl, inr, refl, sym, ap, subst, ◌∙◌}
 use Rattle.std.proofs.lemmas.List.Elements.{All-cons, All-nil}
 use Rattle.std.specs.List.{All}
-use Rattle.prt_addr.specs.declared.refusal.Refusal.{Refusal}
+use Rattle.prt_refusals.specs.declared.refusal.Refusal.{Refusal}
 use Rattle.prt_command.specs.Lines.{Limits, Line, limits, lines_of}
 use Rattle.prt_command.specs.Reading.{reading}
 use Rattle.prt_command.specs.declared.request.Query.{Query}
@@ -12,7 +12,7 @@ use Rattle.prt_session.proofs.Length.{sides}
 use Rattle.prt_session.specs.Desk.{DeskState, Mishap, no_room, no_memory, store_fails, commit_kept, publication_fails, command_or_refusal, query_turn, request_turn}
 use Rattle.prt_session.specs.Refusals.{IsClosedExchange}
 use Rattle.prt_session.specs.Session.{Exchange, Ending, Input, Session, exchange_of, first_mishap, is_fault, stops_after, line_turn, turn_on, session, session_lines}
-use Rattle.prt_addr.specs.declared.on_refusal.OnRefusal.{OnRefusal}
+use Rattle.prt_refusals.specs.declared.on_refusal.OnRefusal.{OnRefusal}
 use Rattle.prt_version.specs.Change.{refusal}
 
 query_stays : (desk : DeskState) (query : Query) (mishap : Option Mishap) → (query_turn desk query mishap).desk ≡ desk

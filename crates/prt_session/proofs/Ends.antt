@@ -4,7 +4,7 @@ use Rattle.std.proofs.lemmas.Bool.Decides.{nat_tests}
 use Rattle.std.proofs.lemmas.List.{map-append}
 use Rattle.std.specs.Io.KnownBytes.{Consumes, Appends, IsAtEnd}
 use Rattle.std.specs.Prelude.{if◌then◌else◌}
-use Rattle.prt_addr.specs.declared.refusal.Refusal.TheVariants.{LineTooLong, ReadFault, TooManyLines, WriteFault}
+use Rattle.prt_refusals.specs.declared.refusal.Refusal.TheVariants.{LineTooLong, ReadFault, TooManyLines, WriteFault}
 use Rattle.prt_command.specs.Lines.{limits, lines_of}
 use Rattle.prt_session.proofs.Known.{append_none, left_of, consumes_more, gives_rest, gives_beyond, gives_all}
 use Rattle.prt_session.proofs.Paths.{mishaps_of, path_append}
@@ -23,7 +23,7 @@ use Rattle.prt_session.specs.declared.input.Stop.{Stop}
 use Rattle.prt_session.specs.declared.input.Stop.TheVariants as stops
 use Rattle.prt_session.specs.declared.reply.Reply.{Reply}
 use Rattle.prt_session.specs.declared.reply.Reply.TheVariants.{Refused, Silent}
-use Rattle.prt_addr.specs.declared.on_refusal.OnRefusal.{OnRefusal}
+use Rattle.prt_refusals.specs.declared.on_refusal.OnRefusal.{OnRefusal}
 use Rattle.prt_session.specs.declared.script_end.ScriptEnd.{ScriptEnd}
 
 -- From now to later a line was read to there, and answered.

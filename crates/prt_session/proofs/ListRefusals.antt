@@ -3,9 +3,9 @@ use Rattle.std.proofs.Common.{◌≡◌, ◌≤◌, ℕ, Bool, true, false, List
 use Rattle.std.proofs.lemmas.List.Elements.{All-weaker}
 use Rattle.std.specs.List.{All, list_all}
 use Rattle.std.specs.Prelude.{nat_lt, not}
-use Rattle.prt_addr.specs.Refusal.{code_of}
-use Rattle.prt_addr.specs.declared.refusal.Refusal.{Refusal}
-use Rattle.prt_addr.specs.declared.refusal.Refusal.TheVariants.{LineTooLong, NotAscii, Exists, Closed, NoSuch, Full, CountFull, Busy, StoreFailed, NotPublished, NotFetched, Damaged, OpenFailed, WriteFault}
+use Rattle.prt_refusals.specs.Refusal.{code_of}
+use Rattle.prt_refusals.specs.declared.refusal.Refusal.{Refusal}
+use Rattle.prt_refusals.specs.declared.refusal.Refusal.TheVariants.{LineTooLong, NotAscii, Exists, Closed, NoSuch, Full, CountFull, Busy, StoreFailed, NotPublished, NotFetched, Damaged, OpenFailed, WriteFault}
 use Rattle.prt_command.proofs.Faults.{Fine, fine_err, fine_ok, then_fine}
 use Rattle.prt_command.proofs.Stored.{text_is}
 use Rattle.prt_command.specs.Lines.{longest_line}
@@ -18,7 +18,7 @@ use Rattle.prt_session.specs.Refusals.{IsListRefusal, IsListReply, IsWithinLists
 use Rattle.prt_session.specs.Session.{Input, Path, replies, session}
 use Rattle.prt_session.specs.declared.reply.Reply.{Reply}
 use Rattle.prt_session.specs.declared.reply.Reply.TheVariants.{Refused}
-use Rattle.prt_addr.specs.declared.on_refusal.OnRefusal.{OnRefusal}
+use Rattle.prt_refusals.specs.declared.on_refusal.OnRefusal.{OnRefusal}
 use Rattle.prt_version.proofs.Refused.{IsOfState, refused_by}
 use Rattle.prt_version.specs.State.{State}
 

@@ -2,8 +2,8 @@
 use Rattle.std.proofs.Common.{◌≡◌, ℕ, ◌-◌, ◌==◌, ◌&&◌, nat_lt, false, not, List, [], ◌∷◌, drop, length, Option, Some, None, Result, Ok, Err, inl, inr, refl, subst}
 use Rattle.std.proofs.lemmas.List.Elements.{All-append, All-cons, All-nil}
 use Rattle.std.specs.List.{All}
-use Rattle.prt_addr.specs.declared.refusal.Refusal.{Refusal}
-use Rattle.prt_addr.specs.declared.refusal.Refusal.TheVariants.{LineTooLong, ReadFault, TooManyLines}
+use Rattle.prt_refusals.specs.declared.refusal.Refusal.{Refusal}
+use Rattle.prt_refusals.specs.declared.refusal.Refusal.TheVariants.{LineTooLong, ReadFault, TooManyLines}
 use Rattle.prt_command.specs.Lines.{Limits, Line}
 use Rattle.prt_command.specs.Reading.{reading}
 use Rattle.prt_command.specs.declared.request.Command.{Command}
@@ -14,7 +14,7 @@ use Rattle.prt_session.specs.Desk.{Befalls, DeskState, IsNoMemory, Mishap, no_ro
 use Rattle.prt_session.specs.Refusals.{IsListRefusal, IsListReply, of_line, of_command, of_memory, of_reader, of_line_length, of_line_count}
 use Rattle.prt_session.specs.Session.{TurnsOf, Turn, MayOn, LineMay, Path, Exchange, Ending, end_of_input, read_fault, Input, Session, at_ending, first_mishap, is_fault, stops_after, line_turn, turn_on, session, session_lines, replies, replies_of}
 use Rattle.prt_session.specs.declared.reply.Reply.TheVariants.{Refused}
-use Rattle.prt_addr.specs.declared.on_refusal.OnRefusal.{OnRefusal}
+use Rattle.prt_refusals.specs.declared.on_refusal.OnRefusal.{OnRefusal}
 use Rattle.prt_version.specs.Change.{refusal}
 use Rattle.prt_version.specs.State.{State}
 

@@ -1,7 +1,7 @@
 -- The one fact about the reading of a line that the session rests on.
 use Rattle.std.proofs.Common.{◌≡◌, ℕ, ◌<◌, nat_lt, true, List, length, Err, arith}
 use Rattle.std.proofs.lemmas.Bool.Decides.{nat_tests}
-use Rattle.prt_addr.specs.declared.refusal.Refusal.TheVariants.{LineTooLong}
+use Rattle.prt_refusals.specs.declared.refusal.Refusal.TheVariants.{LineTooLong}
 use Rattle.prt_command.specs.Reading.{reading}
 
 is_less : (m n : ℕ) → m < n → nat_lt m n ≡ true

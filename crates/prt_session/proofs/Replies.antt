@@ -4,7 +4,7 @@ use Rattle.std.proofs.lemmas.Grind.{flat_map-append}
 use Rattle.std.proofs.lemmas.List.{map-append}
 use Rattle.std.proofs.lemmas.List.Sums.{fold-append}
 use Rattle.std.specs.Io.KnownBytes.{Appends}
-use Rattle.prt_addr.specs.declared.refusal.Refusal.{Refusal}
+use Rattle.prt_refusals.specs.declared.refusal.Refusal.{Refusal}
 use Rattle.prt_session.proofs.Known.{append_none, appends_nothing}
 use Rattle.prt_session.specs.Form.{numbered_from, numbered_text, replies_in, reply_in}
 use Rattle.prt_session.specs.Reply.{reply_text, replies_text}

@@ -2,8 +2,8 @@
 use Rattle.std.proofs.Common.{◌≡◌, ◌≢◌, ◌⊎◌, inl, inr, ℕ, ◌+◌, Bool, false, List, [], ◌∷◌, ◌++◌, Option, Some, None, length, refl, sym, ◌∙◌, ap, arith}
 use Rattle.std.proofs.lemmas.List.{append-nil}
 use Rattle.std.specs.Io.KnownBytes.{Consumes, Appends, IsAtEnd}
-use Rattle.prt_addr.specs.declared.refusal.Refusal.{Refusal}
-use Rattle.prt_addr.specs.declared.refusal.Refusal.TheVariants.{WriteFault}
+use Rattle.prt_refusals.specs.declared.refusal.Refusal.{Refusal}
+use Rattle.prt_refusals.specs.declared.refusal.Refusal.TheVariants.{WriteFault}
 use Rattle.prt_command.specs.Lines.{limits, lines_of}
 use Rattle.prt_session.proofs.Known.{Gives, gives_had, gives_has, gives_all, consumes_more, consumes_nothing, appends_more}
 use Rattle.prt_session.proofs.Paths.{mishaps_of, path_append}
@@ -15,7 +15,7 @@ use Rattle.prt_session.specs.Steps.{Written}
 use Rattle.prt_session.specs.declared.form.Form.{Form}
 use Rattle.prt_session.specs.declared.reply.Reply.{Reply}
 use Rattle.prt_session.specs.declared.reply.Reply.TheVariants.{Silent}
-use Rattle.prt_addr.specs.declared.on_refusal.OnRefusal.{OnRefusal}
+use Rattle.prt_refusals.specs.declared.on_refusal.OnRefusal.{OnRefusal}
 use Rattle.prt_session.specs.declared.script_end.ScriptEnd.{ScriptEnd}
 
 -- A moment of a run: the desk, and what the reader has left and the writer holds, if that is known.

@@ -1,7 +1,7 @@
 -- Turns of a desk that is not closed, and that memory alone can fail.
 use Rattle.std.proofs.Common.{◌≡◌, false, None, Some, Ok, Err, ap, refl, sym}
-use Rattle.prt_addr.specs.declared.refusal.Refusal.{Refusal}
-use Rattle.prt_addr.specs.declared.refusal.Refusal.TheVariants.{NoMemory}
+use Rattle.prt_refusals.specs.declared.refusal.Refusal.{Refusal}
+use Rattle.prt_refusals.specs.declared.refusal.Refusal.TheVariants.{NoMemory}
 use Rattle.prt_command.specs.declared.request.Command.{Command}
 use Rattle.prt_session.specs.Desk.{IsNoMemory, no_memory, settled, command_or_refusal}
 use Rattle.prt_session.specs.Steps.{CommandGives}

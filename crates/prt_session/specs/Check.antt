@@ -1,6 +1,6 @@
 -- A check of an input: the session over an executor that does nothing, whose refusals are written.
 use Rattle.std.specs.Prelude.{ℕ, List, Option, ⊤}
-use Rattle.prt_addr.specs.declared.on_refusal.OnRefusal.TheVariants.{GoOn}
+use Rattle.prt_refusals.specs.declared.on_refusal.OnRefusal.TheVariants.{GoOn}
 use Rattle.prt_session.specs.Run.{RunsIn}
 use Rattle.prt_session.specs.Session.{Mishaps, TurnsOf}
 use Rattle.prt_session.specs.declared.form.Form.TheVariants.{Numbered}

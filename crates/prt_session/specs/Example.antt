@@ -6,8 +6,8 @@ use Rattle.prt_session.specs.Desk.{DeskState, Mishap, settled, request_turn}
 use Rattle.prt_session.specs.Form.{numbered_from}
 use Rattle.prt_session.specs.Reply.{replies_text}
 use Rattle.prt_session.specs.Session.{Ending, Session, end_of_input, session, replies}
-use Rattle.prt_addr.specs.declared.on_refusal.OnRefusal.{OnRefusal}
-use Rattle.prt_addr.specs.declared.on_refusal.OnRefusal.TheVariants.{GoOn}
+use Rattle.prt_refusals.specs.declared.on_refusal.OnRefusal.{OnRefusal}
+use Rattle.prt_refusals.specs.declared.on_refusal.OnRefusal.TheVariants.{GoOn}
 use Rattle.prt_version.specs.State.{opening_state}
 
 abbrev pub session_on : OnRefusal → List ℕ → Ending → List (Option Mishap) → Session DeskState Mishap

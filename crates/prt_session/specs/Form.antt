@@ -1,6 +1,6 @@
 -- Replies as they are written down: each as it is, or the refusals alone, with the numbers of their lines.
 use Rattle.std.specs.Prelude.{ℕ, ◌+◌, List, [], ◌∷◌, ◌++◌, codes, decimal}
-use Rattle.prt_addr.specs.Refusal.{refusal_text}
+use Rattle.prt_refusals.specs.Refusal.{refusal_text}
 use Rattle.prt_session.specs.Reply.{reply_text, replies_text}
 use Rattle.prt_session.specs.declared.form.Form.{Form}
 use Rattle.prt_session.specs.declared.form.Form.TheVariants.{Plain, Numbered}

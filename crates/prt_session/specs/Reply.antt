@@ -1,6 +1,6 @@
 -- Replies, and their bytes.
 use Rattle.std.specs.Prelude.{ℕ, Bool, true, false, List, [], ◌++◌, codes, decimal, flat_map}
-use Rattle.prt_addr.specs.Refusal.{refusal_text}
+use Rattle.prt_refusals.specs.Refusal.{refusal_text}
 use Rattle.prt_session.specs.declared.reply.Reply.{Reply}
 use Rattle.prt_session.specs.declared.reply.Reply.TheVariants.{Silent, Accepted, Answered, Refused}
 

@@ -1,15 +1,15 @@
 -- What a run over a reader and a writer does: the session on what is read.
 use Rattle.std.specs.Prelude.{◌≡◌, ◌≢◌, ℕ, ◌+◌, ◌||◌, ◌⊎◌, Bool, true, false, not, List, [], ◌∷◌, ◌++◌, Option, Some, None, IfSome, fold, length, if◌then◌else◌}
 use Rattle.std.specs.Io.KnownBytes.{Consumes, Appends, IsAtEnd}
-use Rattle.prt_addr.specs.declared.refusal.Refusal.{Refusal}
-use Rattle.prt_addr.specs.declared.refusal.Refusal.TheVariants.{StoreFailed, NotPublished, ReadFault, WriteFault}
+use Rattle.prt_refusals.specs.declared.refusal.Refusal.{Refusal}
+use Rattle.prt_refusals.specs.declared.refusal.Refusal.TheVariants.{StoreFailed, NotPublished, ReadFault, WriteFault}
 use Rattle.prt_session.specs.Form.{replies_in, reply_in}
 use Rattle.prt_session.specs.Session.{TurnsOf, Mishaps, Path, Input, end_of_input, read_fault, Session, session, replies}
 use Rattle.prt_session.specs.declared.form.Form.{Form}
 use Rattle.prt_session.specs.declared.form.Form.TheVariants.{Plain}
 use Rattle.prt_session.specs.declared.reply.Reply.{Reply}
 use Rattle.prt_session.specs.declared.reply.Reply.TheVariants.{Silent, Refused}
-use Rattle.prt_addr.specs.declared.on_refusal.OnRefusal.{OnRefusal}
+use Rattle.prt_refusals.specs.declared.on_refusal.OnRefusal.{OnRefusal}
 use Rattle.prt_session.specs.declared.script_end.ScriptEnd.{ScriptEnd}
 
 -- a failed commit or publication, or a fault of the reader or the writer

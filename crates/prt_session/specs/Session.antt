@@ -1,15 +1,15 @@
 -- The replies to a script, and what the script leaves, whatever executes its requests.
 use Rattle.std.specs.Prelude.{◌≡◌, ℕ, ◌+◌, ◌-◌, ◌==◌, ◌&&◌, nat_lt, Bool, true, false, not, if◌then◌else◌, List, [], ◌∷◌, ◌++◌, length, map, drop, Option, Some, None, Result, Ok, Err}
-use Rattle.prt_addr.specs.declared.refusal.Refusal.{Refusal}
-use Rattle.prt_addr.specs.declared.refusal.Refusal.TheVariants.{LineTooLong, ReadFault, TooManyLines}
+use Rattle.prt_refusals.specs.declared.refusal.Refusal.{Refusal}
+use Rattle.prt_refusals.specs.declared.refusal.Refusal.TheVariants.{LineTooLong, ReadFault, TooManyLines}
 use Rattle.prt_command.specs.Lines.{Line, Limits, bytes_of, limits, lines_of}
 use Rattle.prt_command.specs.Reading.{reading}
 use Rattle.prt_command.specs.declared.request.Request.{Request}
 use Rattle.prt_session.specs.Reply.{is_refused}
 use Rattle.prt_session.specs.declared.reply.Reply.{Reply}
 use Rattle.prt_session.specs.declared.reply.Reply.TheVariants.{Silent, Refused}
-use Rattle.prt_addr.specs.declared.on_refusal.OnRefusal.{OnRefusal}
-use Rattle.prt_addr.specs.declared.on_refusal.OnRefusal.TheVariants.{Stop, GoOn}
+use Rattle.prt_refusals.specs.declared.on_refusal.OnRefusal.{OnRefusal}
+use Rattle.prt_refusals.specs.declared.on_refusal.OnRefusal.TheVariants.{Stop, GoOn}
 
 -- ---- one line
 

@@ -2,8 +2,8 @@
 use Rattle.std.specs.Prelude.{◌≡◌, ℕ, ◌+◌, ◌≤◌, ◌==◌, ◌≢◌, Bool, true, false, List, [], ◌∷◌, ◌++◌, length, Option, Some, IfSome, Result, Ok, Err, if◌then◌else◌, ⊤}
 use Rattle.std.specs.List.{All}
 use Rattle.std.specs.Io.KnownBytes.{Consumes, Appends, IsAtEnd}
-use Rattle.prt_addr.specs.declared.refusal.Refusal.{Refusal}
-use Rattle.prt_addr.specs.declared.refusal.Refusal.TheVariants.{LineTooLong, ReadFault, TooManyLines, WriteFault}
+use Rattle.prt_refusals.specs.declared.refusal.Refusal.{Refusal}
+use Rattle.prt_refusals.specs.declared.refusal.Refusal.TheVariants.{LineTooLong, ReadFault, TooManyLines, WriteFault}
 use Rattle.prt_command.specs.Lines.{limits}
 use Rattle.prt_command.specs.Storable.{IsStorable}
 use Rattle.prt_command.specs.declared.request.Command.{Command}
@@ -21,7 +21,7 @@ use Rattle.prt_session.specs.declared.input.Stop.TheVariants as stops
 use Rattle.prt_session.specs.declared.limits.TheConstants.{MOST_TOGETHER}
 use Rattle.prt_session.specs.declared.reply.Reply.{Reply}
 use Rattle.prt_session.specs.declared.reply.Reply.TheVariants.{Accepted, Refused}
-use Rattle.prt_addr.specs.declared.on_refusal.OnRefusal.{OnRefusal}
+use Rattle.prt_refusals.specs.declared.on_refusal.OnRefusal.{OnRefusal}
 use Rattle.prt_session.specs.declared.script_end.ScriptEnd.{ScriptEnd}
 
 -- one read of one byte, at a reader that has these bytes left before and after

@@ -15,8 +15,8 @@ use crate::observer::Observer;
 use crate::reply::Reply;
 use crate::script_end::ScriptEnd;
 use crate::session::{run_session, write_last};
-use prt_addr::OnRefusal;
 use prt_command::Command;
+use prt_refusals::OnRefusal;
 use std::alloc::Global;
 use std::io::{Read, Write};
 

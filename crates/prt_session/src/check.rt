@@ -7,8 +7,8 @@ use crate::observer::Observer;
 use crate::reply::Reply;
 use crate::script_end::ScriptEnd;
 use crate::session::run_session_in;
-use prt_addr::OnRefusal;
 use prt_command::Request;
+use prt_refusals::OnRefusal;
 use std::io::{Read, Write};
 
 /// Takes each request, and does nothing.

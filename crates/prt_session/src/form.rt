@@ -1,5 +1,5 @@
 ghost use Rattle.std.specs.Prelude.{◌≡◌, ◌≢◌, ◌++◌, codes, decimal, false};
-ghost use Rattle.prt_addr.specs.Refusal.{refusal_text};
+ghost use Rattle.prt_refusals.specs.Refusal.{refusal_text};
 ghost use Rattle.prt_session.specs.Form.{reply_in};
 ghost use Rattle.prt_session.specs.Steps.{Written};
 

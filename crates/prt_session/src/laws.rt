@@ -1,13 +1,13 @@
 //! Laws of the definitions of a session and of an atomic file, which no program calls.
 ghost use Rattle.std.specs.Prelude.{◌≡◌, ◌⊎◌, ◌+◌, ◌*◌, ◌≤◌, ◌∷◌, [], List, Option, length, true};
 ghost use Rattle.std.specs.List.{All};
-ghost use Rattle.prt_addr.specs.Refusal.{code_of};
-ghost use Rattle.prt_addr.specs.declared.refusal.Refusal.{Refusal};
+ghost use Rattle.prt_refusals.specs.Refusal.{code_of};
+ghost use Rattle.prt_refusals.specs.declared.refusal.Refusal.{Refusal};
 ghost use Rattle.prt_session.specs.Atomic.{AllMade, NoneMade, atomic_output, collected};
 ghost use Rattle.prt_session.specs.Desk.{Befalls, DeskState, IsNoMemory, Mishap, request_turn, settled};
 ghost use Rattle.prt_session.specs.Refusals.{IsClosedExchange, IsListReply, IsWithinLists};
 ghost use Rattle.prt_session.specs.Session.{Input, Path, replies, session};
-ghost use Rattle.prt_addr.specs.declared.on_refusal.OnRefusal.{OnRefusal};
+ghost use Rattle.prt_refusals.specs.declared.on_refusal.OnRefusal.{OnRefusal};
 ghost use Rattle.prt_session.specs.declared.reply.Reply.TheVariants.{Refused};
 ghost use Rattle.prt_version.specs.State.{State};
 

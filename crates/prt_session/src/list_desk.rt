@@ -1,5 +1,5 @@
 ghost use Rattle.std.specs.Prelude.{◌≡◌, ◌⊎◌, None, Some, IfErr, IfOk};
-ghost use Rattle.prt_addr.specs.declared.refusal.Refusal.TheVariants.{NoMemory};
+ghost use Rattle.prt_refusals.specs.declared.refusal.Refusal.TheVariants.{NoMemory};
 ghost use Rattle.prt_session.specs.Desk.{Befalls, IsNoMemory, request_turn, settled};
 ghost use Rattle.prt_session.specs.Run.{RunIs};
 ghost use Rattle.prt_session.specs.Steps.{CommandGives, CommandsGive};
@@ -10,9 +10,9 @@ use crate::desk::Desk;
 use crate::observer::Observer;
 use crate::script::run_script;
 use crate::script_end::ScriptEnd;
-use prt_addr::OnRefusal;
 use prt_command::{Command, Query, Refusal};
 use prt_listing::query_text;
+use prt_refusals::OnRefusal;
 use prt_version::Version;
 use std::alloc::Global;
 use std::io::{Read, Write};

@@ -1,6 +1,6 @@
 ghost use Rattle.std.specs.Prelude.{◌≡◌, ◌≢◌, ◌<◌, ◌≤◌, ◌++◌, IfSome, MatchOption, codes, decimal, false, length, take, ⊤};
 ghost use Rattle.std.specs.Io.KnownBytes.{Appends, Keeps};
-ghost use Rattle.prt_addr.specs.Refusal.{refusal_text};
+ghost use Rattle.prt_refusals.specs.Refusal.{refusal_text};
 ghost use Rattle.prt_session.specs.Reply.{reply_text};
 ghost use Rattle.prt_session.specs.Steps.{Written};
 

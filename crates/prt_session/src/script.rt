@@ -8,8 +8,8 @@ use crate::observer::Observer;
 use crate::reply::{Reply, Text};
 use crate::script_end::ScriptEnd;
 use crate::session::run_session;
-use prt_addr::OnRefusal;
 use prt_command::Request;
+use prt_refusals::OnRefusal;
 use std::alloc::Global;
 use std::io::{Read, Write};
 

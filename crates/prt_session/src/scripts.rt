@@ -2,7 +2,7 @@
 ghost use Rattle.std.specs.Prelude.{◌≡◌, [], codes};
 ghost use Rattle.prt_session.specs.Example.{replies_to};
 ghost use Rattle.prt_session.specs.Session.{end_of_input};
-ghost use Rattle.prt_addr.specs.declared.on_refusal.OnRefusal.TheVariants.{GoOn, Stop};
+ghost use Rattle.prt_refusals.specs.declared.on_refusal.OnRefusal.TheVariants.{GoOn, Stop};
 
 /// Gives the scripts of `tests/cases`, each by the name of its case.
 pub fn scripts()

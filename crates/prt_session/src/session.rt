@@ -12,8 +12,8 @@ use crate::observer::Observer;
 use crate::reply::Reply;
 use crate::script_end::ScriptEnd;
 use arrayvec::ArrayVec;
-use prt_addr::OnRefusal;
 use prt_command::{LONGEST_LINE, MOST_LINES, Refusal, read_line};
+use prt_refusals::OnRefusal;
 use std::io::{Read, Write};
 
 /// Does what a line asks for.

@@ -11,7 +11,7 @@ use Rattle.prt_addr.specs.Word.{Word}
 use Rattle.sqlite.specs.State.{CommitsShowing, FailsToQuery, HasCleanDisk, IsUnchanged, Shown, Survives}
 use Rattle.sqlite.specs.Store.{Ghosts}
 use Rattle.sqlite_value.specs.Order.{Row}
-use Rattle.prt_addr.specs.declared.refusal.Refusal.{Refusal}
+use Rattle.prt_refusals.specs.declared.refusal.Refusal.{Refusal}
 use Rattle.prt_rows.proofs.Quiet.{IsQuiet, failed_query, shown_unchanged, shows_no_write}
 use Rattle.prt_rows.specs.Decodes.{Decodes}
 use Rattle.prt_rows.specs.Format.{HasFormat2, has_table}

@@ -19,10 +19,10 @@ use Rattle.sqlite_rules.proofs.ListLemmas.{all_has, any_has}
 use Rattle.sqlite_rules.proofs.ProbeLemmas.{has_mapped, mapped_has}
 use Rattle.sqlite_rules.specs.Lists.{Has}
 use Rattle.sqlite_value.specs.Order.{Row}
-use Rattle.prt_addr.specs.Opening.{IsOpenRefusal}
+use Rattle.prt_refusals.specs.Opening.{IsOpenRefusal}
 use Rattle.prt_addr.specs.Word.{Word}
-use Rattle.prt_addr.specs.declared.refusal.Refusal.{Refusal}
-use Rattle.prt_addr.specs.declared.refusal.Refusal.TheVariants.{Damaged, NoMemory, OpenFailed}
+use Rattle.prt_refusals.specs.declared.refusal.Refusal.{Refusal}
+use Rattle.prt_refusals.specs.declared.refusal.Refusal.TheVariants.{Damaged, NoMemory, OpenFailed}
 use Rattle.prt_route.specs.declared.route.Route.{Route}
 use Rattle.prt_rows.proofs.Cells.{same_number}
 use Rattle.prt_rows.proofs.Found.{has_permuted}

@@ -13,8 +13,8 @@ use Rattle.sqlite.specs.Table.{Table}
 use Rattle.sqlite.specs.Tree.{Trees}
 use Rattle.sqlite.specs.declared.error.Error.{Error}
 use Rattle.sqlite_rules.specs.Lists.{Has}
-use Rattle.prt_addr.specs.declared.refusal.Refusal.{Refusal}
-use Rattle.prt_addr.specs.declared.refusal.Refusal.TheVariants.{OpenFailed}
+use Rattle.prt_refusals.specs.declared.refusal.Refusal.{Refusal}
+use Rattle.prt_refusals.specs.declared.refusal.Refusal.TheVariants.{OpenFailed}
 use Rattle.prt_rows.proofs.Creating.{makes_meta, makes_route, makes_rule, makes_suppress}
 use Rattle.prt_rows.proofs.Keeping.{empty_after, empty_before, format_made, keeps_format_1, keeps_itself, keeps_none, keeps_rules, keeps_rules_and_routes, keeps_then, meta_missing, meta_there, routes_missing, routes_there, rules_missing, rules_there, suppress_missing, suppress_there}
 use Rattle.prt_rows.specs.Effects.{AreEmpty, IsOfFormat1, KeepsTables, Migrates, Sets}

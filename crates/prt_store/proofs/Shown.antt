@@ -9,9 +9,9 @@ use Rattle.sqlite.specs.Store.{Ghosts}
 use Rattle.sqlite.specs.Tree.{rowid}
 use Rattle.sqlite_value.specs.Order.{Row}
 use Rattle.prt_addr.specs.Word.{Word}
-use Rattle.prt_addr.specs.declared.refusal.Refusal.{Refusal}
-use Rattle.prt_addr.specs.declared.refusal.Refusal.TheVariants.{Damaged, NoMemory, OpenFailed}
-use Rattle.prt_addr.specs.Opening.{IsOpenRefusal}
+use Rattle.prt_refusals.specs.declared.refusal.Refusal.{Refusal}
+use Rattle.prt_refusals.specs.declared.refusal.Refusal.TheVariants.{Damaged, NoMemory, OpenFailed}
+use Rattle.prt_refusals.specs.Opening.{IsOpenRefusal}
 use Rattle.prt_rows.proofs.Quiet.{IsQuiet, shown_unchanged}
 use Rattle.prt_route.specs.declared.route.Route.{Route}
 use Rattle.prt_rows.specs.Decodes.{Decodes}

@@ -3,9 +3,9 @@ use Rattle.std.specs.Prelude.{◌≡◌, IsTrue, Result, IfErr, IfOk, OnErr, OnO
 use Rattle.sqlite.specs.Held.{Held, state}
 use Rattle.sqlite.specs.State.{HasCleanDisk, IsUnchanged, Survives}
 use Rattle.sqlite.specs.Store.{Ghosts}
-use Rattle.prt_addr.specs.Opening.{IsOpenRefusal}
-use Rattle.prt_addr.specs.declared.refusal.Refusal.{Refusal}
-use Rattle.prt_addr.specs.declared.refusal.Refusal.TheVariants.{Damaged}
+use Rattle.prt_refusals.specs.Opening.{IsOpenRefusal}
+use Rattle.prt_refusals.specs.declared.refusal.Refusal.{Refusal}
+use Rattle.prt_refusals.specs.declared.refusal.Refusal.TheVariants.{Damaged}
 use Rattle.prt_store.specs.Adopted.{IsSettled}
 
 -- nothing is pending still, and the tables show what they showed

@@ -10,7 +10,7 @@ use Rattle.sqlite.specs.Tree.{Trees}
 use Rattle.sqlite.specs.declared.error.Error.{Error}
 use Rattle.sqlite_value.specs.Order.{Row}
 use Rattle.prt_addr.specs.Word.{Word}
-use Rattle.prt_addr.specs.declared.refusal.Refusal.{Refusal}
+use Rattle.prt_refusals.specs.declared.refusal.Refusal.{Refusal}
 use Rattle.prt_route.specs.Names.{default_table, local_table, main_table}
 use Rattle.prt_rows.specs.Effects.{IsOfFormat1, KeepsTables}
 use Rattle.prt_rows.specs.Format.{BeginsFormat2, has_table}

@@ -5,7 +5,7 @@ ghost use Rattle.sqlite.specs.Files.{IsOpened, file_state, over_files};
 ghost use Rattle.sqlite.specs.Held.{state};
 ghost use Rattle.sqlite.specs.State.{HasCleanDisk, Survives};
 ghost use Rattle.sqlite.specs.Tree.{Trees};
-ghost use Rattle.prt_addr.specs.declared.refusal.Refusal.TheVariants.{OpenFailed};
+ghost use Rattle.prt_refusals.specs.declared.refusal.Refusal.TheVariants.{OpenFailed};
 ghost use Rattle.prt_rows.specs.Effects.{AreEmpty};
 ghost use Rattle.prt_rows.specs.Format.{BeginsFormat2, HasFormat2, SuitsFormat2};
 ghost use Rattle.prt_store.specs.Adopted.{Adopts, AdoptsOne, AdoptsPart, IsAtRest, IsSettled, LeavesPart, RefusesOne};
@@ -15,7 +15,7 @@ ghost use Rattle.prt_version.specs.State.{State, opening_state};
 
 use crate::Store;
 use crate::opening::open_tables;
-use prt_addr::Refusal;
+use prt_refusals::Refusal;
 use sqlite::{Alter, Connection, Error, File, FileStore};
 
 impl<S: Alter + Drop> Store<S> {

@@ -18,7 +18,7 @@ use crate::statements::{
     delete_route, delete_rule, flush_routes, flush_rules, insert_length, insert_route, insert_rule,
     put_route, set_count,
 };
-use prt_addr::StoreCall;
+use prt_refusals::StoreCall;
 use prt_route::RouteEdit;
 use prt_rows::RuleLength;
 use prt_rule::Rule;

@@ -10,7 +10,7 @@ ghost use Rattle.prt_store.specs.Loaded.{ReadsShown};
 ghost use Rattle.prt_store.specs.Shown.{ShowsBadRows, ShowsCount, ShowsDamage, ShowsLengths, ShowsNoCount, ShowsRoutes, ShowsRules, ShowsState};
 
 use crate::merging::merge;
-use prt_addr::Refusal;
+use prt_refusals::Refusal;
 use prt_route::Route;
 use prt_rows::{RuleLength, count_of_rows, lengths_of_rows, routes_of_rows, rules_of_rows};
 use prt_rule::Rule;

@@ -1,10 +1,10 @@
 //! The lengths up to which rules suppress prefixes, merged into the rules.
 
 ghost use Rattle.std.specs.Prelude.{◌≡◌, ◌≢◌, ◌⊎◌, [], IfErr, IfOk};
-ghost use Rattle.prt_addr.specs.declared.refusal.Refusal.TheVariants.{Damaged, NoMemory};
+ghost use Rattle.prt_refusals.specs.declared.refusal.Refusal.TheVariants.{Damaged, NoMemory};
 ghost use Rattle.prt_store.specs.Lengths.{left_over, merge_one, merged};
 
-use prt_addr::Refusal;
+use prt_refusals::Refusal;
 use prt_rows::RuleLength;
 use prt_rule::Rule;
 use std::alloc::Global;

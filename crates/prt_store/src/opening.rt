@@ -5,7 +5,7 @@ ghost use Rattle.std.specs.Prelude.{◌≡◌, ◌<◌, ◌^◌, [], ◌∷◌, 
 ghost use Rattle.std.specs.List.{AllByRecursion as Each};
 ghost use Rattle.sqlite.specs.Held.{state};
 ghost use Rattle.sqlite.specs.State.{HasCleanDisk, Survives};
-ghost use Rattle.prt_addr.specs.declared.refusal.Refusal.TheVariants.{OpenFailed};
+ghost use Rattle.prt_refusals.specs.declared.refusal.Refusal.TheVariants.{OpenFailed};
 ghost use Rattle.prt_rows.specs.Effects.{Migrates};
 ghost use Rattle.prt_rows.specs.Format.{BeginsFormat2, HasFormat2, IsFormat2, SuitsFormat2};
 ghost use Rattle.prt_rows.specs.MetaRow.{meta_row};
@@ -17,7 +17,7 @@ ghost use Rattle.prt_store.specs.Shown.{ShowsContents, ShowsDue, ShowsFormat1, S
 ghost use Rattle.prt_store.specs.declared.opening.OurTable.{OurTable as OneTable};
 
 use crate::statements::insert_rule;
-use prt_addr::Refusal;
+use prt_refusals::Refusal;
 use prt_rows::{count_in_format_1, has_format_2, has_table, meta_values, suits_format_2};
 use prt_rule::Rule;
 use prt_version::opening_rules;

@@ -3,7 +3,7 @@
 ghost use Rattle.std.specs.Prelude.{IsTrue};
 
 use crate::steps::committed;
-use prt_addr::StoreCall;
+use prt_refusals::StoreCall;
 use prt_version::Refusal;
 use sqlite::{Connection, Files, Options};
 use sqlite_disk::{Disk, Fuse, Memory};

@@ -5,9 +5,9 @@ ghost use Rattle.prt_command.specs.Storable.{IsStorable};
 
 use crate::database::{Contents, OPENING_RULES, spells};
 use crate::steps::OPENING;
-use prt_addr::StoreCall;
 use prt_command::{Command, Request, read_line};
 use prt_fault_disks::FailOnce;
+use prt_refusals::StoreCall;
 use prt_store::Store;
 use prt_version::Refusal;
 use sqlite::{Alter, Connection, FileStore, Files, Options};

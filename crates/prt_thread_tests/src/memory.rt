@@ -5,10 +5,10 @@ ghost use Rattle.std.specs.Prelude.{◌≡◌};
 ghost use Rattle.prt_publisher.specs.Standing.{IsQuiet};
 
 use crate::caller::{adopted, stored_number, submit_to_publisher};
-use prt_addr::StoreCall;
 use prt_command::Refusal;
 use prt_grace::Domain;
 use prt_publisher::{Phase, Publisher};
+use prt_refusals::StoreCall;
 use sqlite::{Alter, Connection};
 use std::alloc::Global;
 use std::sync::Wait;

@@ -1,6 +1,6 @@
 //! Routes with one index, or in pieces.
 ghost use Rattle.std.specs.Prelude.{◌≡◌, length, IfErr, IfOk};
-ghost use Rattle.prt_addr.specs.declared.refusal.Refusal.TheVariants.{NoMemory};
+ghost use Rattle.prt_refusals.specs.declared.refusal.Refusal.TheVariants.{NoMemory};
 ghost use Rattle.prt_trie.specs.Table.{IsTable};
 
 use crate::cut::Cut;

@@ -1,7 +1,7 @@
 //! The index of a table's rows: the best of them for each address.
 ghost use Rattle.std.specs.Prelude.{◌≡◌, IfErr, IfOk};
 ghost use Rattle.std.specs.Option.{option_copied};
-ghost use Rattle.prt_addr.specs.declared.refusal.Refusal.TheVariants.{NoMemory};
+ghost use Rattle.prt_refusals.specs.declared.refusal.Refusal.TheVariants.{NoMemory};
 ghost use Rattle.prt_trie.specs.Heaviest.{best_for};
 ghost use Rattle.prt_trie.specs.Index.{IsIndex};
 ghost use Rattle.prt_trie.specs.Table.{IsTable};

@@ -8,7 +8,7 @@ pub(crate) trait Piece: Sized + Drop {
     ghost use Rattle.std.specs.Prelude.{◌≡◌, ◌++◌, ℕ, List, length, IfErr, IfOk, OnOk, IsPermutation, option_map};
     ghost use Rattle.std.specs.List.{list_any};
     ghost use Rattle.std.specs.Option.{option_copied};
-    ghost use Rattle.prt_addr.specs.declared.refusal.Refusal.TheVariants.{NoMemory};
+    ghost use Rattle.prt_refusals.specs.declared.refusal.Refusal.TheVariants.{NoMemory};
     ghost use Rattle.prt_route.specs.Best.{best};
     ghost use Rattle.prt_route.specs.Edit.{after_edit, has_key};
     ghost use Rattle.prt_route.specs.Route.{key_of};

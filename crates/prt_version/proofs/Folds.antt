@@ -1,7 +1,7 @@
 -- States after commands.
 use Rattle.std.proofs.Common.{◌≡◌, ◌+◌, List, [], ◌∷◌, ◌++◌, Option, Some, None, Result, Ok, Err, length, refl, arith}
 use Rattle.std.specs.Result.{result_err}
-use Rattle.prt_addr.specs.declared.refusal.Refusal.{Refusal}
+use Rattle.prt_refusals.specs.declared.refusal.Refusal.{Refusal}
 use Rattle.prt_command.specs.declared.request.Command.{Command}
 use Rattle.prt_version.specs.Accepted.{IsAccepted, or_later, refusal_all}
 use Rattle.prt_version.specs.Change.{apply, check, fold, put, put_if, refusal}

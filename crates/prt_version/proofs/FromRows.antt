@@ -10,8 +10,8 @@ use Rattle.std.proofs.lemmas.List.Sums.{AllPass-from_list_all, list_all-from_All
 use Rattle.std.proofs.lemmas.Map.Keys.{IsDistinct-IsPermutation}
 use Rattle.prt_addr.specs.Rising.{IsRising}
 use Rattle.prt_addr.proofs.Each.{each_implies}
-use Rattle.prt_addr.specs.declared.refusal.Refusal.{Refusal}
-use Rattle.prt_addr.specs.declared.refusal.Refusal.TheVariants.{Damaged, NoMemory}
+use Rattle.prt_refusals.specs.declared.refusal.Refusal.{Refusal}
+use Rattle.prt_refusals.specs.declared.refusal.Refusal.TheVariants.{Damaged, NoMemory}
 use Rattle.prt_route.specs.Route.{is_listed_before}
 use Rattle.prt_route.specs.Storable.{is_storable_route}
 use Rattle.prt_route.specs.declared.route.Route.{Route}

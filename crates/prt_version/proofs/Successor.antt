@@ -3,8 +3,8 @@ use Rattle.std.proofs.Common.{◌≡◌, ℕ, ◌+◌, ◌<◌, ◌≤◌, Bool,
 use Rattle.std.specs.Prelude.{nat_lt, ◌==◌, filter, IfOk, ok_or, option_map}
 use Rattle.std.specs.List.{AllByRecursion as Each, IsDistinct}
 use Rattle.std.proofs.lemmas.Bool.Decides.{nat_tests}
-use Rattle.prt_addr.specs.declared.refusal.Refusal.{Refusal}
-use Rattle.prt_addr.specs.declared.refusal.Refusal.TheVariants.{Exists, NoSuch, Full, CountFull}
+use Rattle.prt_refusals.specs.declared.refusal.Refusal.{Refusal}
+use Rattle.prt_refusals.specs.declared.refusal.Refusal.TheVariants.{Exists, NoSuch, Full, CountFull}
 use Rattle.prt_addr.proofs.Each.{distinct_filtered, each_filtered, each_implies, filtered_fit, one_less}
 use Rattle.prt_addr.proofs.Orders.{each_inserted, length_inserted, rising_filtered}
 use Rattle.prt_route.specs.Edit.{after_edit, has_key, without_key}

@@ -1,7 +1,7 @@
 -- Commands that were accepted one after the other, and those that are accepted together or not at all.
 use Rattle.std.specs.Prelude.{◌≡◌, ◌⊎◌, List, [], ◌∷◌, Option, Some, None, Result, Ok, Err}
-use Rattle.prt_addr.specs.declared.refusal.Refusal.{Refusal}
-use Rattle.prt_addr.specs.declared.refusal.Refusal.TheVariants.{NoMemory}
+use Rattle.prt_refusals.specs.declared.refusal.Refusal.{Refusal}
+use Rattle.prt_refusals.specs.declared.refusal.Refusal.TheVariants.{NoMemory}
 use Rattle.prt_command.specs.declared.request.Command.{Command}
 use Rattle.prt_version.specs.Change.{apply, check, refusal}
 use Rattle.prt_version.specs.State.{State}

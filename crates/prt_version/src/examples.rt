@@ -1,6 +1,6 @@
 //! The limits of a database, computed with the definitions alone.
 ghost use Rattle.std.specs.Prelude.{◌≡◌, None, Some};
-ghost use Rattle.prt_addr.specs.declared.refusal.Refusal.TheVariants.{CountFull, Exists, Full};
+ghost use Rattle.prt_refusals.specs.declared.refusal.Refusal.TheVariants.{CountFull, Exists, Full};
 ghost use Rattle.prt_rule.specs.declared.rule.Action.TheVariants.{Lookup};
 ghost use Rattle.prt_command.specs.declared.request.Command.TheVariants.{RuleAdd, RuleFlush};
 ghost use Rattle.prt_version.specs.Change.{refusal};

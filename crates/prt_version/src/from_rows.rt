@@ -3,7 +3,7 @@ ghost use Rattle.std.specs.Prelude.{◌≡◌, ◌≤◌, ◌↔◌, IfErr, IfOk
 ghost use Rattle.std.specs.Bool.{OnTrue};
 ghost use Rattle.std.specs.List.{IsDistinct, list_all};
 ghost use Rattle.prt_addr.specs.Rising.{IsRising};
-ghost use Rattle.prt_addr.specs.declared.refusal.Refusal.TheVariants.{Damaged};
+ghost use Rattle.prt_refusals.specs.declared.refusal.Refusal.TheVariants.{Damaged};
 ghost use Rattle.prt_route.specs.Route.{is_listed_before};
 ghost use Rattle.prt_route.specs.Storable.{is_storable_route};
 ghost use Rattle.prt_rule.specs.Sound.{IsInOrder};

@@ -1,7 +1,7 @@
 //! Laws of the definitions, which no program calls.
 ghost use Rattle.std.specs.Prelude.{◌≡◌, ◌↔◌, ℕ, List, None, Some, false, length};
 ghost use Rattle.std.specs.List.{Contains};
-ghost use Rattle.prt_addr.specs.declared.refusal.Refusal.TheVariants.{Full};
+ghost use Rattle.prt_refusals.specs.declared.refusal.Refusal.TheVariants.{Full};
 ghost use Rattle.prt_route.specs.Edit.{has_key};
 ghost use Rattle.prt_route.specs.Route.{key_of};
 ghost use Rattle.prt_route.specs.declared.route.Route.{Route};

@@ -1,6 +1,6 @@
 ghost use Rattle.std.specs.Prelude.{◌≡◌, ◌≤◌, ◌⊎◌, IfErr, IfOk, None, OnOk, length};
 ghost use Rattle.std.specs.Arc.{arc_value};
-ghost use Rattle.prt_addr.specs.declared.refusal.Refusal.TheVariants.{Damaged, NoMemory};
+ghost use Rattle.prt_refusals.specs.declared.refusal.Refusal.TheVariants.{Damaged, NoMemory};
 ghost use Rattle.prt_route.specs.Edit.{after_edit};
 ghost use Rattle.prt_rule.specs.Sound.{IsInOrder};
 ghost use Rattle.prt_version.specs.Accepted.{IsAccepted, IsRefusedFor, changes_of};

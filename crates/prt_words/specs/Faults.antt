@@ -4,7 +4,7 @@ use Rattle.clap.specs.Words.{kind_of}
 use Rattle.clap.specs.declared.error.Error.{Error}
 use Rattle.clap.specs.declared.error.kind.ErrorKind.{ErrorKind}
 use Rattle.clap.specs.declared.error.kind.ErrorKind.TheVariants.{DisplayHelp, DisplayVersion, OutOfMemory}
-use Rattle.prt_addr.specs.declared.refusal.Refusal.TheVariants.{NoMemory}
+use Rattle.prt_refusals.specs.declared.refusal.Refusal.TheVariants.{NoMemory}
 use Rattle.prt_words.specs.Invocation.{Invocation, batch, check, replay, serve, dump, help, help_on, version, usage_error}
 use Rattle.prt_words.specs.declared.fault.Fault.{Fault}
 use Rattle.prt_words.specs.declared.fault.Fault.TheVariants.{Words, Opening, Listener}

@@ -1,14 +1,14 @@
 //! Why the program runs nothing, and how it says so.
 ghost use Rattle.std.specs.Prelude.{◌≡◌, ◌≢◌, IfOk};
 ghost use Rattle.clap.specs.Words.{kind_of};
-ghost use Rattle.prt_addr.specs.declared.refusal.Refusal.TheVariants.{NoMemory};
+ghost use Rattle.prt_refusals.specs.declared.refusal.Refusal.TheVariants.{NoMemory};
 ghost use Rattle.prt_words.specs.Faults.{FaultOf, IsWordsFault, fault_status};
 ghost use Rattle.prt_words.specs.Invocation.{dump, serve, usage_error};
 ghost use Rattle.prt_words.specs.declared.fault.Fault.TheVariants.{Opening};
 
 use crate::command_line::{batch_line, command_line, dump_line, serve_line};
 use clap::error::ErrorKind;
-use prt_addr::Refusal;
+use prt_refusals::Refusal;
 use std::alloc::{AllocError, Global};
 use std::io::{self, Write};
 use thiserror::Error;

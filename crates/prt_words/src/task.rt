@@ -10,7 +10,7 @@ use crate::dumping::dumped_database;
 use crate::fault::{Fault, conflict_fault};
 use crate::serving::{Serving, serving_of};
 use clap::ArgMatches;
-use prt_addr::OnRefusal;
+use prt_refusals::OnRefusal;
 use std::alloc::Global;
 
 /// The subcommand that checks a script.

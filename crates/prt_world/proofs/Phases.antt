@@ -4,8 +4,8 @@ use Rattle.std.specs.Prelude.{nat_lt, unwrap_or}
 use Rattle.std.specs.List.{AllByRecursion as Each}
 use Rattle.std.proofs.lemmas.Bool.Decides.{nat_tests}
 use Rattle.std.proofs.lemmas.List.{length-append, length-take-le, take-append-le, take_all}
-use Rattle.prt_addr.specs.declared.refusal.Refusal.{Refusal}
-use Rattle.prt_addr.specs.declared.refusal.StoreCall.TheVariants.{Begin, Write, Count, Commit}
+use Rattle.prt_refusals.specs.declared.refusal.Refusal.{Refusal}
+use Rattle.prt_refusals.specs.declared.refusal.StoreCall.TheVariants.{Begin, Write, Count, Commit}
 use Rattle.prt_addr.proofs.Each.{each_append}
 use Rattle.prt_command.specs.declared.request.Command.{Command}
 use Rattle.prt_rule.specs.declared.packet.Packet.{Packet}

@@ -1,10 +1,10 @@
 -- What a service, its disk and its lookers hold, and what one event does to them. Lookers announce the versions that they
 -- may hold, and a version goes where nobody can hold it any more: Desnoyers et al. 2012.
 use Rattle.std.specs.Prelude.{ℕ, ◌+◌, ◌-◌, ◌==◌, nat_lt, Bool, true, false, if◌then◌else◌, List, [], ◌∷◌, ◌++◌, length, map, take, filter, find, replicate, slice_index_or, slice_set, Option, Some, None, unwrap_or}
-use Rattle.prt_addr.specs.declared.refusal.Refusal.{Refusal}
-use Rattle.prt_addr.specs.declared.refusal.Refusal.TheVariants as refusals
-use Rattle.prt_addr.specs.declared.refusal.StoreCall.{StoreCall}
-use Rattle.prt_addr.specs.declared.refusal.StoreCall.TheVariants as calls
+use Rattle.prt_refusals.specs.declared.refusal.Refusal.{Refusal}
+use Rattle.prt_refusals.specs.declared.refusal.Refusal.TheVariants as refusals
+use Rattle.prt_refusals.specs.declared.refusal.StoreCall.{StoreCall}
+use Rattle.prt_refusals.specs.declared.refusal.StoreCall.TheVariants as calls
 use Rattle.prt_command.specs.declared.request.Command.{Command}
 use Rattle.prt_grace.specs.GracePeriod.{after_reclaim, is_retired}
 use Rattle.prt_grace.specs.declared.limits.TheConstants.{MOST_RETIRED, PLACES}

@@ -8,6 +8,6 @@ mod outcome;
 pub use event::{Commands, Event, Fate, LookerNumber};
 pub use laws::every_run;
 pub use outcome::Outcome;
-pub use prt_addr::{Refusal, StoreCall};
 pub use prt_command::{Command, Packet};
+pub use prt_refusals::{Refusal, StoreCall};
 pub use prt_version::Answer;

@@ -1,5 +1,5 @@
 use crate::LookerNumber;
-use prt_addr::{Refusal, StoreCall};
+use prt_refusals::{Refusal, StoreCall};
 use prt_version::Answer;
 
 /// What came of an event.

@@ -2,7 +2,7 @@ use Rattle.std.proofs.Common.{◌≡◌, ◌∙◌, ap, refl, Bool, true, false,
 use Rattle.std.specs.Prelude.{if◌then◌else◌}
 use Rattle.std.specs.Option.{ok_or}
 use Rattle.std.specs.Result.{is_ok}
-use Rattle.prt_addr.specs.declared.refusal.Refusal.TheVariants.{BadName}
+use Rattle.prt_refusals.specs.declared.refusal.Refusal.TheVariants.{BadName}
 use Rattle.prt_route.specs.Name.{is_name}
 use Rattle.prt_dump.proofs.plain.is_name.Goals as goal
 

@@ -1,5 +1,5 @@
 use Rattle.std.proofs.Common.{refl, sym, subst}
-use Rattle.prt_addr.specs.declared.refusal.Refusal.{Refusal}
+use Rattle.prt_refusals.specs.declared.refusal.Refusal.{Refusal}
 use Rattle.prt_laws.specs.Laws.{PublishesNot}
 use Rattle.prt_laws.proofs.Exits.{not_published}
 use Rattle.prt_laws.proofs.Submitted.{publishes_it}

@@ -1,7 +1,7 @@
 use Rattle.std.proofs.Common.{refl, sym, subst, ap}
 use Rattle.sqlite.specs.Held.{Held}
 use Rattle.prt_publisher.specs.Standing.{Standing}
-use Rattle.prt_addr.specs.declared.refusal.Refusal.{Refusal}
+use Rattle.prt_refusals.specs.declared.refusal.Refusal.{Refusal}
 use Rattle.prt_laws.specs.Laws.{PublishesNot}
 use Rattle.prt_laws.proofs.Exits.{not_published, published}
 use Rattle.prt_laws.proofs.calls.show.Goals as goal

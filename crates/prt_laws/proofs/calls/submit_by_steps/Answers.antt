@@ -1,5 +1,5 @@
 use Rattle.std.proofs.Common.{◌≡◌, ◌≤◌, List, false, true, inl, inr, length, refl, ap, sym, ◌∙◌, subst, arith}
-use Rattle.prt_addr.specs.declared.refusal.Refusal.{Refusal}
+use Rattle.prt_refusals.specs.declared.refusal.Refusal.{Refusal}
 use Rattle.prt_command.specs.declared.request.Command.{Command}
 use Rattle.prt_world.specs.World.{step}
 use Rattle.prt_world.specs.declared.event.Event.{Event}

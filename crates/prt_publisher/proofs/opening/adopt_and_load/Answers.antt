@@ -1,5 +1,5 @@
 use Rattle.std.proofs.Common.{◌≡◌, inl, inr, subst, sym, ◌∙◌}
-use Rattle.prt_addr.specs.declared.refusal.Refusal.TheVariants.{Damaged, OpenFailed}
+use Rattle.prt_refusals.specs.declared.refusal.Refusal.TheVariants.{Damaged, OpenFailed}
 use Rattle.prt_rows.specs.Format.{BeginsFormat2}
 use Rattle.prt_publisher.proofs.Openings.{has_opened, load_refused}
 use Rattle.prt_publisher.proofs.opening.adopt_and_load.Goals as goal

@@ -5,7 +5,7 @@ use Rattle.prt_serve.proofs.Serving.{shows_path}
 use Rattle.prt_service.specs.Look.{Look}
 use Rattle.prt_session.proofs.Length.{session_taken}
 use Rattle.prt_session.specs.Run.{RunIs}
-use Rattle.prt_addr.specs.declared.on_refusal.OnRefusal.TheVariants.{GoOn}
+use Rattle.prt_refusals.specs.declared.on_refusal.OnRefusal.TheVariants.{GoOn}
 use Rattle.prt_serve.proofs.session.serve_session.Goals as goal
 
 pub returns-clause-served : goal.returns-clause-served

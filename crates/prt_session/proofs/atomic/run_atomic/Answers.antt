@@ -1,6 +1,6 @@
 use Rattle.std.proofs.Common.{arith, refl, subst, ◌∙◌}
 use Rattle.std.proofs.lemmas.Bool.Decides.{nat_tests}
-use Rattle.prt_addr.specs.declared.on_refusal.OnRefusal.TheVariants.{Stop}
+use Rattle.prt_refusals.specs.declared.on_refusal.OnRefusal.TheVariants.{Stop}
 use Rattle.prt_session.proofs.AtomicRuns.{empty_there, faulty_first, is_quiet, no_fault_there, refused_first, only_read, read_and_submitted, read_is}
 use Rattle.prt_session.specs.Atomic.{CollectMay, collect_turn}
 use Rattle.prt_session.specs.Run.{RunIs}

@@ -6,7 +6,7 @@ use Rattle.sqlite.specs.Held.{state}
 use Rattle.sqlite.specs.State.{HasCleanDisk, Survives}
 use Rattle.sqlite.specs.Steps.{FailsToCommit}
 use Rattle.sqlite.specs.Tree.{Trees}
-use Rattle.prt_addr.specs.declared.refusal.StoreCall.TheVariants.{Commit, Count}
+use Rattle.prt_refusals.specs.declared.refusal.StoreCall.TheVariants.{Commit, Count}
 use Rattle.prt_store.specs.Adopted.{IsSettled}
 use Rattle.prt_store.specs.Failures.{RefusesOneOf}
 use Rattle.prt_store.specs.Made.{MakesChanges}

@@ -1,7 +1,7 @@
 use Rattle.std.proofs.Common.{[], Err, Ok, inl, refl, subst, sym}
 use Rattle.sqlite.specs.Held.{state}
 use Rattle.sqlite.specs.State.{HasCleanDisk, Shown}
-use Rattle.prt_addr.specs.declared.refusal.Refusal.TheVariants.{Damaged}
+use Rattle.prt_refusals.specs.declared.refusal.Refusal.TheVariants.{Damaged}
 use Rattle.prt_rows.proofs.Quiet.{quiet_read_meta, shown_unchanged}
 use Rattle.prt_rows.specs.Statements.{read_meta}
 use Rattle.prt_store.proofs.Loads.{shown_only}

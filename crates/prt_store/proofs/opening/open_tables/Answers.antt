@@ -1,5 +1,5 @@
 use Rattle.std.proofs.Common.{subst}
-use Rattle.prt_addr.specs.declared.refusal.Refusal.TheVariants.{OpenFailed}
+use Rattle.prt_refusals.specs.declared.refusal.Refusal.TheVariants.{OpenFailed}
 use Rattle.prt_rows.specs.Format.{SuitsFormat2}
 use Rattle.prt_store.proofs.Openings.{opened_in_part, opens_nothing}
 use Rattle.prt_store.proofs.opening.open_tables.Goals as goal

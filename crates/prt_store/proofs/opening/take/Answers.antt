@@ -1,5 +1,5 @@
 use Rattle.std.proofs.Common.{◌≡◌, Err, sym, subst, rules, ◌∙◌}
-use Rattle.prt_addr.specs.declared.refusal.Refusal.TheVariants.{OpenFailed}
+use Rattle.prt_refusals.specs.declared.refusal.Refusal.TheVariants.{OpenFailed}
 use Rattle.prt_store.proofs.Openings.{ends, stops}
 use Rattle.prt_store.specs.Openings.{Commits, Takes}
 use Rattle.prt_store.proofs.opening.take.Goals as goal

@@ -1,6 +1,6 @@
 use Rattle.std.proofs.Common.{◌≡◌, ◌⊎◌, [], ap, inl, inr, subst, sym, ◌∙◌}
-use Rattle.prt_addr.specs.declared.refusal.Refusal.TheVariants.{StoreFailed}
-use Rattle.prt_addr.specs.declared.refusal.StoreCall.TheVariants.{Commit}
+use Rattle.prt_refusals.specs.declared.refusal.Refusal.TheVariants.{StoreFailed}
+use Rattle.prt_refusals.specs.declared.refusal.StoreCall.TheVariants.{Commit}
 use Rattle.prt_store.specs.Stored.{Stores}
 use Rattle.prt_version.specs.Change.{fold}
 use Rattle.sqlite.specs.Held.{Held, state}

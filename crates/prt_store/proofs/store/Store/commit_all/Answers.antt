@@ -1,8 +1,8 @@
 use Rattle.std.proofs.Common.{◌≡◌, inl, inr, sym, ap, subst, ◌∙◌}
 use Rattle.sqlite.specs.Effect.{Database}
 use Rattle.sqlite.specs.Held.{state}
-use Rattle.prt_addr.specs.declared.refusal.Refusal.TheVariants.{StoreFailed}
-use Rattle.prt_addr.specs.declared.refusal.StoreCall.{StoreCall}
+use Rattle.prt_refusals.specs.declared.refusal.Refusal.TheVariants.{StoreFailed}
+use Rattle.prt_refusals.specs.declared.refusal.StoreCall.{StoreCall}
 use Rattle.prt_store.proofs.Exits.{left_either, stored_next}
 use Rattle.prt_store.proofs.Several.{makes_all_next, small_ids_all, small_numbers}
 use Rattle.prt_store.specs.Failures.{AllFailFor}

@@ -1,6 +1,6 @@
 ghost use Rattle.std.specs.Prelude.{◌≡◌, ◌<◌, Some, length};
-ghost use Rattle.prt_addr.specs.Refusal.{code_of, entry_of, name_of, refusal_text};
-ghost use Rattle.prt_addr.specs.declared.refusal.Refusal.TheVariants.{NoMemory};
+ghost use Rattle.prt_refusals.specs.Refusal.{code_of, entry_of, name_of, refusal_text};
+ghost use Rattle.prt_refusals.specs.declared.refusal.Refusal.TheVariants.{NoMemory};
 
 use arrayvec::ArrayString;
 use itoa::Buffer;

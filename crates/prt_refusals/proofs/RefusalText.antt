@@ -2,9 +2,9 @@
 use Rattle.std.proofs.Common.{◌<◌, ◌≤◌, length, lit<, lit≤, arith}
 use Rattle.std.proofs.lemmas.Fmt.{length-decimal-le}
 use Rattle.std.specs.Fmt.{decimal}
-use Rattle.prt_addr.specs.Refusal.{code_of, name_of}
-use Rattle.prt_addr.specs.declared.refusal.Refusal.{Refusal}
-use Rattle.prt_addr.specs.declared.refusal.Refusal.TheVariants.{LineTooLong}
+use Rattle.prt_refusals.specs.Refusal.{code_of, name_of}
+use Rattle.prt_refusals.specs.declared.refusal.Refusal.{Refusal}
+use Rattle.prt_refusals.specs.declared.refusal.Refusal.TheVariants.{LineTooLong}
 
 -- the number of a refusal has at most two digits
 code_below : (reason : Refusal) → code_of reason < 100
