@@ -2,7 +2,7 @@
 
 use prt_desk::StoreDesk;
 use prt_session::{
-    Desk, ListDesk, OnRefusal, Refusal, ScriptEnd, Unobserved, run_atomic, run_script,
+    Desk, MemoryDesk, OnRefusal, Refusal, ScriptEnd, Unobserved, run_atomic, run_script,
 };
 use sqlite::{Alter, Connection, Error};
 use std::alloc::Global;
@@ -63,7 +63,7 @@ fn replies_as_lists<S: Alter + Drop, H: Wait + Copy + Drop>(
     script: &str,
 ) -> Result<bool, Refusal> {
     let mut stored = opened(rt, alloc, connection)?;
-    let mut listed = ListDesk::opening(alloc)?;
+    let mut listed = MemoryDesk::opening(alloc)?;
     let wanted = replies(alloc, &mut listed, script);
     Ok(replies(alloc, &mut stored, script).as_slice() == wanted.as_slice())
 }

@@ -1,7 +1,7 @@
 //! Faults of the streams: each of these readers and writers fails once and would then go on.
 
 use prt_session::{
-    ListDesk, Observer, OnRefusal, Refusal, Reply, ScriptEnd, Unobserved, run_session,
+    MemoryDesk, Observer, OnRefusal, Refusal, Reply, ScriptEnd, Unobserved, run_session,
 };
 use std::alloc::Global;
 use std::io;
@@ -75,7 +75,7 @@ struct Left {
 
 /// Runs a session whose reader is interrupted after these bytes.
 fn run_interrupted(alloc: Global, before: &'static [u8]) -> Result<Left, Refusal> {
-    let mut desk = ListDesk::opening(alloc)?;
+    let mut desk = MemoryDesk::opening(alloc)?;
     let mut reader = Interrupted {
         before,
         after: b"te get 1\n",
@@ -195,7 +195,7 @@ fn run_into(
     most: usize,
     trouble: Trouble,
 ) -> Result<(Vec<u8>, ScriptEnd), Refusal> {
-    let mut desk = ListDesk::opening(alloc)?;
+    let mut desk = MemoryDesk::opening(alloc)?;
     let mut lines = script.as_bytes();
     let mut writer = Slow {
         taken: Vec::new(alloc),

@@ -20,7 +20,7 @@ use crate::next::Next;
 use crate::noting::Noting;
 use prt_replay::run_replay;
 use prt_session::{
-    Desk, ListDesk, Observer, Refusal, ScriptEnd, check_lines, run_atomic, run_script,
+    Desk, MemoryDesk, Observer, Refusal, ScriptEnd, check_lines, run_atomic, run_script,
 };
 use prt_words::{Batch, DONE, FAULT, Fault, Mode, STANDARD_INPUT, Task, read_words};
 use std::alloc::Global;
@@ -146,7 +146,7 @@ fn run_batch<H: Host, R: Read + Drop>(
             Ok(status)
         }
         None => {
-            let mut desk = ListDesk::opening(alloc)?;
+            let mut desk = MemoryDesk::opening(alloc)?;
             Ok(run_over(alloc, &mut desk, &mut reader, around.output, mode, messages))
         }
     }

@@ -17,20 +17,20 @@ use Rattle.prt_rows.proofs.Shapes.{meta_is_read, routes_are_read, rules_are_read
 use Rattle.prt_store.proofs.Loads.{then_shown}
 use Rattle.prt_store.specs.Loaded.{ReadsShown}
 use Rattle.prt_reasons.specs.Shows.{OfOurs, Reads, ShowsRows, text}
-use Rattle.prt_reasons.specs.declared.reason.Table.{Table}
-use Rattle.prt_reasons.specs.declared.reason.Table.TheVariants as ours
+use Rattle.prt_reasons.specs.declared.reason.DatabaseTable.{DatabaseTable}
+use Rattle.prt_reasons.specs.declared.reason.DatabaseTable.TheVariants as ours
 
 -- ---- one table
 
 -- the statements change nothing
-pub quiet : (table : Table) (schema : Schema) → IsQuiet (understood schema (text table))
+pub quiet : (table : DatabaseTable) (schema : Schema) → IsQuiet (understood schema (text table))
 quiet ours.Rule = quiet_read_rules
 quiet ours.Route = quiet_read_routes
 quiet ours.Meta = quiet_read_meta
 quiet ours.Suppress = quiet_read_suppress
 
 -- the rows that are shown are those of the table
-pub shows : (table : Table) (old new : Conn) (rows : List Row) → Shown (text table) [] old new rows → OfOurs (λ db. ShowsRows table db rows) old.now
+pub shows : (table : DatabaseTable) (old new : Conn) (rows : List Row) → Shown (text table) [] old new rows → OfOurs (λ db. ShowsRows table db rows) old.now
 shows ours.Rule old new rows shown t sound = rules_are_read t.tables t.indexes t.views old.now t.is sound rows (reads_rules t.tables t.indexes t.views old new t.is rows shown)
 shows ours.Route old new rows shown t sound = routes_are_read t.tables t.indexes t.views old.now t.is sound rows (reads_routes t.tables t.indexes t.views old new t.is rows shown)
 shows ours.Meta old new rows shown t sound = meta_is_read t.tables t.indexes t.views old.now t.is sound rows (reads_meta t.tables t.indexes t.views old new t.is rows shown)
@@ -39,7 +39,7 @@ shows ours.Suppress old new rows shown t sound = suppress_is_read t.tables t.ind
 -- ---- one table after another
 
 -- what the first reads gave, and what the next one does
-pub next_shown : {S X : Type 0} (g : Ghosts S) (start : Held S) (Before : Database → Type 0) {P : X → Type 0} {a b : Held S} (table : Table) (x : X) → ReadsShown g P ⊥ start a (Ok x) → (P x → OfOurs Before (state g start).now) → (result : Result (Vec ReadRow Global) Refusal)
+pub next_shown : {S X : Type 0} (g : Ghosts S) (start : Held S) (Before : Database → Type 0) {P : X → Type 0} {a b : Held S} (table : DatabaseTable) (x : X) → ReadsShown g P ⊥ start a (Ok x) → (P x → OfOurs Before (state g start).now) → (result : Result (Vec ReadRow Global) Refusal)
     → ReadsShown g (λ (rows : Vec ReadRow Global). OfOurs (λ db. ShowsRows table db rows.items) (state g a).now) ⊥ a b result → ReadsShown g (λ (rows : Vec ReadRow Global). OfOurs (λ db. Before db × ShowsRows table db rows.items) (state g start).now) ⊥ start b result
 next_shown g start Before table x one before result next =
     then_shown g x one result next (λ same first rows it tables sound. (before first tables sound, subst (OfOurs (λ db. ShowsRows table db rows.items)) same it tables sound)) (λ same first none. none)

@@ -15,8 +15,8 @@ use Rattle.prt_reasons.specs.IsReason.{IsReasonIfAny, IsReasonOf, KeepsBadRow, K
 use Rattle.prt_reasons.specs.Shows.{ShowsAll}
 use Rattle.prt_reasons.specs.declared.reason.Reason.{Reason}
 use Rattle.prt_reasons.specs.declared.reason.Reason.TheVariants as reason
-use Rattle.prt_reasons.specs.declared.reason.Table.TheVariants as ours
-use Rattle.prt_reasons.specs.declared.rows.AllRows.{AllRows}
+use Rattle.prt_reasons.specs.declared.reason.DatabaseTable.TheVariants as ours
+use Rattle.prt_reasons.specs.declared.all_rows.AllRows.{AllRows}
 
 contains_mapped : {X Y : Type 0} (f : X → Y) (xs : List X) (x : X) → Contains xs x → Contains (map f xs) (f x)
 contains_mapped f xs x (k, low, is) = (k, subst (λ n. k < n) (sym (length-map xs f)) low, get_or-map f xs k x (f x) low ∙ ap f is)

@@ -5,8 +5,8 @@ use Rattle.prt_reasons.specs.Found.{HasBadRow}
 use Rattle.prt_reasons.specs.Spelling.{SpellsCount, SpellsLength, SpellsRoute, SpellsRule}
 use Rattle.prt_reasons.specs.declared.reason.Reason.{Reason}
 use Rattle.prt_reasons.specs.declared.reason.Reason.TheVariants as reason
-use Rattle.prt_reasons.specs.declared.reason.Table.TheVariants as ours
-use Rattle.prt_reasons.specs.declared.rows.AllRows.{AllRows}
+use Rattle.prt_reasons.specs.declared.reason.DatabaseTable.TheVariants as ours
+use Rattle.prt_reasons.specs.declared.all_rows.AllRows.{AllRows}
 
 -- it names no row that spells nothing by itself
 abbrev pub NamesNoRow : Reason → Type 0

@@ -9,7 +9,7 @@ use Rattle.prt_rows.specs.Tables.{meta_table, route_table, rule_table, suppress_
 use Rattle.prt_reasons.specs.Spelling.{SpellsLength, SpellsRoute, SpellsRule}
 use Rattle.prt_reasons.specs.declared.reason.Reason.{Reason}
 use Rattle.prt_reasons.specs.declared.reason.Reason.TheVariants as reason
-use Rattle.prt_reasons.specs.declared.reason.Table.TheVariants as ours
+use Rattle.prt_reasons.specs.declared.reason.DatabaseTable.TheVariants as ours
 
 -- the row of `meta` is that of this count
 pub record KeepsCount (db : Database) (count : ℕ) : Type 0 where

@@ -1,6 +1,7 @@
 //! Why a database is refused, for a person: the first row that spells nothing, or the table that has other columns.
 #![tactic(auto)]
 
+mod all_rows;
 mod cell;
 #[cfg(test)]
 mod examples;
@@ -8,13 +9,12 @@ mod meta;
 mod reading;
 mod reason;
 mod route;
-mod rows;
 mod rule;
 mod schema;
 
 pub use meta::meta_fault;
 pub use reading::rows_reason;
-pub use reason::{MetaFault, Reason, RowFault, Table};
+pub use reason::{DatabaseTable, MetaFault, Reason, RowFault};
 pub use route::route_fault;
 pub use rule::{length_fault, rule_fault};
 pub use schema::columns_reason;

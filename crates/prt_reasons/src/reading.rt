@@ -6,27 +6,27 @@ ghost use Rattle.prt_reasons.specs.IsReason.{IsReasonIfAny};
 ghost use Rattle.prt_reasons.specs.Shows.{OfOurs, Reads, ShowsAll, ShowsRows, text};
 ghost use Rattle.prt_store.specs.Loaded.{ReadsShown};
 
-use crate::rows::{AllRows, reason_in};
-use crate::{Reason, Table};
+use crate::all_rows::{AllRows, reason_in};
+use crate::{DatabaseTable, Reason};
 use prt_refusals::Refusal;
 use sqlite::{Alter, Connection, Row};
 
 /// Gives the statement that reads a table.
-fn text(table: Table) -> &'static str
+fn text(table: DatabaseTable) -> &'static str
     ensures { result.now ≡ text table }
 {
     match table {
-        Table::Rule =>
+        DatabaseTable::Rule =>
             "SELECT id, priority, inverted, src_net, src_len, dst_net, dst_len, iif, mark, mask, act, tbl FROM rule ORDER BY id",
-        Table::Route =>
+        DatabaseTable::Route =>
             "SELECT rowid, tbl, net, len, metric, kind, via, dev, src, proto, scope FROM route ORDER BY rowid",
-        Table::Meta => "SELECT id, format, count FROM meta ORDER BY id",
-        Table::Suppress => "SELECT rule, len FROM suppress ORDER BY rule",
+        DatabaseTable::Meta => "SELECT id, format, count FROM meta ORDER BY id",
+        DatabaseTable::Suppress => "SELECT rule, len FROM suppress ORDER BY rule",
     }
 }
 
 /// Gives the rows of a table, in the order of their rowids.
-fn rows_of<S: Alter>(conn: &mut Connection<S>, table: Table) -> Result<Vec<Row>, Refusal>
+fn rows_of<S: Alter>(conn: &mut Connection<S>, table: DatabaseTable) -> Result<Vec<Row>, Refusal>
     ensures { ReadsShown S.Store (λ (rows : _). OfOurs (λ db. ShowsRows table db rows.items) (state S.Store conn.old).now) ⊥ conn.old conn.new result }
 {
     match conn.query_all(text(table), &[]) {
@@ -39,10 +39,10 @@ fn rows_of<S: Alter>(conn: &mut Connection<S>, table: Table) -> Result<Vec<Row>,
 fn all_rows<S: Alter>(conn: &mut Connection<S>) -> Result<AllRows, Refusal>
     ensures { ReadsShown S.Store (λ rows. OfOurs (λ db. ShowsAll db rows) (state S.Store conn.old).now) ⊥ conn.old conn.new result }
 {
-    let meta = rows_of(conn, Table::Meta)?;
-    let rules = rows_of(conn, Table::Rule)?;
-    let lengths = rows_of(conn, Table::Suppress)?;
-    let routes = rows_of(conn, Table::Route)?;
+    let meta = rows_of(conn, DatabaseTable::Meta)?;
+    let rules = rows_of(conn, DatabaseTable::Rule)?;
+    let lengths = rows_of(conn, DatabaseTable::Suppress)?;
+    let routes = rows_of(conn, DatabaseTable::Route)?;
     Ok(AllRows {
         meta,
         rules,

@@ -5,20 +5,20 @@ use thiserror::Error;
 
 /// One of the four tables of a database.
 #[derive(Clone, Copy, Debug)]
-pub enum Table {
+pub enum DatabaseTable {
     Rule,
     Route,
     Meta,
     Suppress,
 }
 
-impl fmt::Display for Table {
+impl fmt::Display for DatabaseTable {
     fn fmt<W: fmt::Write>(&self, f: &mut fmt::Formatter<W>) -> fmt::Result {
         f.write_str(match self {
-            Table::Rule => "rule",
-            Table::Route => "route",
-            Table::Meta => "meta",
-            Table::Suppress => "suppress",
+            DatabaseTable::Rule => "rule",
+            DatabaseTable::Route => "route",
+            DatabaseTable::Meta => "meta",
+            DatabaseTable::Suppress => "suppress",
         })
     }
 }
@@ -68,7 +68,7 @@ pub enum MetaFault {
 pub enum Reason {
     /// The row of this rowid spells nothing.
     #[error("{0}, row {1}: {2}")]
-    Row(Table, i64, RowFault),
+    Row(DatabaseTable, i64, RowFault),
     /// The row of `suppress` of this rowid is of a rule that looks up no table.
     #[error("suppress, row {0}: length of a rule that looks up no table")]
     Suppressing(i64),
@@ -80,13 +80,13 @@ pub enum Reason {
     Meta(MetaFault),
     /// The table has this many rows, which are more than the second number.
     #[error("{0}: {1} rows, at most {2}")]
-    TooMany(Table, usize, usize),
+    TooMany(DatabaseTable, usize, usize),
     /// This column is missing, or is another in its place.
     #[error("{0}: column {1} is missing or another")]
-    Column(Table, &'static str),
+    Column(DatabaseTable, &'static str),
     /// The table has further columns, from the one of this number on.
     #[error("{0}: column {1} is one too many")]
-    FurtherColumn(Table, usize),
+    FurtherColumn(DatabaseTable, usize),
     /// The columns of each table are right, and the keys or the constraints of one aren't.
     #[error("rule, route, meta or suppress: other keys or constraints")]
     Keys,

@@ -3,7 +3,7 @@
 ghost use Rattle.std.specs.Prelude.{◌↔◌, IsNone};
 ghost use Rattle.prt_rows.specs.Format.{SuitsFormat2};
 
-use crate::{Reason, Table};
+use crate::{DatabaseTable, Reason};
 use prt_rows::suits_format_2;
 use sqlite_schema::names::same_name;
 use sqlite_schema::schema::{Column, Kind, Schema, Table as Declared};
@@ -70,7 +70,7 @@ fn has_column(columns: &[Column], at: usize, name: &str, kind: Kind) -> bool {
 
 /// Names the first column that is not as wanted.
 fn other_column(
-    table: Table,
+    table: DatabaseTable,
     columns: &[Column],
     wanted: &[(&'static str, Kind)],
 ) -> Option<Reason> {
@@ -86,18 +86,18 @@ fn other_column(
 }
 
 /// Tells which of the four tables has this name, in whatever case of ASCII letters.
-fn table_named(name: &[u8]) -> Option<Table> {
+fn table_named(name: &[u8]) -> Option<DatabaseTable> {
     if same_name(b"rule".as_slice(), name) {
-        return Some(Table::Rule);
+        return Some(DatabaseTable::Rule);
     }
     if same_name(b"route".as_slice(), name) {
-        return Some(Table::Route);
+        return Some(DatabaseTable::Route);
     }
     if same_name(b"meta".as_slice(), name) {
-        return Some(Table::Meta);
+        return Some(DatabaseTable::Meta);
     }
     if same_name(b"suppress".as_slice(), name) {
-        return Some(Table::Suppress);
+        return Some(DatabaseTable::Suppress);
     }
     None
 }
@@ -106,10 +106,10 @@ fn table_named(name: &[u8]) -> Option<Table> {
 fn column_reason(declared: &Declared) -> Option<Reason> {
     let columns = declared.columns.as_slice();
     match table_named(declared.name.as_slice())? {
-        Table::Rule => other_column(Table::Rule, columns, &RULE),
-        Table::Route => other_column(Table::Route, columns, &ROUTE),
-        Table::Meta => other_column(Table::Meta, columns, &META),
-        Table::Suppress => other_column(Table::Suppress, columns, &SUPPRESS),
+        DatabaseTable::Rule => other_column(DatabaseTable::Rule, columns, &RULE),
+        DatabaseTable::Route => other_column(DatabaseTable::Route, columns, &ROUTE),
+        DatabaseTable::Meta => other_column(DatabaseTable::Meta, columns, &META),
+        DatabaseTable::Suppress => other_column(DatabaseTable::Suppress, columns, &SUPPRESS),
     }
 }
 

@@ -14,11 +14,11 @@ mod reopening;
 #[cfg(test)]
 mod restarts;
 #[cfg(test)]
-mod rows;
-#[cfg(test)]
 mod steps;
 #[cfg(test)]
 mod together;
+#[cfg(test)]
+mod written_rows;
 
 pub use caller::submit;
 pub use reopening::reopened;

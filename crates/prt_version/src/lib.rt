@@ -10,7 +10,7 @@ mod groups;
 pub mod laws;
 mod limits;
 pub mod owners;
-mod rows;
+mod rule_edits;
 mod rule_index;
 mod rules;
 mod select;

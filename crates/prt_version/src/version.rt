@@ -15,7 +15,7 @@ ghost use Rattle.prt_version.specs.declared.limits.TheConstants.{MOST_ROUTES};
 use crate::checks::change_of;
 use crate::from_rows::{ordered_routes, ordered_rules};
 use crate::owners::first_owner;
-use crate::rows::{flushed_rules, with_rule, without_rule};
+use crate::rule_edits::{flushed_rules, with_rule, without_rule};
 use crate::rules::Rules;
 use crate::several::make_all;
 use crate::tables::Tables;

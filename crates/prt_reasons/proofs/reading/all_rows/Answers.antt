@@ -3,7 +3,7 @@ use Rattle.sqlite.specs.Effect.{Database}
 use Rattle.sqlite_value.specs.Order.{Row}
 use Rattle.prt_store.proofs.Loads.{handed_over, made_shown}
 use Rattle.prt_reasons.specs.Shows.{ShowsRows}
-use Rattle.prt_reasons.specs.declared.reason.Table.TheVariants as ours
+use Rattle.prt_reasons.specs.declared.reason.DatabaseTable.TheVariants as ours
 use Rattle.prt_reasons.proofs.Readings.{next_shown}
 use Rattle.prt_reasons.proofs.reading.all_rows.Goals as goal
 

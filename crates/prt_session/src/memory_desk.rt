@@ -20,11 +20,11 @@ use std::marker::Model;
 
 /// A desk over one version of the tables, which it keeps in memory alone.
 #[derive(Drop)]
-pub struct ListDesk {
+pub struct MemoryDesk {
     version: Version,
 }
 
-impl Model for ListDesk {
+impl Model for MemoryDesk {
     ghost use Rattle.prt_version.specs.State.{State};
 
     ghost Value = { State };
@@ -32,18 +32,18 @@ impl Model for ListDesk {
     ghost view = { λ desk. desk.version };
 }
 
-impl ListDesk {
+impl MemoryDesk {
     /// Makes a desk over the opening rules and no routes, which has accepted no command.
     ///
     /// # Errors
     ///
     /// `NoMemory`.
-    pub fn opening(alloc: Global) -> Result<ListDesk, Refusal>
+    pub fn opening(alloc: Global) -> Result<MemoryDesk, Refusal>
         ensures opening { IfOk result (λ desk. settled desk ≡ settled opening_state) }
         ensures memory { IfErr result (λ e. e ≡ NoMemory) }
     {
         let version = Version::opening(alloc)?;
-        Ok(ListDesk { version })
+        Ok(MemoryDesk { version })
     }
 
     /// Runs a script over this desk, as `run_script` does: nothing but want of memory can befall its requests.
@@ -62,7 +62,7 @@ impl ListDesk {
     }
 }
 
-impl Desk for ListDesk {
+impl Desk for MemoryDesk {
     ghost use Rattle.std.specs.Prelude.{◌≡◌, ⊤};
     ghost use Rattle.prt_session.specs.Desk.{IsNoMemory, settled};
 

@@ -5,7 +5,7 @@ use Rattle.prt_session.proofs.Submitted.{list_made, list_not_made}
 use Rattle.prt_session.specs.Desk.{IsNoMemory, settled}
 use Rattle.prt_session.specs.Steps.{CommandsGive}
 use Rattle.prt_version.specs.State.{State}
-use Rattle.prt_session.proofs.list_desk.ListDeskDesk.commands.Goals as goal
+use Rattle.prt_session.proofs.memory_desk.MemoryDeskDesk.commands.Goals as goal
 
 pub returns-in_err-version : goal.returns-in_err-version
 returns-in_err-version c =

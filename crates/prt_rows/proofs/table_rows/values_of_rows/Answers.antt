@@ -1,6 +1,6 @@
 use Rattle.std.proofs.Common.{inl, inr, refl}
 use Rattle.prt_rows.proofs.Decodes.{none_here, one_more}
-use Rattle.prt_rows.proofs.rows.values_of_rows.Goals as goal
+use Rattle.prt_rows.proofs.table_rows.values_of_rows.Goals as goal
 
 pub loop-row-preserved : goal.loop-row-preserved
 loop-row-preserved g c =

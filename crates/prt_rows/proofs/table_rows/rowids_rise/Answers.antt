@@ -1,6 +1,6 @@
 use Rattle.std.proofs.Common.{sym, ◌∙◌}
 use Rattle.prt_rows.proofs.Rising.{rise_stops}
-use Rattle.prt_rows.proofs.rows.rowids_rise.Goals as goal
+use Rattle.prt_rows.proofs.table_rows.rowids_rise.Goals as goal
 
 pub returns-in_default : goal.returns-in_default
 returns-in_default c =

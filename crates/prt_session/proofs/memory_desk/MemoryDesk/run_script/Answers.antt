@@ -1,7 +1,7 @@
 use Rattle.std.proofs.Common.{refl, subst}
 use Rattle.prt_session.specs.Desk.{Befalls, DeskState, IsNoMemory, request_turn, settled}
 use Rattle.prt_session.specs.Run.{RunIs}
-use Rattle.prt_session.proofs.list_desk.ListDesk.run_script.Goals as goal
+use Rattle.prt_session.proofs.memory_desk.MemoryDesk.run_script.Goals as goal
 
 -- the desk stands for one state alone
 pub returns : goal.returns

@@ -6,7 +6,7 @@ ghost use Rattle.prt_reasons.specs.Found.{HasBadRow};
 ghost use Rattle.prt_reasons.specs.Spelling.{SpellsLength, SpellsRoute, SpellsRule};
 
 use crate::cell::integer;
-use crate::{Reason, RowFault, Table, length_fault, meta_fault, route_fault, rule_fault};
+use crate::{DatabaseTable, Reason, RowFault, length_fault, meta_fault, route_fault, rule_fault};
 use prt_rows::{count_of_rows, length_of_row, rule_of_row};
 use prt_rule::{Rule, same};
 use prt_version::{MOST_ROUTES, MOST_RULES};
@@ -128,10 +128,10 @@ fn too_many(rules: usize, routes: usize) -> Option<Reason>
     ensures { IfSome result NamesNoRow }
 {
     if rules > MOST_RULES {
-        return Some(Reason::TooMany(Table::Rule, rules, MOST_RULES));
+        return Some(Reason::TooMany(DatabaseTable::Rule, rules, MOST_RULES));
     }
     if routes > MOST_ROUTES {
-        return Some(Reason::TooMany(Table::Route, routes, MOST_ROUTES));
+        return Some(Reason::TooMany(DatabaseTable::Route, routes, MOST_ROUTES));
     }
     None
 }
@@ -141,13 +141,13 @@ fn first_row(rows: &AllRows, last: u64) -> Option<Reason>
     ensures { IfSome result (NamesBadRow rows.now last) }
 {
     if let Some((id, fault)) = first_rule(rows.rules.as_slice(), last) {
-        return Some(Reason::Row(Table::Rule, id, fault));
+        return Some(Reason::Row(DatabaseTable::Rule, id, fault));
     }
     if let Some((id, fault)) = first_length(rows.lengths.as_slice(), last) {
-        return Some(Reason::Row(Table::Suppress, id, fault));
+        return Some(Reason::Row(DatabaseTable::Suppress, id, fault));
     }
     if let Some((id, fault)) = first_route(rows.routes.as_slice()) {
-        return Some(Reason::Row(Table::Route, id, fault));
+        return Some(Reason::Row(DatabaseTable::Route, id, fault));
     }
     None
 }

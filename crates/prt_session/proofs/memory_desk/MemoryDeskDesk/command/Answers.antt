@@ -3,7 +3,7 @@ use Rattle.std.proofs.lemmas.Result.{err_from_is_err_and}
 use Rattle.std.specs.Result.{result_err}
 use Rattle.prt_version.specs.Change.{check}
 use Rattle.prt_session.proofs.Turns.{memory_refused}
-use Rattle.prt_session.proofs.list_desk.ListDeskDesk.command.Goals as goal
+use Rattle.prt_session.proofs.memory_desk.MemoryDeskDesk.command.Goals as goal
 
 pub returns-in_err-self-inside-clause-turn : goal.returns-in_err-self-inside-clause-turn
 returns-in_err-self-inside-clause-turn c =
