@@ -8,6 +8,7 @@ use prt_addr::Prefix;
 use prt_route::read_dev;
 use sqlite::Row;
 use sqlite::types::ValueRef;
+use sqlite_schema::schema::Kind;
 
 /// The greatest number of 32 bits.
 pub(crate) const LARGEST: i64 = 4_294_967_295;
@@ -27,9 +28,6 @@ pub(crate) enum Domain {
     /// The name of an interface, or the empty text.
     Name,
 }
-
-/// The name of a column, and the values that it takes.
-pub(crate) type Column = (&'static str, Domain);
 
 /// Gives the integer in a cell.
 pub(crate) fn integer(row: &Row, at: usize) -> Option<i64>
@@ -68,10 +66,15 @@ fn takes(domain: Domain, row: &Row, at: usize) -> bool {
     }
 }
 
-/// Gives the name of the first of the columns that has a value which it doesn't take. The columns stand after the rowid.
-pub(crate) fn wrong_column(row: &Row, columns: &[Column]) -> Option<&'static str> {
-    for (at, column) in columns.iter().enumerate() {
-        if !takes(column.1, row, at + 1) {
+/// Gives the name of the first of the columns that has a value which is not in its domain. The columns stand after the
+/// rowid.
+pub(crate) fn wrong_column(
+    row: &Row,
+    columns: &[(&'static str, Kind)],
+    domains: &[Domain],
+) -> Option<&'static str> {
+    for (at, (column, domain)) in columns.iter().zip(domains.iter()).enumerate() {
+        if !takes(*domain, row, at + 1) {
             return Some(column.0);
         }
     }

@@ -5,16 +5,9 @@ ghost use Rattle.prt_reasons.specs.Spelling.{SpellsCount};
 
 use crate::MetaFault;
 use crate::cell::integer;
-use prt_rows::count_of_rows;
+use prt_rows::{MetaColumn as At, count_of_rows};
 use prt_version::MOST_COMMANDS;
 use sqlite::Row;
-
-/// The places of the columns in a row.
-const ID: usize = 0;
-
-const FORMAT: usize = 1;
-
-const COUNT: usize = 2;
 
 /// Tells whether a number is that of an accepted command, or 0.
 fn is_count(n: i64) -> bool {
@@ -26,7 +19,11 @@ fn is_count(n: i64) -> bool {
 
 /// Names the fault of a row that spells no count.
 fn name_fault(row: &Row) -> MetaFault {
-    match (integer(row, ID), integer(row, FORMAT), integer(row, COUNT)) {
+    match (
+        integer(row, At::Id as usize),
+        integer(row, At::Format as usize),
+        integer(row, At::Count as usize),
+    ) {
         (Some(1), Some(format), Some(count)) => {
             if format != 1 && format != 2 {
                 MetaFault::Format(format)

@@ -4,43 +4,36 @@ ghost use Rattle.std.specs.Prelude.{◌↔◌, IsNone, IsTrue};
 ghost use Rattle.prt_reasons.specs.Spelling.{SpellsRoute};
 
 use crate::RowFault;
-use crate::cell::{ABSENT, Column, Domain, LARGEST, has_host_bits, integer, wrong_column};
-use prt_rows::route_of_row;
+use crate::cell::{ABSENT, Domain, LARGEST, has_host_bits, integer, wrong_column};
+use prt_rows::{ROUTE_COLUMNS, RouteColumn as At, route_of_row};
 use sqlite::Row;
 
-/// The columns after the rowid.
-const COLUMNS: [Column; 10] = [
-    ("tbl", Domain::Number(1, LARGEST)),
-    ("net", Domain::Number(0, LARGEST)),
-    ("len", Domain::Number(0, 32)),
-    ("metric", Domain::Number(0, LARGEST)),
-    ("kind", Domain::Kind),
-    ("via", Domain::Number(ABSENT, LARGEST)),
-    ("dev", Domain::Name),
-    ("src", Domain::Number(ABSENT, LARGEST)),
-    ("proto", Domain::Number(0, 255)),
-    ("scope", Domain::Number(0, 255)),
+/// The values that the columns after the rowid take.
+const DOMAINS: [Domain; 10] = [
+    Domain::Number(1, LARGEST),
+    Domain::Number(0, LARGEST),
+    Domain::Number(0, 32),
+    Domain::Number(0, LARGEST),
+    Domain::Kind,
+    Domain::Number(ABSENT, LARGEST),
+    Domain::Name,
+    Domain::Number(ABSENT, LARGEST),
+    Domain::Number(0, 255),
+    Domain::Number(0, 255),
 ];
-
-/// The places of the address, of its length and of the kind in a row.
-const NET: usize = 2;
-
-const LEN: usize = 3;
-
-const KIND: usize = 5;
 
 /// The number of the kind unicast.
 const UNICAST: i64 = 1;
 
 /// Names the fault of a row that spells no route.
 fn name_fault(row: &Row) -> RowFault {
-    if let Some(column) = wrong_column(row, &COLUMNS) {
+    if let Some(column) = wrong_column(row, &ROUTE_COLUMNS, &DOMAINS) {
         return RowFault::Value(column);
     }
-    if has_host_bits(row, NET, LEN) {
+    if has_host_bits(row, At::Net as usize, At::Len as usize) {
         return RowFault::HostBits;
     }
-    match integer(row, KIND) {
+    match integer(row, At::Kind as usize) {
         Some(UNICAST) => RowFault::NoNextHop,
         _ => RowFault::NextHopNotAllowed,
     }

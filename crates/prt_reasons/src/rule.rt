@@ -4,46 +4,31 @@ ghost use Rattle.std.specs.Prelude.{◌↔◌, IsNone, IsTrue};
 ghost use Rattle.prt_reasons.specs.Spelling.{SpellsLength, SpellsRule};
 
 use crate::RowFault;
-use crate::cell::{ABSENT, Column, Domain, LARGEST, has_host_bits, integer, wrong_column};
-use prt_rows::{length_of_row, rule_of_row};
+use crate::cell::{ABSENT, Domain, LARGEST, has_host_bits, integer, wrong_column};
+use prt_rows::{RULE_COLUMNS, RuleColumn as At, length_of_row, rule_of_row};
 use sqlite::Row;
 
-/// The columns after the id.
-const COLUMNS: [Column; 11] = [
-    ("priority", Domain::Number(0, LARGEST)),
-    ("inverted", Domain::Number(0, 1)),
-    ("src_net", Domain::Number(0, LARGEST)),
-    ("src_len", Domain::Number(0, 32)),
-    ("dst_net", Domain::Number(0, LARGEST)),
-    ("dst_len", Domain::Number(0, 32)),
-    ("iif", Domain::Name),
-    ("mark", Domain::Number(ABSENT, LARGEST)),
-    ("mask", Domain::Number(ABSENT, LARGEST)),
-    ("act", Domain::Action),
-    ("tbl", Domain::Number(0, LARGEST)),
+/// The values that the columns after the id take.
+const DOMAINS: [Domain; 11] = [
+    Domain::Number(0, LARGEST),
+    Domain::Number(0, 1),
+    Domain::Number(0, LARGEST),
+    Domain::Number(0, 32),
+    Domain::Number(0, LARGEST),
+    Domain::Number(0, 32),
+    Domain::Name,
+    Domain::Number(ABSENT, LARGEST),
+    Domain::Number(ABSENT, LARGEST),
+    Domain::Action,
+    Domain::Number(0, LARGEST),
 ];
-
-/// The places of the addresses and lengths of sources and of destinations, of mark, mask and action in a row.
-const SRC_NET: usize = 3;
-
-const SRC_LEN: usize = 4;
-
-const DST_NET: usize = 5;
-
-const DST_LEN: usize = 6;
-
-const MARK: usize = 8;
-
-const MASK: usize = 9;
-
-const ACT: usize = 10;
 
 /// The number of the action that looks up a table.
 const LOOKUP: i64 = 1;
 
 /// Tells whether the first cell has an id of 1 to `last`.
 fn has_id(row: &Row, last: u64) -> bool {
-    match integer(row, 0) {
+    match integer(row, At::Id as usize) {
         Some(id) => match u64::try_from(id) {
             Ok(id) => 1 <= id && id <= last,
             Err(_) => false,
@@ -62,16 +47,18 @@ fn name_fault(row: &Row, last: u64) -> RowFault {
     if !has_id(row, last) {
         return RowFault::Value("id");
     }
-    if let Some(column) = wrong_column(row, &COLUMNS) {
+    if let Some(column) = wrong_column(row, &RULE_COLUMNS[1..], &DOMAINS) {
         return RowFault::Value(column);
     }
-    if has_host_bits(row, SRC_NET, SRC_LEN) || has_host_bits(row, DST_NET, DST_LEN) {
+    if has_host_bits(row, At::SrcNet as usize, At::SrcLen as usize)
+        || has_host_bits(row, At::DstNet as usize, At::DstLen as usize)
+    {
         return RowFault::HostBits;
     }
-    if is_absent(row, MARK) != is_absent(row, MASK) {
+    if is_absent(row, At::Mark as usize) != is_absent(row, At::Mask as usize) {
         return RowFault::HalfMark;
     }
-    match integer(row, ACT) {
+    match integer(row, At::Act as usize) {
         Some(LOOKUP) => RowFault::Value("tbl"),
         _ => RowFault::TableNotAllowed,
     }

@@ -4,61 +4,11 @@ ghost use Rattle.std.specs.Prelude.{◌↔◌, IsNone};
 ghost use Rattle.prt_rows.specs.Format.{SuitsFormat2};
 
 use crate::{DatabaseTable, Reason};
-use prt_rows::suits_format_2;
+use prt_rows::{
+    META_COLUMNS, ROUTE_COLUMNS, RULE_COLUMNS, SUPPRESS_COLUMNS, is_column, suits_format_2,
+};
 use sqlite_schema::names::same_name;
 use sqlite_schema::schema::{Column, Kind, Schema, Table as Declared};
-use sqlite_value::keys::Collation;
-use sqlite_value::value::Value;
-
-/// The name and the type of each column of `rule`.
-const RULE: [(&str, Kind); 12] = [
-    ("id", Kind::Integer),
-    ("priority", Kind::Integer),
-    ("inverted", Kind::Integer),
-    ("src_net", Kind::Integer),
-    ("src_len", Kind::Integer),
-    ("dst_net", Kind::Integer),
-    ("dst_len", Kind::Integer),
-    ("iif", Kind::Text),
-    ("mark", Kind::Integer),
-    ("mask", Kind::Integer),
-    ("act", Kind::Integer),
-    ("tbl", Kind::Integer),
-];
-
-/// The same of `route`.
-const ROUTE: [(&str, Kind); 10] = [
-    ("tbl", Kind::Integer),
-    ("net", Kind::Integer),
-    ("len", Kind::Integer),
-    ("metric", Kind::Integer),
-    ("kind", Kind::Integer),
-    ("via", Kind::Integer),
-    ("dev", Kind::Text),
-    ("src", Kind::Integer),
-    ("proto", Kind::Integer),
-    ("scope", Kind::Integer),
-];
-
-/// The same of `meta`.
-const META: [(&str, Kind); 3] = [
-    ("id", Kind::Integer),
-    ("format", Kind::Integer),
-    ("count", Kind::Integer),
-];
-
-/// The same of `suppress`.
-const SUPPRESS: [(&str, Kind); 2] = [("rule", Kind::Integer), ("len", Kind::Integer)];
-
-/// Tells whether it is a column of this name and type of a STRICT table, and takes no NULL.
-fn is_column(column: &Column, name: &str, kind: Kind) -> bool {
-    column.name.as_slice() == name.as_bytes()
-        && column.kind == kind
-        && column.is_strict
-        && column.not_null
-        && matches!(column.default, Value::Null)
-        && column.collation == Collation::Binary
-}
 
 /// Tells whether the column at a place is the one of this name and type.
 fn has_column(columns: &[Column], at: usize, name: &str, kind: Kind) -> bool {
@@ -106,10 +56,14 @@ fn table_named(name: &[u8]) -> Option<DatabaseTable> {
 fn column_reason(declared: &Declared) -> Option<Reason> {
     let columns = declared.columns.as_slice();
     match table_named(declared.name.as_slice())? {
-        DatabaseTable::Rule => other_column(DatabaseTable::Rule, columns, &RULE),
-        DatabaseTable::Route => other_column(DatabaseTable::Route, columns, &ROUTE),
-        DatabaseTable::Meta => other_column(DatabaseTable::Meta, columns, &META),
-        DatabaseTable::Suppress => other_column(DatabaseTable::Suppress, columns, &SUPPRESS),
+        DatabaseTable::Rule => other_column(DatabaseTable::Rule, columns, &RULE_COLUMNS),
+        DatabaseTable::Route => other_column(DatabaseTable::Route, columns, &ROUTE_COLUMNS),
+        DatabaseTable::Meta => other_column(DatabaseTable::Meta, columns, &META_COLUMNS),
+        DatabaseTable::Suppress => other_column(
+            DatabaseTable::Suppress,
+            columns,
+            &SUPPRESS_COLUMNS,
+        ),
     }
 }
 

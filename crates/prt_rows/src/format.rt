@@ -10,53 +10,14 @@ ghost use Rattle.prt_rows.specs.Format.{BeginsFormat2, HasFormat2, IsFormat2, Su
 ghost use Rattle.prt_rows.specs.Others.{AreNotOfRoutes, AreOthers, IsElsewhere, IsOther};
 ghost use Rattle.prt_rows.specs.Tables.{format_1_alone, key_places, meta_table, no_tables, plain_table, route_key, route_table, rule_alone, rule_and_route, rule_table, strict_column, suppress_table, to_rule};
 
+use crate::column::{META_COLUMNS, ROUTE_COLUMNS, RULE_COLUMNS, SUPPRESS_COLUMNS};
 use sqlite_schema::names::same_name;
 use sqlite_schema::schema::{Action, Column, Index, Kind, Reference, Schema, Table};
 use sqlite_value::keys::Collation;
 use sqlite_value::value::{Bytes, Value};
 
-/// The name and the type of each column of `rule`.
-const RULE: [(&str, Kind); 12] = [
-    ("id", Kind::Integer),
-    ("priority", Kind::Integer),
-    ("inverted", Kind::Integer),
-    ("src_net", Kind::Integer),
-    ("src_len", Kind::Integer),
-    ("dst_net", Kind::Integer),
-    ("dst_len", Kind::Integer),
-    ("iif", Kind::Text),
-    ("mark", Kind::Integer),
-    ("mask", Kind::Integer),
-    ("act", Kind::Integer),
-    ("tbl", Kind::Integer),
-];
-
-/// The same of `route`.
-const ROUTE: [(&str, Kind); 10] = [
-    ("tbl", Kind::Integer),
-    ("net", Kind::Integer),
-    ("len", Kind::Integer),
-    ("metric", Kind::Integer),
-    ("kind", Kind::Integer),
-    ("via", Kind::Integer),
-    ("dev", Kind::Text),
-    ("src", Kind::Integer),
-    ("proto", Kind::Integer),
-    ("scope", Kind::Integer),
-];
-
-/// The same of `meta`.
-const META: [(&str, Kind); 3] = [
-    ("id", Kind::Integer),
-    ("format", Kind::Integer),
-    ("count", Kind::Integer),
-];
-
-/// The same of `suppress`.
-const SUPPRESS: [(&str, Kind); 2] = [("rule", Kind::Integer), ("len", Kind::Integer)];
-
 /// Tells whether it is a column of this name and type of a STRICT table, and takes no NULL.
-fn is_column(column: &Column, name: &str, kind: Kind) -> bool
+pub fn is_column(column: &Column, name: &str, kind: Kind) -> bool
     ensures { IsTrue result ↔ (column.now ≡ strict_column name.now kind) }
 {
     column.name.as_slice() == name.as_bytes()
@@ -165,14 +126,14 @@ fn is_table_by_id(table: &Table, name: &str, columns: &[(&str, Kind)]) -> bool
 fn is_rule_table(table: &Table) -> bool
     ensures { IsTrue result ↔ (table.now ≡ record rule_table { tree = table.now.tree }) }
 {
-    is_table_by_id(table, "rule", &RULE)
+    is_table_by_id(table, "rule", &RULE_COLUMNS)
 }
 
 /// Tells whether it is the table `meta`, in whatever tree.
 fn is_meta_table(table: &Table) -> bool
     ensures { IsTrue result ↔ (table.now ≡ record meta_table { tree = table.now.tree }) }
 {
-    is_table_by_id(table, "meta", &META)
+    is_table_by_id(table, "meta", &META_COLUMNS)
 }
 
 /// Tells whether it is the table `suppress`, in whatever tree.
@@ -180,7 +141,7 @@ fn is_suppress_table(table: &Table) -> bool
     ensures { IsTrue result ↔ (table.now ≡ record suppress_table { tree = table.now.tree }) }
 {
     table.name.as_slice() == b"suppress".as_slice()
-        && are_columns(table.columns.as_slice(), &SUPPRESS)
+        && are_columns(table.columns.as_slice(), &SUPPRESS_COLUMNS)
         && is_keyed_by_first(table)
         && refers_to_rule(table)
         && is_unchecked(table)
@@ -208,7 +169,7 @@ fn is_route_table(table: &Table) -> bool
     ensures { IsTrue result ↔ (table.now ≡ record route_table { tree = table.now.tree }) }
 {
     table.name.as_slice() == b"route".as_slice()
-        && are_columns(table.columns.as_slice(), &ROUTE)
+        && are_columns(table.columns.as_slice(), &ROUTE_COLUMNS)
         && table.key.is_none()
         && are_key_places(table.primary.as_slice())
         && has_route_key(table)

@@ -15,7 +15,13 @@ mod suppress_row;
 mod table_rows;
 mod value;
 
-pub use format::{begins_format_2, has_format_2, has_table, is_format_2, suits_format_2};
+pub use column::{
+    META_COLUMNS, MetaColumn, ROUTE_COLUMNS, RULE_COLUMNS, RouteColumn, RuleColumn,
+    SUPPRESS_COLUMNS,
+};
+pub use format::{
+    begins_format_2, has_format_2, has_table, is_column, is_format_2, suits_format_2,
+};
 pub use laws::{rows_named, rows_read_back, rows_selected, statements_write};
 pub use meta_row::{count_in_format_1, count_of_rows, meta_values};
 pub use route_row::{route_of_row, route_values};

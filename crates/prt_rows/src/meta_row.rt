@@ -5,7 +5,7 @@ ghost use Rattle.sqlite.specs.Values.{bound};
 ghost use Rattle.prt_rows.specs.Decodes.{Decodes};
 ghost use Rattle.prt_rows.specs.MetaRow.{IsCount, meta_row, meta_row_in, meta_rows, meta_rows_1};
 
-use crate::column::{META_COLUMNS, MetaColumn as At};
+use crate::column::{META_WIDTH, MetaColumn as At};
 use crate::{cell, value};
 use sqlite::Row;
 use sqlite::types::ValueRef;
@@ -26,7 +26,7 @@ const LARGEST_COUNT: u64 = 1_000_000_000_000_000;
 fn count_of_row(row: &Row, format: u32) -> Option<u64>
     ensures { Decodes (meta_row_in format) IsCount row.now result }
 {
-    if row.column_count() != META_COLUMNS {
+    if row.column_count() != META_WIDTH {
         return None;
     }
     let id = cell::number(row, At::Id as usize)?;
@@ -65,7 +65,7 @@ pub fn count_in_format_1(rows: &[Row]) -> Option<u64>
 
 /// Gives the values of the row of `meta` for a count of at most 10^15, in the order of the columns, to be bound to a
 /// statement.
-pub fn meta_values(count: u64) -> [ValueRef<'static>; META_COLUMNS]
+pub fn meta_values(count: u64) -> [ValueRef<'static>; META_WIDTH]
     requires { IsCount count }
     ensures { bound result ≡ meta_row count }
 {

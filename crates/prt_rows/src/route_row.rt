@@ -8,7 +8,7 @@ ghost use Rattle.prt_rows.specs.Cell.{number};
 ghost use Rattle.prt_rows.specs.RouteRow.{IsInRange, kind_code, route_row};
 
 use crate::code::{kind_code, kind_of_code};
-use crate::column::{ROUTE_COLUMNS, RouteColumn as At};
+use crate::column::{ROUTE_WIDTH, RouteColumn as At};
 use crate::{cell, value};
 use prt_route::{Kind, Route};
 use sqlite::Row;
@@ -28,7 +28,7 @@ fn kind(row: &Row, at: usize) -> Option<Kind>
 pub fn route_of_row(row: &Row) -> Option<Route>
     ensures { Decodes route_row IsInRange (drop 1 row.now) result }
 {
-    if row.column_count() != ROUTE_COLUMNS + 1 {
+    if row.column_count() != ROUTE_WIDTH + 1 {
         return None;
     }
     Some(Route {
@@ -46,7 +46,7 @@ pub fn route_of_row(row: &Row) -> Option<Route>
 
 /// The values of the row of a route, in the order of the columns (`docs/STORE.md`), to be bound to a statement. The
 /// rowid is not among them.
-pub fn route_values(route: &Route) -> [ValueRef<'_>; ROUTE_COLUMNS]
+pub fn route_values(route: &Route) -> [ValueRef<'_>; ROUTE_WIDTH]
     ensures value { bound result ≡ route_row route.now }
     ensures route { IsInRange route.now }
 {

@@ -8,7 +8,7 @@ ghost use Rattle.prt_rows.specs.Cell.{IsWithin, flag, number, optional_number};
 ghost use Rattle.prt_rows.specs.RuleRow.{IsAction, IsOptionalMark, IsRule, action_cells, mark_cells, rule_row};
 
 use crate::code::{action_codes, action_of_codes};
-use crate::column::{RULE_COLUMNS, RuleColumn as At};
+use crate::column::{RULE_WIDTH, RuleColumn as At};
 use crate::{cell, value};
 use prt_rule::{Action, Mark, Rule};
 use sqlite::Row;
@@ -50,7 +50,7 @@ fn action(row: &Row, act_at: usize, table_at: usize) -> Option<Action>
 pub fn rule_of_row(row: &Row, last: u64) -> Option<Rule>
     ensures { Decodes rule_row (IsRule last) row.now result }
 {
-    if row.column_count() != RULE_COLUMNS {
+    if row.column_count() != RULE_WIDTH {
         return None;
     }
     Some(Rule {
@@ -68,7 +68,7 @@ pub fn rule_of_row(row: &Row, last: u64) -> Option<Rule>
 
 /// The values of the row of a rule, whose id is below 2^63, in the order of the columns (`docs/STORE.md`), to be bound
 /// to a statement.
-pub fn rule_values(rule: &Rule) -> [ValueRef<'_>; RULE_COLUMNS]
+pub fn rule_values(rule: &Rule) -> [ValueRef<'_>; RULE_WIDTH]
     requires { rule.now.id < 2 ^ 63 }
     ensures value { bound result ≡ rule_row rule.now }
     ensures rule { 1 ≤ rule.now.id → IsRule rule.now.id (record rule.now { suppress = None }) }

@@ -5,7 +5,7 @@ ghost use Rattle.sqlite.specs.Values.{bound};
 ghost use Rattle.prt_rows.specs.Decodes.{Decodes};
 ghost use Rattle.prt_rows.specs.SuppressRow.{IsLength, suppress_row};
 
-use crate::column::{SUPPRESS_COLUMNS, SuppressColumn as At};
+use crate::column::{SUPPRESS_WIDTH, SuppressColumn as At};
 use crate::{cell, value};
 use sqlite::Row;
 use sqlite::types::ValueRef;
@@ -28,7 +28,7 @@ pub struct RuleLength {
 pub fn length_of_row(row: &Row, last: u64) -> Option<RuleLength>
     ensures { Decodes suppress_row (IsLength last) row.now result }
 {
-    if row.column_count() != SUPPRESS_COLUMNS {
+    if row.column_count() != SUPPRESS_WIDTH {
         return None;
     }
     let rule = cell::number_within(row, At::Rule as usize, 1, last)?;
@@ -41,7 +41,7 @@ pub fn length_of_row(row: &Row, last: u64) -> Option<RuleLength>
 
 /// The values of the row of a length, whose rule's id is below 2^63, in the order of the columns (`docs/STORE.md`), to
 /// be bound to a statement.
-pub fn length_values(length: &RuleLength) -> [ValueRef<'static>; SUPPRESS_COLUMNS]
+pub fn length_values(length: &RuleLength) -> [ValueRef<'static>; SUPPRESS_WIDTH]
     requires { length.now.rule < 2 ^ 63 }
     ensures { bound result ≡ suppress_row length.now }
 {

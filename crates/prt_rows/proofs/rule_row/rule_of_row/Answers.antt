@@ -13,7 +13,7 @@ second is = ap (λ (cells : Row). column cells 1) is
 
 pub returns : goal.returns
 returns c =
-    let whole : length c.args.row.now ≡ 12 = sym c.column_count.ensures ∙ c.if-column_count-ne-RULE_COLUMNS.false in
+    let whole : length c.args.row.now ≡ 12 = sym c.column_count.ensures ∙ c.if-column_count-ne-RULE_WIDTH.false in
     let from = c.in_ok-prefix.ensures in
     let to = c.in_ok-prefix-2.ensures in
     let mark = c.in_ok-mark.ensures in
