@@ -19,9 +19,10 @@ use Rattle.prt_version.specs.Sound.{IsSound}
 use Rattle.prt_version.specs.State.{State, opening_state}
 use Rattle.prt_version.proofs.Folds.{apply_count}
 use Rattle.prt_session.specs.Desk.{DeskState, Mishap, command_or_refusal, request_turn, settled}
-use Rattle.prt_session.specs.Session.{Ending, Exchange, Session, Turn, TurnsOf, after_exchange, end_of_input, exchange_of, line_turn, replies, session, session_lines, stops_after, turn_on}
+use Rattle.prt_replies.specs.Input.{Ending, end_of_input}
+use Rattle.prt_session.specs.Session.{Exchange, Session, Turn, TurnsOf, after_exchange, exchange_of, line_turn, replies, session, session_lines, stops_after, turn_on}
 use Rattle.prt_session.specs.Steps.{HasNoNewline}
-use Rattle.prt_session.specs.declared.reply.Reply.TheVariants.{Accepted}
+use Rattle.prt_replies.specs.declared.reply.Reply.TheVariants.{Accepted}
 use Rattle.prt_session.proofs.Lines.{whole_line}
 use Rattle.prt_dump.specs.Dump.{dump_commands, dump_lines, gateways_last, new_rule, route_line, rule_line}
 use Rattle.prt_dump.specs.Plain.{RouteFits, RuleFits, is_plain_route, is_plain_rule}

@@ -7,9 +7,10 @@ use Rattle.prt_command.specs.declared.request.Query.TheVariants.{Get}
 use Rattle.prt_listing.specs.QueryText.{lines_text, query_text}
 use Rattle.prt_rule.specs.declared.rule.Rule.{Rule}
 use Rattle.prt_session.specs.Desk.{DeskState, Mishap, request_turn, settled}
-use Rattle.prt_session.specs.Session.{Session, end_of_input, replies, session}
-use Rattle.prt_session.specs.declared.reply.Reply.{Reply}
-use Rattle.prt_session.specs.declared.reply.Reply.TheVariants.{Accepted}
+use Rattle.prt_replies.specs.Input.{end_of_input}
+use Rattle.prt_session.specs.Session.{Session, replies, session}
+use Rattle.prt_replies.specs.declared.reply.Reply.{Reply}
+use Rattle.prt_replies.specs.declared.reply.Reply.TheVariants.{Accepted}
 use Rattle.prt_version.specs.State.{State, opening_state}
 use Rattle.prt_dump.specs.Dump.{dump_lines}
 use Rattle.prt_dump.specs.Plain.{RouteFits, RuleFits, is_plain_route, is_plain_rule}

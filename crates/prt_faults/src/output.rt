@@ -1,7 +1,7 @@
 //! Lines of output.
 
 use prt_command::Refusal;
-use prt_session::{Reply, write_reply};
+use prt_replies::{Reply, write_reply};
 use std::io::Write;
 
 /// Writes a reply.

@@ -6,7 +6,7 @@ use Rattle.sqlite.specs.Store.{Ghosts}
 use Rattle.prt_refusals.specs.declared.refusal.Refusal.{Refusal}
 use Rattle.prt_dump.specs.PutBack.{dump_text}
 use Rattle.prt_publisher.specs.Openings.{HasOpened}
-use Rattle.prt_session.specs.Steps.{Written}
+use Rattle.prt_replies.specs.Written.{Written}
 use Rattle.prt_version.specs.State.{State}
 use Rattle.prt_host.specs.Closing.{IsClosedAgain, LeavesNoneOpen}
 

@@ -2,7 +2,7 @@
 ghost use Rattle.std.specs.Prelude.{◌≡◌, ◌≢◌, ◌⊎◌, false};
 ghost use Rattle.std.specs.Io.KnownBytes.{Appends};
 ghost use Rattle.prt_host.specs.Dumping.{IsDumped, IsNotDumped};
-ghost use Rattle.prt_session.specs.Steps.{Written};
+ghost use Rattle.prt_replies.specs.Written.{Written};
 
 use crate::databases::DatabaseFiles;
 use crate::machine::Machine;
@@ -10,7 +10,7 @@ use crate::opening::open_desk;
 use crate::telling::tell;
 use prt_dump::{NotDumped, dump_text};
 use prt_program::{Refusal, cause_message, log_message};
-use prt_session::{Reply, Text, write_reply};
+use prt_replies::{Reply, Text, write_reply};
 use prt_words::{DONE, FAULT, Fault, report};
 use sqlite::{Alter, Connection};
 use std::alloc::{AllocError, Global};

@@ -9,8 +9,8 @@ use Rattle.prt_session.proofs.Collected.{collected_told, found}
 use Rattle.prt_session.specs.Atomic.{accepted_after, after_reading, list_replies, collected}
 use Rattle.prt_session.specs.Desk.{DeskState, ListTurn, Mishap, commands_or_refusal, commands_turn, no_memory, no_room, settled}
 use Rattle.prt_session.specs.Session.{replies}
-use Rattle.prt_session.specs.declared.reply.Reply.{Reply}
-use Rattle.prt_session.specs.declared.reply.Reply.TheVariants.{Accepted, Refused}
+use Rattle.prt_replies.specs.declared.reply.Reply.{Reply}
+use Rattle.prt_replies.specs.declared.reply.Reply.TheVariants.{Accepted, Refused}
 use Rattle.prt_version.proofs.Folds.{accepted_all, count_fold}
 use Rattle.prt_version.specs.Accepted.{refusal_all}
 use Rattle.prt_version.specs.Change.{fold}

@@ -22,8 +22,8 @@ use Rattle.prt_rule.specs.declared.packet.Packet.{Packet}
 use Rattle.prt_session.specs.Desk.{DeskState, Mishap, command_or_refusal, command_turn, commit_kept, no_memory, no_room, publication_fails, query_turn, request_turn, settled, store_fails}
 use Rattle.prt_session.specs.Session as session
 use Rattle.prt_session.specs.Session.{Exchange, Turn, turn_on}
-use Rattle.prt_session.specs.declared.reply.Reply.{Reply}
-use Rattle.prt_session.specs.declared.reply.Reply.TheVariants.{Answered, Refused, Silent}
+use Rattle.prt_replies.specs.declared.reply.Reply.{Reply}
+use Rattle.prt_replies.specs.declared.reply.Reply.TheVariants.{Answered, Refused, Silent}
 use Rattle.prt_version.specs.Change.{refusal}
 use Rattle.prt_version.specs.State.{State}
 use Rattle.prt_version.specs.declared.answer.Answer.{Answer}

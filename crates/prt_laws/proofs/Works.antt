@@ -11,7 +11,7 @@ use Rattle.prt_session.proofs.Length.{session_taken}
 use Rattle.prt_session.specs.Atomic.{after_reading, collect_turn, collected}
 use Rattle.prt_session.specs.Desk.{Befalls, DeskState, Mishap, command_or_refusal, commit_kept, request_turn, settled, shut, submit}
 use Rattle.prt_session.specs.Session.{Exchange, LineMay, MayOn, Turn, line_turn, turn_on}
-use Rattle.prt_session.specs.declared.reply.Reply.{Reply}
+use Rattle.prt_replies.specs.declared.reply.Reply.{Reply}
 use Rattle.prt_version.specs.Change.{apply, refusal}
 use Rattle.prt_version.specs.State.{State, opening_state}
 use Rattle.prt_words.specs.declared.task.Mode.TheVariants.{InTurn, Together}

@@ -16,11 +16,12 @@ use Rattle.prt_listing.specs.QueryText.{query_text}
 use Rattle.prt_rule.specs.declared.packet.Packet.{Packet}
 use Rattle.prt_session.specs.Atomic.{atomic_output, collected, list_replies}
 use Rattle.prt_session.specs.Desk.{Befalls, DeskState, Mishap, command_turn, commands_turn, commit_kept, no_memory, no_room, publication_fails, request_turn, settled, store_fails}
-use Rattle.prt_session.specs.Reply.{is_refused}
-use Rattle.prt_session.specs.Session.{Exchange, Input, Path, replies}
+use Rattle.prt_replies.specs.Reply.{is_refused}
+use Rattle.prt_replies.specs.Input.{Input}
+use Rattle.prt_session.specs.Session.{Exchange, Path, replies}
 use Rattle.prt_session.specs.Steps.{reply_of}
-use Rattle.prt_session.specs.declared.reply.Reply.{Reply}
-use Rattle.prt_session.specs.declared.reply.Reply.TheVariants.{Accepted, Answered, Refused, Silent}
+use Rattle.prt_replies.specs.declared.reply.Reply.{Reply}
+use Rattle.prt_replies.specs.declared.reply.Reply.TheVariants.{Accepted, Answered, Refused, Silent}
 use Rattle.prt_version.specs.Accepted.{refusal_all}
 use Rattle.prt_version.specs.Change.{refusal}
 use Rattle.prt_version.specs.State.{State, opening_state}

@@ -9,10 +9,11 @@ use Rattle.prt_command.specs.declared.request.Request.TheVariants as requests
 use Rattle.prt_program.specs.Program.{SessionIs, SessionLeaves, Streams}
 use Rattle.prt_session.specs.Atomic.{atomic_output, collected}
 use Rattle.prt_session.specs.Desk.{DeskState, Mishap, commit_kept, request_turn, settled, shut}
-use Rattle.prt_session.specs.Session.{Exchange, Input, session}
-use Rattle.prt_session.specs.declared.reply.Reply.{Reply}
-use Rattle.prt_session.specs.declared.reply.Reply.TheVariants.{Refused}
-use Rattle.prt_session.specs.declared.script_end.ScriptEnd.{ScriptEnd}
+use Rattle.prt_replies.specs.Input.{Input}
+use Rattle.prt_session.specs.Session.{Exchange, session}
+use Rattle.prt_replies.specs.declared.reply.Reply.{Reply}
+use Rattle.prt_replies.specs.declared.reply.Reply.TheVariants.{Refused}
+use Rattle.prt_replies.specs.declared.script_end.ScriptEnd.{ScriptEnd}
 use Rattle.prt_version.specs.Change.{apply, refusal}
 use Rattle.prt_version.specs.State.{State, opening_state}
 use Rattle.prt_words.specs.declared.task.Mode.{Mode}

@@ -4,7 +4,7 @@ use Rattle.prt_program.specs.Program.{RunsOn, SessionIs, exit_status, streams_of
 use Rattle.prt_session.specs.Desk.{DeskState, Mishap, settled}
 use Rattle.prt_session.specs.Open.{IsOpenOn}
 use Rattle.prt_session.specs.Stands.{Explained, StandsForSome}
-use Rattle.prt_session.specs.declared.script_end.ScriptEnd.{ScriptEnd}
+use Rattle.prt_replies.specs.declared.script_end.ScriptEnd.{ScriptEnd}
 use Rattle.prt_version.specs.State.{State, opening_state}
 use Rattle.prt_words.specs.declared.task.Mode.{Mode}
 

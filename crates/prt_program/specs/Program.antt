@@ -16,7 +16,7 @@ use Rattle.prt_session.specs.Stands.{StandsForSome}
 use Rattle.prt_version.specs.State.{State, opening_state}
 use Rattle.prt_program.specs.declared.next.Next.{Next}
 use Rattle.prt_program.specs.declared.next.Next.TheVariants.{Dump, Exit, Serve}
-use Rattle.prt_session.specs.declared.script_end.ScriptEnd.{ScriptEnd}
+use Rattle.prt_replies.specs.declared.script_end.ScriptEnd.{ScriptEnd}
 use Rattle.prt_words.specs.declared.serving.Serving.{Serving}
 use Rattle.prt_words.specs.declared.task.Mode.{Mode}
 use Rattle.prt_words.specs.declared.task.Mode.TheVariants.{InTurn, Together}

@@ -10,8 +10,8 @@ use Rattle.prt_command.specs.Lines.{limits}
 use Rattle.prt_command.specs.Requests.{refuse_if}
 use Rattle.prt_command.specs.Then.{◌>>=◌}
 use Rattle.prt_replay.specs.Replay.{Finds, IsAllOf, input_events}
-use Rattle.prt_session.proofs.Known.{Gives, consumes_more, consumes_nothing, gives_all, gives_beyond, gives_had, gives_rest, left_of}
-use Rattle.prt_session.specs.Session.{Input, end_of_input, is_fault, read_fault}
+use Rattle.prt_replies.proofs.Known.{Gives, consumes_more, consumes_nothing, gives_all, gives_beyond, gives_had, gives_rest, left_of}
+use Rattle.prt_replies.specs.Input.{Input, end_of_input, is_fault, read_fault}
 use Rattle.prt_replay.specs.ReadEvents.{contents, events_of, events_of_lines, longest_replay, most_events}
 use Rattle.prt_world.specs.declared.event.Event.{Event}
 

@@ -5,9 +5,9 @@ use Rattle.prt_refusals.specs.declared.refusal.Refusal.{Refusal}
 use Rattle.prt_refusals.specs.declared.refusal.Refusal.TheVariants.{NoMemory, ReadFault, TooManyLines, WriteFault}
 use Rattle.prt_command.specs.Requests.{refuse_if}
 use Rattle.prt_command.specs.Then.{◌>>=◌}
-use Rattle.prt_session.specs.Session.{Input, end_of_input, is_fault}
-use Rattle.prt_session.specs.Steps.{Written}
-use Rattle.prt_session.specs.declared.script_end.ScriptEnd.{ScriptEnd}
+use Rattle.prt_replies.specs.Input.{Input, end_of_input, is_fault}
+use Rattle.prt_replies.specs.Written.{Written}
+use Rattle.prt_replies.specs.declared.script_end.ScriptEnd.{ScriptEnd}
 use Rattle.prt_replay.specs.ReadEvents.{events_of, longest_replay}
 use Rattle.prt_replay.specs.TraceText.{trace_text}
 use Rattle.prt_world.specs.World.{outcomes_from, start}

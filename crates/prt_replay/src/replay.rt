@@ -9,7 +9,8 @@ use crate::play::play_events;
 use crate::replay_file::{LONGEST_REPLAY, first_refused, read_events};
 use crate::text::trace_text;
 use prt_command::LONGEST_LINE;
-use prt_session::{Observer, Refusal, Reply, ScriptEnd, Text, write_reply};
+use prt_refusals::Refusal;
+use prt_replies::{Observer, Reply, ScriptEnd, Text, write_reply};
 use std::alloc::Global;
 use std::io::{Read, Write};
 

@@ -8,8 +8,8 @@ use Rattle.prt_front.specs.Line.{Line, Begins}
 use Rattle.prt_serve.specs.Requests.{Event, seen, unanswered, taken, reply_to}
 use Rattle.prt_service.specs.Service.{EndsWith}
 use Rattle.prt_session.specs.Session.{Exchange}
-use Rattle.prt_session.specs.declared.reply.Reply.{Reply}
-use Rattle.prt_session.specs.declared.reply.Reply.TheVariants.{Refused, Silent}
+use Rattle.prt_replies.specs.declared.reply.Reply.{Reply}
+use Rattle.prt_replies.specs.declared.reply.Reply.TheVariants.{Refused, Silent}
 
 -- ---- the lists of queries and receipts
 

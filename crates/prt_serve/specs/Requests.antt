@@ -8,8 +8,8 @@ use Rattle.prt_front.specs.Line.{Line, Begins, line_state}
 use Rattle.prt_listing.specs.QueryText.{query_text}
 use Rattle.prt_service.specs.Service.{EndsWith, IsServiceRefusal}
 use Rattle.prt_session.specs.Session.{Turn}
-use Rattle.prt_session.specs.declared.reply.Reply.{Reply}
-use Rattle.prt_session.specs.declared.reply.Reply.TheVariants.{Accepted, Answered, Refused}
+use Rattle.prt_replies.specs.declared.reply.Reply.{Reply}
+use Rattle.prt_replies.specs.declared.reply.Reply.TheVariants.{Accepted, Answered, Refused}
 
 -- What the other threads and the store make of a request.
 pub data Event : Type 0 where

@@ -6,7 +6,7 @@ use Rattle.prt_serve.specs.Requests.{service_may, service_turn}
 use Rattle.prt_session.specs.Run.{RunIs}
 use Rattle.prt_session.specs.Session.{session}
 use Rattle.prt_refusals.specs.declared.on_refusal.OnRefusal.TheVariants.{GoOn}
-use Rattle.prt_session.specs.declared.script_end.ScriptEnd.{ScriptEnd}
+use Rattle.prt_replies.specs.declared.script_end.ScriptEnd.{ScriptEnd}
 
 -- A session ran with force, what its exchanges show of the published list, and the most bytes that it takes: a million lines of 65,537 bytes each, and one byte more.
 pub record Serves (known0 known : Line) (reader0 reader writer0 writer : Option (List ℕ)) (end : ScriptEnd) : Type 0 where

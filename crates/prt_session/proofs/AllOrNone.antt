@@ -10,11 +10,12 @@ use Rattle.prt_session.proofs.Collected.{collected_told, found, refused_or_fault
 use Rattle.prt_session.proofs.Submitted.{faultless_lines, unrefused_lines}
 use Rattle.prt_session.specs.Atomic.{AllMade, NoneMade, Outcome, accepted_after, after_reading, atomic_output, collected, list_replies}
 use Rattle.prt_session.specs.Desk.{DeskState, ListTurn, Mishap, commands_or_refusal, commit_kept, no_memory, no_room, publication_fails, store_fails}
-use Rattle.prt_session.specs.Reply.{is_refused}
+use Rattle.prt_replies.specs.Reply.{is_refused}
 use Rattle.prt_session.specs.Run.{fault_in, refused_in}
-use Rattle.prt_session.specs.Session.{Input, replies}
-use Rattle.prt_session.specs.declared.reply.Reply.{Reply}
-use Rattle.prt_session.specs.declared.reply.Reply.TheVariants.{Refused}
+use Rattle.prt_replies.specs.Input.{Input}
+use Rattle.prt_session.specs.Session.{replies}
+use Rattle.prt_replies.specs.declared.reply.Reply.{Reply}
+use Rattle.prt_replies.specs.declared.reply.Reply.TheVariants.{Refused}
 use Rattle.prt_version.proofs.Folds.{accepted_all}
 use Rattle.prt_version.specs.Accepted.{refusal_all}
 use Rattle.prt_version.specs.Change.{refusal}

@@ -7,17 +7,18 @@ use Rattle.prt_refusals.specs.declared.refusal.Refusal.{Refusal}
 use Rattle.prt_refusals.specs.declared.refusal.Refusal.TheVariants.{WriteFault}
 use Rattle.prt_command.specs.declared.request.Command.{Command}
 use Rattle.prt_session.proofs.Collected.{IsReading, alone, collected_alike, collected_told, found, its_refusal, refused_or_fault, says_alone}
-use Rattle.prt_session.proofs.Known.{Gives, appends_more, gives_all, gives_beyond, left_of}
+use Rattle.prt_replies.proofs.Known.{Gives, appends_more, gives_all, gives_beyond, left_of}
 use Rattle.prt_session.proofs.Replies.{cons_not_nil, one_text}
 use Rattle.prt_session.specs.Atomic.{AtomicIs, CollectMay, Outcome, SubmittedIs, WroteReplies, after_reading, collect_turn, collected, atomic_output, submitted}
 use Rattle.prt_session.specs.Desk.{DeskState, Mishap}
-use Rattle.prt_session.specs.Reply.{is_refused, replies_text, reply_text}
+use Rattle.prt_replies.specs.Reply.{is_refused, replies_text, reply_text}
 use Rattle.prt_session.specs.Run.{Cut, RanWhole, RunIs, fault_in, refused_in}
-use Rattle.prt_session.specs.Session.{Input, Path, end_of_input, read_fault, replies}
+use Rattle.prt_replies.specs.Input.{Input, end_of_input, read_fault}
+use Rattle.prt_session.specs.Session.{Path, replies}
 use Rattle.prt_session.specs.declared.form.Form.TheVariants.{Plain}
-use Rattle.prt_session.specs.declared.reply.Reply.{Reply}
-use Rattle.prt_session.specs.declared.reply.Reply.TheVariants.{Refused, Silent}
-use Rattle.prt_session.specs.declared.script_end.ScriptEnd.{ScriptEnd}
+use Rattle.prt_replies.specs.declared.reply.Reply.{Reply}
+use Rattle.prt_replies.specs.declared.reply.Reply.TheVariants.{Refused, Silent}
+use Rattle.prt_replies.specs.declared.script_end.ScriptEnd.{ScriptEnd}
 
 -- The file was read, and its refusal written, if there is one.
 pub record ReadIs (commands : List Command) (reader0 reader writer0 writer : Option (List ℕ)) (end : ScriptEnd) : Type 0 where

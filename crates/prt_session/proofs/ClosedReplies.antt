@@ -11,7 +11,8 @@ use Rattle.prt_command.specs.declared.request.Request.TheVariants as requests
 use Rattle.prt_session.proofs.Length.{sides}
 use Rattle.prt_session.specs.Desk.{DeskState, Mishap, no_room, no_memory, store_fails, commit_kept, publication_fails, command_or_refusal, query_turn, request_turn}
 use Rattle.prt_session.specs.Refusals.{IsClosedExchange}
-use Rattle.prt_session.specs.Session.{Exchange, Ending, Input, Session, exchange_of, first_mishap, is_fault, stops_after, line_turn, turn_on, session, session_lines}
+use Rattle.prt_replies.specs.Input.{Ending, Input, is_fault}
+use Rattle.prt_session.specs.Session.{Exchange, Session, exchange_of, first_mishap, stops_after, line_turn, turn_on, session, session_lines}
 use Rattle.prt_refusals.specs.declared.on_refusal.OnRefusal.{OnRefusal}
 use Rattle.prt_version.specs.Change.{refusal}
 

@@ -15,13 +15,15 @@ use Rattle.prt_command.specs.declared.request.Request.TheVariants as requests
 use Rattle.prt_session.proofs.Length.{sides}
 use Rattle.prt_session.specs.Atomic.{CollectMay, collect_turn, collected, with_command}
 use Rattle.prt_session.specs.Desk.{Mishap, no_memory}
-use Rattle.prt_session.specs.Reply.{is_refused, replies_text}
-use Rattle.prt_session.specs.Run.{fault_in, is_fault_refusal, refused_in}
-use Rattle.prt_session.specs.Session.{Ending, end_of_input, Input, Path, Session, Turn, first_mishap, is_fault, line_turn, read_fault, replies, session, session_lines, stops_after, turn_on}
+use Rattle.prt_replies.specs.Reply.{is_refused, replies_text}
+use Rattle.prt_replies.specs.ScriptEnd.{is_fault_refusal}
+use Rattle.prt_session.specs.Run.{fault_in, refused_in}
+use Rattle.prt_replies.specs.Input.{Ending, end_of_input, Input, is_fault, read_fault}
+use Rattle.prt_session.specs.Session.{Path, Session, Turn, first_mishap, line_turn, replies, session, session_lines, stops_after, turn_on}
 use Rattle.prt_session.specs.Steps.{AreSubmittable, Gives}
 use Rattle.prt_session.specs.declared.limits.TheConstants.{MOST_TOGETHER}
-use Rattle.prt_session.specs.declared.reply.Reply.{Reply}
-use Rattle.prt_session.specs.declared.reply.Reply.TheVariants.{Accepted, Answered, Refused, Silent}
+use Rattle.prt_replies.specs.declared.reply.Reply.{Reply}
+use Rattle.prt_replies.specs.declared.reply.Reply.TheVariants.{Accepted, Answered, Refused, Silent}
 
 -- ---- one line
 

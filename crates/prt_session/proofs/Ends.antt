@@ -6,25 +6,28 @@ use Rattle.std.specs.Io.KnownBytes.{Consumes, Appends, IsAtEnd}
 use Rattle.std.specs.Prelude.{if◌then◌else◌}
 use Rattle.prt_refusals.specs.declared.refusal.Refusal.TheVariants.{LineTooLong, ReadFault, TooManyLines, WriteFault}
 use Rattle.prt_command.specs.Lines.{limits, lines_of}
-use Rattle.prt_session.proofs.Known.{append_none, left_of, consumes_more, gives_rest, gives_beyond, gives_all}
+use Rattle.prt_replies.proofs.Known.{append_none, left_of, consumes_more, gives_rest, gives_beyond, gives_all}
 use Rattle.prt_session.proofs.Paths.{mishaps_of, path_append}
 use Rattle.prt_session.proofs.Replies.{after_exchanges, refused_append, fault_append, one_refused, one_fault}
 use Rattle.prt_session.proofs.Served.{Moment, moment, GoesOn, Served, Closes, ClosesAlone, cut_from, ran_from, ran_to_end, reply_written}
 use Rattle.prt_session.proofs.SessionSteps.{too_many, goes_on_after, stops_there, ends_endless, ends_in_fault, ends_unended}
 use Rattle.prt_session.specs.Form.{reply_in}
-use Rattle.prt_session.specs.Run.{RunsIn, refused_in, fault_in, refused_after, fault_after}
-use Rattle.prt_session.specs.Session.{TurnsOf, Mishaps, LineMay, Exchange, end_of_input, read_fault, Session, ends, after_exchange, exchange_of, session_lines, line_turn, stops_after, replies, replies_of}
-use Rattle.prt_session.specs.Steps.{ByteIs, EndsBy, EndsAfterLast, HasNoNewline, LineIs, AnswerIs, StopIs, Written, newline_read, is_nothing, is_nothing_by, ends_after}
+use Rattle.prt_replies.specs.ScriptEnd.{refused_after, fault_after}
+use Rattle.prt_session.specs.Run.{RunsIn, refused_in, fault_in}
+use Rattle.prt_replies.specs.Input.{end_of_input, read_fault}
+use Rattle.prt_session.specs.Session.{TurnsOf, Mishaps, LineMay, Exchange, Session, ends, after_exchange, exchange_of, session_lines, line_turn, stops_after, replies, replies_of}
+use Rattle.prt_replies.specs.Written.{Written}
+use Rattle.prt_session.specs.Steps.{ByteIs, EndsBy, EndsAfterLast, HasNoNewline, LineIs, AnswerIs, StopIs, newline_read, is_nothing, is_nothing_by, ends_after}
 use Rattle.prt_session.specs.declared.form.Form.{Form}
 use Rattle.prt_session.specs.declared.input.ByteRead.{ByteRead}
 use Rattle.prt_session.specs.declared.input.ByteRead.TheVariants as bytes
 use Rattle.prt_session.specs.declared.input.LineRead.{LineRead}
 use Rattle.prt_session.specs.declared.input.Stop.{Stop}
 use Rattle.prt_session.specs.declared.input.Stop.TheVariants as stops
-use Rattle.prt_session.specs.declared.reply.Reply.{Reply}
-use Rattle.prt_session.specs.declared.reply.Reply.TheVariants.{Refused, Silent}
+use Rattle.prt_replies.specs.declared.reply.Reply.{Reply}
+use Rattle.prt_replies.specs.declared.reply.Reply.TheVariants.{Refused, Silent}
 use Rattle.prt_refusals.specs.declared.on_refusal.OnRefusal.{OnRefusal}
-use Rattle.prt_session.specs.declared.script_end.ScriptEnd.{ScriptEnd}
+use Rattle.prt_replies.specs.declared.script_end.ScriptEnd.{ScriptEnd}
 
 -- From now to later a line was read to there, and answered.
 pub record LineAnswered {D M : Type 0} (turn : TurnsOf D M) (may : Mishaps D M) (now later : Moment D) (stop : Stop) (content : List ℕ) (reply : Reply) : Type 0 where

@@ -5,7 +5,8 @@ use Rattle.std.proofs.lemmas.Bool.Decides.{nat_tests}
 use Rattle.std.specs.Prelude.{⊤, if◌then◌else◌}
 use Rattle.prt_session.proofs.Lines.{bytes_of_lines}
 use Rattle.prt_command.specs.Lines.{Limits, Line, limits, lines_of, onto_line, bytes_of, line_bytes}
-use Rattle.prt_session.specs.Session.{TurnsOf, Input, Ending, session, session_lines, is_fault, first_mishap, line_turn, stops_after}
+use Rattle.prt_replies.specs.Input.{Input, Ending, is_fault}
+use Rattle.prt_session.specs.Session.{TurnsOf, session, session_lines, first_mishap, line_turn, stops_after}
 use Rattle.prt_refusals.specs.declared.on_refusal.OnRefusal.{OnRefusal}
 
 -- each line but the last has its newline

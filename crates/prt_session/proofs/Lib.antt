@@ -1,5 +1,4 @@
 pub mod Ends
-pub mod Known
 pub mod Length
 pub mod Lines
 pub mod LongLine

@@ -2,7 +2,7 @@
 use Rattle.std.proofs.Common.{◌≡◌, ℕ, ◌+◌, ◌<◌, ◌≤◌, ◌≢◌, ◌==◌, Bool, true, false, cond, List, [], ◌∷◌, ◌++◌, length, Option, refl, ◌∙◌, ap, arith, length-append}
 use Rattle.std.proofs.lemmas.Bool.Decides.{nat_tests}
 use Rattle.std.specs.Io.KnownBytes.{Consumes}
-use Rattle.prt_session.proofs.Known.{consumes_more}
+use Rattle.prt_replies.proofs.Known.{consumes_more}
 use Rattle.prt_command.specs.Lines.{Line, lines_of, onto_line, bytes_of}
 use Rattle.prt_session.specs.Steps.{HasNoNewline}
 

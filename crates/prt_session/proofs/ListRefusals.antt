@@ -15,9 +15,10 @@ use Rattle.prt_command.specs.declared.request.Request.{Request}
 use Rattle.prt_session.proofs.ListReplies.{list_replies}
 use Rattle.prt_session.specs.Desk.{Befalls, DeskState, IsNoMemory, Mishap, request_turn, settled}
 use Rattle.prt_session.specs.Refusals.{IsListRefusal, IsListReply, IsWithinLists, is_beyond_lists, of_line, of_command, of_memory, of_reader, of_line_length, of_line_count}
-use Rattle.prt_session.specs.Session.{Input, Path, replies, session}
-use Rattle.prt_session.specs.declared.reply.Reply.{Reply}
-use Rattle.prt_session.specs.declared.reply.Reply.TheVariants.{Refused}
+use Rattle.prt_replies.specs.Input.{Input}
+use Rattle.prt_session.specs.Session.{Path, replies, session}
+use Rattle.prt_replies.specs.declared.reply.Reply.{Reply}
+use Rattle.prt_replies.specs.declared.reply.Reply.TheVariants.{Refused}
 use Rattle.prt_refusals.specs.declared.on_refusal.OnRefusal.{OnRefusal}
 use Rattle.prt_version.proofs.Refused.{IsOfState, refused_by}
 use Rattle.prt_version.specs.State.{State}

@@ -12,8 +12,9 @@ use Rattle.prt_command.specs.declared.request.Request.TheVariants as requests
 use Rattle.prt_session.proofs.Length.{sides}
 use Rattle.prt_session.specs.Desk.{Befalls, DeskState, IsNoMemory, Mishap, no_room, no_memory, store_fails, commit_kept, publication_fails, command_or_refusal, request_turn, settled}
 use Rattle.prt_session.specs.Refusals.{IsListRefusal, IsListReply, of_line, of_command, of_memory, of_reader, of_line_length, of_line_count}
-use Rattle.prt_session.specs.Session.{TurnsOf, Turn, MayOn, LineMay, Path, Exchange, Ending, end_of_input, read_fault, Input, Session, at_ending, first_mishap, is_fault, stops_after, line_turn, turn_on, session, session_lines, replies, replies_of}
-use Rattle.prt_session.specs.declared.reply.Reply.TheVariants.{Refused}
+use Rattle.prt_replies.specs.Input.{Ending, end_of_input, read_fault, Input, is_fault}
+use Rattle.prt_session.specs.Session.{TurnsOf, Turn, MayOn, LineMay, Path, Exchange, Session, at_ending, first_mishap, stops_after, line_turn, turn_on, session, session_lines, replies, replies_of}
+use Rattle.prt_replies.specs.declared.reply.Reply.TheVariants.{Refused}
 use Rattle.prt_refusals.specs.declared.on_refusal.OnRefusal.{OnRefusal}
 use Rattle.prt_version.specs.Change.{refusal}
 use Rattle.prt_version.specs.State.{State}

@@ -5,14 +5,15 @@ use Rattle.std.proofs.lemmas.List.{map-append}
 use Rattle.std.proofs.lemmas.List.Sums.{fold-append}
 use Rattle.std.specs.Io.KnownBytes.{Appends}
 use Rattle.prt_refusals.specs.declared.refusal.Refusal.{Refusal}
-use Rattle.prt_session.proofs.Known.{append_none, appends_nothing}
+use Rattle.prt_replies.proofs.Known.{append_none, appends_nothing}
 use Rattle.prt_session.specs.Form.{numbered_from, numbered_text, replies_in, reply_in}
-use Rattle.prt_session.specs.Reply.{reply_text, replies_text}
-use Rattle.prt_session.specs.Run.{refused_after, fault_after, refused_in, fault_in}
+use Rattle.prt_replies.specs.Reply.{reply_text, replies_text}
+use Rattle.prt_replies.specs.ScriptEnd.{refused_after, fault_after}
+use Rattle.prt_session.specs.Run.{refused_in, fault_in}
 use Rattle.prt_session.specs.Session.{Exchange, Session, replies, replies_of}
 use Rattle.prt_session.specs.declared.form.Form.{Form}
 use Rattle.prt_session.specs.declared.form.Form.TheVariants.{Plain, Numbered}
-use Rattle.prt_session.specs.declared.reply.Reply.{Reply}
+use Rattle.prt_replies.specs.declared.reply.Reply.{Reply}
 
 abbrev pub after_exchanges : {D M : Type 0} → List (Exchange M) → Session D M → Session D M
 after_exchanges {D} {M} xs session = record { exchanges = xs ++ session.exchanges; last = session.last; desk = session.desk; unread = session.unread }

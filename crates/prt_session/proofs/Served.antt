@@ -5,18 +5,20 @@ use Rattle.std.specs.Io.KnownBytes.{Consumes, Appends, IsAtEnd}
 use Rattle.prt_refusals.specs.declared.refusal.Refusal.{Refusal}
 use Rattle.prt_refusals.specs.declared.refusal.Refusal.TheVariants.{WriteFault}
 use Rattle.prt_command.specs.Lines.{limits, lines_of}
-use Rattle.prt_session.proofs.Known.{Gives, gives_had, gives_has, gives_all, consumes_more, consumes_nothing, appends_more}
+use Rattle.prt_replies.proofs.Known.{Gives, gives_had, gives_has, gives_all, consumes_more, consumes_nothing, appends_more}
 use Rattle.prt_session.proofs.Paths.{mishaps_of, path_append}
 use Rattle.prt_session.proofs.Replies.{after_exchanges, replies_after, refused_append, fault_append, one_more_in, one_refused, one_fault, no_text, no_refused, no_fault}
 use Rattle.prt_session.specs.Form.{replies_in, reply_in}
-use Rattle.prt_session.specs.Run.{RunsIn, refused_in, fault_in, refused_after, fault_after}
-use Rattle.prt_session.specs.Session.{TurnsOf, Mishaps, Exchange, Path, Ending, end_of_input, read_fault, Session, session, session_lines, replies, replies_of}
-use Rattle.prt_session.specs.Steps.{Written}
+use Rattle.prt_replies.specs.ScriptEnd.{refused_after, fault_after}
+use Rattle.prt_session.specs.Run.{RunsIn, refused_in, fault_in}
+use Rattle.prt_replies.specs.Input.{Ending, end_of_input, read_fault}
+use Rattle.prt_session.specs.Session.{TurnsOf, Mishaps, Exchange, Path, Session, session, session_lines, replies, replies_of}
+use Rattle.prt_replies.specs.Written.{Written}
 use Rattle.prt_session.specs.declared.form.Form.{Form}
-use Rattle.prt_session.specs.declared.reply.Reply.{Reply}
-use Rattle.prt_session.specs.declared.reply.Reply.TheVariants.{Silent}
+use Rattle.prt_replies.specs.declared.reply.Reply.{Reply}
+use Rattle.prt_replies.specs.declared.reply.Reply.TheVariants.{Silent}
 use Rattle.prt_refusals.specs.declared.on_refusal.OnRefusal.{OnRefusal}
-use Rattle.prt_session.specs.declared.script_end.ScriptEnd.{ScriptEnd}
+use Rattle.prt_replies.specs.declared.script_end.ScriptEnd.{ScriptEnd}
 
 -- A moment of a run: the desk, and what the reader has left and the writer holds, if that is known.
 pub record Moment (D : Type 0) : Type 0 where

@@ -5,9 +5,10 @@ use Rattle.std.proofs.lemmas.Grind.{common_steps}
 use Rattle.prt_refusals.specs.declared.refusal.Refusal.TheVariants.{LineTooLong, ReadFault, TooManyLines}
 use Rattle.prt_session.proofs.Lines.{whole_line, unended_line, bytes_of_lines, first_has}
 use Rattle.prt_command.specs.Lines.{Limits, Line, lines_of, bytes_of}
-use Rattle.prt_session.specs.Session.{TurnsOf, Ending, end_of_input, read_fault, Session, ends, exchange_of, after_exchange, session_lines, line_turn, stops_after}
+use Rattle.prt_replies.specs.Input.{Ending, end_of_input, read_fault}
+use Rattle.prt_session.specs.Session.{TurnsOf, Session, ends, exchange_of, after_exchange, session_lines, line_turn, stops_after}
 use Rattle.prt_session.specs.Steps.{HasNoNewline}
-use Rattle.prt_session.specs.declared.reply.Reply.TheVariants.{Refused}
+use Rattle.prt_replies.specs.declared.reply.Reply.TheVariants.{Refused}
 use Rattle.prt_refusals.specs.declared.on_refusal.OnRefusal.{OnRefusal}
 
 not_zero : (n : ℕ) → 0 < n → (n == 0) ≡ false

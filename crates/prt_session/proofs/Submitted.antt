@@ -5,17 +5,19 @@ use Rattle.std.specs.Io.KnownBytes.{Appends}
 use Rattle.prt_refusals.specs.declared.refusal.Refusal.{Refusal}
 use Rattle.prt_refusals.specs.declared.refusal.Refusal.TheVariants.{NoMemory, WriteFault}
 use Rattle.prt_command.specs.declared.request.Command.{Command}
-use Rattle.prt_session.proofs.Known.{append_none, appends_more}
+use Rattle.prt_replies.proofs.Known.{append_none, appends_more}
 use Rattle.prt_session.proofs.Replies.{cons_not_nil, fault_append, one_text, refused_append, text_append}
 use Rattle.prt_session.specs.Atomic.{SubmittedIs, WroteReplies, accepted_after, list_replies, submitted}
 use Rattle.prt_session.specs.Desk.{DeskState, IsNoMemory, Mishap, commands_or_refusal, commands_turn, commit_kept, no_memory, no_room, publication_fails, refuse_all, settled, store_fails}
-use Rattle.prt_session.specs.Reply.{replies_text, reply_text}
-use Rattle.prt_session.specs.Run.{fault_after, fault_in, refused_after, refused_in}
-use Rattle.prt_session.specs.Steps.{CommandsGive, EndsWith, Written}
+use Rattle.prt_replies.specs.Reply.{replies_text, reply_text}
+use Rattle.prt_replies.specs.ScriptEnd.{fault_after, refused_after}
+use Rattle.prt_session.specs.Run.{fault_in, refused_in}
+use Rattle.prt_replies.specs.Written.{Written}
+use Rattle.prt_session.specs.Steps.{CommandsGive, EndsWith}
 use Rattle.prt_session.specs.declared.form.Form.TheVariants.{Plain}
-use Rattle.prt_session.specs.declared.reply.Reply.{Reply}
-use Rattle.prt_session.specs.declared.reply.Reply.TheVariants.{Accepted, Refused}
-use Rattle.prt_session.specs.declared.script_end.ScriptEnd.{ScriptEnd}
+use Rattle.prt_replies.specs.declared.reply.Reply.{Reply}
+use Rattle.prt_replies.specs.declared.reply.Reply.TheVariants.{Accepted, Refused}
+use Rattle.prt_replies.specs.declared.script_end.ScriptEnd.{ScriptEnd}
 use Rattle.prt_version.proofs.Folds.{accepted_all, count_fold, none_refused}
 use Rattle.prt_version.specs.Accepted.{IsAccepted, IsRefusedFor, refusal_all}
 use Rattle.prt_version.specs.Change.{fold}

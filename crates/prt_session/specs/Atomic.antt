@@ -9,13 +9,14 @@ use Rattle.prt_refusals.specs.declared.refusal.StoreCall.TheVariants.{Commit}
 use Rattle.prt_command.specs.declared.request.Command.{Command}
 use Rattle.prt_command.specs.declared.request.Request.TheVariants as requests
 use Rattle.prt_session.specs.Desk.{DeskState, IsNoMemory, Mishap, commands_turn, settled, shut}
-use Rattle.prt_session.specs.Reply.{is_refused, replies_text}
+use Rattle.prt_replies.specs.Reply.{is_refused, replies_text}
 use Rattle.prt_session.specs.Run.{fault_in, refused_in}
-use Rattle.prt_session.specs.Session.{Input, Mishaps, Path, Session, Turn, TurnsOf, end_of_input, replies, session}
+use Rattle.prt_replies.specs.Input.{Input, end_of_input}
+use Rattle.prt_session.specs.Session.{Mishaps, Path, Session, Turn, TurnsOf, replies, session}
 use Rattle.prt_session.specs.declared.limits.TheConstants.{MOST_TOGETHER}
-use Rattle.prt_session.specs.declared.reply.Reply.{Reply}
-use Rattle.prt_session.specs.declared.reply.Reply.TheVariants.{Accepted, Refused, Silent}
-use Rattle.prt_session.specs.declared.script_end.ScriptEnd.{ScriptEnd}
+use Rattle.prt_replies.specs.declared.reply.Reply.{Reply}
+use Rattle.prt_replies.specs.declared.reply.Reply.TheVariants.{Accepted, Refused, Silent}
+use Rattle.prt_replies.specs.declared.script_end.ScriptEnd.{ScriptEnd}
 use Rattle.prt_version.specs.Accepted.{IsAccepted}
 use Rattle.prt_version.specs.Change.{fold}
 

@@ -4,8 +4,8 @@ use Rattle.prt_refusals.specs.declared.on_refusal.OnRefusal.TheVariants.{GoOn}
 use Rattle.prt_session.specs.Run.{RunsIn}
 use Rattle.prt_session.specs.Session.{Mishaps, TurnsOf}
 use Rattle.prt_session.specs.declared.form.Form.TheVariants.{Numbered}
-use Rattle.prt_session.specs.declared.reply.Reply.TheVariants.{Silent}
-use Rattle.prt_session.specs.declared.script_end.ScriptEnd.{ScriptEnd}
+use Rattle.prt_replies.specs.declared.reply.Reply.TheVariants.{Silent}
+use Rattle.prt_replies.specs.declared.script_end.ScriptEnd.{ScriptEnd}
 
 -- a request is taken, and nothing is done or replied
 abbrev pub nothing_turn : TurnsOf ⊤ ⊥

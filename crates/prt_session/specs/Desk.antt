@@ -10,7 +10,7 @@ use Rattle.prt_command.specs.declared.request.Request.{Request}
 use Rattle.prt_command.specs.declared.request.Request.TheVariants as requests
 use Rattle.prt_listing.specs.QueryText.{query_text}
 use Rattle.prt_session.specs.Session.{Turn}
-use Rattle.prt_session.specs.declared.reply.Reply.TheVariants.{Accepted, Answered, Refused}
+use Rattle.prt_replies.specs.declared.reply.Reply.TheVariants.{Accepted, Answered, Refused}
 use Rattle.prt_version.specs.Accepted.{refusal_all}
 use Rattle.prt_version.specs.Change.{refusal, apply, fold}
 use Rattle.prt_version.specs.State.{State}

@@ -4,8 +4,9 @@ use Rattle.prt_session.specs.Atomic.{Outcome, atomic_output}
 use Rattle.prt_session.specs.Check.{nothing_turn}
 use Rattle.prt_session.specs.Desk.{DeskState, Mishap, settled, request_turn}
 use Rattle.prt_session.specs.Form.{numbered_from}
-use Rattle.prt_session.specs.Reply.{replies_text}
-use Rattle.prt_session.specs.Session.{Ending, Session, end_of_input, session, replies}
+use Rattle.prt_replies.specs.Reply.{replies_text}
+use Rattle.prt_replies.specs.Input.{Ending, end_of_input}
+use Rattle.prt_session.specs.Session.{Session, session, replies}
 use Rattle.prt_refusals.specs.declared.on_refusal.OnRefusal.{OnRefusal}
 use Rattle.prt_refusals.specs.declared.on_refusal.OnRefusal.TheVariants.{GoOn}
 use Rattle.prt_version.specs.State.{opening_state}

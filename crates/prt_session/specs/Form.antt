@@ -1,11 +1,11 @@
 -- Replies as they are written down: each as it is, or the refusals alone, with the numbers of their lines.
 use Rattle.std.specs.Prelude.{ℕ, ◌+◌, List, [], ◌∷◌, ◌++◌, codes, decimal}
 use Rattle.prt_refusals.specs.Refusal.{refusal_text}
-use Rattle.prt_session.specs.Reply.{reply_text, replies_text}
+use Rattle.prt_replies.specs.Reply.{reply_text, replies_text}
 use Rattle.prt_session.specs.declared.form.Form.{Form}
 use Rattle.prt_session.specs.declared.form.Form.TheVariants.{Plain, Numbered}
-use Rattle.prt_session.specs.declared.reply.Reply.{Reply}
-use Rattle.prt_session.specs.declared.reply.Reply.TheVariants.{Refused}
+use Rattle.prt_replies.specs.declared.reply.Reply.{Reply}
+use Rattle.prt_replies.specs.declared.reply.Reply.TheVariants.{Refused}
 
 -- a refusal, after the number of its line: `LINE: error C NAME`; of another reply nothing
 abbrev pub numbered_text : ℕ → Reply → List ℕ

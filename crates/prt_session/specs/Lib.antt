@@ -1,4 +1,3 @@
-pub mod Reply
 pub mod Form
 pub mod Session
 pub mod Check

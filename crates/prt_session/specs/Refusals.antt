@@ -6,8 +6,8 @@ use Rattle.prt_command.specs.Reading.{reading}
 use Rattle.prt_command.specs.declared.request.Command.{Command}
 use Rattle.prt_command.specs.declared.request.Request.TheVariants as requests
 use Rattle.prt_session.specs.Session.{Exchange}
-use Rattle.prt_session.specs.declared.reply.Reply.{Reply}
-use Rattle.prt_session.specs.declared.reply.Reply.TheVariants.{Refused}
+use Rattle.prt_replies.specs.declared.reply.Reply.{Reply}
+use Rattle.prt_replies.specs.declared.reply.Reply.TheVariants.{Refused}
 use Rattle.prt_version.specs.Change.{refusal}
 use Rattle.prt_version.specs.State.{State}
 

@@ -1,32 +1,18 @@
 -- What a run over a reader and a writer does: the session on what is read.
-use Rattle.std.specs.Prelude.{◌≡◌, ◌≢◌, ℕ, ◌+◌, ◌||◌, ◌⊎◌, Bool, true, false, not, List, [], ◌∷◌, ◌++◌, Option, Some, None, IfSome, fold, length, if◌then◌else◌}
+use Rattle.std.specs.Prelude.{◌≡◌, ◌≢◌, ℕ, ◌+◌, ◌⊎◌, Bool, false, List, [], ◌∷◌, ◌++◌, Option, Some, None, IfSome, fold, length}
 use Rattle.std.specs.Io.KnownBytes.{Consumes, Appends, IsAtEnd}
 use Rattle.prt_refusals.specs.declared.refusal.Refusal.{Refusal}
-use Rattle.prt_refusals.specs.declared.refusal.Refusal.TheVariants.{StoreFailed, NotPublished, ReadFault, WriteFault}
+use Rattle.prt_refusals.specs.declared.refusal.Refusal.TheVariants.{WriteFault}
+use Rattle.prt_replies.specs.ScriptEnd.{refused_after, fault_after}
 use Rattle.prt_session.specs.Form.{replies_in, reply_in}
-use Rattle.prt_session.specs.Session.{TurnsOf, Mishaps, Path, Input, end_of_input, read_fault, Session, session, replies}
+use Rattle.prt_replies.specs.Input.{Input, end_of_input, read_fault}
+use Rattle.prt_session.specs.Session.{TurnsOf, Mishaps, Path, Session, session, replies}
 use Rattle.prt_session.specs.declared.form.Form.{Form}
 use Rattle.prt_session.specs.declared.form.Form.TheVariants.{Plain}
-use Rattle.prt_session.specs.declared.reply.Reply.{Reply}
-use Rattle.prt_session.specs.declared.reply.Reply.TheVariants.{Silent, Refused}
+use Rattle.prt_replies.specs.declared.reply.Reply.{Reply}
+use Rattle.prt_replies.specs.declared.reply.Reply.TheVariants.{Silent}
 use Rattle.prt_refusals.specs.declared.on_refusal.OnRefusal.{OnRefusal}
-use Rattle.prt_session.specs.declared.script_end.ScriptEnd.{ScriptEnd}
-
--- a failed commit or publication, or a fault of the reader or the writer
-abbrev pub is_fault_refusal : Refusal → Bool
-is_fault_refusal (StoreFailed call) = true
-is_fault_refusal NotPublished = true
-is_fault_refusal ReadFault = true
-is_fault_refusal WriteFault = true
-is_fault_refusal _ = false
-
-abbrev pub refused_after : Bool → Reply → Bool
-refused_after had (Refused reason) = had || not (is_fault_refusal reason)
-refused_after had reply = had
-
-abbrev pub fault_after : Option Refusal → Reply → Option Refusal
-fault_after last (Refused reason) = if is_fault_refusal reason then Some reason else last
-fault_after last reply = last
+use Rattle.prt_replies.specs.declared.script_end.ScriptEnd.{ScriptEnd}
 
 -- whether a refusal that is no fault is among the replies, or had come before them
 unfoldable pub refused_in : Bool → List Reply → Bool

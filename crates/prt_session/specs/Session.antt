@@ -1,13 +1,14 @@
 -- The replies to a script, and what the script leaves, whatever executes its requests.
-use Rattle.std.specs.Prelude.{◌≡◌, ℕ, ◌+◌, ◌-◌, ◌==◌, ◌&&◌, nat_lt, Bool, true, false, not, if◌then◌else◌, List, [], ◌∷◌, ◌++◌, length, map, drop, Option, Some, None, Result, Ok, Err}
+use Rattle.std.specs.Prelude.{◌≡◌, ℕ, ◌+◌, ◌-◌, ◌==◌, ◌&&◌, nat_lt, Bool, false, not, if◌then◌else◌, List, [], ◌∷◌, ◌++◌, length, map, drop, Option, Some, None, Result, Ok, Err}
 use Rattle.prt_refusals.specs.declared.refusal.Refusal.{Refusal}
 use Rattle.prt_refusals.specs.declared.refusal.Refusal.TheVariants.{LineTooLong, ReadFault, TooManyLines}
 use Rattle.prt_command.specs.Lines.{Line, Limits, bytes_of, limits, lines_of}
 use Rattle.prt_command.specs.Reading.{reading}
 use Rattle.prt_command.specs.declared.request.Request.{Request}
-use Rattle.prt_session.specs.Reply.{is_refused}
-use Rattle.prt_session.specs.declared.reply.Reply.{Reply}
-use Rattle.prt_session.specs.declared.reply.Reply.TheVariants.{Silent, Refused}
+use Rattle.prt_replies.specs.Input.{Input, Ending, end_of_input, read_fault, is_fault}
+use Rattle.prt_replies.specs.Reply.{is_refused}
+use Rattle.prt_replies.specs.declared.reply.Reply.{Reply}
+use Rattle.prt_replies.specs.declared.reply.Reply.TheVariants.{Silent, Refused}
 use Rattle.prt_refusals.specs.declared.on_refusal.OnRefusal.{OnRefusal}
 use Rattle.prt_refusals.specs.declared.on_refusal.OnRefusal.TheVariants.{Stop, GoOn}
 
@@ -60,15 +61,6 @@ Path {D} {M} turn may desk0 (x ∷ xs) desk =
 
 -- ---- the session
 
--- How an input ends.
-pub data Ending : Type 0 where
-  end_of_input : Ending
-  read_fault : Ending
-
-pub record Input : Type 0 where
-  pub bytes : List ℕ
-  pub ending : Ending
-
 -- The lines that were executed, the reply after theirs that is to none of them, if there is one, the desk after them, and what is left unread.
 pub record Session (D M : Type 0) : Type 0 where
   pub exchanges : List (Exchange M)
@@ -80,10 +72,6 @@ pub record Session (D M : Type 0) : Type 0 where
 unfoldable pub stops_after : OnRefusal → Reply → Bool
 stops_after Stop reply = is_refused reply
 stops_after GoOn reply = false
-
-abbrev pub is_fault : Ending → Bool
-is_fault end_of_input = false
-is_fault read_fault = true
 
 abbrev pub at_ending : Ending → List Reply
 at_ending end_of_input = []

@@ -1,16 +1,17 @@
 -- What the parts of a run do: one read, one line, one reply.
 use Rattle.std.specs.Prelude.{◌≡◌, ℕ, ◌+◌, ◌≤◌, ◌==◌, ◌≢◌, Bool, true, false, List, [], ◌∷◌, ◌++◌, length, Option, Some, IfSome, Result, Ok, Err, if◌then◌else◌, ⊤}
 use Rattle.std.specs.List.{All}
-use Rattle.std.specs.Io.KnownBytes.{Consumes, Appends, IsAtEnd}
+use Rattle.std.specs.Io.KnownBytes.{Consumes, IsAtEnd}
 use Rattle.prt_refusals.specs.declared.refusal.Refusal.{Refusal}
 use Rattle.prt_refusals.specs.declared.refusal.Refusal.TheVariants.{LineTooLong, ReadFault, TooManyLines, WriteFault}
 use Rattle.prt_command.specs.Lines.{limits}
 use Rattle.prt_command.specs.Storable.{IsStorable}
 use Rattle.prt_command.specs.declared.request.Command.{Command}
 use Rattle.prt_command.specs.declared.request.Request.{Request}
+use Rattle.prt_replies.specs.Written.{Written}
 use Rattle.prt_session.specs.Desk.{DeskState, Mishap, command_turn, commands_turn}
 use Rattle.prt_session.specs.Form.{reply_in}
-use Rattle.prt_session.specs.Run.{fault_after, refused_after}
+use Rattle.prt_replies.specs.ScriptEnd.{fault_after, refused_after}
 use Rattle.prt_session.specs.Session.{Turn, TurnsOf, Mishaps, LineMay, line_turn, stops_after}
 use Rattle.prt_session.specs.declared.form.Form.{Form}
 use Rattle.prt_session.specs.declared.input.ByteRead.{ByteRead}
@@ -19,10 +20,10 @@ use Rattle.prt_session.specs.declared.input.LineRead.{LineRead}
 use Rattle.prt_session.specs.declared.input.Stop.{Stop}
 use Rattle.prt_session.specs.declared.input.Stop.TheVariants as stops
 use Rattle.prt_session.specs.declared.limits.TheConstants.{MOST_TOGETHER}
-use Rattle.prt_session.specs.declared.reply.Reply.{Reply}
-use Rattle.prt_session.specs.declared.reply.Reply.TheVariants.{Accepted, Refused}
+use Rattle.prt_replies.specs.declared.reply.Reply.{Reply}
+use Rattle.prt_replies.specs.declared.reply.Reply.TheVariants.{Accepted, Refused}
 use Rattle.prt_refusals.specs.declared.on_refusal.OnRefusal.{OnRefusal}
-use Rattle.prt_session.specs.declared.script_end.ScriptEnd.{ScriptEnd}
+use Rattle.prt_replies.specs.declared.script_end.ScriptEnd.{ScriptEnd}
 
 -- one read of one byte, at a reader that has these bytes left before and after
 abbrev pub ByteIs : ByteRead → Option (List ℕ) → Option (List ℕ) → Type 0
@@ -91,11 +92,6 @@ AnswerIs {D} {M} turn may desk0 stops.Newline line reply desk = LineGives turn m
 AnswerIs {D} {M} turn may desk0 stops.End line reply desk = LineGives turn may desk0 line reply desk
 AnswerIs {D} {M} turn may desk0 stops.Fault line reply desk = (reply ≡ Refused ReadFault) × (desk ≡ desk0)
 AnswerIs {D} {M} turn may desk0 stops.Endless line reply desk = (reply ≡ Refused LineTooLong) × (desk ≡ desk0)
-
--- the text was written, or, where it was not, a part of it
-abbrev pub Written : Bool → Option (List ℕ) → Option (List ℕ) → List ℕ → Type 0
-Written true writer0 writer text = Appends writer0 writer text
-Written false writer0 writer text = (part : List ℕ) × (cut_off : List ℕ) × (text ≡ part ++ cut_off) × Appends writer0 writer part
 
 -- the input ended where a line would begin
 abbrev pub is_nothing_by : Stop → ℕ → Bool

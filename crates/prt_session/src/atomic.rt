@@ -3,20 +3,18 @@ ghost use Rattle.std.specs.Prelude.{◌≤◌, ◌<◌, ◌+◌, ◌^◌, length
 ghost use Rattle.std.specs.List.{All};
 ghost use Rattle.prt_command.specs.Storable.{IsStorable};
 ghost use Rattle.prt_session.specs.Atomic.{AtomicIs, SubmittedIs, accepted_after};
-ghost use Rattle.prt_session.specs.Reply.{replies_text};
+ghost use Rattle.prt_replies.specs.Reply.{replies_text};
 ghost use Rattle.prt_session.specs.Stands.{Explained, StandsForSome};
-ghost use Rattle.prt_session.specs.Steps.{Written};
+ghost use Rattle.prt_replies.specs.Written.{Written};
 
 use crate::collector::Collector;
 use crate::desk::Desk;
 use crate::form::Form;
 use crate::limits::MOST_TOGETHER;
-use crate::observer::Observer;
-use crate::reply::Reply;
-use crate::script_end::ScriptEnd;
 use crate::session::{run_session, write_last};
 use prt_command::Command;
 use prt_refusals::OnRefusal;
+use prt_replies::{Observer, Reply, ScriptEnd};
 use std::alloc::Global;
 use std::io::{Read, Write};
 

@@ -3,12 +3,10 @@ ghost use Rattle.prt_session.specs.Check.{ChecksLines};
 
 use crate::executor::Executor;
 use crate::form::Form;
-use crate::observer::Observer;
-use crate::reply::Reply;
-use crate::script_end::ScriptEnd;
 use crate::session::run_session_in;
 use prt_command::Request;
 use prt_refusals::OnRefusal;
+use prt_replies::{Observer, Reply, ScriptEnd};
 use std::io::{Read, Write};
 
 /// Takes each request, and does nothing.

@@ -5,8 +5,8 @@ ghost use Rattle.prt_command.specs.declared.request.Request.TheVariants as reque
 
 use crate::executor::Executor;
 use crate::limits::MOST_TOGETHER;
-use crate::reply::Reply;
 use prt_command::{Command, Refusal, Request};
+use prt_replies::Reply;
 use std::alloc::Global;
 
 /// Gives the command that is asked for, unless it is a query.

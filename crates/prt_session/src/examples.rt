@@ -2,7 +2,7 @@
 ghost use Rattle.std.specs.Prelude.{◌≡◌, ◌∷◌, [], ◌++◌, None, Some, codes, flat_map, length, replicate, true};
 ghost use Rattle.prt_session.specs.Example.{atomic_on, atomic_replies_to, refusals_of, replies_to, session_on};
 ghost use Rattle.prt_session.specs.Desk.{commit_kept, no_memory, publication_fails};
-ghost use Rattle.prt_session.specs.Session.{end_of_input, read_fault};
+ghost use Rattle.prt_replies.specs.Input.{end_of_input, read_fault};
 ghost use Rattle.prt_refusals.specs.declared.on_refusal.OnRefusal.TheVariants.{GoOn, Stop};
 
 /// What stands after a refused line is left unread.

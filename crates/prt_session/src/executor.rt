@@ -1,5 +1,5 @@
-use crate::reply::Reply;
 use prt_command::Request;
+use prt_replies::Reply;
 
 /// Executes the requests of a session, in a context.
 ///

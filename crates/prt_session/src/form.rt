@@ -1,12 +1,12 @@
 ghost use Rattle.std.specs.Prelude.{◌≡◌, ◌≢◌, ◌++◌, codes, decimal, false};
 ghost use Rattle.prt_refusals.specs.Refusal.{refusal_text};
 ghost use Rattle.prt_session.specs.Form.{reply_in};
-ghost use Rattle.prt_session.specs.Steps.{Written};
+ghost use Rattle.prt_replies.specs.Written.{Written};
 
-use crate::reply::{Reply, refused_line, write_bytes, write_reply};
 use arrayvec::ArrayString;
 use itoa::Buffer;
 use prt_command::Refusal;
+use prt_replies::{Reply, refused_line, write_bytes, write_reply};
 use std::io::Write;
 
 /// How the replies of a session are written down.

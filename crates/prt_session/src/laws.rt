@@ -6,9 +6,10 @@ ghost use Rattle.prt_refusals.specs.declared.refusal.Refusal.{Refusal};
 ghost use Rattle.prt_session.specs.Atomic.{AllMade, NoneMade, atomic_output, collected};
 ghost use Rattle.prt_session.specs.Desk.{Befalls, DeskState, IsNoMemory, Mishap, request_turn, settled};
 ghost use Rattle.prt_session.specs.Refusals.{IsClosedExchange, IsListReply, IsWithinLists};
-ghost use Rattle.prt_session.specs.Session.{Input, Path, replies, session};
+ghost use Rattle.prt_replies.specs.Input.{Input};
+ghost use Rattle.prt_session.specs.Session.{Path, replies, session};
 ghost use Rattle.prt_refusals.specs.declared.on_refusal.OnRefusal.{OnRefusal};
-ghost use Rattle.prt_session.specs.declared.reply.Reply.TheVariants.{Refused};
+ghost use Rattle.prt_replies.specs.declared.reply.Reply.TheVariants.{Refused};
 ghost use Rattle.prt_version.specs.State.{State};
 
 /// A session ends: it takes at most 1,000,000 lines of 65,537 bytes each, and one byte more.

@@ -7,12 +7,11 @@ ghost use Rattle.prt_version.specs.Change.{refusal};
 ghost use Rattle.prt_version.specs.State.{opening_state};
 
 use crate::desk::Desk;
-use crate::observer::Observer;
 use crate::script::run_script;
-use crate::script_end::ScriptEnd;
 use prt_command::{Command, Query, Refusal};
 use prt_listing::query_text;
 use prt_refusals::OnRefusal;
+use prt_replies::{Observer, ScriptEnd};
 use prt_version::Version;
 use std::alloc::Global;
 use std::io::{Read, Write};

@@ -4,12 +4,10 @@ ghost use Rattle.prt_session.specs.Stands.{Explained, StandsForSome};
 
 use crate::desk::Desk;
 use crate::executor::Executor;
-use crate::observer::Observer;
-use crate::reply::{Reply, Text};
-use crate::script_end::ScriptEnd;
 use crate::session::run_session;
 use prt_command::Request;
 use prt_refusals::OnRefusal;
+use prt_replies::{Observer, Reply, ScriptEnd, Text};
 use std::alloc::Global;
 use std::io::{Read, Write};
 

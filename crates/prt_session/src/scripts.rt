@@ -1,7 +1,7 @@
 //! Scripts with their replies, computed with the definitions alone. `tests/examples` writes this file.
 ghost use Rattle.std.specs.Prelude.{◌≡◌, [], codes};
 ghost use Rattle.prt_session.specs.Example.{replies_to};
-ghost use Rattle.prt_session.specs.Session.{end_of_input};
+ghost use Rattle.prt_replies.specs.Input.{end_of_input};
 ghost use Rattle.prt_refusals.specs.declared.on_refusal.OnRefusal.TheVariants.{GoOn, Stop};
 
 /// Gives the scripts of `tests/cases`, each by the name of its case.

@@ -8,12 +8,10 @@ ghost use Rattle.prt_session.specs.Steps.{AnswerIs, EndsAfterLast, EndsWith, Lin
 use crate::executor::Executor;
 use crate::form::Form;
 use crate::input::{ByteRead, LineRead, Stop, next_byte, next_line};
-use crate::observer::Observer;
-use crate::reply::Reply;
-use crate::script_end::ScriptEnd;
 use arrayvec::ArrayVec;
 use prt_command::{LONGEST_LINE, MOST_LINES, Refusal, read_line};
 use prt_refusals::OnRefusal;
+use prt_replies::{Observer, Reply, ScriptEnd};
 use std::io::{Read, Write};
 
 /// Does what a line asks for.

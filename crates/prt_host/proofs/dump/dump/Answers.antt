@@ -5,7 +5,7 @@ use Rattle.sqlite.specs.Held.{Held}
 use Rattle.prt_dump.specs.PutBack.{dump_text}
 use Rattle.prt_front.specs.Line.{line_state}
 use Rattle.prt_publisher.specs.Openings.{HasOpened}
-use Rattle.prt_session.specs.Steps.{Written}
+use Rattle.prt_replies.specs.Written.{Written}
 use Rattle.prt_host.proofs.Runs.{widened}
 use Rattle.prt_host.proofs.dump.dump.Goals as goal
 

@@ -1,4 +1,4 @@
-use Rattle.prt_session.proofs.Known.{appends_more}
+use Rattle.prt_replies.proofs.Known.{appends_more}
 use Rattle.prt_session.proofs.Replies.{no_text}
 use Rattle.prt_session.proofs.Submitted.{lines_cut, one_more_line}
 use Rattle.prt_session.specs.declared.form.Form.TheVariants.{Plain}

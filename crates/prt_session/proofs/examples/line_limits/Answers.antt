@@ -1,7 +1,7 @@
 use Rattle.std.proofs.Common.{refl}
 use Rattle.std.specs.Fmt.{digits}
 use Rattle.prt_command.specs.Lines.{lines_of}
-use Rattle.prt_session.specs.Reply.{replies_text}
+use Rattle.prt_replies.specs.Reply.{replies_text}
 use Rattle.prt_session.specs.Session.{line_turn, session, session_lines, stops_after}
 use Rattle.prt_session.proofs.examples.line_limits.Goals as goal
 

@@ -2,7 +2,7 @@ use Rattle.std.proofs.Common.{◌≡◌, ◌+◌, ◌-◌, true, refl, arith}
 use Rattle.prt_command.specs.Lines.{limits}
 use Rattle.prt_session.proofs.Ends.{after_last, ends_cut, ends_there, goes_on, nothing_read}
 use Rattle.prt_session.proofs.Served.{moment, served_at_first, ran_to_end}
-use Rattle.prt_session.specs.Run.{refused_after}
+use Rattle.prt_replies.specs.ScriptEnd.{refused_after}
 use Rattle.prt_session.specs.Steps.{is_nothing}
 use Rattle.prt_session.proofs.session.run_session_in.Goals as goal
 

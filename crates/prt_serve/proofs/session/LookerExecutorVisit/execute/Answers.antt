@@ -3,7 +3,7 @@ use Rattle.prt_front.specs.Line.{Line, line_state}
 use Rattle.prt_listing.specs.QueryText.{query_text as text_of}
 use Rattle.prt_serve.specs.Requests.{taken, refused, seen, unanswered, unseen}
 use Rattle.prt_service.specs.Look.{Look}
-use Rattle.prt_session.specs.declared.reply.Reply.TheVariants.{Accepted, Answered, Refused}
+use Rattle.prt_replies.specs.declared.reply.Reply.TheVariants.{Accepted, Answered, Refused}
 use Rattle.prt_version.specs.State.{State}
 use Rattle.prt_serve.proofs.session.LookerExecutorVisit.execute.Goals as goal
 

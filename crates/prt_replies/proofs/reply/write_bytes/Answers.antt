@@ -1,6 +1,6 @@
 use Rattle.std.proofs.Common.{drop, take}
-use Rattle.prt_session.proofs.Known.{appends_then_keeps, split_at, wrote_more, within_more}
-use Rattle.prt_session.proofs.reply.write_bytes.Goals as goal
+use Rattle.prt_replies.proofs.Known.{appends_then_keeps, split_at, wrote_more, within_more}
+use Rattle.prt_replies.proofs.reply.write_bytes.Goals as goal
 
 pub loop-written-preserved : goal.loop-written-preserved
 loop-written-preserved g c = record {

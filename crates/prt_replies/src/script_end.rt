@@ -1,8 +1,8 @@
 ghost use Rattle.std.specs.Prelude.{◌≡◌, Some};
-ghost use Rattle.prt_session.specs.Run.{fault_after, refused_after};
+ghost use Rattle.prt_replies.specs.ScriptEnd.{fault_after, refused_after};
 
 use crate::reply::Reply;
-use prt_command::Refusal;
+use prt_refusals::Refusal;
 
 /// How a session ended.
 #[derive(Clone, Copy)]
@@ -15,13 +15,13 @@ pub struct ScriptEnd {
 
 impl ScriptEnd {
     /// No reply yet.
-    pub(crate) const OPENING: ScriptEnd = ScriptEnd {
+    pub const OPENING: ScriptEnd = ScriptEnd {
         refused: false,
         fault: None,
     };
 
     /// Takes in one more reply.
-    pub(crate) fn with_reply(self, reply: &Reply) -> ScriptEnd
+    pub fn with_reply(self, reply: &Reply) -> ScriptEnd
         ensures refused { result.refused ≡ refused_after self.refused reply.now }
         ensures fault { result.fault ≡ fault_after self.fault reply.now }
     {

@@ -1,12 +1,12 @@
 ghost use Rattle.std.specs.Prelude.{◌≡◌, ◌≢◌, ◌<◌, ◌≤◌, ◌++◌, IfSome, MatchOption, codes, decimal, false, length, take, ⊤};
 ghost use Rattle.std.specs.Io.KnownBytes.{Appends, Keeps};
 ghost use Rattle.prt_refusals.specs.Refusal.{refusal_text};
-ghost use Rattle.prt_session.specs.Reply.{reply_text};
-ghost use Rattle.prt_session.specs.Steps.{Written};
+ghost use Rattle.prt_replies.specs.Reply.{reply_text};
+ghost use Rattle.prt_replies.specs.Written.{Written};
 
 use arrayvec::ArrayString;
 use itoa::Buffer;
-use prt_command::Refusal;
+use prt_refusals::Refusal;
 use std::io::Write;
 use std::marker::Model;
 
@@ -66,7 +66,7 @@ fn accepted_line(number: u64) -> ArrayString<32>
 }
 
 /// Makes the line `error C NAME`.
-pub(crate) fn refused_line(refusal: Refusal) -> ArrayString<32>
+pub fn refused_line(refusal: Refusal) -> ArrayString<32>
     ensures { result.bytes ≡ refusal_text refusal ++ codes "\n" }
 {
     let mut line = refusal.text();
@@ -87,7 +87,7 @@ fn write_some<W: Write>(writer: &mut W, bytes: &[u8]) -> Option<usize>
 }
 
 /// Writes these bytes and flushes; tells whether all of it went well.
-pub(crate) fn write_bytes<W: Write>(writer: &mut W, bytes: &[u8]) -> bool
+pub fn write_bytes<W: Write>(writer: &mut W, bytes: &[u8]) -> bool
     ensures { Written result (W.contents writer.old) (W.contents writer.new) bytes.now }
 {
     let mut written = 0;

@@ -1,8 +1,8 @@
 -- Replies, and their bytes.
 use Rattle.std.specs.Prelude.{ℕ, Bool, true, false, List, [], ◌++◌, codes, decimal, flat_map}
 use Rattle.prt_refusals.specs.Refusal.{refusal_text}
-use Rattle.prt_session.specs.declared.reply.Reply.{Reply}
-use Rattle.prt_session.specs.declared.reply.Reply.TheVariants.{Silent, Accepted, Answered, Refused}
+use Rattle.prt_replies.specs.declared.reply.Reply.{Reply}
+use Rattle.prt_replies.specs.declared.reply.Reply.TheVariants.{Silent, Accepted, Answered, Refused}
 
 abbrev pub is_refused : Reply → Bool
 is_refused (Refused reason) = true

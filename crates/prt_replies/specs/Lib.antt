@@ -1,0 +1,4 @@
+pub mod Reply
+pub mod Written
+pub mod Input
+pub mod ScriptEnd
