@@ -7,7 +7,7 @@ use crate::cut::Cut;
 use crate::leaf::Leaf;
 use crate::piece::Piece;
 use crate::pieces::Pieces;
-use crate::rows::read_all;
+use crate::route_rows::read_all;
 use prt_route::{Addr, Refusal, Route, RouteChoice, RouteEdit, RouteKey, Selector};
 use std::alloc::{AllocError, Global};
 use std::marker::Model;

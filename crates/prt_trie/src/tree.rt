@@ -13,7 +13,7 @@ use crate::branch::Branch;
 use crate::cut::Cut;
 use crate::leaf::Leaf;
 use crate::piece::Piece;
-use crate::rows::sorted_rows;
+use crate::route_rows::sorted_rows;
 use crate::{Addr, Refusal, Route, RouteChoice, RouteKey};
 use prt_route::{RouteEdit, Selector};
 use std::alloc::{AllocError, Global};

@@ -6,7 +6,7 @@ use Rattle.prt_addr.specs.Sound.{IsPrefix}
 use Rattle.prt_route.specs.declared.route.Route.{Route}
 use Rattle.prt_trie.specs.Table.{has_same_key}
 use Rattle.prt_trie.proofs.Order.{key_both_ways, one_table_moved, sorted_rises}
-use Rattle.prt_trie.proofs.rows.sorted_rows.Goals as goal
+use Rattle.prt_trie.proofs.route_rows.sorted_rows.Goals as goal
 
 pub returns-clause-table : goal.returns-clause-table
 returns-clause-table c =

@@ -2,7 +2,7 @@ use Rattle.std.proofs.Common.{◌<◌, ◌^◌, rules, arith}
 use Rattle.std.proofs.lemmas.List.Elements.{AllWithin-more, at_read}
 use Rattle.prt_addr.specs.Sound.{IsPrefix}
 use Rattle.prt_route.specs.declared.route.Route.{Route}
-use Rattle.prt_trie.proofs.rows.read_all.Goals as goal
+use Rattle.prt_trie.proofs.route_rows.read_all.Goals as goal
 
 pub loop-row-preserved : goal.loop-row-preserved
 loop-row-preserved c = record {
