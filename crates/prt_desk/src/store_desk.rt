@@ -16,7 +16,7 @@ ghost use Rattle.prt_version.specs.State.{State};
 
 use prt_grace::Domain;
 use prt_listing::query_text;
-use prt_publisher::{Phase, Publisher};
+use prt_publisher::Publisher;
 use prt_session::{Command, Desk, MOST_TOGETHER, Query, Refusal};
 use prt_version::Version;
 use sqlite::{Alter, Connection, Error};
@@ -59,21 +59,6 @@ impl<S: Alter + Drop, H: Wait + Drop> StoreDesk<S, H> {
             publisher,
             domain,
             rt,
-        }
-    }
-
-    /// Tells whether a commit or a publication failed, after which no command is accepted.
-    pub fn is_closed(&self) -> bool
-        ensures value { result ≡ is_shut self.now }
-        ensures kept { IsKept S.Store self.now }
-    {
-        match self.publisher.phase() {
-            Phase::Closed => true,
-            Phase::Ready
-            | Phase::Admitted
-            | Phase::Prepared
-            | Phase::Committed
-            | Phase::Published => false,
         }
     }
 
