@@ -46,7 +46,7 @@ impl Domain {
     }
 
     /// Brings a looker online: it announces the noted number, unless it is online already. The number that it has
-    /// announced then. A place of another registry changes nothing here.
+    /// announced then. Where the place is of another registry, this one stays as it is.
     pub fn online<H: Wait>(&self, rt: &H, place: &mut Place) -> u64
         ensures place { place.new ≡ record place.old { announced = Some result } }
         ensures kept { IfSome place.old.announced (λ number. result ≡ number) }
@@ -61,7 +61,7 @@ impl Domain {
     }
 
     /// Announces that the looker holds no version below this number. The looker is online, and the number is at least
-    /// the one that it has announced. A place of another registry changes nothing here.
+    /// the one that it has announced. Where the place is of another registry, this one stays as it is.
     pub fn announce<H: Wait>(&self, rt: &H, place: &mut Place, number: u64)
         requires online { IsSome place.old.announced }
         requires later { IfSome place.old.announced (λ before. before ≤ number) }
@@ -75,7 +75,7 @@ impl Domain {
         }
     }
 
-    /// Takes a looker offline: it holds no version. A place of another registry changes nothing here.
+    /// Takes a looker offline: it holds no version. Where the place is of another registry, this one stays as it is.
     pub fn offline<H: Wait>(&self, rt: &H, place: &mut Place)
         ensures { place.new ≡ record place.old { announced = None } }
     {

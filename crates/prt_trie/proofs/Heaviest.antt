@@ -1,18 +1,16 @@
 -- The best of some rows, from the best of fewer.
-use Rattle.std.proofs.Common.{◌≡◌, ◌⊎◌, ℕ, ◌+◌, ◌*◌, ◌-◌, ◌<◌, ◌≤◌, Bool, true, false, List, length, get_or, arith, inl, inr, ⊎_elim, refl, sym, ap, subst, ◌∙◌}
-use Prim.Native.Nat.{◌∣◌}
+use Rattle.std.proofs.Common.{◌≡◌, ◌⊎◌, ℕ, ◌+◌, ◌*◌, ◌-◌, ◌<◌, ◌≤◌, Bool, true, false, List, length, get_or, arith, inl, inr, ⊎_elim, refl, sym, ap, ◌∙◌}
 use Rattle.std.proofs.Math.Nat.{dvd-add}
-use Rattle.std.proofs.lemmas.Bool.{cases_lt, cases_eq, false_from_ne_true}
+use Rattle.std.proofs.lemmas.Bool.{cases_lt, false_from_ne_true}
 use Rattle.std.proofs.lemmas.Bool.Decides.{nat_tests}
-use Rattle.std.proofs.lemmas.Nat.{pow_pos}
-use Rattle.std.proofs.lemmas.Nat.Gcd.{dvd_refl, dvd_of_mod-eq-zero, dvd_trans}
+use Rattle.std.proofs.lemmas.Nat.Gcd.{dvd_of_mod-eq-zero, dvd_trans}
 use Rattle.prt_addr.specs.Block.{Block}
 use Rattle.prt_addr.specs.Sound.{IsPrefix}
 use Rattle.prt_addr.specs.Prefix.{contains, is_same_prefix}
 use Rattle.prt_addr.proofs.Ranges.{apart, contains_tells, contains_from, sizes_divide}
 use Rattle.prt_route.specs.declared.route.Route.{Route}
 use Rattle.prt_trie.specs.Block.{size}
-use Rattle.prt_trie.specs.Heaviest.{IsBest, IsHeaviest, weight}
+use Rattle.prt_trie.specs.Heaviest.{IsBest, IsHeaviest}
 use Rattle.prt_trie.specs.Table.{IsTable}
 use Rattle.prt_trie.proofs.Order.{in_order, order_of}
 

@@ -1,16 +1,15 @@
 -- The steps of a sweep over sorted rows.
-use Rattle.std.proofs.Common.{Option, Some, None, ◌≡◌, ◌⊎◌, ℕ, ◌+◌, ◌*◌, ◌-◌, ◌^◌, ◌<◌, ◌≤◌, Bool, true, false, List, [], ◌∷◌, ◌++◌, length, get_or, arith, inl, inr, ⊎_elim, refl, sym, ap, subst, ◌∙◌}
+use Rattle.std.proofs.Common.{Option, Some, None, ◌≡◌, ◌⊎◌, ℕ, ◌+◌, ◌-◌, ◌^◌, ◌<◌, ◌≤◌, true, false, List, [], ◌∷◌, ◌++◌, length, get_or, arith, inl, inr, ⊎_elim, refl, sym, ap, subst, ◌∙◌}
 use Rattle.std.proofs.lemmas.Bool.{cases_lt}
 use Rattle.std.proofs.lemmas.List.{get_or_append_left, get_or_default, get_or_push, length_push}
 use Rattle.std.proofs.lemmas.Nat.{pow_pos}
 use Rattle.std.specs.Option.{option_to_list}
-use Rattle.prt_addr.specs.Block.{Block}
 use Rattle.prt_addr.proofs.Ranges.{ends_within}
 use Rattle.prt_addr.specs.Sound.{IsPrefix}
 use Rattle.prt_addr.specs.Prefix.{is_same_prefix}
 use Rattle.prt_route.specs.declared.route.Route.{Route}
 use Rattle.prt_trie.specs.Block.{size}
-use Rattle.prt_trie.specs.Heaviest.{IsBest, IsHeaviest}
+use Rattle.prt_trie.specs.Heaviest.{IsBest}
 use Rattle.prt_trie.specs.Spans.{IsSpanOf}
 use Rattle.prt_trie.specs.Sweep.{AreDone, AreFrom, AreRests, AreTo, IsRestOf, IsSweep}
 use Rattle.prt_trie.specs.Table.{IsTable}

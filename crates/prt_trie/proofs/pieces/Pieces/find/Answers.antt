@@ -1,4 +1,4 @@
-use Rattle.std.proofs.Common.{◌≡◌, ap, sym, ◌∙◌, None}
+use Rattle.std.proofs.Common.{ap, sym, ◌∙◌}
 use Rattle.std.specs.Option.{option_copied}
 use Rattle.prt_trie.proofs.Matches.{best_in_piece, best_in_short}
 use Rattle.prt_trie.proofs.pieces.Pieces.find.Goals as goal

@@ -1,11 +1,10 @@
-use Rattle.std.proofs.Common.{◌≡◌, ℕ, map, arith, ap, subst, sym, ◌∙◌}
+use Rattle.std.proofs.Common.{◌≡◌, map, arith, ap, subst, sym, ◌∙◌}
 use Rattle.std.specs.Prelude.{IfOk}
 use Rattle.std.specs.Arc.{arc_value}
-use Rattle.prt_trie.specs.Pieces.{pieces_by, rows_of_piece, rows_of_pieces}
+use Rattle.prt_trie.specs.Pieces.{pieces_by, rows_of_pieces}
 use Rattle.prt_trie.specs.Table.{IsOfOneTable, IsRising}
 use Rattle.prt_trie.proofs.Splits.{part_at, parts_left}
 use Rattle.prt_trie.proofs.Wholes.{joined_pieces, no_pieces, part_of_one_table, part_rises, pieces_step, whole_from}
-use Rattle.prt_trie.proofs.pieces.Pieces.from_sorted.Given as given
 use Rattle.prt_trie.proofs.pieces.Pieces.from_sorted.Goals as goal
 
 pub loop-number-init : goal.loop-number-init

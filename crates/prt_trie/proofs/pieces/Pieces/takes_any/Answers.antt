@@ -1,9 +1,7 @@
-use Rattle.std.proofs.Common.{◌≡◌, ap, map, ◌∙◌}
-use Rattle.std.specs.Prelude.{List}
+use Rattle.std.proofs.Common.{ap, ◌∙◌}
 use Rattle.std.specs.Arc.{arc_value}
 use Rattle.std.specs.List.{list_any}
 use Rattle.prt_route.specs.RouteChoice.{is_selected}
-use Rattle.prt_trie.specs.Pieces.{rows_of_pieces}
 use Rattle.prt_trie.proofs.Inserts.{any_joined}
 use Rattle.prt_trie.proofs.pieces.Pieces.takes_any.Goals as goal
 

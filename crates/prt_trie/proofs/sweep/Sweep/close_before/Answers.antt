@@ -1,4 +1,4 @@
-use Rattle.std.proofs.Common.{◌≡◌, ◌+◌, ◌-◌, ◌≤◌, arith, length, get_or, ap}
+use Rattle.std.proofs.Common.{◌≡◌, ◌-◌, ◌≤◌, arith, length, get_or, ap}
 use Rattle.prt_trie.specs.declared.sweep.Rest.{Rest}
 use Rattle.prt_trie.proofs.Sweeps.{bits_read, from_row, to_from_top}
 use Rattle.prt_trie.proofs.sweep.Sweep.close_before.Goals as goal
