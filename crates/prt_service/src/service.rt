@@ -100,11 +100,11 @@ impl<S: Alter + Drop, R: Wait + Drop, J: Naming> Service<S, R, J> {
         let mut publisher = self.publisher.lock(rt);
         let waiting = self.lobby.lock(rt).take_all(self.alloc);
         let submitted = submit_waiting(&mut publisher, rt, self.alloc, &self.domain, waiting);
-        // Lets the next ones be submitted while the answers are sent.
-        drop(publisher);
+        // Sends the answers under the lock: those that are answered then come back in time for the next group.
         if let Some(submitted) = submitted {
             submitted.answer(rt);
         }
+        drop(publisher);
     }
 
     /// Has commands stored, published and noted together: all of them or none. The receipt's list ends with them, and its
