@@ -1,3 +1,4 @@
+pub mod Blocks
 pub mod Requests
 pub mod Lists
 pub mod Growing

@@ -8,7 +8,7 @@ pub trait Gate {
     /// Comes before a line is executed.
     fn before(&self, session: u64, line: u64);
 
-    /// Comes once this reply to the line was written, or once that failed.
+    /// Comes once the writer took this reply to the line, or failed.
     fn after(&self, session: u64, line: u64, reply: &Reply);
 }
 

@@ -1,12 +1,14 @@
 //! Sessions over a service that others share, and the workers that serve them.
 #![tactic(auto)]
 
+mod connection;
 mod gate;
 pub mod laws;
 mod listen;
 mod session;
 mod worker;
 
+pub use connection::{Lines, Replies};
 pub use gate::{Gate, OpenGate};
 pub use listen::{Accepting, Connected, Limits, ServeEnd, accept, serve_all};
 pub use session::{Visit, serve_session};

@@ -1,5 +1,6 @@
 //! The loop that accepts connections, and the threads that serve them.
 
+use crate::connection::{Lines, Replies, ends_over};
 use crate::gate::Gate;
 use crate::worker::{Job, Served, work};
 use crossbeam_channel::{Receiver, Sender};
@@ -7,7 +8,7 @@ use prt_service::{Naming, Service};
 use prt_session::Refusal;
 use sqlite::Alter;
 use std::alloc::Global;
-use std::io::{self, BufReader, Read, Write};
+use std::io::{self, Read, Write};
 use std::net::{OpenListener, OpenStream};
 use std::sync::{Mutex, Wait};
 use std::thread::{self, Threads};
@@ -17,7 +18,7 @@ use std::time::Duration;
 const WAITING: usize = 64;
 
 /// A connection whose session waits for a worker.
-pub type Connected<T> = Job<BufReader<T>, T>;
+pub type Connected<T> = Job<Lines<T>, Replies<T>>;
 
 /// How much is served.
 #[derive(Clone, Copy)]
@@ -49,7 +50,7 @@ pub struct ServeEnd {
     pub refused: Option<Refusal>,
 }
 
-/// Makes a session of a connection: its bytes are read in blocks, and its second end is for writing.
+/// Makes a session of a connection, whose second end is for writing.
 fn connected<T: Read + Write + OpenStream + Drop>(
     alloc: Global,
     session: u64,
@@ -61,8 +62,8 @@ fn connected<T: Read + Write + OpenStream + Drop>(
     }
     // Serves all the same where this is refused: a reply then may come late.
     let _at_once = stream.set_nodelay(true).is_ok();
-    let writer = stream.try_clone()?;
-    let reader = BufReader::new(alloc, stream)?;
+    let to = stream.try_clone()?;
+    let (reader, writer) = ends_over(alloc, stream, to)?;
     Ok(Job {
         session,
         reader,
@@ -131,7 +132,7 @@ impl<
     fn serve(self) {
         let jobs = self.jobs.iter(self.rt);
         // Drops each job after its session, which closes the connection.
-        let after = |_served: Served<BufReader<T>, T>| ();
+        let after = |_served: Served<Lines<T>, Replies<T>>| ();
         if let Err(reason) = work(self.rt, self.alloc, self.service, jobs, self.gate, after) {
             *self.refused.lock(self.rt) = Some(reason);
         }

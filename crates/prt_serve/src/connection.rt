@@ -1,0 +1,94 @@
+//! The two ends of a connection: replies to lines that came together go out together.
+ghost use Rattle.std.specs.Prelude.{◌≡◌, IfOk, true};
+ghost use Rattle.std.specs.Io.Buffered.{reader_remaining, writer_contents};
+ghost use Rattle.prt_serve.specs.Blocks.{BeginsWithLine};
+
+use std::alloc::Global;
+use std::io::{self, BufReader, BufWriter, Read, Write};
+use std::sync::Arc;
+use std::sync::atomic::{AtomicBool, Ordering};
+
+/// Tells whether a block begins with a whole line that has a word, and so gets a reply. It may miss one with white space in
+/// front.
+fn begins_with_line(block: &[u8]) -> bool
+    ensures { result ≡ true → BeginsWithLine block.now }
+{
+    match block.first() {
+        Some(first) => *first > b' ' && *first != b'#' && block.contains(&b'\n'),
+        None => false,
+    }
+}
+
+/// The end that lines are read from, in blocks.
+#[derive(Drop)]
+pub struct Lines<T: Read + Drop> {
+    blocks: BufReader<T>,
+    /// Whether all that was read are whole lines, and the next one lies whole in the block and gets a reply.
+    is_followed: Arc<AtomicBool>,
+}
+
+/// The end that replies go to, in blocks. A flush waits while a further line is at hand that gets a reply: that one is
+/// flushed too, and nothing is waited for until then. So no reply lies here while a read of the connection waits.
+#[derive(Drop)]
+pub struct Replies<T: Write + Drop> {
+    blocks: BufWriter<T>,
+    /// What `Lines` tells of the line after the one that is replied to.
+    is_followed: Arc<AtomicBool>,
+}
+
+/// Makes the ends of a connection of its two streams.
+pub(crate) fn ends_over<T: Read + Write + Drop>(
+    alloc: Global,
+    from: T,
+    to: T,
+) -> io::Result<(Lines<T>, Replies<T>)>
+    ensures from { IfOk result (λ ends. reader_remaining T.remaining ends.0.blocks ≡ T.remaining from) }
+    ensures to { IfOk result (λ ends. writer_contents T.contents ends.1.blocks ≡ T.contents to) }
+{
+    let is_followed = Arc::new(alloc, AtomicBool::new(false))?;
+    let replies = Replies {
+        blocks: BufWriter::new(alloc, to)?,
+        is_followed: Arc::try_clone(&is_followed)?,
+    };
+    let lines = Lines {
+        blocks: BufReader::new(alloc, from)?,
+        is_followed,
+    };
+    Ok((lines, replies))
+}
+
+impl<T: Read + Drop> Lines<T> {
+    /// Notes what comes after these bytes, which were read.
+    fn note(&self, bytes: &[u8]) {
+        let is_followed = bytes.last() == Some(&b'\n') && begins_with_line(self.blocks.buffer());
+        // Writes only what changes: the reader is asked for each byte.
+        if is_followed != self.is_followed.load(Ordering::SeqCst) {
+            self.is_followed.store(is_followed, Ordering::SeqCst);
+        }
+    }
+}
+
+impl<T: Read + Drop> Read for Lines<T> {
+    ghost remaining = { λ lines. reader_remaining T.remaining lines.blocks };
+
+    fn read(&mut self, bytes: &mut [u8]) -> io::Result<usize> {
+        let count = self.blocks.read(bytes)?;
+        self.note(&bytes[..count]);
+        Ok(count)
+    }
+}
+
+impl<T: Write + Drop> Write for Replies<T> {
+    ghost contents = { λ replies. writer_contents T.contents replies.blocks };
+
+    fn write(&mut self, bytes: &[u8]) -> io::Result<usize> {
+        self.blocks.write(bytes)
+    }
+
+    fn flush(&mut self) -> io::Result<()> {
+        if self.is_followed.load(Ordering::SeqCst) {
+            return Ok(());
+        }
+        self.blocks.flush()
+    }
+}
