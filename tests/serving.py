@@ -17,11 +17,14 @@ PATIENCE = 50
 
 
 class Server:
-    """A server on a free port of the loopback, with these further words, and these variables in its environment."""
+    """A server on a free port of the loopback, with these further words, and these variables in its environment.
 
-    def __init__(self, *words, database=DATABASE, variables=None):
+    It runs under a program where words for that are given.
+    """
+
+    def __init__(self, *words, database=DATABASE, variables=None, under=()):
         self.process = subprocess.Popen(
-            [PROGRAM, "serve", "--listen", "127.0.0.1:0", "--db", database, *words],
+            [*under, PROGRAM, "serve", "--listen", "127.0.0.1:0", "--db", database, *words],
             stdin=subprocess.DEVNULL,
             stdout=subprocess.PIPE,
             stderr=subprocess.PIPE,
