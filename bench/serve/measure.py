@@ -35,14 +35,14 @@ def seconds(port, line, in_flight, connections=1):
     return min(float(subprocess.run(words, capture_output=True, text=True, check=True).stdout) for _ in range(TURNS))
 
 
-def system_calls(port, server):
-    """How many calls of read and write (or their kin) the server makes for 1,000 lines of one connection."""
+def system_calls(port, server, in_flight):
+    """How many calls of read and write (or their kin) the server makes for 1,000 lines of one connection, so many in flight."""
     try:
         trace = subprocess.Popen(["strace", "-f", "-c", "-e", "trace=read,recvfrom,write,sendto", "-p", str(server.pid)], stderr=subprocess.PIPE, text=True)
     except FileNotFoundError:
         return "strace isn't here"
     trace.stderr.readline()
-    subprocess.run([LOAD, port, GET, "1000", "1", "1"], check=True, capture_output=True)
+    subprocess.run([LOAD, port, GET, "1000", str(in_flight), "1"], check=True, capture_output=True)
     trace.send_signal(2)
     rows = [row.split() for row in trace.communicate()[1].splitlines()]
     return ", ".join(f"{row[3]} {row[-1]}" for row in rows if len(row) >= 5 and row[3].isdigit() and row[-1] != "total")
@@ -80,7 +80,8 @@ def main():
                 print(f"{name}, {in_flight} in flight: {their / our:.2f} of the C server's speed ({each})")
         one, four = seconds(our_port, GET, 100), seconds(our_port, GET, 100, 4)
         print(f"four connections on four workers: {4 * one / four:.2f} times one")
-        print(f"1,000 lines of one connection, each waited for: {system_calls(our_port, ours)}")
+        for in_flight in (1, 100):
+            print(f"1,000 lines of one connection, {in_flight} in flight: {system_calls(our_port, ours, in_flight)}")
         for server in (ours, theirs):
             server.kill()
             server.wait()
