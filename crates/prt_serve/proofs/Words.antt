@@ -3,8 +3,8 @@ use Rattle.std.proofs.Common.{◌≡◌, ◌≢◌, ℕ, ◌+◌, ◌==◌, ◌<
 use Rattle.std.specs.List.{onto_first, slice_split}
 use Rattle.std.specs.Prelude.{nat_lt}
 use Rattle.prt_addr.specs.Word.{Word, is_white}
-use Rattle.prt_addr.specs.declared.refusal.Refusal.{Refusal}
-use Rattle.prt_addr.specs.declared.refusal.Refusal.TheVariants.{LineTooLong, NotAscii}
+use Rattle.prt_refusals.specs.declared.refusal.Refusal.{Refusal}
+use Rattle.prt_refusals.specs.declared.refusal.Refusal.TheVariants.{LineTooLong, NotAscii}
 use Rattle.prt_command.specs.Reading.{before_comment, has_bytes, reading, words, words_request}
 use Rattle.prt_command.specs.Requests.{refuse_if}
 use Rattle.prt_command.specs.Then.{◌>>=◌}
