@@ -33,13 +33,13 @@ pieces_set cut edit number rows rises few own =
     (λ k within.
     let below : k < 257 = omega (arith, as_many) in
     ⊎_elim
-        (λ (e : k ≡ number).
-        ap (λ n. get_or (set (pieces_by cut 0 257 rows) number new) n []) e ∙ get_or-set_same (pieces_by cut 0 257 rows) number new [] (omega (arith, before))
-        ∙ own_piece_after cut edit number rows rises own ∙ ap (λ n. rows_of_piece cut n (after_edit edit rows)) (sym e) ∙ sym (at k (after_edit edit rows) below))
-        (λ (ne : k ≡ number → ⊥).
-        get_or-set_other (pieces_by cut 0 257 rows) number k new [] ne ∙ at k rows below
-        ∙ sym (other_piece_after cut edit number k rows rises own ne) ∙ sym (at k (after_edit edit rows) below))
-        (cases_eq k number))
+    (λ (e : k ≡ number).
+    ap (λ n. get_or (set (pieces_by cut 0 257 rows) number new) n []) e ∙ get_or-set_same (pieces_by cut 0 257 rows) number new [] (omega (arith, before))
+    ∙ own_piece_after cut edit number rows rises own ∙ ap (λ n. rows_of_piece cut n (after_edit edit rows)) (sym e) ∙ sym (at k (after_edit edit rows) below))
+    (λ (ne : k ≡ number → ⊥).
+    get_or-set_other (pieces_by cut 0 257 rows) number k new [] ne ∙ at k rows below
+    ∙ sym (other_piece_after cut edit number k rows rises own ne) ∙ sym (at k (after_edit edit rows) below))
+    (cases_eq k number))
 
 length_inserted : (piece rows : List Route) → length (insert_all piece rows) ≡ length piece + length rows
 length_inserted piece rows = length_permutation (piece ++ rows) (insert_all piece rows) (insert_all_moves piece rows) ∙ length-append piece rows

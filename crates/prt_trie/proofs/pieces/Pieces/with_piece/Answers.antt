@@ -16,13 +16,17 @@ with_change-requires g c =
     let rows : List Route = rows_of_pieces (map (λ piece. g.P.Piece.routes (arc_value piece)) c.self.inside.pieces.items) in
     subst (IsOfTheirTable c.args.edit.now)
     (sym (ap g.P.Piece.routes c.deref-old.ensures ∙ rows_at c.self.inside.cut (λ piece. g.P.Piece.routes (arc_value piece)) c.self.inside.pieces.items c.args.number c.index.result.now c.self.invariant.0 c.requires.number
-        (omega (arith, c.requires.number, length_whole c.self.inside.cut (λ piece. g.P.Piece.routes (arc_value piece)) c.self.inside.pieces.items c.self.invariant.0)) c.index.ensures))
+    (omega (arith, c.requires.number, length_whole c.self.inside.cut (λ piece. g.P.Piece.routes (arc_value piece)) c.self.inside.pieces.items c.self.invariant.0)) c.index.ensures))
     (fits_part c.self.inside.cut c.args.edit.now c.args.number rows (subst (λ all. IsOfTheirTable c.args.edit.now all.1) (sym c.self.view_is) c.requires.table))
 
 pub overflow_sub-self-inside : goal.overflow_sub-self-inside
 overflow_sub-self-inside g c =
-    omega (arith, c.len.ensures ∙ ap (λ piece. length (g.P.Piece.routes piece)) c.deref-old.ensures, c.self.invariant.1,
-        count_of_piece c.self.inside.cut (λ piece. g.P.Piece.routes (arc_value piece)) c.self.inside.pieces.items c.args.number c.index.result.now c.self.invariant.0 c.requires.number c.index.ensures)
+    omega (
+      arith,
+      c.len.ensures ∙ ap (λ piece. length (g.P.Piece.routes piece)) c.deref-old.ensures,
+      c.self.invariant.1,
+      count_of_piece c.self.inside.cut (λ piece. g.P.Piece.routes (arc_value piece)) c.self.inside.pieces.items c.args.number c.index.result.now c.self.invariant.0 c.requires.number c.index.ensures,
+    )
 
 pub owners_with-requires : goal.owners_with-requires
 owners_with-requires g c =
@@ -43,10 +47,18 @@ edited g c =
     (c.in_ok-new.ensures.value ∙ ap (λ piece. after_edit c.args.edit.now (g.P.Piece.routes piece)) c.deref-old.ensures) (set_in g c)
 
 pub invariant_of-result : goal.invariant_of-result
-invariant_of-result g c = ((edited g c).0,
-    omega (arith, c.in-Some.ensures, c.len-2.ensures, c.len.ensures ∙ ap (λ piece. length (g.P.Piece.routes piece)) c.deref-old.ensures, c.self.invariant.1,
-        count_of_piece c.self.inside.cut (λ piece. g.P.Piece.routes (arc_value piece)) c.self.inside.pieces.items c.args.number c.index.result.now c.self.invariant.0 c.requires.number c.index.ensures,
-        count_with_piece c.self.inside.cut (λ piece. g.P.Piece.routes (arc_value piece)) c.self.inside.pieces.items c.in_ok-pieces.pieces.items c.args.number c.index.result.now (g.P.Piece.routes c.in_ok-new.new) c.self.invariant.0 c.requires.number c.index.ensures (set_in g c)))
+invariant_of-result g c = (
+  (edited g c).0,
+  omega (
+    arith,
+    c.in-Some.ensures,
+    c.len-2.ensures,
+    c.len.ensures ∙ ap (λ piece. length (g.P.Piece.routes piece)) c.deref-old.ensures,
+    c.self.invariant.1,
+    count_of_piece c.self.inside.cut (λ piece. g.P.Piece.routes (arc_value piece)) c.self.inside.pieces.items c.args.number c.index.result.now c.self.invariant.0 c.requires.number c.index.ensures,
+    count_with_piece c.self.inside.cut (λ piece. g.P.Piece.routes (arc_value piece)) c.self.inside.pieces.items c.in_ok-pieces.pieces.items c.args.number c.index.result.now (g.P.Piece.routes c.in_ok-new.new) c.self.invariant.0 c.requires.number c.index.ensures (set_in g c),
+  ),
+)
 
 pub returns-clause-value : goal.returns-clause-value
 returns-clause-value g c = ap (λ rows. (c.self.inside.cut, rows)) (edited g c).1 ∙ ap (λ all. (all.0, after_edit c.args.edit.now all.1)) c.self.view_is
