@@ -1,11 +1,3 @@
-pub mod Digits
-pub mod Letters
-pub mod Values
-pub mod Parts
-pub mod Words
-pub mod Line
-pub mod RouteLines
-pub mod RuleLines
 pub mod Remade
 pub mod Sessions
 pub mod Texts

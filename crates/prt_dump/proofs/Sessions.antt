@@ -3,7 +3,7 @@ use Rattle.std.proofs.Common.{◌≡◌, ◌≢◌, ℕ, suc, ◌+◌, ◌-◌, 
 use Rattle.std.specs.Prelude.{codes, ◌==◌, is_none, is_some, nat_lt}
 use Rattle.std.specs.List.{list_all, AllByRecursion as Each}
 use Rattle.std.proofs.lemmas.Bool.Decides.{nat_tests}
-use Rattle.std.proofs.lemmas.List.{length-append}
+use Rattle.std.proofs.lemmas.List.{length-append, map-append}
 use Rattle.prt_refusals.specs.declared.on_refusal.OnRefusal.{OnRefusal}
 use Rattle.prt_refusals.specs.declared.on_refusal.OnRefusal.TheVariants.{GoOn, Stop}
 use Rattle.prt_addr.proofs.Each.{each_append, each_filtered}
@@ -11,7 +11,7 @@ use Rattle.prt_route.specs.declared.route.Route.{Route}
 use Rattle.prt_rule.specs.declared.rule.Rule.{Rule}
 use Rattle.prt_command.specs.Lines.{Limits, limits, lines_of}
 use Rattle.prt_command.specs.declared.request.Command.{Command}
-use Rattle.prt_command.specs.declared.request.Command.TheVariants.{RouteAdd, RuleAdd}
+use Rattle.prt_command.specs.declared.request.Command.TheVariants.{RuleDel}
 use Rattle.prt_listing.specs.QueryText.{lines_text}
 use Rattle.prt_version.specs.Accepted.{IsAccepted}
 use Rattle.prt_version.specs.Change.{apply, fold, refusal}
@@ -24,15 +24,16 @@ use Rattle.prt_session.specs.Session.{Exchange, Session, Turn, TurnsOf, after_ex
 use Rattle.prt_session.specs.Steps.{HasNoNewline}
 use Rattle.prt_replies.specs.declared.reply.Reply.TheVariants.{Accepted}
 use Rattle.prt_session.proofs.Lines.{whole_line}
-use Rattle.prt_dump.specs.Dump.{dump_commands, dump_lines, gateways_last, new_rule, route_line, rule_line}
-use Rattle.prt_dump.specs.Plain.{RouteFits, RuleFits, is_plain_route, is_plain_rule}
+use Rattle.prt_spelling.specs.Fits.{CommandFits}
+use Rattle.prt_spelling.specs.Line.{command_line}
+use Rattle.prt_spelling.specs.Spelled.{is_spelled}
+use Rattle.prt_spelling.proofs.Lines.{line_read}
+use Rattle.prt_spelling.proofs.Reading.{IsReadAs}
+use Rattle.prt_spelling.proofs.Texts.{is_line_byte}
+use Rattle.prt_dump.specs.Dump.{add_route, add_rule, dump_commands, dump_lines, first_rule, gateways_last}
 use Rattle.prt_dump.specs.PutBack.{IsPlainState, IsPutBack, StateFits, acceptances, dump_text, session_of}
-use Rattle.prt_dump.proofs.Line.{IsReadAs}
-use Rattle.prt_dump.proofs.Parts.{is_line_byte}
 use Rattle.prt_dump.proofs.Remade.{dump_remade, length_moved, lists_same, remade, remade_same}
-use Rattle.prt_dump.proofs.RouteLines.{route_read}
-use Rattle.prt_dump.proofs.RuleLines.{rule_read}
-use Rattle.prt_dump.proofs.Words.{both_true}
+use Rattle.prt_spelling.proofs.Words.{both_true}
 
 -- ---- one line
 
@@ -122,40 +123,41 @@ read_both [] others (command ∷ commands) more first second = absurd first
 read_both (line ∷ lines) others [] more first second = absurd first
 read_both (line ∷ lines) others (command ∷ commands) more first second = (first.0, read_both lines others commands more first.1 second)
 
-rules_read : (rules : List Rule) → Each RuleFits rules → Each (λ rule. is_plain_rule rule ≡ true) rules → AreReadAs (map rule_line rules) (map (λ rule. RuleAdd (new_rule rule)) rules)
-rules_read [] fits plain = tt
-rules_read (rule ∷ rules) fits plain = (rule_read rule fits.0 plain.0, rules_read rules fits.1 plain.1)
-
-routes_read : (routes : List Route) → Each RouteFits routes → Each (λ route. is_plain_route route ≡ true) routes → AreReadAs (map route_line routes) (map RouteAdd routes)
-routes_read [] fits plain = tt
-routes_read (route ∷ routes) fits plain = (route_read route fits.0 plain.0, routes_read routes fits.1 plain.1)
+commands_read : {X : Type 0} (f : X → Command) (xs : List X) → Each (λ x. CommandFits (f x)) xs → Each (λ x. is_spelled (f x) ≡ true) xs → AreReadAs (map command_line (map f xs)) (map f xs)
+commands_read f [] fits spelled = tt
+commands_read f (x ∷ xs) fits spelled = (line_read (f x) fits.0 spelled.0, commands_read f xs fits.1 spelled.1)
 
 -- what holds of each route holds of each in the order of a dump
 each_moved : (P : Route → Type 0) (routes : List Route) → Each P routes → Each P (gateways_last routes)
 each_moved P routes each = each_append P _ _ (each_filtered P (λ route. is_none route.via) routes each) (each_filtered P (λ route. is_some route.via) routes each)
 
 pub lines_read : (state : State) → StateFits state → IsPlainState state → AreReadAs (dump_lines state) (dump_commands state)
-lines_read state fits plain = (
-  record { plain = refl; short = omega arith; reads = refl },
-  (
-    record { plain = refl; short = omega arith; reads = refl },
-    read_both (map rule_line state.rules) (map route_line (gateways_last state.routes)) (map (λ rule. RuleAdd (new_rule rule)) state.rules) (map RouteAdd (gateways_last state.routes))
-        (rules_read state.rules fits.rules plain.rules)
-        (routes_read (gateways_last state.routes) (each_moved RouteFits state.routes fits.routes) (each_moved (λ route. is_plain_route route ≡ true) state.routes plain.routes)),
-  ),
-)
+lines_read state fits plain =
+    let moved : List Route = gateways_last state.routes in (
+      record { plain = refl; short = omega arith; reads = refl },
+      (
+        line_read (RuleDel first_rule) (record { priority = omega arith; from = tt; to = tt; mark = tt; action = tt }) refl,
+        subst (λ lines. AreReadAs lines (map add_rule state.rules ++ map add_route moved)) (sym (map-append command_line (map add_rule state.rules) (map add_route moved)))
+            (read_both (map command_line (map add_rule state.rules)) (map command_line (map add_route moved)) (map add_rule state.rules) (map add_route moved)
+            (commands_read add_rule state.rules fits.rules plain.rules)
+            (commands_read add_route moved (each_moved (λ route. CommandFits (add_route route)) state.routes fits.routes) (each_moved (λ route. is_spelled (add_route route) ≡ true) state.routes plain.routes))),
+      ),
+    )
 
-length_of_all : {X : Type 0} (f : X → List ℕ) (xs : List X) → length (map f xs) ≡ length xs
-length_of_all f [] = refl
-length_of_all f (x ∷ xs) = ap suc (length_of_all f xs)
+length_mapped : {X Y : Type 0} (f : X → Y) (xs : List X) → length (map f xs) ≡ length xs
+length_mapped f [] = refl
+length_mapped f (x ∷ xs) = ap suc (length_mapped f xs)
 
 few_lines : (state : State) → IsSound state → length (dump_lines state) ≤ 1000000
 few_lines state sound =
-    let a = length-append (map rule_line state.rules) (map route_line (gateways_last state.routes)) in
-    let b = length_of_all rule_line state.rules in
-    let c = length_of_all route_line (gateways_last state.routes) in
+    let moved : List Route = gateways_last state.routes in
+    let rest : List Command = map add_rule state.rules ++ map add_route moved in
+    let a = length-append (map add_rule state.rules) (map add_route moved) in
+    let b = length_mapped add_rule state.rules in
+    let c = length_mapped add_route moved in
     let d = length_moved state.routes in
-    omega (arith, a, b, c, d, sound.rules_fit, sound.routes_fit)
+    let e = length_mapped command_line rest in
+    omega (arith, a, b, c, d, e, sound.rules_fit, sound.routes_fit)
 
 pub put_back : (state : State) (mode : OnRefusal) → IsSound state → StateFits state → IsPlainState state → IsPutBack state (session_of mode (dump_text state))
 unfolding session

@@ -12,8 +12,9 @@ use Rattle.prt_session.specs.Session.{Session, replies, session}
 use Rattle.prt_replies.specs.declared.reply.Reply.{Reply}
 use Rattle.prt_replies.specs.declared.reply.Reply.TheVariants.{Accepted}
 use Rattle.prt_version.specs.State.{State, opening_state}
-use Rattle.prt_dump.specs.Dump.{dump_lines}
-use Rattle.prt_dump.specs.Plain.{RouteFits, RuleFits, is_plain_route, is_plain_rule}
+use Rattle.prt_spelling.specs.Fits.{CommandFits}
+use Rattle.prt_spelling.specs.Spelled.{is_spelled}
+use Rattle.prt_dump.specs.Dump.{add_route, add_rule, dump_lines}
 use Rattle.prt_dump.specs.declared.refusal.NotDumped.{NotDumped}
 use Rattle.prt_dump.specs.declared.refusal.NotDumped.TheVariants as refusals
 
@@ -21,19 +22,19 @@ use Rattle.prt_dump.specs.declared.refusal.NotDumped.TheVariants as refusals
 
 -- a line can spell each rule and each route
 pub record IsPlainState (state : State) : Type 0 where
-  pub rules : Each (λ rule. is_plain_rule rule ≡ true) state.rules
-  pub routes : Each (λ route. is_plain_route route ≡ true) state.routes
+  pub rules : Each (λ rule. is_spelled (add_rule rule) ≡ true) state.rules
+  pub routes : Each (λ route. is_spelled (add_route route) ≡ true) state.routes
 
 -- their numbers are those of the program's types
 pub record StateFits (state : State) : Type 0 where
-  pub rules : Each RuleFits state.rules
-  pub routes : Each RouteFits state.routes
+  pub rules : Each (λ rule. CommandFits (add_rule rule)) state.rules
+  pub routes : Each (λ route. CommandFits (add_route route)) state.routes
 
 abbrev pub first_unplain_rule : State → Option ℕ
-first_unplain_rule state = position (λ rule. not (is_plain_rule rule)) state.rules
+first_unplain_rule state = position (λ rule. not (is_spelled (add_rule rule))) state.rules
 
 abbrev pub first_unplain_route : State → Option ℕ
-first_unplain_route state = position (λ route. not (is_plain_route route)) state.routes
+first_unplain_route state = position (λ route. not (is_spelled (add_route route))) state.routes
 
 -- the first rule that no line can spell, or, where a line can spell each rule, the first such route
 abbrev pub IsWhyNot : State → NotDumped → Type 0

@@ -1,101 +1,47 @@
 //! The lines that put a version back.
-ghost use Rattle.std.specs.Prelude.{◌≡◌, ◌+◌, ◌≤◌, ◌++◌, ◌∷◌, [], IfErr, IfOk, OnOk, codes, drop, if◌then◌else◌, length, map};
+ghost use Rattle.std.specs.Prelude.{◌≡◌, ◌++◌, IfErr, IfOk, OnOk, codes, map};
 ghost use Rattle.prt_refusals.specs.declared.on_refusal.OnRefusal.{OnRefusal};
 ghost use Rattle.prt_listing.specs.QueryText.{lines_text};
-ghost use Rattle.prt_dump.specs.Dump.{gateways_last, has_unsaid_scope, route_line, rule_line};
+ghost use Rattle.prt_spelling.specs.Line.{command_line};
+ghost use Rattle.prt_dump.specs.Dump.{add_route, add_rule, gateways_last};
 ghost use Rattle.prt_dump.specs.PutBack.{IsPlainState, IsPutBack, IsWhyNot, dump_text, session_of};
 
+use crate::commands::{add_route, add_rule, first_rule};
 use crate::fits::{recall_routes, recall_rules};
 use crate::plain::find_unplain;
 use crate::refusal::NotDumped;
-use itoa::Buffer;
-use prt_listing::{TablePart, route_text, rule_text};
-use prt_route::{GLOBAL_SCOPE, Kind, Range, Route, Selector};
+use prt_command::Command;
+use prt_listing::push_text;
+use prt_route::{Range, Route, Selector};
 use prt_rule::Rule;
+use prt_spelling::push_line;
 use prt_version::Version;
 use std::alloc::{AllocError, Global};
 
-/// What stands after the priority in the text of a rule: a colon and a tab.
-const AFTER_PRIORITY: usize = 2;
-
-/// Appends a text.
-fn push(out: &mut Vec<u8>, text: &str) -> Result<(), AllocError>
-    ensures { OnOk result (out.new.items ≡ out.old.items ++ text.now) }
+/// Appends the line of a command, and a newline.
+fn push_command(out: &mut Vec<u8>, command: &Command) -> Result<(), AllocError>
+    ensures { OnOk result (out.new.items ≡ out.old.items ++ (command_line command.now ++ codes "\n")) }
 {
-    out.extend_from_slice(text.as_bytes())
-}
-
-/// Gives what stands after the priority in the text of a rule.
-fn after_priority<'a>(listed: &'a [u8], priority: &str) -> &'a [u8]
-    requires { length priority.now + 2 ≤ length listed.now }
-    ensures { result.now ≡ drop (length priority.now + 2) listed.now }
-{
-    &listed[priority.len() + AFTER_PRIORITY..]
-}
-
-/// Appends the line of a rule, and a newline.
-fn push_rule_line(out: &mut Vec<u8>, rule: &Rule) -> Result<(), AllocError>
-    ensures { OnOk result (out.new.items ≡ out.old.items ++ (rule_line rule.now ++ codes "\n")) }
-{
-    let mut listed = Vec::new(*out.allocator());
-    let Ok(()) = rule_text(&mut listed, rule) else {
-        return Err(AllocError);
-    };
-    let mut buffer = Buffer::new();
-    let priority = buffer.format(rule.priority);
-    push(out, "rule add priority ")?;
-    push(out, priority)?;
-    push(out, " ")?;
-    out.extend_from_slice(after_priority(&listed, priority))?;
-    push(out, "\n")
-}
-
-/// Tells whether a listing leaves out the scope of the route, and a new route would have another.
-fn has_unsaid_scope(route: &Route) -> bool
-    ensures { result ≡ has_unsaid_scope route.now }
-{
-    matches!(route.kind, Kind::Unicast) && route.via.is_none() && route.scope == GLOBAL_SCOPE
-}
-
-/// Gives the words for the scope of a route, where they have to be said.
-fn said_scope(route: &Route) -> &'static str
-    ensures { result.now ≡ (if has_unsaid_scope route.now then codes " scope global" else []) }
-{
-    if has_unsaid_scope(route) {
-        " scope global"
-    } else {
-        ""
-    }
-}
-
-/// Appends the line of a route, and a newline.
-fn push_route_line(out: &mut Vec<u8>, route: &Route) -> Result<(), AllocError>
-    ensures { OnOk result (out.new.items ≡ out.old.items ++ (route_line route.now ++ codes "\n")) }
-{
-    push(out, "route add ")?;
-    let Ok(()) = route_text(out, route, TablePart::Shown) else {
-        return Err(AllocError);
-    };
-    push(out, said_scope(route))?;
-    push(out, "\n")
+    push_line(out, command)?;
+    push_text(out, "\n")
 }
 
 /// Appends a line for each rule.
 fn push_rules(out: &mut Vec<u8>, rules: &[Rule]) -> Result<(), AllocError>
-    ensures { OnOk result (out.new.items ≡ out.old.items ++ lines_text (map rule_line rules.now)) }
+    ensures { OnOk result (out.new.items ≡ out.old.items ++ lines_text (map (λ rule. command_line (add_rule rule)) rules.now)) }
 {
     for rule in rules {
-        push_rule_line(out, rule)?;
+        push_command(out, &add_rule(rule))?;
     }
     Ok(())
 }
 
 /// Appends a line for each route.
 fn push_routes(out: &mut Vec<u8>, routes: &[Route]) -> Result<(), AllocError>
-    ensures { OnOk result (out.new.items ≡ out.old.items ++ lines_text (map route_line routes.now)) }
+    ensures { OnOk result (out.new.items ≡ out.old.items ++ lines_text (map (λ route. command_line (add_route route)) routes.now)) }
 {
     for route in routes {
-        push_route_line(out, route)?;
+        push_command(out, &add_route(route))?;
     }
     Ok(())
 }
@@ -114,10 +60,11 @@ fn gateways_last(alloc: Global, routes: &[Route]) -> Result<Vec<Route>, AllocErr
 
 /// Gives the lines that put these rules and routes back.
 fn text_of(alloc: Global, rules: &[Rule], routes: &[Route]) -> Result<Vec<u8>, AllocError>
-    ensures { IfOk result (λ text. text.items ≡ lines_text (codes "rule flush" ∷ codes "rule del priority 0" ∷ (map rule_line rules.now ++ map route_line (gateways_last routes.now)))) }
+    ensures { IfOk result (λ text. text.items ≡ dump_text (record { count = 0; rules = rules.now; routes = routes.now })) }
 {
     let mut text = Vec::new(alloc);
-    push(&mut text, "rule flush\nrule del priority 0\n")?;
+    push_command(&mut text, &Command::RuleFlush)?;
+    push_command(&mut text, &Command::RuleDel(first_rule()))?;
     push_rules(&mut text, rules)?;
     push_routes(&mut text, &gateways_last(alloc, routes)?)?;
     Ok(text)

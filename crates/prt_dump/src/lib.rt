@@ -1,6 +1,7 @@
 //! The dump of a version: lines that put its rules and routes back.
 #![tactic(auto)]
 
+mod commands;
 mod dump;
 mod fits;
 mod laws;
@@ -8,5 +9,5 @@ mod plain;
 mod refusal;
 
 pub use dump::dump_text;
-pub use laws::{dump_is_put_back, dump_remakes, lines_are_read, values_read_back};
+pub use laws::{dump_is_put_back, dump_remakes};
 pub use refusal::NotDumped;

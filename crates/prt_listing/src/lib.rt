@@ -12,8 +12,13 @@ mod route;
 mod rule;
 
 pub use answer::answer_text;
+pub use part::{
+    Part, Value, addr_part, dev_part, is_everything, prefix_or, protocol_value, scope_value,
+    table_value,
+};
 pub use prt_version::{Answer, Refusal, Route, Rule};
+pub use push::{push_part, push_text};
 pub use query::query_text;
 pub use refusal::refusal_text;
-pub use route::{TablePart, route_text};
-pub use rule::rule_text;
+pub use route::{TablePart, route_parts, route_text, table_part};
+pub use rule::{action_part, mark_part, not_part, rule_text, suppress_part};

@@ -17,7 +17,7 @@ use std::alloc::AllocError;
 /// # Errors
 ///
 /// Memory is refused; a part of the text may stand after what `out` had.
-pub(crate) fn push_text(out: &mut Vec<u8>, text: &str) -> Result<(), AllocError>
+pub fn push_text(out: &mut Vec<u8>, text: &str) -> Result<(), AllocError>
     ensures ok { OnOk result (out.new.items ≡ out.old.items ++ text.now) }
     ensures err { OnErr result (Keeps out.old.items out.new.items) }
 {
@@ -76,7 +76,11 @@ fn push_value(out: &mut Vec<u8>, value: &Value) -> Result<(), AllocError>
 }
 
 /// Appends a part.
-fn push_part(out: &mut Vec<u8>, part: &Part) -> Result<(), AllocError>
+///
+/// # Errors
+///
+/// Memory is refused; a piece of the part may stand after what `out` had.
+pub fn push_part(out: &mut Vec<u8>, part: &Part) -> Result<(), AllocError>
     ensures ok { OnOk result (out.new.items ≡ out.old.items ++ part_text part.now) }
     ensures err { OnErr result (Keeps out.old.items out.new.items) }
 {

@@ -4,10 +4,12 @@ ghost use Rattle.prt_listing.specs.Keeps.{Keeps};
 ghost use Rattle.prt_listing.specs.RouteText.{kind_part, metric_part, protocol_part, route_parts, route_text, scope_part, table_part};
 ghost use Rattle.prt_listing.specs.Steps.{part_of};
 
-use crate::part::{Part, Value, addr_part, dev_part, name_or_number, prefix_or, table_value};
+use crate::part::{
+    Part, Value, addr_part, dev_part, prefix_or, protocol_value, scope_value, table_value,
+};
 use crate::push::{push_parts, whole_or_nothing};
 use prt_refusals::Refusal;
-use prt_route::{BOOT_PROTOCOL, GLOBAL_SCOPE, Kind, MAIN_TABLE, Route, protocol_name, scope_name};
+use prt_route::{BOOT_PROTOCOL, GLOBAL_SCOPE, Kind, MAIN_TABLE, Route};
 use std::alloc::AllocError;
 
 /// The metric that goes without saying.
@@ -33,7 +35,7 @@ fn kind_part(kind: Kind) -> Option<Part>
 }
 
 /// Gives the table, unless it goes without saying.
-fn table_part(shown: TablePart, table: u32) -> Option<Part>
+pub fn table_part(shown: TablePart, table: u32) -> Option<Part>
     ensures { part_of result ≡ table_part shown table }
 {
     match shown {
@@ -51,8 +53,7 @@ fn protocol_part(proto: u8) -> Option<Part>
     if proto == BOOT_PROTOCOL {
         return None;
     }
-    let value = name_or_number(protocol_name(proto), u32::from(proto));
-    Some(Part::Named("proto", value))
+    Some(Part::Named("proto", protocol_value(proto)))
 }
 
 /// Gives the scope, unless it goes without saying.
@@ -62,8 +63,7 @@ fn scope_part(scope: u8) -> Option<Part>
     if scope == GLOBAL_SCOPE {
         return None;
     }
-    let value = name_or_number(scope_name(scope), u32::from(scope));
-    Some(Part::Named("scope", value))
+    Some(Part::Named("scope", scope_value(scope)))
 }
 
 /// Gives the metric, unless it goes without saying.
@@ -77,7 +77,7 @@ fn metric_part(metric: u32) -> Option<Part>
 }
 
 /// Gives the parts of a route in their order.
-fn route_parts(route: &Route, table: TablePart) -> [Option<Part>; 9]
+pub fn route_parts(route: &Route, table: TablePart) -> [Option<Part>; 9]
     ensures { map part_of result ≡ route_parts route.now table }
 {
     [

@@ -13,7 +13,7 @@ use prt_rule::{Action, Mark, Rule};
 use std::alloc::AllocError;
 
 /// Gives the word of an inverted rule.
-fn not_part(inverted: bool) -> Option<Part>
+pub fn not_part(inverted: bool) -> Option<Part>
     ensures { part_of result ≡ not_part inverted }
 {
     if inverted {
@@ -35,14 +35,14 @@ fn to_part(to: &Prefix) -> Option<Part>
 }
 
 /// Gives the mark, if there is one.
-fn mark_part(mark: Option<Mark>) -> Option<Part>
+pub fn mark_part(mark: Option<Mark>) -> Option<Part>
     ensures { part_of result ≡ mark_part mark }
 {
     mark.map(|mark| Part::Named("fwmark", Value::Mark(mark)))
 }
 
 /// Says what an action does.
-pub(crate) fn action_part(action: Action) -> Part
+pub fn action_part(action: Action) -> Part
     ensures { part_text result ≡ action_text action }
 {
     match action {
@@ -54,7 +54,7 @@ pub(crate) fn action_part(action: Action) -> Part
 }
 
 /// Gives the length up to which prefixes are suppressed, if some are.
-fn suppress_part(suppress: Option<u8>) -> Option<Part>
+pub fn suppress_part(suppress: Option<u8>) -> Option<Part>
     ensures { part_of result ≡ part (codes "suppress_prefixlength") (option_map decimal suppress) }
 {
     suppress.map(|len| Part::Named("suppress_prefixlength", Value::Number(u64::from(len))))

@@ -1,7 +1,0 @@
-use Rattle.prt_dump.proofs.Digits.{number_back}
-use Rattle.prt_dump.proofs.RouteLines.{protocol_back, scope_back, table_back}
-use Rattle.prt_dump.proofs.Values.{address_back, mark_back, prefix_back}
-use Rattle.prt_dump.proofs.laws.values_read_back.Goals as goal
-
-pub returns : goal.returns
-returns c = record { number = number_back; address = address_back; prefix = prefix_back; table = table_back; protocol = protocol_back; scope = scope_back; mark = mark_back }

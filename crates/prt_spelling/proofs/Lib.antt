@@ -1,0 +1,14 @@
+pub mod Digits
+pub mod Letters
+pub mod Values
+pub mod Texts
+pub mod Words
+pub mod Reading
+pub mod RouteItems
+pub mod RouteLines
+pub mod RouteChoices
+pub mod RouteFlushes
+pub mod RuleItems
+pub mod RuleLines
+pub mod Lines
+pub mod Spaces

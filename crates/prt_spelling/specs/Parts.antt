@@ -1,0 +1,109 @@
+-- What the line of a command says, part by part: ip-route(8), ip-rule(8).
+use Rattle.std.specs.Prelude.{ℕ, Bool, ◌&&◌, ◌==◌, is_none, if◌then◌else◌, List, [], ◌∷◌, ◌++◌, Option, Some, None, option_map, codes, decimal}
+use Rattle.prt_addr.specs.Addr.{addr_text}
+use Rattle.prt_addr.specs.Block.{Block}
+use Rattle.prt_route.specs.Kind.{kind_name}
+use Rattle.prt_route.specs.Names.{global_scope, protocols, scopes}
+use Rattle.prt_route.specs.RouteChoice.{is_same_kind}
+use Rattle.prt_route.specs.declared.choice.Range.{Range}
+use Rattle.prt_route.specs.declared.choice.Range.TheVariants.{All, Root, Covering, Exact}
+use Rattle.prt_route.specs.declared.choice.RouteChoice.{RouteChoice}
+use Rattle.prt_route.specs.declared.choice.Selector.{Selector}
+use Rattle.prt_route.specs.declared.kind.Kind.TheVariants.{Unicast}
+use Rattle.prt_route.specs.declared.route.Route.{Route}
+use Rattle.prt_rule.specs.declared.choice.RuleChoice.{RuleChoice}
+use Rattle.prt_command.specs.declared.request.NewRule.{NewRule}
+use Rattle.prt_listing.specs.Parts.{is_everything, name_or_number, part, prefix_or, table_text}
+use Rattle.prt_listing.specs.RouteText.{route_parts, table_part}
+use Rattle.prt_listing.specs.RuleText.{action_text, mark_part, not_part}
+use Rattle.prt_listing.specs.declared.route.TablePart.TheVariants.{Shown}
+
+-- ---- routes
+
+-- Scope global goes without saying in a listing. A new unicast route has it through a gateway alone.
+abbrev pub has_unsaid_scope : Route → Bool
+has_unsaid_scope route = is_same_kind Unicast route.kind && is_none route.via && route.scope == global_scope
+
+abbrev pub global_part : Route → Option (List ℕ)
+global_part route = if has_unsaid_scope route then Some (codes "scope global") else None
+
+-- a route to be put: what a listing of all tables shows of it, and scope global where a new one would not have it
+abbrev pub new_route_parts : Route → List (Option (List ℕ))
+new_route_parts route = route_parts route Shown ++ global_part route ∷ []
+
+abbrev pub proto_part : Option ℕ → Option (List ℕ)
+proto_part proto = part (codes "proto") (option_map (name_or_number protocols) proto)
+
+abbrev pub scope_part : Option ℕ → Option (List ℕ)
+scope_part scope = part (codes "scope") (option_map (name_or_number scopes) scope)
+
+-- a route to be deleted: all that is given, also what a listing leaves out, but for table main
+abbrev pub route_choice_parts : RouteChoice → List (Option (List ℕ))
+route_choice_parts choice =
+    option_map kind_name choice.kind
+    ∷ Some (prefix_or (codes "default") choice.prefix)
+    ∷ part (codes "via") (option_map addr_text choice.via)
+    ∷ part (codes "dev") choice.dev
+    ∷ table_part Shown choice.table
+    ∷ proto_part choice.proto
+    ∷ scope_part choice.scope
+    ∷ part (codes "src") (option_map addr_text choice.src)
+    ∷ part (codes "metric") (option_map decimal choice.metric)
+    ∷ []
+
+-- a prefix after the word for what is taken by it
+abbrev pub ranged : List ℕ → Block → Option (List ℕ)
+ranged word block = part word (Some (prefix_or (codes "default") block))
+
+abbrev pub range_part : Range → Option (List ℕ)
+range_part All = None
+range_part (Root block) = ranged (codes "root") block
+range_part (Covering block) = ranged (codes "match") block
+range_part (Exact block) = ranged (codes "exact") block
+
+-- a table, or all of them
+abbrev pub tables_text : Option ℕ → List ℕ
+tables_text None = codes "all"
+tables_text (Some table) = table_text table
+
+-- The routes to be flushed: all that is given. The table is always said, since a flush has to say something.
+abbrev pub selector_parts : Selector → List (Option (List ℕ))
+selector_parts selector =
+    range_part selector.range
+    ∷ part (codes "table") (Some (tables_text selector.table))
+    ∷ part (codes "type") (option_map kind_name selector.kind)
+    ∷ proto_part selector.proto
+    ∷ scope_part selector.scope
+    ∷ part (codes "dev") selector.dev
+    ∷ []
+
+-- ---- rules
+
+abbrev pub prefix_part : List ℕ → Option Block → Option (List ℕ)
+prefix_part word block = part word (option_map (prefix_or (codes "all")) block)
+
+-- a rule to be deleted: all that is given
+abbrev pub rule_choice_parts : RuleChoice → List (Option (List ℕ))
+rule_choice_parts choice =
+    part (codes "priority") (option_map decimal choice.priority)
+    ∷ not_part choice.inverted
+    ∷ prefix_part (codes "from") choice.from
+    ∷ prefix_part (codes "to") choice.to
+    ∷ mark_part choice.mark
+    ∷ part (codes "iif") choice.iif
+    ∷ option_map action_text choice.action
+    ∷ part (codes "suppress_prefixlength") (option_map decimal choice.suppress)
+    ∷ []
+
+-- what is given of a rule to be added: all but the destinations 0.0.0.0/0, which go without saying as in a listing
+abbrev pub given_of : NewRule → RuleChoice
+given_of rule = record {
+  priority = rule.priority;
+  inverted = rule.inverted;
+  from = Some rule.from;
+  to = if is_everything rule.to then None else Some rule.to;
+  iif = rule.iif;
+  mark = rule.mark;
+  action = Some rule.action;
+  suppress = rule.suppress;
+}

@@ -1,0 +1,14 @@
+//! The line of each command.
+#![tactic(auto)]
+
+mod fits;
+mod laws;
+mod line;
+mod parts;
+mod refusal;
+mod spelled;
+
+pub use laws::{lines_are_read, values_read_back};
+pub use line::{command_line, push_line};
+pub use refusal::NotSpelled;
+pub use spelled::is_spelled;

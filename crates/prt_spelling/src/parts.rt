@@ -1,0 +1,199 @@
+//! What the line of a command says, part by part.
+ghost use Rattle.std.specs.Prelude.{◌≡◌, Some, codes, decimal, map, option_map};
+ghost use Rattle.prt_route.specs.Kind.{kind_name};
+ghost use Rattle.prt_listing.specs.Parts.{part};
+ghost use Rattle.prt_listing.specs.RuleText.{action_text};
+ghost use Rattle.prt_listing.specs.Steps.{part_of, value_text};
+ghost use Rattle.prt_spelling.specs.Parts.{given_of, global_part, has_unsaid_scope, prefix_part, proto_part, range_part, ranged, route_choice_parts, rule_choice_parts, scope_part, selector_parts, tables_text};
+
+use prt_command::NewRule;
+use prt_listing::{
+    Part, TablePart, Value, action_part, addr_part, dev_part, is_everything, mark_part, not_part,
+    prefix_or, protocol_value, scope_value, suppress_part, table_part, table_value,
+};
+use prt_route::{GLOBAL_SCOPE, Kind, Prefix, Range, Route, RouteChoice, Selector};
+use prt_rule::{Action, RuleChoice};
+
+/// Tells whether a listing leaves out the scope of the route, and a new route would have another.
+fn has_unsaid_scope(route: &Route) -> bool
+    ensures { result ≡ has_unsaid_scope route.now }
+{
+    matches!(route.kind, Kind::Unicast) && route.via.is_none() && route.scope == GLOBAL_SCOPE
+}
+
+/// Says that the scope of a new route is global, where that has to be said.
+pub(crate) fn global_part(route: &Route) -> Option<Part>
+    ensures { part_of result ≡ global_part route.now }
+{
+    if has_unsaid_scope(route) {
+        Some(Part::Named("scope", Value::Text("global")))
+    } else {
+        None
+    }
+}
+
+/// Gives the kind before a destination, if one is given.
+fn kind_part(kind: Option<Kind>) -> Option<Part>
+    ensures { part_of result ≡ option_map kind_name kind }
+{
+    match kind {
+        Some(kind) => Some(Part::Alone(Value::Text(kind.name()))),
+        None => None,
+    }
+}
+
+/// Gives the kind of the routes to be flushed, if one is given.
+fn type_part(kind: Option<Kind>) -> Option<Part>
+    ensures { part_of result ≡ part (codes "type") (option_map kind_name kind) }
+{
+    match kind {
+        Some(kind) => Some(Part::Named("type", Value::Text(kind.name()))),
+        None => None,
+    }
+}
+
+/// Gives the protocol, if one is given.
+fn proto_part(proto: Option<u8>) -> Option<Part>
+    ensures { part_of result ≡ proto_part proto }
+{
+    match proto {
+        Some(proto) => Some(Part::Named("proto", protocol_value(proto))),
+        None => None,
+    }
+}
+
+/// Gives the scope, if one is given.
+fn scope_part(scope: Option<u8>) -> Option<Part>
+    ensures { part_of result ≡ scope_part scope }
+{
+    match scope {
+        Some(scope) => Some(Part::Named("scope", scope_value(scope))),
+        None => None,
+    }
+}
+
+/// Gives a word and a number, if one is given.
+fn number_part(word: &'static str, number: Option<u32>) -> Option<Part>
+    ensures { part_of result ≡ part word.now (option_map decimal number) }
+{
+    match number {
+        Some(number) => Some(Part::Named(word, Value::Number(u64::from(number)))),
+        None => None,
+    }
+}
+
+/// Gives what a line says of the route to be deleted.
+pub(crate) fn route_choice_parts(choice: &RouteChoice) -> [Option<Part>; 9]
+    ensures { map part_of result ≡ route_choice_parts choice.now }
+{
+    [
+        kind_part(choice.kind),
+        Some(Part::Alone(prefix_or("default", &choice.prefix))),
+        addr_part("via", choice.via),
+        dev_part("dev", choice.dev),
+        table_part(TablePart::Shown, choice.table),
+        proto_part(choice.proto),
+        scope_part(choice.scope),
+        addr_part("src", choice.src),
+        number_part("metric", choice.metric),
+    ]
+}
+
+/// Gives a prefix after the word for what is taken by it.
+fn ranged(word: &'static str, block: &Prefix) -> Option<Part>
+    ensures { part_of result ≡ ranged word.now block.now }
+{
+    Some(Part::Named(word, prefix_or("default", block)))
+}
+
+/// Gives the prefixes of the routes to be flushed, if they are not all.
+fn range_part(range: &Range) -> Option<Part>
+    ensures { part_of result ≡ range_part range.now }
+{
+    match range {
+        Range::All => None,
+        Range::Root(block) => ranged("root", block),
+        Range::Covering(block) => ranged("match", block),
+        Range::Exact(block) => ranged("exact", block),
+    }
+}
+
+/// Gives a table, or the word for all of them.
+fn tables_value(table: Option<u32>) -> Value
+    ensures { value_text result ≡ tables_text table }
+{
+    match table {
+        Some(table) => table_value(table),
+        None => Value::Text("all"),
+    }
+}
+
+/// Gives what a line says of the routes to be flushed.
+pub(crate) fn selector_parts(selector: &Selector) -> [Option<Part>; 6]
+    ensures { map part_of result ≡ selector_parts selector.now }
+{
+    [
+        range_part(&selector.range),
+        Some(Part::Named("table", tables_value(selector.table))),
+        type_part(selector.kind),
+        proto_part(selector.proto),
+        scope_part(selector.scope),
+        dev_part("dev", selector.dev),
+    ]
+}
+
+/// Gives a word and a prefix, if one is given.
+fn prefix_part(word: &'static str, block: Option<Prefix>) -> Option<Part>
+    ensures { part_of result ≡ prefix_part word.now block }
+{
+    match block {
+        Some(block) => Some(Part::Named(word, prefix_or("all", &block))),
+        None => None,
+    }
+}
+
+/// Says what an action does, if one is given.
+fn given_action(action: Option<Action>) -> Option<Part>
+    ensures { part_of result ≡ option_map action_text action }
+{
+    match action {
+        Some(action) => Some(action_part(action)),
+        None => None,
+    }
+}
+
+/// Gives what a line says of a rule to be deleted.
+pub(crate) fn rule_choice_parts(choice: &RuleChoice) -> [Option<Part>; 8]
+    ensures { map part_of result ≡ rule_choice_parts choice.now }
+{
+    [
+        number_part("priority", choice.priority),
+        not_part(choice.inverted),
+        prefix_part("from", choice.from),
+        prefix_part("to", choice.to),
+        mark_part(choice.mark),
+        dev_part("iif", choice.iif),
+        given_action(choice.action),
+        suppress_part(choice.suppress),
+    ]
+}
+
+/// Gives what a line has to say of a rule to be added: all but the destinations, where they are all.
+pub(crate) fn given_of(rule: &NewRule) -> RuleChoice
+    ensures { result ≡ given_of rule.now }
+{
+    RuleChoice {
+        priority: rule.priority,
+        inverted: rule.inverted,
+        from: Some(rule.from),
+        to: if is_everything(&rule.to) {
+            None
+        } else {
+            Some(rule.to)
+        },
+        iif: rule.iif,
+        mark: rule.mark,
+        action: Some(rule.action),
+        suppress: rule.suppress,
+    }
+}

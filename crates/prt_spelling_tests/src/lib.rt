@@ -1,0 +1,5 @@
+//! Tests of the lines of commands.
+#![tactic(auto)]
+
+#[cfg(test)]
+mod lines;
