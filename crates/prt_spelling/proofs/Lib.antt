@@ -12,3 +12,4 @@ pub mod RuleItems
 pub mod RuleLines
 pub mod Lines
 pub mod Spaces
+pub mod Found

@@ -1,5 +1,5 @@
 //! Laws of the definitions, which no program calls.
-ghost use Rattle.std.specs.Prelude.{◌≡◌, ◌≤◌, ◌<◌, ◌^◌, ℕ, Ok, Some, decimal, true};
+ghost use Rattle.std.specs.Prelude.{◌≡◌, ◌≤◌, ◌<◌, ◌^◌, ℕ, List, Ok, Some, decimal, true};
 ghost use Rattle.prt_addr.specs.Addr.{addr_text, address};
 ghost use Rattle.prt_addr.specs.Block.{Block};
 ghost use Rattle.prt_addr.specs.Number.{number};
@@ -31,4 +31,9 @@ pub fn values_read_back()
 /// The line of a command that can be spelled asks for the command.
 pub fn lines_are_read()
     ensures { (command : Command) → CommandFits command → is_spelled command ≡ true → reading (command_line command) ≡ Ok (Some (requests.Command command)) }
+{}
+
+/// A line can spell each command that a line asks for.
+pub fn what_is_read_is_spelled()
+    ensures { (line : List ℕ) (command : Command) → reading line ≡ Ok (Some (requests.Command command)) → is_spelled command ≡ true }
 {}

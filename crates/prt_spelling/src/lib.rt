@@ -8,7 +8,7 @@ mod parts;
 mod refusal;
 mod spelled;
 
-pub use laws::{lines_are_read, values_read_back};
+pub use laws::{lines_are_read, values_read_back, what_is_read_is_spelled};
 pub use line::{command_line, push_line};
 pub use refusal::NotSpelled;
 pub use spelled::is_spelled;
