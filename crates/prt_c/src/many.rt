@@ -1,0 +1,85 @@
+//! Lookups of many packets.
+ghost use Rattle.std.specs.Prelude.{◌≡◌, ◌≤◌, ◌⊎◌};
+ghost use Rattle.prt_c.specs.Many.{AreFound, AreLookedUp};
+ghost use Rattle.prt_c.specs.States.{held_state};
+
+use crate::answer::AnswerC;
+use crate::held::Held;
+use crate::lookup::answer_to;
+use crate::packet::PacketC;
+use crate::parts::Parts;
+use crate::status::{DONE, EMPTY};
+use prt_version::{Refusal, Version};
+use std::alloc::Global;
+use std::mem::replace;
+
+/// How many packets were looked up, and why no more.
+#[derive(Clone, Copy)]
+pub(crate) struct LookedUp {
+    /// The packets that were looked up, from the first on.
+    pub(crate) count: usize,
+    /// Why the packet after them has no answer; None where there is none, or no room for its answer.
+    pub(crate) refused: Option<Refusal>,
+}
+
+/// Gives the smaller of two numbers.
+fn smaller(one: usize, other: usize) -> usize
+    ensures first { result ≤ one }
+    ensures second { result ≤ other }
+    ensures either { (result ≡ one) ⊎ (result ≡ other) }
+{
+    if one < other { one } else { other }
+}
+
+/// Looks packets up, one after the other, as many as there is room for answers, up to the first that has none. It takes no
+/// memory.
+fn answer_all(version: &Version, packets: &[PacketC], answers: &mut [AnswerC]) -> LookedUp
+    ensures { AreLookedUp version.now packets.now answers.old answers.new result }
+{
+    let room = smaller(packets.len(), answers.len());
+    for place in 0..room {
+        match answer_to(version, &packets[place]) {
+            Ok(answer) => answers[place] = answer,
+            Err(reason) => {
+                return LookedUp {
+                    count: place,
+                    refused: Some(reason),
+                };
+            }
+        }
+    }
+    LookedUp {
+        count: room,
+        refused: None,
+    }
+}
+
+/// Looks packets up in the version that is held, one after the other, as many as there are packets and answers, up to the
+/// first that has no answer.
+///
+/// It takes no memory, and waits for nothing. `count` is how many were looked up: each of `answers` before it is that of
+/// the packet at its place, and the others are as they were. Returns 0, 13 where the interface of the packet at `count` has
+/// no such name, or 100 where `version` holds nothing; all is then as it was. `version` holds the same afterwards.
+#[unsafe(no_mangle)]
+pub extern "C" fn prt_lookup_many(
+    alloc: Global,
+    version: &mut Held,
+    packets: &[PacketC],
+    answers: &mut [AnswerC],
+    count: &mut usize,
+) -> u32
+    ensures same { version.new.home ≡ version.old.home }
+    ensures found { AreFound (held_state version.old.home) packets.now answers.old answers.new count.old count.new result }
+{
+    let Some(parts) = replace(version, Held::empty(alloc)).into_parts() else {
+        return EMPTY;
+    };
+    let owner = parts.into_box();
+    let looked_up = answer_all(&owner.version, packets, answers);
+    *version = Held::of_parts(Parts::of(owner));
+    *count = looked_up.count;
+    match looked_up.refused {
+        Some(reason) => reason.code(),
+        None => DONE,
+    }
+}

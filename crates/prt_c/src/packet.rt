@@ -1,0 +1,73 @@
+ghost use Rattle.std.specs.Prelude.{◌≡◌, ◌==◌, position};
+ghost use Rattle.prt_c.specs.Packet.{interface_of, name_in, packet_of};
+
+use prt_route::{Addr, Dev, Refusal, read_dev};
+use prt_rule::Packet;
+
+/// The bytes of an interface's name, with at least one zero after it.
+pub const NAME_BYTES: usize = 16;
+
+/// What rules look at of a packet, as C describes it.
+///
+/// An address is a number whose highest byte is the first of the four dotted parts.
+#[repr(C)]
+#[derive(Clone, Copy)]
+pub struct PacketC {
+    /// The source; 0 where none is named.
+    pub source: u32,
+    /// The destination.
+    pub destination: u32,
+    /// The firewall mark; 0 where none is named.
+    pub mark: u32,
+    /// The name of the interface that it came in by, with a zero after it; all zeros for `lo`.
+    pub interface: [u8; NAME_BYTES],
+}
+
+/// Finds the first zero.
+fn first_zero(bytes: &[u8]) -> Option<usize>
+    ensures { result ≡ position (λ b. b == 0) bytes.now }
+{
+    bytes.iter().position(|byte| *byte == 0)
+}
+
+/// Gives the bytes before the first zero.
+fn name_in(bytes: &[u8]) -> &[u8]
+    ensures { result.now ≡ name_in bytes.now }
+{
+    match first_zero(bytes) {
+        Some(len) => &bytes[..len],
+        None => bytes,
+    }
+}
+
+/// Reads the name of an interface; none stands for `lo`.
+///
+/// # Errors
+///
+/// `BadName` where the bytes before the first zero are no such name.
+fn interface_of(bytes: &[u8]) -> Result<Dev, Refusal>
+    ensures { result ≡ interface_of bytes.now }
+{
+    let name = name_in(bytes);
+    if name.is_empty() {
+        return Ok(Dev::loopback());
+    }
+    read_dev(name)
+}
+
+/// Makes the packet that C describes.
+///
+/// # Errors
+///
+/// `BadName` where its interface has no such name.
+pub(crate) fn packet_of(packet: &PacketC) -> Result<Packet, Refusal>
+    ensures { result ≡ packet_of packet.now }
+{
+    let iif = interface_of(&packet.interface)?;
+    Ok(Packet {
+        dst: Addr(packet.destination),
+        src: Addr(packet.source),
+        iif,
+        mark: packet.mark,
+    })
+}
