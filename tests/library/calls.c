@@ -1,0 +1,141 @@
+/* Makes each call of the library once where it does what it says, and once at each other status that C can bring about.
+ * Writes nothing and ends with 0, or says which line of this file is wrong and ends with 1. */
+#include <stdio.h>
+#include <stdlib.h>
+#include <string.h>
+
+#include "prt.h"
+
+#define MUST(holds) must(holds, __LINE__)
+
+static void must(int holds, int line) {
+    if (!holds) {
+        fprintf(stderr, "calls.c:%d\n", line);
+        exit(1);
+    }
+}
+
+static const prt_packet TO_TEN = { .destination = 0x0a000001 };
+
+static uint32_t execute(prt_tables *tables, const char *line, uint64_t *number) {
+    return prt_tables_line(tables, line, strlen(line), number);
+}
+
+/* A call on an empty holder says so, and changes nothing. */
+static void empty_holders(void) {
+    prt_tables tables = PRT_EMPTY_HOLDER;
+    prt_version version = PRT_EMPTY_HOLDER;
+    prt_answer answer = { .number = 7 };
+    uint64_t number = 7;
+    size_t bytes = 7, count = 7;
+    MUST(execute(&tables, "rule flush", &number) == PRT_EMPTY);
+    MUST(prt_tables_lines(&tables, "rule flush\n", 11, &bytes, &number) == PRT_EMPTY);
+    MUST(prt_tables_version(&tables, &version) == PRT_EMPTY);
+    MUST(prt_lookup(&version, &TO_TEN, &answer) == PRT_EMPTY);
+    MUST(prt_lookup_many(&version, &TO_TEN, 1, &answer, 1, &count) == PRT_EMPTY);
+    MUST(number == 7 && bytes == 7 && count == 7 && answer.number == 7);
+    prt_tables_release(&tables);
+    prt_version_release(&version);
+    MUST(tables.at == NULL && version.at == NULL);
+}
+
+/* A line that is refused leaves the tables and the number. */
+static void lines(void) {
+    prt_tables tables = PRT_EMPTY_HOLDER;
+    uint64_t number = 0;
+    MUST(prt_tables_new(&tables) == PRT_DONE);
+    MUST(execute(&tables, "route add 10/8 via 192.0.2.1", &number) == PRT_DONE && number == 1);
+    number = 7;
+    MUST(execute(&tables, "route add 10/8 via 192.0.2.2", &number) == PRT_EXISTS);
+    MUST(execute(&tables, "route del 11/8", &number) == PRT_NO_SUCH);
+    MUST(execute(&tables, "frob add 11/8", &number) == 3);
+    MUST(execute(&tables, "route frob 11/8", &number) == 4);
+    MUST(execute(&tables, "route add 11/8", &number) == 15);
+    MUST(number == 7);
+    MUST(execute(&tables, "", &number) == PRT_DONE && number == 1);
+    MUST(execute(&tables, "# a comment", &number) == PRT_DONE && number == 1);
+    MUST(execute(&tables, "route get 10.0.0.1", &number) == PRT_DONE && number == 1);
+    prt_tables_release(&tables);
+}
+
+/* A text is executed up to the first line that is refused, and what no newline ends is left. */
+static void texts(void) {
+    static const char text[] = "route add 10/8 dev a\n\nroute add 10/8 dev b\nroute add 11/8 dev a\nroute add 12/8";
+    prt_tables tables = PRT_EMPTY_HOLDER;
+    uint64_t number = 0;
+    size_t bytes = 0;
+    MUST(prt_tables_new(&tables) == PRT_DONE);
+    MUST(prt_tables_lines(&tables, text, strlen(text), &bytes, &number) == PRT_EXISTS);
+    MUST(bytes == 22 && number == 1);
+    MUST(prt_tables_lines(&tables, text + 43, strlen(text) - 43, &bytes, &number) == PRT_DONE);
+    MUST(bytes == 21 && number == 2);
+    MUST(prt_tables_lines(&tables, text, 0, &bytes, &number) == PRT_DONE);
+    MUST(bytes == 0 && number == 2);
+    prt_tables_release(&tables);
+}
+
+/* A version stays as it is while lines change the tables, and when they are released. */
+static void versions(void) {
+    prt_tables tables = PRT_EMPTY_HOLDER;
+    prt_version old = PRT_EMPTY_HOLDER, next = PRT_EMPTY_HOLDER;
+    prt_answer answer;
+    uint64_t number;
+    MUST(prt_tables_new(&tables) == PRT_DONE);
+    MUST(execute(&tables, "route add 10/8 via 192.0.2.1 metric 5", &number) == PRT_DONE);
+    MUST(prt_tables_version(&tables, &old) == PRT_DONE);
+    MUST(prt_tables_version(&tables, &next) == PRT_DONE);
+    MUST(execute(&tables, "route add 10.0.0.0/24 dev eth0 table 100", &number) == PRT_DONE);
+    MUST(execute(&tables, "rule add priority 9 table 100", &number) == PRT_DONE);
+    /* What the holder has before is released. */
+    MUST(prt_tables_version(&tables, &next) == PRT_DONE);
+    MUST(prt_tables_new(&tables) == PRT_DONE);
+    prt_tables_release(&tables);
+    MUST(prt_lookup(&old, &TO_TEN, &answer) == PRT_DONE);
+    MUST(answer.number == 1 && answer.kind == PRT_UNICAST && answer.table == 254 && answer.priority == 32766);
+    MUST(answer.destination == 0x0a000000 && answer.prefix_length == 8 && answer.metric == 5);
+    MUST(answer.has_gateway == 1 && answer.gateway == 0xc0000201 && answer.has_source == 0 && answer.device[0] == 0);
+    prt_version_release(&old);
+    MUST(old.at == NULL);
+    MUST(prt_lookup(&next, &TO_TEN, &answer) == PRT_DONE);
+    MUST(answer.number == 3 && answer.table == 100 && answer.priority == 9 && answer.prefix_length == 24);
+    MUST(answer.has_gateway == 0 && strcmp(answer.device, "eth0") == 0);
+    prt_version_release(&next);
+}
+
+/* Rules look at each part of a packet; a packet with a bad name has no answer, and ends a call for many. */
+static void packets(void) {
+    static const char text[] = "rule add priority 1 from 192.0.2.1 blackhole\nrule add priority 2 iif eth1 prohibit\n"
+                               "rule add priority 3 iif lo fwmark 7 unreachable\n";
+    prt_tables tables = PRT_EMPTY_HOLDER;
+    prt_version version = PRT_EMPTY_HOLDER;
+    prt_packet four[4] = { { .source = 0xc0000201 }, { .interface = "eth1" }, { .mark = 7 }, { .interface = "a/b" } };
+    prt_answer answers[4] = { [3] = { .number = 9 } };
+    uint64_t number;
+    size_t bytes, count;
+    MUST(prt_tables_new(&tables) == PRT_DONE);
+    MUST(prt_tables_lines(&tables, text, strlen(text), &bytes, &number) == PRT_DONE);
+    MUST(prt_tables_version(&tables, &version) == PRT_DONE);
+    MUST(prt_lookup_many(&version, four, 4, answers, 4, &count) == PRT_BAD_NAME && count == 3);
+    MUST(answers[0].kind == PRT_BLACKHOLE && answers[0].table == 0 && answers[0].priority == 1);
+    MUST(answers[1].kind == PRT_PROHIBIT && answers[1].priority == 2);
+    MUST(answers[2].kind == PRT_UNREACHABLE && answers[2].priority == 3);
+    MUST(answers[3].number == 9);
+    MUST(prt_lookup(&version, &four[3], &answers[3]) == PRT_BAD_NAME && answers[3].number == 9);
+    memset(four[3].interface, 'a', PRT_NAME_BYTES);
+    MUST(prt_lookup(&version, &four[3], &answers[3]) == PRT_BAD_NAME && answers[3].number == 9);
+    four[3].interface[PRT_NAME_BYTES - 1] = 0;
+    MUST(prt_lookup(&version, &four[3], &answers[3]) == PRT_DONE && answers[3].kind == PRT_NO_ROUTE);
+    MUST(prt_lookup_many(&version, four, 4, answers, 2, &count) == PRT_DONE && count == 2);
+    MUST(prt_lookup_many(&version, four, 0, answers, 2, &count) == PRT_DONE && count == 0);
+    prt_version_release(&version);
+    prt_tables_release(&tables);
+}
+
+int main(void) {
+    empty_holders();
+    lines();
+    texts();
+    versions();
+    packets();
+    return 0;
+}
