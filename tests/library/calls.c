@@ -21,6 +21,11 @@ static uint32_t execute(prt_tables *tables, const char *line, uint64_t *number) 
     return prt_tables_line(tables, line, strlen(line), number);
 }
 
+/* The structs have no holes, and an answer fits a line of a cache. */
+static void sizes(void) {
+    MUST(sizeof(prt_packet) == 28 && sizeof(prt_answer) == 64 && sizeof(prt_version) == sizeof(void *));
+}
+
 /* A call on an empty holder says so, and changes nothing. */
 static void empty_holders(void) {
     prt_tables tables = PRT_EMPTY_HOLDER;
@@ -132,6 +137,7 @@ static void packets(void) {
 }
 
 int main(void) {
+    sizes();
     empty_holders();
     lines();
     texts();
