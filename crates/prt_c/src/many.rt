@@ -31,8 +31,9 @@ fn smaller(one: usize, other: usize) -> usize
     if one < other { one } else { other }
 }
 
-/// Looks packets up, one after the other, as many as there is room for answers, up to the first that has none. It takes no
-/// memory.
+/// Looks packets up, one after the other, as many as there is room for answers, up to the first that has none.
+///
+/// It takes no memory.
 fn answer_all(version: &Version, packets: &[PacketC], answers: &mut [AnswerC]) -> LookedUp
     ensures { AreLookedUp version.now packets.now answers.old answers.new result }
 {
@@ -54,12 +55,14 @@ fn answer_all(version: &Version, packets: &[PacketC], answers: &mut [AnswerC]) -
     }
 }
 
-/// Looks packets up in the version that is held, one after the other, as many as there are packets and answers, up to the
-/// first that has no answer.
+/// Looks packets up in the version that is held, one after the other, up to the first that has no answer. It looks up as
+/// many as there are packets and answers.
 ///
-/// It takes no memory, and waits for nothing. `count` is how many were looked up: each of `answers` before it is that of
-/// the packet at its place, and the others are as they were. Returns 0, 13 where the interface of the packet at `count` has
-/// no such name, or 100 where `version` holds nothing; all is then as it was. `version` holds the same afterwards.
+/// It takes no memory, and waits for nothing. `count` is how many were looked up. Each of `answers` before it is that of
+/// the packet at its place, and the others are as they were. `version` holds the same afterwards.
+///
+/// Returns 0, or 13 where the interface of the packet at `count` has no such name. Where `version` holds nothing it returns
+/// 100, and all is as it was.
 #[unsafe(no_mangle)]
 pub extern "C" fn prt_lookup_many(
     alloc: Global,

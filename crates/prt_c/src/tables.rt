@@ -67,8 +67,8 @@ pub extern "C" fn prt_tables_new(alloc: Global, tables: &mut Held) -> u32
 /// change nothing.
 ///
 /// Returns 0, and `number` is the number of commands that were accepted so far. Otherwise the tables and `number` are as
-/// they were: it returns 1 to 18 for the line's first fault, 21 to 24 for what the tables refuse the command for, 26 where
-/// memory is refused, and 100 where `tables` holds nothing.
+/// they were. Then it returns 1 to 18 for the line's first fault, and 21 to 24 for what the tables refuse the command for.
+/// Where memory is refused that is 26, and 100 where `tables` holds nothing.
 #[unsafe(no_mangle)]
 pub extern "C" fn prt_tables_line(
     alloc: Global,
@@ -98,7 +98,7 @@ pub extern "C" fn prt_tables_line(
 ///
 /// `bytes` is how many bytes they have with their newlines, and `number` how many commands were accepted so far. Returns 0
 /// where no whole line is left. Otherwise it returns what `prt_tables_line` does for the line after them, which changed
-/// nothing; where `tables` holds nothing, that is 100, and all is as it was.
+/// nothing. Where `tables` holds nothing, that is 100, and all is as it was.
 #[unsafe(no_mangle)]
 pub extern "C" fn prt_tables_lines(
     alloc: Global,
