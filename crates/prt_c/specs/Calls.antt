@@ -1,9 +1,9 @@
 -- What each call on tables returns, and what it leaves in what C holds.
 use Rattle.std.specs.Prelude.{◌≡◌, ◌⊎◌, ℕ, List, Option, None, Some, Result, Ok, Err}
 use Rattle.std.specs.Arc.{arc_value}
-use Rattle.prt_addr.specs.Refusal.{code_of}
-use Rattle.prt_addr.specs.declared.refusal.Refusal.{Refusal}
-use Rattle.prt_addr.specs.declared.refusal.Refusal.TheVariants.{NoMemory}
+use Rattle.prt_refusals.specs.Refusal.{code_of}
+use Rattle.prt_refusals.specs.declared.refusal.Refusal.{Refusal}
+use Rattle.prt_refusals.specs.declared.refusal.Refusal.TheVariants.{NoMemory}
 use Rattle.prt_version.specs.State.{State, opening_state}
 use Rattle.prt_lines.specs.Chunk.{IsRun}
 use Rattle.prt_lines.specs.Lines.{line_refusal, line_state}

@@ -1,7 +1,7 @@
 -- Lookups of C: in a version's state, and in what a holder holds.
 use Rattle.std.specs.Prelude.{ℕ, Option, Some, None, Result, Ok, Err}
-use Rattle.prt_addr.specs.Refusal.{code_of}
-use Rattle.prt_addr.specs.declared.refusal.Refusal.{Refusal}
+use Rattle.prt_refusals.specs.Refusal.{code_of}
+use Rattle.prt_refusals.specs.declared.refusal.Refusal.{Refusal}
 use Rattle.prt_command.specs.Then.{◌>>=◌}
 use Rattle.prt_version.specs.Select.{select}
 use Rattle.prt_version.specs.State.{State}

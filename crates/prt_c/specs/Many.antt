@@ -1,6 +1,6 @@
 -- Packets that are looked up in one call.
 use Rattle.std.specs.Prelude.{◌≡◌, ◌⊎◌, ◌<◌, ◌≤◌, ℕ, List, length, slice_index_or, Option, Some, None, Ok, Err}
-use Rattle.prt_addr.specs.declared.refusal.Refusal.{Refusal}
+use Rattle.prt_refusals.specs.declared.refusal.Refusal.{Refusal}
 use Rattle.prt_version.specs.State.{State}
 use Rattle.prt_c.specs.Calls.{stop_number}
 use Rattle.prt_c.specs.Lookup.{answer_to}

@@ -2,8 +2,8 @@
 use Rattle.std.specs.Prelude.{ℕ, ◌==◌, List, [], ◌∷◌, Result, Ok, codes}
 use Rattle.std.specs.List.{before_first}
 use Rattle.std.specs.Option.{ok_or}
-use Rattle.prt_addr.specs.declared.refusal.Refusal.{Refusal}
-use Rattle.prt_addr.specs.declared.refusal.Refusal.TheVariants.{BadName}
+use Rattle.prt_refusals.specs.declared.refusal.Refusal.{Refusal}
+use Rattle.prt_refusals.specs.declared.refusal.Refusal.TheVariants.{BadName}
 use Rattle.prt_command.specs.Then.{◌>>=◌}
 use Rattle.prt_route.specs.Dev.{device}
 use Rattle.prt_rule.specs.declared.packet.Packet.{Packet}

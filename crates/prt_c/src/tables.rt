@@ -1,7 +1,7 @@
 //! Tables: lines change them, and versions are taken of them.
 ghost use Rattle.std.specs.Prelude.{◌≡◌, ◌⊎◌, IfErr, IfOk, None, Option, Some};
 ghost use Rattle.std.specs.Arc.{arc_value};
-ghost use Rattle.prt_addr.specs.declared.refusal.Refusal.TheVariants.{NoMemory};
+ghost use Rattle.prt_refusals.specs.declared.refusal.Refusal.TheVariants.{NoMemory};
 ghost use Rattle.prt_c.specs.Calls.{AreLinesOf, AreMade, IsLineOf, IsOwned, Puts};
 ghost use Rattle.prt_c.specs.States.{held_state};
 ghost use Rattle.prt_version.specs.State.{opening_state};

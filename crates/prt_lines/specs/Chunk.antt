@@ -1,8 +1,8 @@
 -- What the whole lines of a text do to a state, one after the other, up to the first that is refused.
 use Rattle.std.specs.Prelude.{◌≡◌, ◌⊎◌, ℕ, ◌+◌, ◌==◌, Bool, false, List, [], ◌∷◌, ◌++◌, length, Option, Some, None}
 use Rattle.std.specs.List.{list_any, AllByRecursion as Each}
-use Rattle.prt_addr.specs.declared.refusal.Refusal.{Refusal}
-use Rattle.prt_addr.specs.declared.refusal.Refusal.TheVariants.{NoMemory}
+use Rattle.prt_refusals.specs.declared.refusal.Refusal.{Refusal}
+use Rattle.prt_refusals.specs.declared.refusal.Refusal.TheVariants.{NoMemory}
 use Rattle.prt_version.specs.State.{State}
 use Rattle.prt_lines.specs.Lines.{line_refusal, line_state}
 use Rattle.prt_lines.specs.declared.chunk.Executed.{Executed}
