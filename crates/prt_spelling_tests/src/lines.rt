@@ -50,14 +50,6 @@ rule flush
 
 const DEFAULTS: &str = "route del unicast default via 0.0.0.0 table 7 metric 1";
 
-/// The command that the line asks for.
-fn command_of(line: &str) -> Result<Command, Fail> {
-    match read_line(line.as_bytes())? {
-        Some(Request::Command(command)) => Ok(command),
-        _ => Err(Fail::from(Refusal::UnknownVerb)),
-    }
-}
-
 /// The line of the command.
 fn line_of(alloc: Global, command: &Command) -> Result<Vec<u8>, Fail> {
     match command_line(alloc, command) {
@@ -66,11 +58,19 @@ fn line_of(alloc: Global, command: &Command) -> Result<Vec<u8>, Fail> {
     }
 }
 
+/// The line of the command that this line asks for.
+fn spelled_again(alloc: Global, line: &str) -> Result<Vec<u8>, Fail> {
+    match read_line(line.as_bytes())? {
+        Some(Request::Command(command)) => line_of(alloc, &command),
+        _ => Err(Fail::from(Refusal::UnknownVerb)),
+    }
+}
+
 /// The lines of the commands that these lines ask for, each with a newline.
 fn spelled(alloc: Global, lines: &str) -> Result<Vec<u8>, Fail> {
     let mut text = Vec::new(alloc);
     for line in lines.lines() {
-        text.extend_from_slice(&line_of(alloc, &command_of(line)?)?)?;
+        text.extend_from_slice(&spelled_again(alloc, line)?)?;
         text.push(b'\n')?;
     }
     Ok(text)
