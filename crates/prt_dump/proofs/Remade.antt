@@ -15,7 +15,6 @@ use Rattle.prt_addr.proofs.Each.{any_none, each_append, each_implies}
 use Rattle.prt_addr.proofs.Orders.{each_inserted, inserted_rises, length_inserted, same_risings}
 use Rattle.std.proofs.lemmas.List.{length-append}
 use Rattle.prt_route.specs.Route.{is_listed_before, is_same_key, key_of}
-use Rattle.prt_route.specs.declared.edit.RouteEdit.TheVariants.{Put}
 use Rattle.prt_route.specs.declared.route.Route.{Route}
 use Rattle.prt_route.proofs.Edits.{listing_order}
 use Rattle.prt_rule.specs.Rule.{is_before}

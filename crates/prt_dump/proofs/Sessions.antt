@@ -8,7 +8,6 @@ use Rattle.prt_refusals.specs.declared.on_refusal.OnRefusal.{OnRefusal}
 use Rattle.prt_refusals.specs.declared.on_refusal.OnRefusal.TheVariants.{GoOn, Stop}
 use Rattle.prt_addr.proofs.Each.{each_append, each_filtered}
 use Rattle.prt_route.specs.declared.route.Route.{Route}
-use Rattle.prt_rule.specs.declared.rule.Rule.{Rule}
 use Rattle.prt_command.specs.Lines.{Limits, limits, lines_of}
 use Rattle.prt_command.specs.declared.request.Command.{Command}
 use Rattle.prt_command.specs.declared.request.Command.TheVariants.{RuleDel}

@@ -1,5 +1,5 @@
 -- A line can spell each command that a line asks for.
-use Rattle.std.proofs.Common.{◌≡◌, ℕ, ◌+◌, suc, ◌≤◌, Bool, true, false, not, List, [], ◌∷◌, ◌++◌, Option, Some, None, IfOk, IfSome, Result, Ok, Err, is_some, rules, refl, sym, ap, ◌∙◌, subst, arith, nat_le, filter}
+use Rattle.std.proofs.Common.{◌≡◌, ℕ, ◌+◌, suc, Bool, true, false, not, List, [], ◌∷◌, ◌++◌, Option, Some, None, IfOk, IfSome, Result, Ok, Err, is_some, rules, refl, sym, ap, subst, arith, nat_le}
 use Rattle.std.specs.Prelude.{bytes_eq, codes, nat_lt, ◌==◌, ◌&&◌, ◌||◌, if◌then◌else◌, unwrap_or}
 use Rattle.std.specs.List.{list_all, onto_first, slice_split, AllByRecursion as Each}
 use Rattle.std.specs.Option.{ok_or}
@@ -23,11 +23,11 @@ use Rattle.prt_command.specs.Grammar.{ItemPlace, start, after_to, at_value, IsPl
 use Rattle.prt_command.specs.Items.{is_empty, no_items, put, slot_of}
 use Rattle.prt_command.specs.LineKinds.{Entry, LineKind, rule_edit_line, word_in}
 use Rattle.prt_command.specs.Reading.{before_comment, has_bytes, is_text_byte, items_request, line_words, lone_verb, meaning_of, object_of, object_request, reading, skip_word, verb_of, verb_request, words, words_request}
-use Rattle.prt_command.specs.Requests.{has_next_hop, is_unicast, new_route, refuse_if, route_by, route_choice, route_of, route_request, rule_choice, rule_of, selected_table, selector_of, suppresses_without_lookup, unless_empty}
+use Rattle.prt_command.specs.Requests.{has_next_hop, is_unicast, new_route, refuse_if, route_choice, route_of, route_request, rule_choice, rule_of, selected_table, selector_of, suppresses_without_lookup}
 use Rattle.prt_command.specs.Spelling.{Spells}
 use Rattle.prt_command.specs.Storable.{IsStorable, IsStorableLine}
 use Rattle.prt_command.specs.Then.{◌>>=◌, map_ok}
-use Rattle.prt_command.specs.Values.{value, which_tables}
+use Rattle.prt_command.specs.Values.{value}
 use Rattle.prt_command.specs.declared.item.Item.{Item}
 use Rattle.prt_command.specs.declared.item.Item.TheVariants as item
 use Rattle.prt_command.specs.declared.item.ItemWord.{ItemWord}

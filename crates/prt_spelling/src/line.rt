@@ -96,9 +96,9 @@ pub fn push_line(out: &mut Vec<u8>, command: &Command) -> Result<(), AllocError>
 ///
 /// # Errors
 ///
-/// `NoLine` where no line asks for it: an interface has a name with `#`, a control byte or a byte above 0x7e, a table may
-/// not hold the route or the rule, a number is out of its item's range, or nothing is given. `NoMemory` where memory is
-/// refused.
+/// `NoLine` where no line asks for it: an interface has a name with `#`, a control byte or a byte above 0x7e; a table may
+/// not hold the route or the rule; or of what is to be deleted or flushed a table or a metric is 0, a length is above 32,
+/// or nothing is given. `NoMemory` where memory is refused.
 pub fn command_line(alloc: Global, command: &Command) -> Result<Vec<u8>, NotSpelled>
     ensures text { IfOk result (λ line. line.items ≡ command_line command.now) }
     ensures read { IfOk result (λ line. reading line.items ≡ Ok (Some (requests.Command command.now))) }
