@@ -40,7 +40,7 @@ abbrev pub number_rule : Text → Text → Rule
 number_rule name missing = record (option_rule name) { defaults = missing ∷ [] }
 
 abbrev pub serve_line : App
-serve_line = with_rule (with_rule (with_rule (with_rule (with_rule (new_app (codes "serve")) (needed_rule (codes "db"))) (needed_rule (codes "listen"))) (number_rule (codes "workers") (codes "4"))) (number_rule (codes "sessions") (codes "0"))) (number_rule (codes "idle") (codes "0"))
+serve_line = with_rule (with_rule (with_rule (with_rule (with_rule (with_rule (new_app (codes "serve")) (needed_rule (codes "db"))) (needed_rule (codes "listen"))) (option_rule (codes "feed"))) (number_rule (codes "workers") (codes "4"))) (number_rule (codes "sessions") (codes "0"))) (number_rule (codes "idle") (codes "0"))
 
 abbrev pub dump_line : App
 dump_line = with_rule (new_app (codes "dump")) (needed_rule (codes "db"))

@@ -150,6 +150,12 @@ pub(crate) fn serve_line<'a>(alloc: Global) -> Result<Command<'a>, AllocError>
         "ADDR:PORT",
         "The address and the port to listen at; port 0 takes a free one",
     );
+    let feed = option(
+        alloc,
+        "feed",
+        "ADDR:PORT",
+        "Where to send each change as it is made, after the tables; nowhere without it",
+    );
     let workers = number_option(
         alloc,
         "workers",
@@ -175,6 +181,7 @@ pub(crate) fn serve_line<'a>(alloc: Global) -> Result<Command<'a>, AllocError>
         .about("Serves sessions of route and rule commands over TCP")
         .arg(database)?
         .arg(listen)?
+        .arg(feed)?
         .arg(workers)?
         .arg(sessions)?
         .arg(idle)

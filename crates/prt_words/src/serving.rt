@@ -17,6 +17,10 @@ pub(crate) const NO_DATABASE: &str = "a value is required for '--db <PATH>'";
 const BAD_LISTEN: &str =
     "invalid value for '--listen <ADDR:PORT>': it is an IPv4 address, `:` and a port of 0 to 65535";
 
+/// What is wrong with a place of the feed.
+const BAD_FEED: &str =
+    "invalid value for '--feed <ADDR:PORT>': it is an IPv4 address, `:` and a port of 0 to 65535";
+
 /// What is wrong with a number of workers.
 const BAD_WORKERS: &str = "invalid value for '--workers <W>': it is a number of 1 to 64";
 
@@ -33,6 +37,8 @@ pub struct Serving<'a> {
     pub database: &'a str,
     /// Where to listen; port 0 is any free one.
     pub listen: SocketAddrV4,
+    /// Where to listen for those that follow the changes, if anywhere; port 0 is any free one.
+    pub feed: Option<SocketAddrV4>,
     /// How many sessions are served at once, 1 to 64.
     pub workers: u32,
     /// How many connections are accepted, up to 1,000,000; 0 is without end.
@@ -78,6 +84,23 @@ fn listen_in(matches: &ArgMatches<'_>) -> Option<SocketAddrV4> {
     place_of(matches.get_str("listen")?)
 }
 
+/// Gives the place of the feed that the matches of `serve` have, if they have one.
+///
+/// # Errors
+///
+/// `Words` where the value is no place, `Opening` with `NoMemory` where memory is refused.
+fn feed_in(alloc: Global, matches: &ArgMatches<'_>) -> Result<Option<SocketAddrV4>, Fault>
+    ensures { IfErr result (IsWordsFault serve) }
+{
+    let Some(word) = matches.get_str("feed") else {
+        return Ok(None);
+    };
+    match place_of(word) {
+        Some(place) => Ok(Some(place)),
+        None => Err(serving_fault(alloc, BAD_FEED)),
+    }
+}
+
 /// Tells what the matches of `serve` ask for.
 ///
 /// # Errors
@@ -93,6 +116,7 @@ pub(crate) fn serving_of<'a>(alloc: Global, matches: &ArgMatches<'a>) -> Result<
     let Some(listen) = listen_in(matches) else {
         return Err(serving_fault(alloc, BAD_LISTEN));
     };
+    let feed = feed_in(alloc, matches)?;
     let Some(workers) = number_in(matches, "workers", 1, 64) else {
         return Err(serving_fault(alloc, BAD_WORKERS));
     };
@@ -105,6 +129,7 @@ pub(crate) fn serving_of<'a>(alloc: Global, matches: &ArgMatches<'a>) -> Result<
     Ok(Serving {
         database,
         listen,
+        feed,
         workers,
         sessions: u64::from(sessions),
         idle: u64::from(idle),
