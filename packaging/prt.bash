@@ -13,7 +13,7 @@ _prt() {
       mapfile -t COMPREPLY < <(compgen -f -- "$word")
       return
       ;;
-    --listen)
+    --listen | --feed)
       mapfile -t COMPREPLY < <(compgen -W '127.0.0.1:7800' -- "$word")
       return
       ;;
@@ -23,7 +23,7 @@ _prt() {
     batch) options='--force --atomic --db --verbose --help' ;;
     check | replay) options=--help ;;
     dump) options='--db --help' ;;
-    serve) options='--db --listen --workers --sessions --idle --help' ;;
+    serve) options='--db --listen --feed --workers --sessions --idle --help' ;;
     help) options='batch check dump replay serve' ;;
   esac
   if [[ $word == -* || ${COMP_WORDS[1]} == help || ${COMP_WORDS[1]} == serve || ${COMP_WORDS[1]} == dump ]]; then

@@ -31,12 +31,18 @@ class Server:
             text=True,
             env=os.environ | (variables or {}),
         )
+        self.port = self.port_after("listening")
+        # Where it sends its changes, if it does.
+        self.feed_port = self.port_after("feeding") if "--feed" in words else None
+
+    def port_after(self, word):
+        """The port of the next line, which says where the server listens."""
         line = self.process.stdout.readline()
-        told = re.fullmatch(r"listening 127\.0\.0\.1:(\d+)\n", line)
+        told = re.fullmatch(word + r" 127\.0\.0\.1:(\d+)\n", line)
         if not told:
             self.process.kill()
             sys.exit(f"the server said {line!r} and {self.process.communicate()[1]!r}")
-        self.port = int(told[1])
+        return int(told[1])
 
     def connect(self):
         """A client's end of a connection."""
@@ -100,6 +106,43 @@ class Client:
     def close(self):
         self.replies.close()
         self.end.close()
+
+
+class Follower:
+    """Reads a server's feed: at first `number` and `tables`, then one change after the other."""
+
+    def __init__(self, server, room=None):
+        """With room for so many bytes that came and weren't read, where that is said."""
+        self.end = socket.socket()
+        self.end.settimeout(PATIENCE)
+        if room:
+            self.end.setsockopt(socket.SOL_SOCKET, socket.SO_RCVBUF, room)
+        self.end.connect(("127.0.0.1", server.feed_port))
+        self.lines = self.end.makefile("r")
+        self.number = int(self.lines.readline().removeprefix("state "))
+        self.tables = []
+        while (line := self.lines.readline()) != "now\n":
+            if not line:
+                sys.exit(f"the feed ended after {len(self.tables)} lines of its tables")
+            self.tables.append(line)
+
+    def next(self):
+        """The number and the line of the next change; None where the feed has ended."""
+        number, _, line = self.lines.readline().partition(" ")
+        return (int(number), line) if number else None
+
+    def changes(self, count=None):
+        """So many changes, or all until the feed ends, whose numbers have to follow each other."""
+        lines = []
+        while count is None or len(lines) < count:
+            told = self.next()
+            if told is None:
+                break
+            if told[0] != self.number + 1:
+                print(f"{told[0]} came after {self.number}")
+            self.number = told[0]
+            lines.append(told[1])
+        return lines
 
 
 def batch(script, *words):

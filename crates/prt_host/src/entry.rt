@@ -29,7 +29,7 @@ pub fn run<
     S: Alter + Drop + Send,
     M: Machine<Connection<S>> + Drop,
     F: Files + Clock,
-    N: Net + Threads + Wait + Copy + Drop + Send + Sync,
+    N: Net + Threads + Wait + Clock + Copy + Drop + Send + Sync,
     R: Read,
     W: Write + IsTerminal,
     E: Write + IsTerminal + Drop + Send,
@@ -43,6 +43,7 @@ pub fn run<
 ) -> u8
 where
     N::Stream: Send,
+    N::Listener: Sync,
     ensures { RunsPrt S.Store M.opens M.refuses M.closes databases.old.machine databases.new.machine F.File.remaining (invocation (arguments words.now))
         (streams_of (⟦<Noting<R> as Read>⟧.remaining input.old) (⟦<Noting<W> as Write>⟧.contents output.old) (⟦<Noting<W> as Write>⟧.contents output.new)) result }
 {

@@ -8,7 +8,7 @@ ghost use Rattle.prt_service.specs.Named.{IsReleased};
 use crate::databases::DatabaseFiles;
 use crate::machine::Machine;
 use crate::opening::open_publisher;
-use crate::serving::{fault_of, listen, serve_named};
+use crate::serving::{NotListened, fault_of, listen, serve_named};
 use crate::telling::tell_shared;
 use prt_grace::Domain;
 use prt_program::{cause_message, log_message};
@@ -21,6 +21,7 @@ use std::fs::Files;
 use std::io::Write;
 use std::marker::Brand;
 use std::net::Net;
+use std::rt::Clock;
 use std::sync::{Mutex, Wait};
 use std::thread::Threads;
 
@@ -53,7 +54,7 @@ impl NotServed {
 /// Listens, and serves what comes over a publisher. Gives why not all that was asked for was served, and the connection.
 fn serve_over<
     S: Alter + Drop + Send,
-    N: Net + Threads + Wait + Drop + Send + Sync,
+    N: Net + Threads + Wait + Clock + Drop + Send + Sync,
     R: Wait + Drop + Send,
     W: Write,
     E: Write + Drop + Send,
@@ -68,19 +69,20 @@ fn serve_over<
 ) -> (Option<NotServed>, Connection<S>)
 where
     N::Stream: Send,
+    N::Listener: Sync,
     requires { IsQuiet publisher.phase }
     ensures fault { IfSome result.0 (λ failure. IsFaultOfServing failure.fault) }
     ensures released { IsReleased S.Store publisher.line.book publisher.line.base publisher.ours_first result.1 }
 {
-    let listener = match listen(rt, asked, output) {
-        Ok(listener) => listener,
-        Err(error) => {
-            let failure = NotServed::new(alloc, Fault::Listener, &asked.listen, Some(&error));
+    let listeners = match listen(rt, asked, output) {
+        Ok(listeners) => listeners,
+        Err(NotListened { place, error }) => {
+            let failure = NotServed::new(alloc, Fault::Listener, &place, Some(&error));
             return (Some(failure), publisher.release());
         }
     };
     let (end, conn) = serve_named::<Brand, _, _, _, _, _, _>(
-        rt, alloc, publisher, domain, &listener, asked, errors,
+        rt, alloc, publisher, domain, &listeners, asked, errors,
     );
     match fault_of(end) {
         Some(fault) => (
@@ -103,7 +105,7 @@ fn serve_database<
     S: Alter + Drop + Send,
     M: Machine<Connection<S>> + Drop,
     F: Files,
-    N: Net + Threads + Wait + Copy + Drop + Send + Sync,
+    N: Net + Threads + Wait + Clock + Copy + Drop + Send + Sync,
     W: Write,
     E: Write + Drop + Send,
 >(
@@ -115,6 +117,7 @@ fn serve_database<
 ) -> Result<(), NotServed>
 where
     N::Stream: Send,
+    N::Listener: Sync,
     ensures ok { OnOk result (IsServed M.opens M.closes S.Store databases.old.machine databases.new.machine asked.now.database.now) }
     ensures err { IfErr result (λ failure. IsNotServed M.opens M.refuses M.closes S.Store databases.old.machine databases.new.machine asked.now.database.now failure.fault) }
 {
@@ -145,7 +148,7 @@ pub(crate) fn serve<
     S: Alter + Drop + Send,
     M: Machine<Connection<S>> + Drop,
     F: Files,
-    N: Net + Threads + Wait + Copy + Drop + Send + Sync,
+    N: Net + Threads + Wait + Clock + Copy + Drop + Send + Sync,
     W: Write,
     E: Write + Drop + Send,
 >(
@@ -157,6 +160,7 @@ pub(crate) fn serve<
 ) -> u8
 where
     N::Stream: Send,
+    N::Listener: Sync,
     ensures done { result ≡ DONE → IsServed M.opens M.closes S.Store databases.old.machine databases.new.machine asked.now.database.now }
     ensures fault { result ≢ DONE → result ≡ FAULT }
     ensures why { result ≢ DONE → (fault : Fault) × IsNotServed M.opens M.refuses M.closes S.Store databases.old.machine databases.new.machine asked.now.database.now fault }

@@ -7,28 +7,73 @@ ghost use Rattle.prt_service.specs.Named.{IsNamed, IsReleased};
 use crate::telling::Telling;
 use prt_grace::Domain;
 use prt_publisher::Publisher;
-use prt_serve::{Accepting, Limits, ServeEnd, serve_all};
+use prt_serve::{Accepting, Limits, ServeEnd, serve_all, serve_and_feed};
 use prt_service::{Naming, Service};
 use prt_words::{Fault, Serving};
 use sqlite::{Alter, Connection};
 use std::alloc::Global;
 use std::io::{self, Read, Write};
-use std::net::{Net, OpenListener, OpenStream, SocketAddr};
+use std::net::{Net, OpenListener, OpenStream, SocketAddr, SocketAddrV4};
+use std::rt::Clock;
 use std::sync::{Mutex, Wait};
 use std::thread::Threads;
 use std::time::Duration;
 
-/// Listens at a place, and says where on `output`, before anything is accepted.
+/// Where a server listens.
+#[derive(Drop)]
+pub(crate) struct Listeners<L: Drop> {
+    /// For sessions.
+    sessions: L,
+    /// For those that follow the changes, if for any.
+    feed: Option<L>,
+}
+
+/// Why a place can't be listened at.
+pub(crate) struct NotListened {
+    pub(crate) place: SocketAddrV4,
+    pub(crate) error: io::Error,
+}
+
+/// Listens at a place, and says where on `output`, after this word.
+fn bind_and_tell<N: Net, W: Write>(
+    rt: &N,
+    place: SocketAddrV4,
+    word: &str,
+    output: &mut W,
+) -> io::Result<N::Listener> {
+    let listener = rt.bind(SocketAddr::V4(place))?;
+    let address = listener.local_addr()?;
+    write!(output, "{word} {address}\n")?;
+    output.flush()?;
+    Ok(listener)
+}
+
+/// As `bind_and_tell`, whose error names the place.
+fn listen_at<N: Net, W: Write>(
+    rt: &N,
+    place: SocketAddrV4,
+    word: &str,
+    output: &mut W,
+) -> Result<N::Listener, NotListened> {
+    match bind_and_tell(rt, place, word, output) {
+        Ok(listener) => Ok(listener),
+        Err(error) => Err(NotListened { place, error }),
+    }
+}
+
+/// Listens where it is asked for, and says where on `output`, before anything is accepted: `listening ADDR:PORT`, and with
+/// a feed `feeding ADDR:PORT`.
 pub(crate) fn listen<N: Net, W: Write>(
     rt: &N,
     asked: &Serving<'_>,
     output: &mut W,
-) -> io::Result<N::Listener> {
-    let listener = rt.bind(SocketAddr::V4(asked.listen))?;
-    let address = listener.local_addr()?;
-    write!(output, "listening {address}\n")?;
-    output.flush()?;
-    Ok(listener)
+) -> Result<Listeners<N::Listener>, NotListened> {
+    let sessions = listen_at(rt, asked.listen, "listening", output)?;
+    let feed = match asked.feed {
+        Some(place) => Some(listen_at(rt, place, "feeding", output)?),
+        None => None,
+    };
+    Ok(Listeners { sessions, feed })
 }
 
 /// Gives how long a session may send nothing; 0 seconds are without end.
@@ -49,22 +94,22 @@ fn limits_of(asked: &Serving<'_>) -> Limits {
     }
 }
 
-/// Serves what a listener accepts, by a service that is named here, and tells on `errors` why a commit failed. Gives how
-/// that ended, and the connection.
+/// Serves what listeners accept, by a service that is named here, and tells on `errors` why a commit failed. Gives how that
+/// ended, and the connection.
 pub(crate) fn serve_named<
     J: Naming + Send,
     S: Alter + Drop + Send,
-    H: Threads + Wait + Sync,
+    H: Threads + Wait + Clock + Sync,
     R: Wait + Drop + Send,
     T: Read + Write + OpenStream + Drop + Send,
-    L: OpenListener<Stream = T>,
+    L: OpenListener<Stream = T> + Drop + Sync,
     E: Write + Drop + Send,
 >(
     rt: &H,
     alloc: Global,
     publisher: Publisher<S, R>,
     domain: Domain,
-    listener: &L,
+    listeners: &Listeners<L>,
     asked: &Serving<'_>,
     errors: &Mutex<E>,
 ) -> (ServeEnd, Connection<S>)
@@ -80,7 +125,11 @@ pub(crate) fn serve_named<
         path: asked.database,
         errors,
     };
-    let end = serve_all(rt, alloc, &service, &telling, listener, limits_of(asked));
+    let (sessions, limits) = (&listeners.sessions, limits_of(asked));
+    let end = match &listeners.feed {
+        Some(feed) => serve_and_feed(rt, alloc, &service, &telling, sessions, limits, feed),
+        None => serve_all(rt, alloc, &service, &telling, sessions, limits),
+    };
     (end, service.release())
 }
 

@@ -1,0 +1,36 @@
+"""A feed that isn't read is closed once too many changes wait for it: no client waits for it, nor another follower. What was
+sent until then are the first changes, whole and in order. Beside 16 feeds there is no further one.
+"""
+
+from serving import Client, Follower, Server, in_threads
+
+CLIENTS = 8
+CHANGES = 2500
+
+
+def change(server, place):
+    """Makes changes."""
+    client = Client(server)
+    for turn in range(CHANGES):
+        client.ask(f"route replace 10.{place}.{turn % 256}.0/24 dev eth{turn % 10} table 1000000000")
+    client.close()
+
+
+def main():
+    server = Server("--feed", "127.0.0.1:0", "--workers", str(CLIENTS), "--sessions", str(CLIENTS))
+    slow, quick = Follower(server, room=2048), Follower(server)
+    more = [Follower(server) for _ in range(14)]
+    try:
+        print(Follower(server).number)
+    except (OSError, ValueError):
+        print("no further feed")
+    for other in more:
+        other.end.close()
+    lines = in_threads(CLIENTS + 1, lambda place: change(server, place) if place < CLIENTS else quick.changes())[CLIENTS]
+    print(len(lines))
+    told = slow.changes()
+    print(0 < len(told) < len(lines), told == lines[: len(told)])
+    print(server.end())
+
+
+main()
