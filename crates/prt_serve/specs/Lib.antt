@@ -4,3 +4,4 @@ pub mod Lists
 pub mod Growing
 pub mod Serving
 pub mod Jobs
+pub mod Feed

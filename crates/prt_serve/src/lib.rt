@@ -2,6 +2,8 @@
 #![tactic(auto)]
 
 mod connection;
+mod feed;
+mod feeding;
 mod gate;
 pub mod laws;
 mod listen;
@@ -9,6 +11,8 @@ mod session;
 mod worker;
 
 pub use connection::{Lines, Replies};
+pub use feeding::serve_and_feed;
+pub use feed::{Spelling, serve_feed};
 pub use gate::{Gate, OpenGate};
 pub use listen::{Accepting, Connected, Limits, ServeEnd, accept, serve_all};
 pub use session::{Visit, serve_session};

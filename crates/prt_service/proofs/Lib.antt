@@ -1,3 +1,4 @@
+mod Following
 mod Receipts
 mod Refusals
 mod SameCommand

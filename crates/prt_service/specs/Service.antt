@@ -2,7 +2,7 @@
 use Rattle.std.specs.Prelude.{◌≡◌, List, [], ◌∷◌, ◌++◌, IfErr, IfOk, Result}
 use Rattle.logbook.specs.Pages.{Book}
 use Rattle.prt_refusals.specs.declared.refusal.Refusal.{Refusal}
-use Rattle.prt_refusals.specs.declared.refusal.Refusal.TheVariants.{Busy, Closed, CountFull, Exists, Full, NoMemory, NoSuch, NotPublished, StoreFailed}
+use Rattle.prt_refusals.specs.declared.refusal.Refusal.TheVariants.{Busy, Closed, CountFull, Exists, Full, NoMemory, NoSuch, NotFetched, NotPublished, StoreFailed}
 use Rattle.prt_command.specs.declared.request.Command.{Command}
 use Rattle.prt_front.specs.Line.{Line}
 use Rattle.prt_version.specs.State.{State}
@@ -27,6 +27,14 @@ IsServiceRefusal NoMemory = Unit {0}
 IsServiceRefusal (StoreFailed call) = Unit {0}
 IsServiceRefusal NotPublished = Unit {0}
 IsServiceRefusal _ = ⊥
+
+-- what a follower can be refused for
+abbrev pub IsFollowRefusal : Refusal → Type 0
+IsFollowRefusal Full = Unit {0}
+IsFollowRefusal NotFetched = Unit {0}
+IsFollowRefusal NoMemory = Unit {0}
+IsFollowRefusal Closed = Unit {0}
+IsFollowRefusal _ = ⊥
 
 -- What became of commands of the named front together: a receipt of its published list, which ends with them, or why there is none.
 abbrev pub AreAnswered : Book → State → List Command → Result Line Refusal → Type 0

@@ -1,11 +1,15 @@
-//! The service: one publisher that any number of threads submit commands to, and lookers that read what it publishes.
+//! The service: one publisher that any number of threads submit commands to, lookers that read what it publishes, and
+//! followers that are told of it.
 //!
 //! There are four locks. Under the publisher's the domain's is taken, step by step, that of the lobby, where commands wait,
-//! and those of the channels of their answers. The lock of the spare readers is held with no other. A looker reads the
-//! version that it holds without any.
+//! and those of the channels of answers and of followers. The lock of the spare readers is held with no other. A looker
+//! reads the version that it holds without any.
 #![tactic(auto)]
 
+mod change;
 mod departure;
+mod follower;
+mod followers;
 mod group;
 mod held;
 mod lobby;
@@ -18,6 +22,7 @@ mod submitted;
 mod waiting;
 
 pub use departure::Departure;
+pub use follower::Follower;
 pub use looker::Looker;
 pub use naming::Naming;
 pub use service::Service;

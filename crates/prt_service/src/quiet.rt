@@ -11,18 +11,24 @@ ghost use Rattle.prt_service.specs.Named.{IsNamed};
 ghost use Rattle.prt_service.specs.Service.{EndsWith, EndsWithAll, IsServiceRefusal};
 
 use crate::Naming;
+use crate::change::Change;
+use crate::followers::Followers;
+use crossbeam_channel::Sender;
 use prt_command::{Command, Refusal};
 use prt_grace::Domain;
 use prt_publisher::{Publisher, Receipt};
 use prt_version::Version;
 use sqlite::{Alter, Connection, Error};
+use std::alloc::Global;
 use std::marker::{Model, PhantomData};
+use std::slice;
 use std::sync::Wait;
 
-/// A publisher of the named front with no command under way.
+/// A publisher of the named front with no command under way, and who follows it.
 #[derive(Drop)]
 pub(crate) struct QuietPublisher<S: Alter + Drop, R: Wait + Drop, J: Naming> {
     publisher: Publisher<S, R>,
+    followers: Followers<J>,
     of: PhantomData<J>,
 }
 
@@ -41,19 +47,20 @@ impl<S: Alter + Drop, R: Wait + Drop, J: Naming> Model for QuietPublisher<S, R, 
 }
 
 impl<S: Alter + Drop, R: Wait + Drop, J: Naming> QuietPublisher<S, R, J> {
-    pub(crate) fn new(publisher: Publisher<S, R>) -> QuietPublisher<S, R, J>
+    pub(crate) fn new(alloc: Global, publisher: Publisher<S, R>) -> QuietPublisher<S, R, J>
         requires quiet { IsQuiet publisher.phase }
         requires of { IsNamed J.book J.base J.ours_first publisher }
         ensures { result ≡ publisher }
     {
         QuietPublisher {
             publisher,
+            followers: Followers::new(alloc),
             of: PhantomData,
         }
     }
 
-    /// Prepares, commits and publishes a command. The published list is then the one before with this command, and the
-    /// receipt is of it.
+    /// Prepares, commits and publishes a command, and tells the followers. The published list is then the one before with
+    /// this command, and the receipt is of it.
     ///
     /// # Errors
     ///
@@ -81,11 +88,13 @@ impl<S: Alter + Drop, R: Wait + Drop, J: Naming> QuietPublisher<S, R, J> {
             Ok(receipt) => receipt,
             Err(reason) => return Err(reason),
         };
+        self.followers
+            .tell_all(rt, &receipt, slice::from_ref(command));
         Ok(receipt)
     }
 
-    /// Prepares, commits and publishes commands together. The published list is then the one before with all of them, in
-    /// their order, and the receipt is of it.
+    /// Prepares, commits and publishes commands together, and tells the followers. The published list is then the one before
+    /// with all of them, in their order, and the receipt is of it.
     ///
     /// # Errors
     ///
@@ -114,6 +123,7 @@ impl<S: Alter + Drop, R: Wait + Drop, J: Naming> QuietPublisher<S, R, J> {
             Ok(last) => last,
             Err(reason) => return Err(reason),
         };
+        self.followers.tell_all(rt, &last, commands);
         Ok(last)
     }
 
@@ -122,6 +132,20 @@ impl<S: Alter + Drop, R: Wait + Drop, J: Naming> QuietPublisher<S, R, J> {
         ensures { result.now ≡ line_state self.now.line }
     {
         self.publisher.published()
+    }
+
+    /// Adds a follower, and tells whether it did: it didn't where following has ended, or where there is no memory for it.
+    pub(crate) fn add_follower(&mut self, sender: Sender<Change<J>, Global>) -> bool
+        ensures { self.new ≡ self.old }
+    {
+        self.followers.add(sender)
+    }
+
+    /// Lets all followers go, and takes none from now on.
+    pub(crate) fn end_following(&mut self)
+        ensures { self.new ≡ self.old }
+    {
+        self.followers.end();
     }
 
     /// Gives the library's error of the commit that closed it, if one did.

@@ -1,24 +1,32 @@
 //! A publisher for many threads.
-ghost use Rattle.std.specs.Prelude.{◌≡◌, ◌≤◌, All, None, IfErr, IfOk, IfSome, length};
+ghost use Rattle.std.specs.Prelude.{◌≡◌, ◌≤◌, All, None, IfErr, IfOk, IfSome, OnOk, length};
+ghost use Rattle.std.specs.Arc.{arc_value};
 ghost use Rattle.prt_command.specs.Storable.{IsStorable};
+ghost use Rattle.prt_front.specs.Line.{line_state};
 ghost use Rattle.prt_publisher.specs.Standing.{IsQuiet};
 ghost use Rattle.prt_service.specs.Named.{IsNamed, IsReleased};
-ghost use Rattle.prt_service.specs.Service.{EndsWith, EndsWithAll, IsAnswer, IsServiceRefusal};
+ghost use Rattle.prt_service.specs.Service.{EndsWith, EndsWithAll, IsAnswer, IsFollowRefusal, IsServiceRefusal};
+ghost use Rattle.prt_version.specs.Accepted.{IsAccepted};
 
+use crate::change::Change;
 use crate::group::submit_waiting;
 use crate::lobby::{Entered, Lobby};
 use crate::quiet::QuietPublisher;
 use crate::spare::SpareReaders;
 use crate::waiting::Waiting;
-use crate::{Looker, Naming};
-use crossbeam_channel::bounded;
+use crate::{Follower, Looker, Naming};
+use crossbeam_channel::{Receiver, bounded};
 use prt_command::{Command, Refusal};
 use prt_front::FrontReader;
 use prt_grace::Domain;
 use prt_publisher::{Publisher, Receipt};
+use prt_version::Version;
 use sqlite::{Alter, Connection, Error};
 use std::alloc::Global;
-use std::sync::{Mutex, Wait};
+use std::sync::{Arc, Mutex, Wait};
+
+/// How many commands may wait for a follower.
+const MOST_UNTOLD: usize = 1000;
 
 /// A publisher, its domain and the readers that no looker has, for any number of threads.
 ///
@@ -48,7 +56,7 @@ impl<S: Alter + Drop, R: Wait + Drop, J: Naming> Service<S, R, J> {
         let alloc = *publisher.published().shared_rules().allocator();
         let seats = publisher.seats(alloc);
         Service {
-            publisher: Mutex::new(QuietPublisher::new(publisher)),
+            publisher: Mutex::new(QuietPublisher::new(alloc, publisher)),
             lobby: Mutex::new(Lobby::new(alloc)),
             domain,
             spare: Mutex::new(SpareReaders::new(seats)),
@@ -148,6 +156,68 @@ impl<S: Alter + Drop, R: Wait + Drop, J: Naming> Service<S, R, J> {
                 Err(Refusal::Full)
             }
         }
+    }
+
+    /// Makes a follower, which knows the published list, and gives the published version. Each command that is published
+    /// from then on comes to the follower, in order. It takes one of the spare readers.
+    ///
+    /// # Errors
+    ///
+    /// `Full` where no reader is left, `NotFetched` where the front can't be entered or its version has as many owners as
+    /// can be counted, `NoMemory`, and `Closed` where following has ended or there is no memory for one more. The service
+    /// is then as it was.
+    pub fn follow<W: Wait>(&self, rt: &W) -> Result<(Follower<J>, Arc<Version>), Refusal>
+        ensures of { IfOk result (λ made. (made.0.book ≡ J.book) × (made.0.base ≡ J.base)) }
+        ensures version { IfOk result (λ made. arc_value made.1 ≡ line_state made.0) }
+        ensures reason { IfErr result IsFollowRefusal }
+    {
+        // Lets the lock go before the publisher's is taken.
+        let lent = self.spare.lock(rt).lend();
+        let Some(mut reader) = lent else {
+            return Err(Refusal::Full);
+        };
+        match self.begin_following(rt, &mut reader) {
+            Ok((version, changes)) => {
+                let number = version.number();
+                Ok((Follower::new(reader, number, changes), version))
+            }
+            Err(reason) => {
+                self.take_back(rt, reader);
+                Err(reason)
+            }
+        }
+    }
+
+    /// Fetches the published version, and makes a channel to which each command comes that is published after it.
+    fn begin_following<W: Wait>(
+        &self,
+        rt: &W,
+        reader: &mut FrontReader,
+    ) -> Result<(Arc<Version>, Receiver<Change<J>, Global>), Refusal>
+        ensures of { (reader.new.book ≡ reader.old.book) × (reader.new.base ≡ reader.old.base) }
+        ensures version { IfOk result (λ begun. arc_value begun.0 ≡ line_state reader.new) }
+        ensures accepted { OnOk result (IsAccepted reader.new.base reader.new.list) }
+        ensures reason { IfErr result IsFollowRefusal }
+    {
+        let Ok((sender, changes)) = bounded(self.alloc, MOST_UNTOLD) else {
+            return Err(Refusal::NoMemory);
+        };
+        // Nothing is published while the lock is held.
+        let mut publisher = self.publisher.lock(rt);
+        let version = match reader.fetch() {
+            Ok(version) => version,
+            Err(reason) => return Err(reason),
+        };
+        if publisher.add_follower(sender) {
+            Ok((version, changes))
+        } else {
+            Err(Refusal::Closed)
+        }
+    }
+
+    /// Ends following: each follower gets the commands that wait for it, and then none. None is made from then on.
+    pub fn end_following<W: Wait>(&self, rt: &W) {
+        self.publisher.lock(rt).end_following();
     }
 
     /// Where its lookers announce what they hold.

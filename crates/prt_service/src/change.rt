@@ -1,0 +1,69 @@
+//! Commands that were published, as followers are told of them.
+ghost use Rattle.std.specs.Prelude.{◌≡◌, ◌-◌, ◌<◌, length, take};
+ghost use Rattle.prt_service.specs.Service.{EndsWith};
+
+use crate::Naming;
+use prt_command::Command;
+use prt_front::Told;
+use prt_publisher::Receipt;
+use std::marker::{Model, PhantomData};
+
+/// A command that was published on the named front, and its number. Contracts see it as the published list that ends with
+/// it.
+#[derive(Drop)]
+pub(crate) struct Change<J: Naming> {
+    pub(crate) number: u64,
+    pub(crate) command: Command,
+    pub(crate) told: Told,
+    pub(crate) of: PhantomData<J>,
+}
+
+impl<J: Naming> Model for Change<J> {
+    ghost use Rattle.std.specs.Prelude.{◌≡◌, ◌+◌, length};
+    ghost use Rattle.prt_front.specs.Line.{Line, line_state};
+    ghost use Rattle.prt_service.specs.Service.{EndsWith};
+
+    ghost Value = { Line };
+
+    ghost view = { λ change. change.told };
+
+    ghost invariant = { λ change. (change.told.book ≡ J.book) × (change.told.base ≡ J.base) × EndsWith change.told.list change.command
+        × (change.number ≡ change.told.base.count + length change.told.list) × (change.number ≡ (line_state change.told).count) };
+}
+
+/// Tells the same list once more.
+fn same(told: &Told) -> Told
+    ensures { result ≡ told.now }
+{
+    told.without_last(0)
+}
+
+impl<J: Naming> Change<J> {
+    /// Tells of the command that was accepted so many commands before the last of a receipt.
+    pub(crate) fn new(last: &Receipt, later: u64, command: &Command) -> Change<J>
+        requires of { (last.now.book ≡ J.book) × (last.now.base ≡ J.base) }
+        requires earlier { later < length last.now.list }
+        requires ends { EndsWith (take (length last.now.list - later) last.now.list) command.now }
+        ensures { result ≡ record last.now { list = take (length last.now.list - later) last.now.list } }
+    {
+        let receipt = last.of_earlier(later);
+        Change {
+            number: receipt.number(),
+            command: *command,
+            told: same(receipt.told()),
+            of: PhantomData,
+        }
+    }
+
+    /// Tells of it once more.
+    pub(crate) fn again(&self) -> Change<J>
+        ensures { result ≡ self.now }
+    {
+        Change {
+            number: self.number,
+            command: self.command,
+            told: same(&self.told),
+            of: PhantomData,
+        }
+    }
+}
