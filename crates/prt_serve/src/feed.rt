@@ -7,10 +7,10 @@ ghost use Rattle.prt_serve.specs.Feed.{Feeds, Tells, change_line, opening_text};
 ghost use Rattle.prt_service.specs.Service.{IsFollowRefusal};
 ghost use Rattle.prt_replies.specs.Written.{Written};
 
-use prt_replies::write_bytes;
 use itoa::Buffer;
 use prt_command::Command;
 use prt_dump::dump_text;
+use prt_replies::write_bytes;
 use prt_service::{Follower, Naming, Service};
 use prt_session::Refusal;
 use prt_version::Version;
@@ -69,7 +69,8 @@ fn line_of<P: Spelling>(
 {
     let mut digits = Buffer::new();
     let mut text = Vec::new(alloc);
-    text.extend_from_slice(digits.format(number).as_bytes()).ok()?;
+    text.extend_from_slice(digits.format(number).as_bytes())
+        .ok()?;
     text.extend_from_slice(b" ").ok()?;
     if !spelling.push_line(&mut text, command) {
         return None;

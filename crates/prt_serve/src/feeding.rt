@@ -41,13 +41,7 @@ fn feed_streams<
     J: Naming,
     P: Spelling,
     T: Write + OpenStream + Drop,
->(
-    rt: &H,
-    alloc: Global,
-    service: &Service<S, B, J>,
-    spelling: &P,
-    streams: &Receiver<T>,
-) {
+>(rt: &H, alloc: Global, service: &Service<S, B, J>, spelling: &P, streams: &Receiver<T>) {
     for mut stream in streams.iter(rt) {
         if make_ready(&stream) {
             let _fed = serve_feed(rt, alloc, service, spelling, &mut stream).is_ok();

@@ -88,7 +88,8 @@ fn sends_tables_and_changes(rt: HostRuntime) -> Result<(), Fail> {
     let alloc = rt.alloc();
     let (is_whole, text) = feed_connection(rt, alloc, Connection::open_in_memory(alloc)?)?;
     assert!(rt; is_whole);
-    let sent = b"state 1\nrule flush\nrule del priority 0\nrule add priority 0 from all lookup local\nnow\n2 rule flush\n3 rule flush\n";
+    let sent =
+        b"state 1\nrule flush\nrule del priority 0\nrule add priority 0 from all lookup local\nnow\n2 rule flush\n3 rule flush\n";
     assert!(rt; text.as_slice() == sent.as_slice());
     Ok(())
 }
