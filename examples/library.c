@@ -12,6 +12,7 @@
 #include <stdlib.h>
 #include <string.h>
 
+#include "answer.h"
 #include "prt.h"
 
 #define MOST_PACKETS 100000
@@ -92,54 +93,6 @@ static void *look_up(void *of) {
     return NULL;
 }
 
-static const char *text_of(uint32_t address, char *text) {
-    struct in_addr in = { htonl(address) };
-    return inet_ntop(AF_INET, &in, text, INET_ADDRSTRLEN);
-}
-
-static void write_prefix(const prt_answer *answer) {
-    char text[INET_ADDRSTRLEN];
-    if (answer->prefix_length == 0)
-        printf(" default");
-    else if (answer->prefix_length == 32)
-        printf(" %s", text_of(answer->destination, text));
-    else
-        printf(" %s/%u", text_of(answer->destination, text), answer->prefix_length);
-}
-
-/* Writes a table by its name, where it has one. */
-static void write_table(uint32_t table) {
-    if (table == 255)
-        printf(" table local");
-    else if (table == 254)
-        printf(" table main");
-    else if (table == 253)
-        printf(" table default");
-    else if (table != 0)
-        printf(" table %u", table);
-}
-
-static void write_answer(const prt_answer *answer) {
-    static const char *const kinds[] = { " none", "", " blackhole", " unreachable", " prohibit" };
-    char text[INET_ADDRSTRLEN];
-    printf("answer %llu", (unsigned long long)answer->number);
-    if (answer->kind != PRT_NO_ROUTE)
-        printf(" rule %u", answer->priority);
-    write_table(answer->table);
-    printf("%s", kinds[answer->kind]);
-    if (answer->table != 0)
-        write_prefix(answer);
-    if (answer->has_gateway)
-        printf(" via %s", text_of(answer->gateway, text));
-    if (answer->device[0] != 0)
-        printf(" dev %s", answer->device);
-    if (answer->has_source)
-        printf(" src %s", text_of(answer->source, text));
-    if (answer->metric != 0)
-        printf(" metric %u", answer->metric);
-    printf("\n");
-}
-
 int main(int argc, char **argv) {
     static looker lookers[MOST_THREADS];
     prt_tables tables = PRT_EMPTY_HOLDER;
@@ -166,6 +119,6 @@ int main(int argc, char **argv) {
     for (size_t place = 0; place < threads; place++)
         pthread_join(lookers[place].thread, NULL);
     for (size_t place = 0; place < count; place++)
-        write_answer(&answers[place]);
+        write_answer(stdout, &answers[place], answers[place].number);
     return 0;
 }

@@ -1,0 +1,173 @@
+/* Follows the feed of a `prt serve`, and looks packets up from several threads while the tables change.
+ *
+ *     forwarder ADDR PORT THREADS <DESTINATIONS
+ *
+ * One thread follows the feed. After each change it makes an owner of the new version for each looker, and leaves it in
+ * that looker's slot; who finds an older one there releases it. A looker takes what is in its slot, releases what it held,
+ * and looks all destinations up again. When the feed ends each looker writes what it was answered at each number: its own
+ * number, and the answer as `prt` gives it for `route get`.
+ */
+#include <arpa/inet.h>
+#include <netinet/in.h>
+#include <pthread.h>
+#include <sched.h>
+#include <stdatomic.h>
+#include <stdio.h>
+#include <stdlib.h>
+#include <string.h>
+#include <sys/socket.h>
+#include <unistd.h>
+
+#include "answer.h"
+#include "prt.h"
+
+#define MOST_DESTINATIONS 64
+#define MOST_THREADS 64
+
+/* What a looker has, beside the version that it holds. A slot has the `at` of a version that it hasn't taken yet. */
+typedef struct {
+    pthread_t thread;
+    _Atomic(void *) slot;
+    FILE *told;
+    char *text;
+    size_t length;
+} looker;
+
+static looker lookers[MOST_THREADS];
+static size_t threads;
+static prt_packet packets[MOST_DESTINATIONS];
+static size_t packet_count;
+/* Whether no version comes any more. */
+static atomic_int is_ended;
+/* By how much the server's number of a state is greater than the library's. */
+static atomic_ullong ahead;
+
+static void end_if(int failed, const char *what, unsigned status) {
+    if (failed) {
+        fprintf(stderr, "forwarder: %s: %u\n", what, status);
+        exit(1);
+    }
+}
+
+/* Looks all packets up in a version, and notes the answers. */
+static void look_up(looker *it, prt_version *version) {
+    for (size_t place = 0; place < packet_count; place++) {
+        prt_answer answer;
+        uint32_t status = prt_lookup(version, &packets[place], &answer);
+        end_if(status != PRT_DONE, "a packet has no answer", status);
+        fprintf(it->told, "%zu ", place);
+        write_answer(it->told, &answer, answer.number + ahead);
+    }
+}
+
+/* Looks packets up in each version that comes into the slot. */
+static void *run_looker(void *of) {
+    looker *it = of;
+    prt_version version = PRT_EMPTY_HOLDER;
+    for (int last = 0; !last;) {
+        /* What was left before the end is taken after it. */
+        last = atomic_load(&is_ended);
+        void *newer = atomic_exchange(&it->slot, NULL);
+        if (newer) {
+            prt_version_release(&version);
+            version.at = newer;
+            look_up(it, &version);
+            last = 0;
+        } else {
+            sched_yield();
+        }
+    }
+    prt_version_release(&version);
+    return NULL;
+}
+
+/* Leaves an owner of the version that the tables are at in each slot. */
+static void hand_out(prt_tables *tables) {
+    for (size_t place = 0; place < threads; place++) {
+        prt_version version = PRT_EMPTY_HOLDER;
+        uint32_t status = prt_tables_version(tables, &version);
+        end_if(status != PRT_DONE, "a version", status);
+        prt_version untaken = { atomic_exchange(&lookers[place].slot, version.at) };
+        prt_version_release(&untaken);
+    }
+}
+
+/* Connects to the feed. */
+static FILE *connect_to(const char *address, const char *port) {
+    struct sockaddr_in place = { .sin_family = AF_INET, .sin_port = htons((uint16_t)atoi(port)) };
+    int socket_of_feed = socket(AF_INET, SOCK_STREAM, 0);
+    end_if(inet_pton(AF_INET, address, &place.sin_addr) != 1, address, 0);
+    end_if(connect(socket_of_feed, (struct sockaddr *)&place, sizeof place) != 0, "the feed can't be reached", 0);
+    return fdopen(socket_of_feed, "r");
+}
+
+/* Executes a line of the feed, without its newline, and gives the number that the tables have then. */
+static uint64_t execute(prt_tables *tables, const char *line, size_t length) {
+    uint64_t number = 0;
+    uint32_t status = prt_tables_line(tables, line, length, &number);
+    end_if(status != PRT_DONE, "a line of the feed is refused", status);
+    return number;
+}
+
+/* Follows the feed to its end: the tables as they are, and then each change. */
+static void follow(prt_tables *tables, FILE *feed) {
+    char *line = NULL, *command;
+    size_t room = 0;
+    ssize_t length;
+    uint64_t executed = 0;
+    end_if(getline(&line, &room, feed) < 7 || strncmp(line, "state ", 6) != 0, "this is no feed", 0);
+    unsigned long long number = strtoull(line + 6, NULL, 10);
+    while ((length = getline(&line, &room, feed)) > 0 && strcmp(line, "now\n") != 0)
+        executed = execute(tables, line, (size_t)length - 1);
+    end_if(length <= 0, "the feed ended within its tables", 0);
+    /* A dump may have more commands than the server accepted: the difference wraps, and so does its sum. */
+    atomic_store(&ahead, number - executed);
+    hand_out(tables);
+    while ((length = getline(&line, &room, feed)) > 0) {
+        end_if(strtoull(line, &command, 10) != ++number || *command != ' ', "a change is missing", 0);
+        execute(tables, command + 1, (size_t)(line + length - command) - 2);
+        hand_out(tables);
+    }
+    free(line);
+}
+
+/* Reads the destinations, an address a line. */
+static void read_destinations(void) {
+    char text[16];
+    struct in_addr address;
+    while (packet_count < MOST_DESTINATIONS && scanf("%15s", text) == 1) {
+        end_if(inet_pton(AF_INET, text, &address) != 1, text, 0);
+        packets[packet_count++].destination = ntohl(address.s_addr);
+    }
+}
+
+int main(int argc, char **argv) {
+    prt_tables tables = PRT_EMPTY_HOLDER;
+    threads = argc == 4 ? strtoul(argv[3], NULL, 10) : 0;
+    if (threads < 1 || threads > MOST_THREADS) {
+        fprintf(stderr, "usage: forwarder ADDR PORT THREADS <DESTINATIONS\n");
+        return 2;
+    }
+    read_destinations();
+    FILE *feed = connect_to(argv[1], argv[2]);
+    uint32_t status = prt_tables_new(&tables);
+    end_if(!feed || status != PRT_DONE, "new tables", status);
+    for (size_t place = 0; place < threads; place++) {
+        looker *it = &lookers[place];
+        it->told = open_memstream(&it->text, &it->length);
+        end_if(!it->told || pthread_create(&it->thread, NULL, run_looker, it) != 0, "a thread", 0);
+    }
+    follow(&tables, feed);
+    atomic_store(&is_ended, 1);
+    for (size_t place = 0; place < threads; place++) {
+        looker *it = &lookers[place];
+        pthread_join(it->thread, NULL);
+        fclose(it->told);
+        for (char *line = strtok(it->text, "\n"); line; line = strtok(NULL, "\n"))
+            printf("%zu %s\n", place, line);
+        free(it->text);
+    }
+    prt_tables_release(&tables);
+    fclose(feed);
+    return 0;
+}
