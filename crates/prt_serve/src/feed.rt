@@ -55,7 +55,13 @@ fn write_opening<W: Write>(writer: &mut W, alloc: Global, version: &Version) -> 
     let Ok(dump) = dump_text(alloc, version) else {
         return false;
     };
-    write_bytes(writer, &first) && write_bytes(writer, &dump) && write_bytes(writer, b"now\n")
+    if !write_bytes(writer, &first) {
+        return false;
+    }
+    if !write_bytes(writer, &dump) {
+        return false;
+    }
+    write_bytes(writer, b"now\n")
 }
 
 /// Makes the line of a command. `None` where no line can spell it, or where memory is refused.

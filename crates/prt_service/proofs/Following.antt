@@ -1,10 +1,14 @@
 -- What a follower learns.
-use Rattle.std.proofs.Common.{◌≡◌, ◌+◌, List, [], ◌∷◌, ◌++◌, ap, arith, length, length-append, refl, sym, ◌∙◌}
+use Rattle.std.proofs.Common.{◌≡◌, ℕ, ◌+◌, List, [], ◌∷◌, ◌++◌, ap, arith, length, length-append, refl, subst, sym, ◌∙◌}
 use mathlib.Core.List.{IsPrefix}
 use Rattle.prt_command.specs.declared.request.Command.{Command}
-use Rattle.prt_front.proofs.Prefixes.{begins_trans, begins_whole, shorter_begins}
-use Rattle.prt_front.specs.Line.{Begins, Line, grown}
+use Rattle.logbook.specs.Pages.{Book}
+use Rattle.prt_front.proofs.Numbers.{number_is}
+use Rattle.prt_front.proofs.Prefixes.{begins_self, begins_trans, begins_whole, shorter_begins}
+use Rattle.prt_front.specs.Line.{Begins, Line, grown, line_state}
 use Rattle.prt_service.specs.Service.{EndsWith}
+use Rattle.prt_version.specs.Accepted.{IsAccepted}
+use Rattle.prt_version.specs.State.{State}
 
 -- of two beginnings of one list the one that has one command more, and ends with this one, is the other and this command
 pub one_more : (known told whole : Line) (command : Command) → Begins known whole → Begins told whole → EndsWith told.list command → length told.list ≡ length known.list + 1 → told ≡ grown known command
@@ -20,3 +24,12 @@ one_more known told whole command p q ends long =
     let base : told.base ≡ known.base = sym q.1 ∙ p.1 in
     let list : told.list ≡ known.list ++ command ∷ [] = its ∙ ap (λ (list : List Command). list ++ command ∷ []) same in
     λ i. record { book = book i; base = base i; list = list i }
+
+-- what a follower knows, its reader knows, and it has the number of its last command
+abbrev pub IsKnownTo : Book → State → ℕ → Line → Line → Type 0
+IsKnownTo book base number told reader = (told.book ≡ book) × (told.base ≡ base) × Begins told reader × (number ≡ told.base.count + length told.list) × (number ≡ (line_state told).count)
+
+-- at first it knows all that its reader knows
+pub knows_all : (book : Book) (base : State) (number : ℕ) (told reader : Line) → told ≡ reader → (reader.book ≡ book) × (reader.base ≡ base) → IsAccepted reader.base reader.list → number ≡ (line_state reader).count → IsKnownTo book base number told reader
+knows_all book base number told reader is of accepted counted =
+    subst (λ (line : Line). IsKnownTo book base number line reader) (sym is) (of.0, of.1, begins_self reader, counted ∙ number_is reader accepted, counted)
