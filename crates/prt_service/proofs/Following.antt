@@ -1,5 +1,5 @@
 -- What a follower learns.
-use Rattle.std.proofs.Common.{◌≡◌, ℕ, ◌+◌, List, [], ◌∷◌, ◌++◌, ap, arith, length, length-append, refl, subst, sym, ◌∙◌}
+use Rattle.std.proofs.Common.{◌≡◌, ℕ, ◌+◌, ◌-◌, List, [], ◌∷◌, ◌++◌, ap, arith, length, length-append, refl, subst, sym, ◌∙◌}
 use mathlib.Core.List.{IsPrefix}
 use Rattle.prt_command.specs.declared.request.Command.{Command}
 use Rattle.logbook.specs.Pages.{Book}
@@ -24,6 +24,13 @@ one_more known told whole command p q ends long =
     let base : told.base ≡ known.base = sym q.1 ∙ p.1 in
     let list : told.list ≡ known.list ++ command ∷ [] = its ∙ ap (λ (list : List Command). list ++ command ∷ []) same in
     λ i. record { book = book i; base = base i; list = list i }
+
+-- A follower knows a beginning of what its reader knew, and the reader knows more now: also a list with the next number.
+pub learned : (known reader told whole : Line) (command : Command) (count number : ℕ) → Begins known reader → Begins reader whole → Begins told whole → EndsWith told.list command → told.base ≡ known.base → count ≡ known.base.count + length known.list → number ≡ told.base.count + length told.list → number - 1 ≡ count → told ≡ grown known command
+learned known reader told whole command count number mine more its ends base counted numbered next =
+    let long : length told.list ≡ length ends.0 + 1 = omega (arith, ap length ends.1, length-append ends.0 (command ∷ [])) in
+    let bases : told.base.count ≡ known.base.count = ap (λ (state : State). state.count) base in
+    one_more known told whole command (begins_trans known reader whole mine more) its ends (omega (arith, long, bases, counted, numbered, next))
 
 -- what a follower knows, its reader knows, and it has the number of its last command
 abbrev pub IsKnownTo : Book → State → ℕ → Line → Line → Type 0
