@@ -81,11 +81,11 @@ module _ (spelling : Command → List ℕ) where
       let list : known.list ≡ known0.list ++ commands = ap (λ (l : Line). l.list) told.grows in
       let base : known.base ≡ known0.base = ap (λ (l : Line). l.base) told.grows in
       let grows : grown known command ≡ grown_by known0 (commands ++ command ∷ []) =
-          ap (λ (l : Line). grown l command) told.grows ∙ ap (λ (l : List Command). record known0 { list = l }) (append_assoc known0.list commands (command ∷ [])) in
+      ap (λ (l : Line). grown l command) told.grows ∙ ap (λ (l : List Command). record known0 { list = l }) (append_assoc known0.list commands (command ∷ [])) in
       let number : last ≡ number_of known0 + length commands + 1 =
-          ap number_of grows ∙ omega (arith, length-append known0.list (commands ++ command ∷ []), length-append commands (command ∷ [])) in
+      ap number_of grows ∙ omega (arith, length-append known0.list (commands ++ command ∷ []), length-append commands (command ∷ [])) in
       let text : lines_text (change_lines spelling (number_of known0) (commands ++ command ∷ [])) ≡ lines_text (change_lines spelling (number_of known0) commands) ++ (change_line spelling last command ++ codes "\n") =
-          ap lines_text (changes_more (number_of known0) commands command last number) ∙ lines_more (change_lines spelling (number_of known0) commands) (change_line spelling last command) in
+      ap lines_text (changes_more (number_of known0) commands command last number) ∙ lines_more (change_lines spelling (number_of known0) commands) (change_line spelling last command) in
       record {
         commands = commands ++ command ∷ [];
         grows = grows;
