@@ -4,6 +4,7 @@ use prt_command::Command;
 use prt_spelling::{is_spelled, push_line};
 
 /// Gives the line of each command that a line can spell.
+#[derive(Clone, Copy)]
 pub struct CommandLines;
 
 impl Spelling for CommandLines {
