@@ -108,18 +108,16 @@ module _ (spelling : Command → List ℕ) where
 
   -- ---- a feed
 
-  pub feeds_whole : (opening known : Line) (state : State) (v whole : Bool) (a b c : Option (List ℕ)) → v ≡ true → state ≡ line_state opening → (line_state opening).count ≡ number_of opening → Written v a b (opening_text state) → Tells spelling opening known whole b c → Feeds spelling known whole a c
+  pub feeds_whole : (opening known : Line) (state : State) (v whole : Bool) (a b c : Option (List ℕ)) → v ≡ true → state ≡ line_state opening → (line_state opening).count ≡ number_of opening → Written v a b (opening_text state) → Tells spelling opening known whole b c → Feeds spelling opening known whole a c
   feeds_whole opening known state v whole a b c went is numbered wrote0 told = let wrote : Written true a b (opening_text (line_state opening)) = subst (λ (s : State). Written true a b (opening_text s)) is (subst (λ (u : Bool). Written u a b (opening_text state)) went wrote0) in record {
-    opening = opening;
     commands = told.commands;
     grows = told.grows;
     numbered = numbered;
     written = wrote_then whole a b c (opening_text (line_state opening)) _ wrote told.written;
   }
 
-  pub feeds_part : (opening : Line) (state : State) (v : Bool) (a b : Option (List ℕ)) → v ≡ false → state ≡ line_state opening → (line_state opening).count ≡ number_of opening → Written v a b (opening_text state) → Feeds spelling opening v a b
-  feeds_part opening state v a b cut is numbered wrote0 = let wrote : Written false a b (opening_text (line_state opening)) = subst (λ (s : State). Written false a b (opening_text s)) is (subst (λ (u : Bool). Written u a b (opening_text state)) cut wrote0) in subst (λ (u : Bool). Feeds spelling opening u a b) (sym cut) record {
-    opening = opening;
+  pub feeds_part : (opening : Line) (state : State) (v : Bool) (a b : Option (List ℕ)) → v ≡ false → state ≡ line_state opening → (line_state opening).count ≡ number_of opening → Written v a b (opening_text state) → Feeds spelling opening opening v a b
+  feeds_part opening state v a b cut is numbered wrote0 = let wrote : Written false a b (opening_text (line_state opening)) = subst (λ (s : State). Written false a b (opening_text s)) is (subst (λ (u : Bool). Written u a b (opening_text state)) cut wrote0) in subst (λ (u : Bool). Feeds spelling opening opening u a b) (sym cut) record {
     commands = [];
     grows = none_more opening;
     numbered = numbered;

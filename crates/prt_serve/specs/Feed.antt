@@ -33,8 +33,7 @@ module _ (spelling : Command → List ℕ) where
     pub written : Written whole writer0 writer (lines_text (change_lines (number_of known0) commands))
 
   -- The tables after a published list were written, and each command that was published after it and learned; where not all of it went well, a part of that.
-  pub record Feeds (known : Line) (whole : Bool) (writer0 writer : Option (List ℕ)) : Type 0 where
-    pub opening : Line
+  pub record Feeds (opening known : Line) (whole : Bool) (writer0 writer : Option (List ℕ)) : Type 0 where
     pub commands : List Command
     pub grows : known ≡ grown_by opening commands
     pub numbered : (line_state opening).count ≡ number_of opening

@@ -133,7 +133,7 @@ fn feed<H: Wait, J: Naming, P: Spelling, W: Write>(
     writer: &mut W,
 ) -> bool
     requires { arc_value version ≡ line_state follower.old }
-    ensures { Feeds P.line follower.new result (W.contents writer.old) (W.contents writer.new) }
+    ensures { Feeds P.line follower.old follower.new result (W.contents writer.old) (W.contents writer.new) }
 {
     let _number = follower.number();
     let is_written = write_opening(writer, alloc, &version);
@@ -159,7 +159,7 @@ pub fn serve_feed<H: Wait, S: Alter + Drop, B: Wait + Drop, J: Naming, P: Spelli
     spelling: &P,
     writer: &mut W,
 ) -> Result<bool, Refusal>
-    ensures fed { IfOk result (λ whole. (known : Line) × (known.book ≡ J.book) × (known.base ≡ J.base) × Feeds P.line known whole (W.contents writer.old) (W.contents writer.new)) }
+    ensures fed { IfOk result (λ whole. (opening known : Line) × (opening.book ≡ J.book) × (opening.base ≡ J.base) × Feeds P.line opening known whole (W.contents writer.old) (W.contents writer.new)) }
     ensures reason { IfErr result IsFollowRefusal }
     ensures nothing { OnErr result (writer.new ≡ writer.old) }
 {
