@@ -5,14 +5,16 @@ sent until then are the first changes, whole and in order. Beside 16 feeds there
 from serving import Client, Follower, Server, in_threads
 
 CLIENTS = 8
-CHANGES = 2500
+# As many as no socket's buffers have room for.
+CHANGES = 5000
+REST = "via 192.0.2.100 dev a12345678901234 table 1000000000 proto 200 scope 201 src 192.0.2.200 metric 1000000000"
 
 
 def change(server, place):
     """Makes changes."""
     client = Client(server)
     for turn in range(CHANGES):
-        client.ask(f"route replace 10.{place}.{turn % 256}.0/24 dev eth{turn % 10} table 1000000000")
+        client.ask(f"route replace 10.{place}.{turn % 256}.0/24 {REST}")
     client.close()
 
 
