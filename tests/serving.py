@@ -9,6 +9,7 @@ import socket
 import subprocess
 import sys
 import threading
+import time
 
 PROGRAM = sys.argv[1]
 DATABASE = "routes.db"
@@ -111,20 +112,37 @@ class Client:
 class Follower:
     """Reads a server's feed: at first `number` and `tables`, then one change after the other."""
 
-    def __init__(self, server, room=None):
-        """With room for so many bytes that came and weren't read, where that is said."""
+    def __init__(self, server, room=None, tries=40):
+        """With room for so many bytes that came and weren't read, where that is said.
+
+        A connection is closed for which no thread is free, as it may be right after the start: so it is tried some times.
+        """
+        while not (first := self.begin(server, room)) and (tries := tries - 1):
+            self.close()
+            time.sleep(0.1)
+        self.number = int(first.removeprefix("state "))
+        self.tables = []
+        while (line := self.lines.readline()) != "now\n":
+            if not line:
+                sys.exit(f"the feed ended after {len(self.tables)} lines of its tables")
+            self.tables.append(line)
+
+    def begin(self, server, room):
+        """Connects, and gives the first line; nothing where the connection is closed."""
         self.end = socket.socket()
         self.end.settimeout(PATIENCE)
         if room:
             self.end.setsockopt(socket.SOL_SOCKET, socket.SO_RCVBUF, room)
         self.end.connect(("127.0.0.1", server.feed_port))
         self.lines = self.end.makefile("r")
-        self.number = int(self.lines.readline().removeprefix("state "))
-        self.tables = []
-        while (line := self.lines.readline()) != "now\n":
-            if not line:
-                sys.exit(f"the feed ended after {len(self.tables)} lines of its tables")
-            self.tables.append(line)
+        try:
+            return self.lines.readline()
+        except ConnectionResetError:
+            return ""
+
+    def close(self):
+        self.lines.close()
+        self.end.close()
 
     def next(self):
         """The number and the line of the next change; None where the feed has ended."""

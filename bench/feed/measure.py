@@ -34,7 +34,7 @@ def follow_again(server):
     """Breaks off after 1,000 changes, and then follows to the end."""
     first = Follower(server)
     first.changes(1000)
-    first.end.close()
+    first.close()
     again = Follower(server)
     return script(again, again.changes())
 

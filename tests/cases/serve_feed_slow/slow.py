@@ -23,11 +23,11 @@ def main():
     slow, quick = Follower(server, room=2048), Follower(server)
     more = [Follower(server) for _ in range(14)]
     try:
-        print(Follower(server).number)
+        print(Follower(server, tries=1).number)
     except (OSError, ValueError):
         print("no further feed")
     for other in more:
-        other.end.close()
+        other.close()
     lines = in_threads(CLIENTS + 1, lambda place: change(server, place) if place < CLIENTS else quick.changes())[CLIENTS]
     print(len(lines))
     told = slow.changes()
