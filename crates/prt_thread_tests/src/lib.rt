@@ -7,10 +7,6 @@ mod caller;
 #[cfg(test)]
 mod connections;
 #[cfg(test)]
-mod feeds;
-#[cfg(test)]
-mod following;
-#[cfg(test)]
 mod front;
 #[cfg(test)]
 mod held_versions;
