@@ -4,7 +4,7 @@ _prt() {
   local word=${COMP_WORDS[COMP_CWORD]} before=${COMP_WORDS[COMP_CWORD - 1]} options=
   COMPREPLY=()
   if [ "$COMP_CWORD" -eq 1 ]; then
-    mapfile -t COMPREPLY < <(compgen -W 'batch check dump replay serve help --help --version' -- "$word")
+    mapfile -t COMPREPLY < <(compgen -W 'batch check diff dump explain get import replay serve show help --help --version' -- "$word")
     return
   fi
   case $before in
@@ -13,7 +13,7 @@ _prt() {
       mapfile -t COMPREPLY < <(compgen -f -- "$word")
       return
       ;;
-    --listen | --feed)
+    --listen | --feed | --server)
       mapfile -t COMPREPLY < <(compgen -W '127.0.0.1:7800' -- "$word")
       return
       ;;
@@ -22,16 +22,23 @@ _prt() {
   case ${COMP_WORDS[1]} in
     batch) options='--force --atomic --db --verbose --help' ;;
     check | replay) options=--help ;;
-    dump) options='--db --help' ;;
+    dump | explain | get | show) options='--db --server --json --help' ;;
+    diff) options='--db --server --check --help' ;;
+    import) options=--help ;;
     serve) options='--db --listen --feed --workers --sessions --idle --help' ;;
-    help) options='batch check dump replay serve' ;;
+    help) options='batch check diff dump explain get import replay serve show' ;;
   esac
-  if [[ $word == -* || ${COMP_WORDS[1]} == help || ${COMP_WORDS[1]} == serve || ${COMP_WORDS[1]} == dump ]]; then
-    mapfile -t COMPREPLY < <(compgen -W "$options" -- "$word")
-  else
-    compopt -o filenames
-    mapfile -t COMPREPLY < <(compgen -f -- "$word")
-  fi
+  case ${COMP_WORDS[1]} in
+    batch | check | diff | import | replay)
+      if [[ $word != -* ]]; then
+        compopt -o filenames
+        mapfile -t COMPREPLY < <(compgen -f -- "$word")
+        return
+      fi
+      ;;
+    show) options+=' route rule' ;;
+  esac
+  mapfile -t COMPREPLY < <(compgen -W "$options" -- "$word")
 }
 
 complete -F _prt prt

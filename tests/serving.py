@@ -9,7 +9,6 @@ import socket
 import subprocess
 import sys
 import threading
-import time
 
 PROGRAM = sys.argv[1]
 DATABASE = "routes.db"
@@ -112,14 +111,11 @@ class Client:
 class Follower:
     """Reads a server's feed: at first `number` and `tables`, then one change after the other."""
 
-    def __init__(self, server, room=None, tries=40):
-        """With room for so many bytes that came and weren't read, where that is said.
-
-        A connection is closed for which no thread is free, as it may be right after the start: so it is tried some times.
-        """
-        while not (first := self.begin(server, room)) and (tries := tries - 1):
-            self.close()
-            time.sleep(0.1)
+    def __init__(self, server, room=None):
+        """With room for so many bytes that came and weren't read, where that is said."""
+        first = self.begin(server, room)
+        if not first:
+            raise ConnectionError("the feed was closed before it began")
         self.number = int(first.removeprefix("state "))
         self.tables = []
         while (line := self.lines.readline()) != "now\n":

@@ -4,7 +4,7 @@ ghost use Rattle.prt_refusals.specs.declared.on_refusal.OnRefusal.{OnRefusal};
 ghost use Rattle.prt_listing.specs.QueryText.{lines_text};
 ghost use Rattle.prt_spelling.specs.Line.{command_line};
 ghost use Rattle.prt_dump.specs.Dump.{add_route, add_rule, gateways_last};
-ghost use Rattle.prt_dump.specs.PutBack.{IsPlainState, IsPutBack, IsWhyNot, dump_text, session_of};
+ghost use Rattle.prt_dump.specs.PutBack.{IsPlainState, IsPutBack, IsWhyNot, StateFits, dump_text, session_of};
 
 use crate::commands::{add_route, add_rule, first_rule};
 use crate::fits::{recall_routes, recall_rules};
@@ -71,7 +71,11 @@ fn text_of(alloc: Global, rules: &[Rule], routes: &[Route]) -> Result<Vec<u8>, A
 }
 
 /// Gives all routes of the version, in the order of listings.
-fn every_route(version: &Version) -> Result<Vec<Route>, AllocError>
+///
+/// # Errors
+///
+/// `AllocError` where memory is refused.
+pub fn every_route(version: &Version) -> Result<Vec<Route>, AllocError>
     ensures { IfOk result (λ routes. routes.items ≡ version.now.routes) }
 {
     let selector = Selector {
@@ -102,6 +106,7 @@ fn every_route(version: &Version) -> Result<Vec<Route>, AllocError>
 pub fn dump_text(alloc: Global, version: &Version) -> Result<Vec<u8>, NotDumped>
     ensures text { IfOk result (λ text. text.items ≡ dump_text version.now) }
     ensures plain { IfOk result (λ text. IsPlainState version.now) }
+    ensures fits { IfOk result (λ text. StateFits version.now) }
     ensures put_back { IfOk result (λ text. (mode : OnRefusal) → IsPutBack version.now (session_of mode text.items)) }
     ensures reason { IfErr result (λ reason. IsWhyNot version.now reason) }
 {

@@ -8,6 +8,6 @@ mod laws;
 mod plain;
 mod refusal;
 
-pub use dump::dump_text;
+pub use dump::{dump_text, every_route};
 pub use laws::{dump_is_put_back, dump_remakes};
 pub use refusal::NotDumped;

@@ -1,2 +1,3 @@
+pub mod Touched
 mod Runs
 mod Served

@@ -25,7 +25,7 @@ use Rattle.prt_words.specs.declared.fault.TheConstants.{DONE, FAULT}
 use Rattle.prt_words.specs.declared.serving.Serving.{Serving}
 use Rattle.prt_words.specs.declared.task.Mode.{Mode}
 use Rattle.prt_host.specs.Closing.{LeavesNoneOpen}
-use Rattle.prt_host.specs.Runs.{DumpIsFound, Dumps, FindsAgain, RunBegins, RunIsFound, RunsOverMachine, RunsPrt, Serves, ServiceIsFound}
+use Rattle.prt_host.specs.Runs.{AskedIsFound, Asks, FindsAgain, RunBegins, RunIsFound, RunsOverMachine, RunsPrt, Serves, ServiceIsFound}
 use Rattle.prt_host.specs.Serving.{IsNotServed, IsServed}
 
 -- ---- the same run, of the machine alone
@@ -114,9 +114,9 @@ module _ {M S : Type 0} (g : Ghosts S) (opens : M → M → List ℕ → Held S 
       } in
       subst (λ (m : M). Serves g opens refuses closes m new status) same ended
 
-  pub dumps : (writer_mid writer0 writer : Option (List ℕ)) → writer_mid ≡ writer0 → (status : ℕ) → Dumps g opens refuses closes mid new writer_mid writer status → Dumps g opens refuses closes old new writer0 writer status
-  dumps writer_mid writer0 writer unwritten status ended =
-      subst (λ (m : M). Dumps g opens refuses closes m new writer0 writer status) same (subst (λ (w : Option (List ℕ)). Dumps g opens refuses closes mid new w writer status) unwritten ended)
+  pub asks : (writer_mid writer0 writer : Option (List ℕ)) → writer_mid ≡ writer0 → (status : ℕ) → Asks g opens refuses closes mid new writer_mid writer status → Asks g opens refuses closes old new writer0 writer status
+  asks writer_mid writer0 writer unwritten status ended =
+      subst (λ (m : M). Asks g opens refuses closes m new writer0 writer status) same (subst (λ (w : Option (List ℕ)). Asks g opens refuses closes mid new w writer status) unwritten ended)
 
 -- ---- an opening after it
 
@@ -141,8 +141,8 @@ module _ {S : Type 0} (g : Ghosts S) where
       let known_then : IsKnown g end.last.ours_first end.last.tables = (end.named.2 ∙ known.0, subst (λ (t : Held S). HasCleanDisk (state g t)) (sym end.its) known.1) in
       found_stored end.last (end.quiet, end.stands) known_then opened (subst (λ (t : Held S). FindsAgain g t opened) (sym end.its) found)
 
-  pub dump_is_found : DumpIsFound g
-  dump_is_found first last stored opened made clean begins found = found_again last opened found stored ((made.adopts clean begins).1.durable (state g found.was).now.trees found.left.1)
+  pub asked_is_found : AskedIsFound g
+  asked_is_found first last stored opened made clean begins found = found_again last opened found stored ((made.adopts clean begins).1.durable (state g found.was).now.trees found.left.1)
 
 module _ {M S : Type 0} (g : Ghosts S) (opens : M → M → List ℕ → Held S → Type 0) (closes : M → M → Held S → Type 0) where
   pub run_begins : RunBegins g opens closes

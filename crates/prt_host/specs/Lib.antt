@@ -1,4 +1,4 @@
 pub mod Closing
-pub mod Dumping
+pub mod Asking
 pub mod Runs
 pub mod Serving

@@ -15,14 +15,15 @@ use Rattle.prt_store.specs.Exits.{IsKnown}
 use Rattle.prt_version.specs.Sound.{IsSound}
 use Rattle.prt_version.specs.State.{State}
 use Rattle.prt_words.specs.CommandLine.{IsServing}
-use Rattle.prt_words.specs.Invocation.{Invocation, dump, serve}
+use Rattle.prt_words.specs.Invocation.{Invocation, ask, serve}
 use Rattle.prt_words.specs.declared.fault.TheConstants.{DONE, FAULT}
+use Rattle.prt_words.specs.declared.asking.Asked.{Asked}
 use Rattle.prt_words.specs.declared.serving.Serving.{Serving}
 use Rattle.prt_words.specs.declared.task.Mode.{Mode}
 use Rattle.prt_host.specs.Closing.{LeavesNoneOpen}
-use Rattle.prt_host.specs.Dumping.{IsDumped, IsNotDumped}
+use Rattle.prt_host.specs.Asking.{IsDone, IsNotDone, IsTouched}
 use Rattle.prt_host.specs.Serving.{HasServed, IsServed}
-use Rattle.prt_host.specs.declared.dump.TheConstants.{NO_LINE}
+use Rattle.prt_host.specs.declared.asking.TheConstants.{REFUSED}
 
 -- A session was run over the database at a path of a machine, by a desk over the connection that was found there, and the connection was closed as the desk had it. Where its file is known, each state that an opening may make of what was left then is one that the session left stored.
 abbrev pub RunsOverMachine : {M S : Type 0} → Ghosts S → (M → M → List ℕ → Held S → Type 0) → (M → M → Held S → Type 0) → M → M → Word → SessionFact
@@ -38,19 +39,20 @@ module _ {M S : Type 0} (g : Ghosts S) (opens : M → M → List ℕ → Held S 
     pub done : status ≡ DONE → IsServed opens closes g old new serving.database.now
     pub why : status ≢ DONE → (status ≡ FAULT) × (((reason : Refusal) × LeavesNoneOpen opens refuses closes g reason old new serving.database.now) ⊎ IsServed opens closes g old new serving.database.now)
 
-  -- The database at a path was dumped, or in part, or it was refused. This is the exit status.
-  pub record Dumps (writer0 writer : Option (List ℕ)) (status : ℕ) : Type 0 where
-    pub path : List ℕ
-    pub status_is : (status ≡ DONE) ⊎ ((status ≡ NO_LINE) ⊎ (status ≡ FAULT))
-    pub whole : status ≡ DONE → IsDumped opens closes g old new path writer0 writer
-    pub part : status ≢ DONE → IsNotDumped opens refuses closes g old new path writer0 writer
+  -- A question was answered, or in part, or not. This is the exit status.
+  pub record Asks (writer0 writer : Option (List ℕ)) (status : ℕ) : Type 0 where
+    pub question : Asked
+    pub status_is : (status ≡ DONE) ⊎ ((status ≡ REFUSED) ⊎ (status ≡ FAULT))
+    pub whole : status ≡ DONE → IsDone g opens refuses closes old new writer0 writer question
+    pub part : status ≢ DONE → IsNotDone g opens refuses closes old new writer0 writer question
+    pub touched : IsTouched g opens refuses closes old new question
 
-  -- What becomes of a run, with its exit status. A script, a check or a replay was run, and no database was touched where none was asked for. Or nothing was run. Or sessions were served, or a database was dumped, as the words ask.
+  -- What becomes of a run, with its exit status. A script, a check or a replay was run, and no database was touched where none was asked for. Or nothing was run. Or sessions were served, or a question was answered, as the words ask.
   pub record RunsPrt {File : Type 0} (bytes : File → Option (List ℕ)) (asked : Invocation) (streams : Streams) (status : ℕ) : Type 0 where
     pub outcome :
         (Runs bytes (RunsOverMachine g opens closes old new) asked streams status × LeavesDatabases asked old new)
         ⊎ (RunsNothing (λ old new path reason. LeavesNoneOpen opens refuses closes g reason old new path) old new asked streams.output_before streams.output_after status
-        ⊎ (((asked ≡ serve) × Serves status) ⊎ ((asked ≡ dump) × Dumps streams.output_before streams.output_after status)))
+        ⊎ (((asked ≡ serve) × Serves status) ⊎ ((asked ≡ ask) × Asks streams.output_before streams.output_after status)))
 
 -- ---- an opening after it
 
@@ -79,6 +81,6 @@ RunIsFound {M} {S} g opens closes =
 abbrev pub ServiceIsFound : {S : Type 0} → Ghosts S → Type 0
 ServiceIsFound {S} g = (first last : Held S) (served : HasServed g first last) (opened : State) → IsKnown g served.begun.ours_first last → FindsAgain g last opened → MayBeStored g served.released.last opened
 
--- after a dump it makes the one that was dumped
-abbrev pub DumpIsFound : {S : Type 0} → Ghosts S → Type 0
-DumpIsFound {S} g = (first last : Held S) (stored opened : State) → HasOpened g first last stored → HasCleanDisk (state g last) → BeginsFormat2 (state g first).now.schema → FindsAgain g last opened → opened ≡ stored
+-- after a question it makes the one that was asked
+abbrev pub AskedIsFound : {S : Type 0} → Ghosts S → Type 0
+AskedIsFound {S} g = (first last : Held S) (stored opened : State) → HasOpened g first last stored → HasCleanDisk (state g last) → BeginsFormat2 (state g first).now.schema → FindsAgain g last opened → opened ≡ stored

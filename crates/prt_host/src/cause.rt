@@ -2,7 +2,7 @@
 ghost use Rattle.sqlite.specs.Held.{Held};
 ghost use Rattle.prt_host.specs.Closing.{IsOnlyRead};
 
-use crate::machine::Machine;
+use crate::machine::{Machine, Wanted};
 use prt_program::Refusal;
 use prt_reasons::{Reason, columns_reason, rows_reason};
 use sqlite::{Alter, Connection, Error as LibraryError};
@@ -36,12 +36,16 @@ fn reason_for_none<F: Files>(files: &F, path: &str) -> Option<io::Error> {
     }
 }
 
-/// Asks the system why a file can't be opened for reading and writing; None where it can be.
-fn system_reason<F: Files>(files: &F, path: &str) -> Option<io::Error> {
-    match OpenOptions::new().read(true).write(true).open(files, path) {
-        Ok(_) => None,
-        Err(error) if error.kind() == io::ErrorKind::NotFound => reason_for_none(files, path),
-        Err(error) => Some(error),
+/// Asks the system why a file can't be opened for reading and writing, and, where any is wanted, not be made; None where
+/// it can be.
+fn system_reason<F: Files>(files: &F, path: &str, wanted: Wanted) -> Option<io::Error> {
+    let error = match OpenOptions::new().read(true).write(true).open(files, path) {
+        Ok(_) => return None,
+        Err(error) => error,
+    };
+    match (wanted, error.kind()) {
+        (Wanted::Any, io::ErrorKind::NotFound) => reason_for_none(files, path),
+        _ => Some(error),
     }
 }
 
@@ -78,11 +82,12 @@ pub(crate) fn close_refused<S: Alter + Drop, M: Machine<Connection<S>>>(
 pub(crate) fn cause_of<F: Files>(
     files: &F,
     path: &str,
+    wanted: Wanted,
     refusal: Refusal,
     found: Result<Option<Reason>, LibraryError>,
 ) -> Option<Cause> {
     if let Refusal::OpenFailed = refusal {
-        if let Some(reason) = system_reason(files, path) {
+        if let Some(reason) = system_reason(files, path, wanted) {
             return Some(Cause::System(reason));
         }
     }

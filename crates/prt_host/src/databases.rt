@@ -2,7 +2,7 @@
 ghost use Rattle.std.specs.Prelude.{◌≡◌};
 
 use crate::cause::Cause;
-use crate::machine::Machine;
+use crate::machine::{Machine, Wanted};
 use crate::opening::open_desk;
 use prt_desk::StoreDesk;
 use prt_program::{Databases, Refusal};
@@ -81,7 +81,14 @@ impl<
         alloc: Global,
         path: &str,
     ) -> Result<StoreDesk<S, H>, (Refusal, Option<Cause>)> {
-        open_desk(&mut self.machine, self.files, self.rt, alloc, path)
+        open_desk(
+            &mut self.machine,
+            self.files,
+            self.rt,
+            alloc,
+            path,
+            Wanted::Any,
+        )
     }
 
     fn failure(&self, desk: &StoreDesk<S, H>) -> Option<Cause> {

@@ -4,13 +4,13 @@ ghost use Rattle.prt_program.specs.Program.{streams_of};
 ghost use Rattle.prt_words.specs.Invocation.{arguments, invocation};
 
 use crate::databases::DatabaseFiles;
-use crate::dump::dump;
 use crate::machine::Machine;
+use crate::questions::answer_question;
 use crate::server::serve;
 use crate::telling::tell_failure;
 use prt_program::{Next, Noting, program};
 use sqlite::{Alter, Connection};
-use std::alloc::Global;
+use std::alloc::{Alloc, Global};
 use std::fs::Files;
 use std::io::{IsTerminal, Read, Write};
 use std::net::Net;
@@ -18,7 +18,8 @@ use std::rt::Clock;
 use std::sync::Wait;
 use std::thread::Threads;
 
-/// Runs the program with these words over the databases of a machine, or serves, or dumps, and gives its exit status.
+/// Runs the program with these words over the databases of a machine, or serves, or answers a question, and gives its exit
+/// status.
 ///
 /// A script, a check or a replay is run as `program` says, and no database is touched where none is asked for. Over a
 /// database the run begins with what its opening made of the connection that was found. Each state that a later opening
@@ -28,7 +29,7 @@ use std::thread::Threads;
 pub fn run<
     S: Alter + Drop + Send,
     M: Machine<Connection<S>> + Drop,
-    F: Files + Clock,
+    F: Files + Alloc + Clone + Clock + Drop,
     N: Net + Threads + Wait + Clock + Copy + Drop + Send + Sync,
     R: Read,
     W: Write + IsTerminal,
@@ -54,8 +55,8 @@ where
     match next {
         Next::Exit(status) => status,
         Next::Serve(serving) => serve(databases, alloc, &serving, output, errors),
-        Next::Dump(path) => {
-            let status = dump(databases, alloc, path, output, &mut errors);
+        Next::Ask(asked) => {
+            let status = answer_question(databases, alloc, &asked, input, output, &mut errors);
             tell_failure(alloc, "standard output", output, &mut errors);
             status
         }

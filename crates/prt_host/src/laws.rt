@@ -1,12 +1,12 @@
 //! Laws of runs, which no program calls.
-ghost use Rattle.prt_host.specs.Runs.{DumpIsFound, RunBegins, RunIsFound, ServiceIsFound};
+ghost use Rattle.prt_host.specs.Runs.{AskedIsFound, RunBegins, RunIsFound, ServiceIsFound};
 
 use crate::machine::Machine;
 use sqlite::{Alter, Connection};
 
 /// A run begins with the state that its opening made (`begins`). An opening after a run makes a state that the session of
-/// that run left (`run`); after serving, one that the publisher may have stored at its end (`served`); after a dump, the
-/// one that was dumped (`dumped`).
+/// that run left (`run`); after serving, one that the publisher may have stored at its end (`served`); after a question,
+/// the one that was asked (`asked`).
 ///
 /// Premises: the later opening is handed what was left, as it was when it was given to its closing, or as a crash left it
 /// then (of files that are handed on `prt_desk::files_keep` says so). The disk returns what was written, and our tables
@@ -15,5 +15,5 @@ pub fn runs_go_on<S: Alter, M: Machine<Connection<S>>>()
     ensures begins { RunBegins S.Store M.opens M.closes }
     ensures run { RunIsFound S.Store M.opens M.closes }
     ensures served { ServiceIsFound S.Store }
-    ensures dumped { DumpIsFound S.Store }
+    ensures asked { AskedIsFound S.Store }
 {}

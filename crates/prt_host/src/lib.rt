@@ -1,13 +1,15 @@
-//! The program over any machine: its databases, its dumps and its server.
+//! The program over any machine: its databases, questions to them, and its server.
 #![tactic(auto)]
 
+mod asking;
 mod cause;
 mod databases;
-mod dump;
 mod entry;
+mod importing;
 mod laws;
 mod machine;
 mod opening;
+mod questions;
 mod server;
 mod serving;
 mod telling;
@@ -15,4 +17,4 @@ mod telling;
 pub use databases::DatabaseFiles;
 pub use entry::run;
 pub use laws::runs_go_on;
-pub use machine::Machine;
+pub use machine::{Machine, Wanted};

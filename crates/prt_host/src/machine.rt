@@ -3,6 +3,15 @@ ghost use Rattle.std.specs.Prelude.{IfOk, OnErr};
 
 use sqlite::Error;
 
+/// Which files an opening takes.
+#[derive(Clone, Copy)]
+pub enum Wanted {
+    /// Any; one is made where there is none.
+    Any,
+    /// One that is there, and has a table of ours.
+    Ours,
+}
+
 /// Opens and closes the database files of a machine. An open one is a connection `C`.
 pub trait Machine<C> {
     ghost use Rattle.std.specs.Prelude.{List, ℕ};
@@ -16,12 +25,13 @@ pub trait Machine<C> {
     /// What the closing of this connection makes of it.
     ghost closes: { Self → Self → C → Type 0 };
 
-    /// Opens the database file at a path, and makes it where there is none.
+    /// Opens the database file at a path, where it is one that is wanted.
     ///
     /// # Errors
     ///
-    /// The library's. No database is open then.
-    fn open(&mut self, path: &str) -> Result<C, Error>
+    /// The library's; `CannotOpen` where there is none, and `NotADatabase` where it has no table of ours, if such a one is
+    /// wanted. No database is open then, and none was made.
+    fn open(&mut self, path: &str, wanted: Wanted) -> Result<C, Error>
         ensures opened { IfOk result (λ conn. opens self.old self.new path.now conn) }
         ensures unopened { OnErr result (refuses self.old self.new path.now) };
 

@@ -10,7 +10,7 @@ ghost use Rattle.prt_session.specs.Open.{IsOpenOn};
 ghost use Rattle.prt_version.specs.Sound.{IsSound};
 
 use crate::cause::{Cause, cause_of, close_refused};
-use crate::machine::Machine;
+use crate::machine::{Machine, Wanted};
 use prt_desk::StoreDesk;
 use prt_grace::Domain;
 use prt_program::Refusal;
@@ -20,7 +20,7 @@ use std::alloc::Global;
 use std::fs::Files;
 use std::sync::Wait;
 
-/// Opens a publisher over the database at a path of the machine.
+/// Opens a publisher over the database at a path of the machine, where it is one that is wanted.
 ///
 /// # Errors
 ///
@@ -32,6 +32,7 @@ pub(crate) fn open_publisher<S: Alter + Drop, M: Machine<Connection<S>>, F: File
     rt: H,
     alloc: Global,
     path: &str,
+    wanted: Wanted,
 ) -> Result<(Publisher<S, H>, Domain), (Refusal, Option<Cause>)>
     ensures ready { IfOk result (λ made. made.0.phase ≡ Phase.Ready) }
     ensures quiet { IfOk result (λ made. IsQuiet made.0.phase) }
@@ -40,17 +41,19 @@ pub(crate) fn open_publisher<S: Alter + Drop, M: Machine<Connection<S>>, F: File
     ensures reason { IfErr result (λ refused. IsOpenRefusal refused.0) }
     ensures closed { IfErr result (λ refused. LeavesNoneOpen M.opens M.refuses M.closes S.Store refused.0 machine.old machine.new path.now) }
 {
-    match publisher_over(rt, alloc, machine.open(path)) {
+    match publisher_over(rt, alloc, machine.open(path, wanted)) {
         Ok(made) => Ok(made),
         Err((refusal, Ok(conn))) => {
             let reason = close_refused(machine, conn, refusal);
-            Err((refusal, cause_of(files, path, refusal, Ok(reason))))
+            Err((refusal, cause_of(files, path, wanted, refusal, Ok(reason))))
         }
-        Err((refusal, Err(error))) => { Err((refusal, cause_of(files, path, refusal, Err(error)))) }
+        Err((refusal, Err(error))) => {
+            Err((refusal, cause_of(files, path, wanted, refusal, Err(error))))
+        }
     }
 }
 
-/// Opens a desk over the database at a path of the machine.
+/// Opens a desk over the database at a path of the machine, where it is one that is wanted.
 ///
 /// # Errors
 ///
@@ -66,13 +69,14 @@ pub(crate) fn open_desk<
     rt: H,
     alloc: Global,
     path: &str,
+    wanted: Wanted,
 ) -> Result<StoreDesk<S, H>, (Refusal, Option<Cause>)>
     ensures stands { IfOk result (λ desk. IsSound (published desk) × IsOpenOn (StandsFor S.Store) desk (published desk)) }
     ensures opened { IfOk result (OpensOne S.Store (M.opens machine.old machine.new path.now)) }
     ensures reason { IfErr result (λ refused. IsOpenRefusal refused.0) }
     ensures closed { IfErr result (λ refused. LeavesNoneOpen M.opens M.refuses M.closes S.Store refused.0 machine.old machine.new path.now) }
 {
-    match open_publisher(machine, files, rt, alloc, path) {
+    match open_publisher(machine, files, rt, alloc, path, wanted) {
         Ok((publisher, domain)) => Ok(StoreDesk::new(rt, publisher, domain)),
         Err(refused) => Err(refused),
     }

@@ -6,7 +6,7 @@ ghost use Rattle.prt_publisher.specs.Standing.{IsQuiet};
 ghost use Rattle.prt_service.specs.Named.{IsReleased};
 
 use crate::databases::DatabaseFiles;
-use crate::machine::Machine;
+use crate::machine::{Machine, Wanted};
 use crate::opening::open_publisher;
 use crate::serving::{NotListened, fault_of, listen, serve_named};
 use crate::telling::tell_shared;
@@ -122,7 +122,14 @@ where
     ensures err { IfErr result (λ failure. IsNotServed M.opens M.refuses M.closes S.Store databases.old.machine databases.new.machine asked.now.database.now failure.fault) }
 {
     let (rt, path) = (databases.rt, asked.database);
-    let opened = open_publisher(&mut databases.machine, databases.files, rt, alloc, path);
+    let opened = open_publisher(
+        &mut databases.machine,
+        databases.files,
+        rt,
+        alloc,
+        path,
+        Wanted::Any,
+    );
     let (publisher, domain) = match opened {
         Ok(made) => made,
         Err((refusal, cause)) => {

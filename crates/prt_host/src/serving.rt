@@ -7,7 +7,7 @@ ghost use Rattle.prt_service.specs.Named.{IsNamed, IsReleased};
 use crate::telling::Telling;
 use prt_grace::Domain;
 use prt_publisher::Publisher;
-use prt_serve::{Accepting, CommandLines, Limits, ServeEnd, serve_all, serve_and_feed};
+use prt_serve::{Accepting, Limits, ServeEnd, serve_all, serve_and_feed};
 use prt_service::{Naming, Service};
 use prt_words::{Fault, Serving};
 use sqlite::{Alter, Connection};
@@ -127,12 +127,7 @@ pub(crate) fn serve_named<
     };
     let (sessions, limits) = (&listeners.sessions, limits_of(asked));
     let end = match &listeners.feed {
-        Some(feed) => {
-            let lines = CommandLines;
-            serve_and_feed(
-                rt, alloc, &service, &telling, sessions, limits, feed, &lines,
-            )
-        }
+        Some(feed) => serve_and_feed(rt, alloc, &service, &telling, sessions, limits, feed),
         None => serve_all(rt, alloc, &service, &telling, sessions, limits),
     };
     (end, service.release())

@@ -43,6 +43,10 @@ complaint reason word text = blame reason word ++ codes ": " ++ map shown text
 abbrev pub refused_message : List ℕ → ℕ → Refusal → Option Word → List ℕ → List ℕ
 refused_message file line reason word text = location file line ++ codes ": " ++ complaint reason word text ++ codes "\n"
 
+-- of a refused line that stands in no script
+abbrev pub question_message : Refusal → List ℕ → List ℕ
+question_message reason text = codes "prt: " ++ complaint reason (told_word reason text) text ++ codes "\n"
+
 -- a number of lines
 abbrev pub lines_text : ℕ → List ℕ
 lines_text count = decimal count ++ (if count == 1 then codes " line" else codes " lines")

@@ -15,7 +15,7 @@ use Rattle.prt_session.specs.Run.{RunIs}
 use Rattle.prt_session.specs.Stands.{StandsForSome}
 use Rattle.prt_version.specs.State.{State, opening_state}
 use Rattle.prt_program.specs.declared.next.Next.{Next}
-use Rattle.prt_program.specs.declared.next.Next.TheVariants.{Dump, Exit, Serve}
+use Rattle.prt_program.specs.declared.next.Next.TheVariants.{Ask, Exit, Serve}
 use Rattle.prt_replies.specs.declared.script_end.ScriptEnd.{ScriptEnd}
 use Rattle.prt_words.specs.declared.serving.Serving.{Serving}
 use Rattle.prt_words.specs.declared.task.Mode.{Mode}
@@ -131,16 +131,16 @@ LeavesDatabases asked old new = database_of asked ≡ None → new ≡ old
 abbrev pub IfExit : (ℕ → Type 0) → Next → Type 0
 IfExit holds (Exit status) = holds status
 IfExit holds (Serve serving) = Unit {0}
-IfExit holds (Dump path) = Unit {0}
+IfExit holds (Ask asked) = Unit {0}
 
 -- of the sessions that are to be served, where they are asked for
 abbrev pub IfServe : (Serving → Type 0) → Next → Type 0
 IfServe holds (Exit status) = Unit {0}
 IfServe holds (Serve serving) = holds serving
-IfServe holds (Dump path) = Unit {0}
+IfServe holds (Ask asked) = Unit {0}
 
--- where a dump is asked for
-abbrev pub IfDump : Type 0 → Next → Type 0
-IfDump holds (Exit status) = Unit {0}
-IfDump holds (Serve serving) = Unit {0}
-IfDump holds (Dump path) = holds
+-- where a question is asked
+abbrev pub IfAsk : Type 0 → Next → Type 0
+IfAsk holds (Exit status) = Unit {0}
+IfAsk holds (Serve serving) = Unit {0}
+IfAsk holds (Ask asked) = holds

@@ -9,7 +9,7 @@ mod noting;
 mod prt;
 
 pub use databases::Databases;
-pub use messages::{cause_message, log_message};
+pub use messages::{cause_message, log_message, question_message};
 pub use next::Next;
 pub use noting::Noting;
 pub use prt::program;

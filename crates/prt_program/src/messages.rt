@@ -1,7 +1,7 @@
 //! What is told on standard error while a script is run.
 ghost use Rattle.std.specs.Prelude.{◌≡◌, ◌≢◌, ◌<◌, ◌∷◌, IfOk, IfSome, List, Some, codes, map, option_map, string_bytes, ℕ};
 ghost use Rattle.prt_command.specs.Reading.{words};
-ghost use Rattle.prt_program.specs.Messages.{blame, complaint, failed_call, lines_text, location, progress_message, quoted, refused_message, shown, told_word, total_message};
+ghost use Rattle.prt_program.specs.Messages.{blame, complaint, failed_call, lines_text, location, progress_message, question_message, quoted, refused_message, shown, told_word, total_message};
 ghost use Rattle.prt_words.specs.Faults.{fault_status};
 
 use crate::noting::Noting;
@@ -140,6 +140,18 @@ fn refused_message(
     let location = location(alloc, file, line)?;
     let complaint = complaint(alloc, refusal, word, text)?;
     format!(in alloc; "{location}: {complaint}\n")
+}
+
+/// Makes the message of why a line that stands in no script is refused.
+///
+/// # Errors
+///
+/// `AllocError`, where memory is refused.
+pub fn question_message(alloc: Global, refusal: Refusal, text: &[u8]) -> Result<String, AllocError>
+    ensures { IfOk result (λ message. string_bytes message ≡ question_message refusal text.now) }
+{
+    let complaint = complaint(alloc, refusal, told_word(refusal, text), text)?;
+    format!(in alloc; "prt: {complaint}\n")
 }
 
 /// Makes the text of a number of lines.

@@ -1,6 +1,6 @@
 //! What is left to do after the program.
 
-use prt_words::Serving;
+use prt_words::{Asked, Serving};
 
 /// What is left to do after the program.
 #[derive(Drop)]
@@ -9,6 +9,6 @@ pub enum Next<'a> {
     Exit(u8),
     /// To serve these sessions. Nothing was opened, read or written yet.
     Serve(Serving<'a>),
-    /// To print commands that make the database at this path anew. Nothing was opened, read or written yet.
-    Dump(&'a str),
+    /// To answer this question. Nothing was opened, read or written yet.
+    Ask(Asked<'a>),
 }

@@ -5,12 +5,12 @@ ghost use Rattle.prt_refusals.specs.Opening.{IsOpenRefusal};
 ghost use Rattle.prt_refusals.specs.declared.refusal.Refusal.{Refusal};
 ghost use Rattle.prt_refusals.specs.declared.refusal.Refusal.TheVariants.{NoMemory, ReadFault};
 ghost use Rattle.prt_program.specs.Faults.{IsDatabaseFault, IsFault, IsOpening, IsScriptFault, database_of};
-ghost use Rattle.prt_program.specs.Program.{IfDump, IfExit, IfServe, IsUntouched, LeavesDatabases, LeavesInput, LeavesInputFor, Runs, RunsAt, RunsBatch, RunsCheck, RunsNothing, RunsOn, RunsOver, RunsReplay, SessionIs, exit_status, streams_of};
+ghost use Rattle.prt_program.specs.Program.{IfAsk, IfExit, IfServe, IsUntouched, LeavesDatabases, LeavesInput, LeavesInputFor, Runs, RunsAt, RunsBatch, RunsCheck, RunsNothing, RunsOn, RunsOver, RunsReplay, SessionIs, exit_status, streams_of};
 ghost use Rattle.prt_session.specs.Open.{IsOpenOn};
 ghost use Rattle.prt_session.specs.Stands.{Explained, StandsForSome};
 ghost use Rattle.prt_version.specs.State.{State};
 ghost use Rattle.prt_words.specs.CommandLine.{IsServing};
-ghost use Rattle.prt_words.specs.Invocation.{arguments, dump, invocation, serve};
+ghost use Rattle.prt_words.specs.Invocation.{arguments, ask, invocation, serve};
 ghost use Rattle.prt_words.specs.declared.fault.Fault.TheVariants.{Opening};
 
 use crate::databases::Databases;
@@ -287,7 +287,7 @@ fn replay_of<'a, H: Host, R: Read>(
     }
 }
 
-/// Runs what the words ask for, and gives the exit status of the run. Sessions that are to be served, and a dump, are
+/// Runs what the words ask for, and gives the exit status of the run. Sessions that are to be served, and a question, are
 /// handed back.
 fn run_words<'a, H: Host, R: Read>(
     around: &mut Surroundings<'_, '_, H>,
@@ -298,7 +298,7 @@ fn run_words<'a, H: Host, R: Read>(
     ensures run { IfOk result (IfExit (Runs H.Files.File.remaining (RunsAt H.Databases.holds H.Databases.opens H.Databases.closed H.Databases.leaves H.Databases.Opened.stands H.Databases.Opened.keeps H.Databases.Opened.may around.old.databases.now around.new.databases.now)
         (invocation (arguments words.now)) (streams_of (R.remaining input.old) (H.Output.contents around.old.output.now) (H.Output.contents around.new.output.now)))) }
     ensures serve { IfOk result (IfServe (λ serving. (invocation (arguments words.now) ≡ serve) × IsServing serving × (H.Output.contents around.new.output.now ≡ H.Output.contents around.old.output.now))) }
-    ensures dump { IfOk result (IfDump ((invocation (arguments words.now) ≡ dump) × (H.Output.contents around.new.output.now ≡ H.Output.contents around.old.output.now))) }
+    ensures ask { IfOk result (IfAsk ((invocation (arguments words.now) ≡ ask) × (H.Output.contents around.new.output.now ≡ H.Output.contents around.old.output.now))) }
     ensures unread { LeavesInput (invocation (arguments words.now)) (R.remaining input.old) (R.remaining input.new) }
     ensures fault { IfErr result (IsFault (invocation (arguments words.now))) }
     ensures unopened { LeavesDatabases (invocation (arguments words.now)) around.old.databases.now around.new.databases.now }
@@ -321,7 +321,7 @@ fn run_words<'a, H: Host, R: Read>(
             Ok(Next::Exit(status))
         }
         Task::Serve(serving) => Ok(Next::Serve(serving)),
-        Task::Dump(path) => Ok(Next::Dump(path)),
+        Task::Ask(asked) => Ok(Next::Ask(asked)),
     }
 }
 
@@ -330,8 +330,8 @@ fn run_words<'a, H: Host, R: Read>(
 /// `batch [--force | --atomic] [--db PATH] [--verbose] [FILE]` runs a script over the database at PATH or a new one in
 /// memory; with `--atomic` all its changes are made together or none.
 /// `check [FILE]` says which of its lines would be refused as they stand, and `replay [FILE]` replays a list of events.
-/// Where a FILE is named, `input` is not read. Of `serve` and `dump` the words are read and handed back; nothing is
-/// written then, and no database touched.
+/// Where a FILE is named, `input` is not read. Of `serve` and of a question (such as `get`) the words
+/// are read and handed back; nothing is written then, and no database touched.
 ///
 /// Without `--db` no database is opened. With it the one at PATH is opened, closed as the session left it, and nothing
 /// else is done to any database. Each state that a later opening may find there is one that the session, which began with
@@ -359,7 +359,7 @@ pub fn program<
         (invocation (arguments words.now)) (streams_of (R.remaining input.old) (W.contents output.old) (W.contents output.new)) status
         ⊎ RunsNothing D.refuses databases.old databases.new (invocation (arguments words.now)) (W.contents output.old) (W.contents output.new) status) result }
     ensures serve { IfServe (λ serving. (invocation (arguments words.now) ≡ serve) × IsServing serving × (W.contents output.new ≡ W.contents output.old)) result }
-    ensures dump { IfDump ((invocation (arguments words.now) ≡ dump) × (W.contents output.new ≡ W.contents output.old)) result }
+    ensures ask { IfAsk ((invocation (arguments words.now) ≡ ask) × (W.contents output.new ≡ W.contents output.old)) result }
     ensures unread { LeavesInput (invocation (arguments words.now)) (R.remaining input.old) (R.remaining input.new) }
     ensures unopened { LeavesDatabases (invocation (arguments words.now)) databases.old databases.new }
 {

@@ -1,6 +1,6 @@
 //! The loop that accepts connections of a feed, and the threads that feed them.
 
-use crate::feed::{Spelling, serve_feed};
+use crate::feed::serve_feed;
 use crate::gate::Gate;
 use crate::listen::{Limits, ServeEnd, serve_all};
 use crossbeam_channel::{Receiver, Sender};
@@ -23,6 +23,9 @@ const PATIENCE: u64 = 10;
 /// How many milliseconds the loop pauses where no connection waits.
 const PAUSE: u64 = 50;
 
+/// How many milliseconds a connection waits for a feeder that is free, as one is soon after the start.
+const FOR_FEEDER: u64 = 1000;
+
 /// Readies a connection for what is written to it, and tells whether it did.
 fn make_ready<T: OpenStream>(stream: &T) -> bool {
     // Sends all the same where this is refused: a change then may come late.
@@ -34,23 +37,21 @@ fn make_ready<T: OpenStream>(stream: &T) -> bool {
 }
 
 /// Feeds one connection after another, until no more come. A fault ends its own feed alone, and closes its connection.
-fn feed_streams<
-    H: Wait,
-    S: Alter + Drop,
-    B: Wait + Drop,
-    J: Naming,
-    P: Spelling,
-    T: Write + OpenStream + Drop,
->(rt: &H, alloc: Global, service: &Service<S, B, J>, spelling: &P, streams: &Receiver<T>) {
+fn feed_streams<H: Wait, S: Alter + Drop, B: Wait + Drop, J: Naming, T: Write + OpenStream + Drop>(
+    rt: &H,
+    alloc: Global,
+    service: &Service<S, B, J>,
+    streams: &Receiver<T>,
+) {
     for mut stream in streams.iter(rt) {
         if make_ready(&stream) {
-            let _fed = serve_feed(rt, alloc, service, spelling, &mut stream).is_ok();
+            let _fed = serve_feed(rt, alloc, service, &mut stream).is_ok();
         }
     }
 }
 
-/// Accepts connections, and hands each to a feeder that is free, until it is told to end. One for which no feeder is free
-/// is closed. Closes the channel behind it.
+/// Accepts connections, and hands each to a feeder that is free or soon is, until it is told to end. One for which no feeder
+/// is free is closed. Closes the channel behind it.
 fn accept_feeds<H: Wait + Clock, T: Drop, L: OpenListener<Stream = T>>(
     rt: &H,
     listener: &L,
@@ -61,12 +62,13 @@ fn accept_feeds<H: Wait + Clock, T: Drop, L: OpenListener<Stream = T>>(
     if listener.set_nonblocking(true).is_err() {
         return;
     }
+    let patience = Duration::from_millis(FOR_FEEDER);
     for _ in rt.forever() {
         if is_ended.load(Ordering::SeqCst) {
             return;
         }
         match listener.accept() {
-            Ok((stream, _)) => drop(streams.try_send(rt, stream)),
+            Ok((stream, _)) => drop(streams.send_timeout(rt, stream, patience)),
             Err(_) => thread::sleep(rt, Duration::from_millis(PAUSE)),
         }
     }
@@ -78,17 +80,9 @@ fn feed_all<
     S: Alter + Drop + Send,
     B: Wait + Drop + Send,
     J: Naming + Send,
-    P: Spelling + Sync,
     T: Write + OpenStream + Drop + Send,
     L: OpenListener<Stream = T> + Sync,
->(
-    rt: &H,
-    alloc: Global,
-    service: &Service<S, B, J>,
-    spelling: &P,
-    listener: &L,
-    is_ended: &AtomicBool,
-) {
+>(rt: &H, alloc: Global, service: &Service<S, B, J>, listener: &L, is_ended: &AtomicBool) {
     let Ok((sender, streams)) = crossbeam_channel::bounded(alloc, 0) else {
         return;
     };
@@ -96,7 +90,7 @@ fn feed_all<
         rt,
         move || accept_feeds(rt, listener, sender, is_ended),
         || {
-            let feeder = |_| feed_streams(rt, alloc, service, spelling, &streams);
+            let feeder = |_| feed_streams(rt, alloc, service, &streams);
             let _all = thread::map_indices(rt, alloc, FEEDERS, &feeder).is_ok();
         },
     );
@@ -110,7 +104,6 @@ pub fn serve_and_feed<
     B: Wait + Drop + Send,
     J: Naming + Send,
     G: Gate + Sync,
-    P: Spelling + Sync,
     T: Read + Write + OpenStream + Drop + Send,
     L: OpenListener<Stream = T> + Sync,
 >(
@@ -121,12 +114,11 @@ pub fn serve_and_feed<
     listener: &L,
     limits: Limits,
     feed_listener: &L,
-    spelling: &P,
 ) -> ServeEnd {
     let is_ended = AtomicBool::new(false);
     let (_, end) = thread::join(
         rt,
-        || feed_all(rt, alloc, service, spelling, feed_listener, &is_ended),
+        || feed_all(rt, alloc, service, feed_listener, &is_ended),
         || {
             let end = serve_all(rt, alloc, service, gate, listener, limits);
             is_ended.store(true, Ordering::SeqCst);

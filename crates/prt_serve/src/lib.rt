@@ -1,7 +1,6 @@
 //! Sessions over a service that others share, and the workers that serve them.
 #![tactic(auto)]
 
-mod command_lines;
 mod connection;
 mod feed;
 mod feeding;
@@ -11,9 +10,8 @@ mod listen;
 mod session;
 mod worker;
 
-pub use command_lines::CommandLines;
 pub use connection::{Lines, Replies};
-pub use feed::{Spelling, serve_feed};
+pub use feed::serve_feed;
 pub use feeding::serve_and_feed;
 pub use gate::{Gate, OpenGate};
 pub use listen::{Accepting, Connected, Limits, ServeEnd, accept, serve_all};

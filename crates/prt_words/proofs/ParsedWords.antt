@@ -1,5 +1,5 @@
 -- The words of the program, as clap reads them and as the definition of an invocation does.
-use Rattle.std.proofs.Common.{◌≡◌, ◌∙◌, ℕ, Bool, true, false, refl, sym, ap, ap₂, inl, subst, List, [], ◌∷◌, ◌++◌, Option, Some, None, is_some, codes, drop, append_assoc, append-nil, eqb-true, ne_eqb}
+use Rattle.std.proofs.Common.{◌≡◌, ◌∙◌, ◌||◌, ℕ, Bool, true, false, true≢false, refl, sym, ap, ap₂, inl, subst, List, [], ◌∷◌, ◌++◌, Option, Some, None, is_some, codes, drop, append_assoc, append-nil, eqb-true, ne_eqb}
 use Rattle.std.proofs.lemmas.Bool.{eq-eqb, eqb-false}
 use Rattle.std.specs.Prelude.{◌==◌, slice_get}
 use Rattle.std.specs.List.{fold, after_first}
@@ -12,8 +12,8 @@ use Rattle.clap.specs.Simple.{Shape, built, entered, names_of, subcommand_of}
 use Rattle.clap.specs.Walk.{Names, Row, Text, Walk, walked, bundle_met, walk_from, nothing_held, settled, finished, rows_after}
 use Rattle.clap.specs.declared.error.kind.ErrorKind.TheVariants as kind
 use Rattle.prt_addr.specs.Word.{Word}
-use Rattle.prt_words.specs.CommandLine.{command_line, subcommand_name}
-use Rattle.prt_words.specs.Invocation.{Invocation, Subcommand, Batch, Check, Replay, anywhere, asked_by, invocation, help, nothing_given, usage_error, is_help, is_version, version}
+use Rattle.prt_words.specs.CommandLine.{asks_question, command_line, subcommand_name}
+use Rattle.prt_words.specs.Invocation.{Invocation, Subcommand, Batch, Check, Replay, anywhere, ask, asked_by, invocation, help, nothing_given, usage_error, is_help, is_question, is_version, version}
 use Rattle.prt_words.proofs.WordClasses.{IsMistake, rules_of, shape_of, same_bytes, long_name, long_of_is, before_none, no_value_in, no_name_of, differs, flipped}
 use Rattle.prt_words.proofs.CommandWords.{subcommand_reads}
 use Rattle.prt_words.proofs.Walks.{Agrees, name_of}
@@ -42,7 +42,12 @@ record IsOther (word : Text) : Type 0 where
   no_check : bytes_eq (codes "check") word ≡ false
   no_replay : bytes_eq (codes "replay") word ≡ false
   no_serve : bytes_eq (codes "serve") word ≡ false
+  no_get : bytes_eq (codes "get") word ≡ false
+  no_show : bytes_eq (codes "show") word ≡ false
+  no_explain : bytes_eq (codes "explain") word ≡ false
   no_dump : bytes_eq (codes "dump") word ≡ false
+  no_diff : bytes_eq (codes "diff") word ≡ false
+  no_import : bytes_eq (codes "import") word ≡ false
   no_help : bytes_eq (codes "help") word ≡ false
 
 first_empty : First []
@@ -55,7 +60,7 @@ first_hyphen = mistake refl refl refl
 
 first_plain : (byte : ℕ) (rest : Text) → (byte == 45) ≡ false → IsOther (byte ∷ rest) → First (byte ∷ rest)
 unfolding clap_on_literals
-first_plain byte rest plain other = mistake (rw plain refl) (rw plain refl) (rw (other.no_batch, other.no_check, other.no_replay, other.no_serve, other.no_dump, other.no_help, plain, plain) refl)
+first_plain byte rest plain other = mistake (rw plain refl) (rw plain refl) (rw (other.no_batch, other.no_check, other.no_replay, other.no_serve, other.no_get, other.no_show, other.no_explain, other.no_dump, other.no_diff, other.no_import, other.no_help, plain, plain) refl)
 
 first_short : (byte : ℕ) (rest : Text) (letter : Option ℕ) → (byte == 45) ≡ false → slice_get (chars (byte ∷ rest)) 0 ≡ letter → First (45 ∷ byte ∷ rest)
 unfolding walked bundle_met flags_fault
@@ -77,16 +82,16 @@ first_long_other byte rest no_help no_version turn =
 
 no_long : (word name : Text) (value : Option Text) → bytes_eq word (codes "--") ≡ false → IsOther word
     → long_of word ≡ Some (name, value) → bytes_eq (codes "help") name ≡ false → bytes_eq (codes "version") name ≡ false → IsMistake (first_turn word)
-no_long word name value plain other long no_help no_version = rw (other.no_batch, other.no_check, other.no_replay, other.no_serve, other.no_dump, other.no_help, plain, long, no_help, no_version) refl
+no_long word name value plain other long no_help no_version = rw (other.no_batch, other.no_check, other.no_replay, other.no_serve, other.no_get, other.no_show, other.no_explain, other.no_dump, other.no_diff, other.no_import, other.no_help, plain, long, no_help, no_version) refl
 
 help_valued : (word value : Text) → bytes_eq word (codes "--") ≡ false → IsOther word → long_of word ≡ Some (codes "help", Some value) → IsMistake (first_turn word)
-help_valued word value plain other long = rw (other.no_batch, other.no_check, other.no_replay, other.no_serve, other.no_dump, other.no_help, plain, long) refl
+help_valued word value plain other long = rw (other.no_batch, other.no_check, other.no_replay, other.no_serve, other.no_get, other.no_show, other.no_explain, other.no_dump, other.no_diff, other.no_import, other.no_help, plain, long) refl
 
 version_valued : (word value : Text) → bytes_eq word (codes "--") ≡ false → IsOther word → long_of word ≡ Some (codes "version", Some value) → IsMistake (first_turn word)
-version_valued word value plain other long = rw (other.no_batch, other.no_check, other.no_replay, other.no_serve, other.no_dump, other.no_help, plain, long) refl
+version_valued word value plain other long = rw (other.no_batch, other.no_check, other.no_replay, other.no_serve, other.no_get, other.no_show, other.no_explain, other.no_dump, other.no_diff, other.no_import, other.no_help, plain, long) refl
 
 long_other : (rest : Text) → IsOther (45 ∷ 45 ∷ rest)
-long_other rest = record { no_batch = refl; no_check = refl; no_replay = refl; no_serve = refl; no_dump = refl; no_help = refl }
+long_other rest = record { no_batch = refl; no_check = refl; no_replay = refl; no_serve = refl; no_get = refl; no_show = refl; no_explain = refl; no_dump = refl; no_diff = refl; no_import = refl; no_help = refl }
 
 -- one with a value
 first_valued : (byte : ℕ) (rest name : Text) → name ≡ long_name (byte ∷ rest) → has_byte 61 (byte ∷ rest) ≡ true
@@ -190,10 +195,50 @@ serve_named : (program : Text) (words : List Text) → subcommand_name (subcomma
 unfolding walked
 serve_named program words = ap (λ (at : Walk). subcommand_name (entered (built command_line) at.stopped)) (stays (codes "serve") [] words)
 
--- and so is `dump`
-dump_named : (program : Text) (words : List Text) → subcommand_name (subcommand_of command_line (program ∷ codes "dump" ∷ words)) ≡ Some (codes "dump")
+-- and so is a question
+abbrev named_is : (name : Text) (program : Text) (words : List Text) → Type 0
+named_is name program words = subcommand_name (subcommand_of command_line (program ∷ name ∷ words)) ≡ Some name
+
+get_named : (program : Text) (words : List Text) → named_is (codes "get") program words
+unfolding walked
+get_named program words = ap (λ (at : Walk). subcommand_name (entered (built command_line) at.stopped)) (stays (codes "get") [] words)
+
+show_named : (program : Text) (words : List Text) → named_is (codes "show") program words
+unfolding walked
+show_named program words = ap (λ (at : Walk). subcommand_name (entered (built command_line) at.stopped)) (stays (codes "show") [] words)
+
+explain_named : (program : Text) (words : List Text) → named_is (codes "explain") program words
+unfolding walked
+explain_named program words = ap (λ (at : Walk). subcommand_name (entered (built command_line) at.stopped)) (stays (codes "explain") [] words)
+
+dump_named : (program : Text) (words : List Text) → named_is (codes "dump") program words
 unfolding walked
 dump_named program words = ap (λ (at : Walk). subcommand_name (entered (built command_line) at.stopped)) (stays (codes "dump") [] words)
+
+diff_named : (program : Text) (words : List Text) → named_is (codes "diff") program words
+unfolding walked
+diff_named program words = ap (λ (at : Walk). subcommand_name (entered (built command_line) at.stopped)) (stays (codes "diff") [] words)
+
+import_named : (program : Text) (words : List Text) → named_is (codes "import") program words
+unfolding walked
+import_named program words = ap (λ (at : Walk). subcommand_name (entered (built command_line) at.stopped)) (stays (codes "import") [] words)
+
+-- one of two words
+either_word : {X : Type 0} (a b : Bool) → (a || b) ≡ true → (a ≡ true → X) → (b ≡ true → X) → X
+either_word true b is one other = one refl
+either_word false b is one other = other is
+
+question_named : (program word : Text) (words : List Text) → is_question word ≡ true → asks_question (subcommand_name (subcommand_of command_line (program ∷ word ∷ words))) ≡ true
+question_named program word words is =
+    either_word _ _ is (λ e. by (codes "get") e refl (get_named program words))
+    (λ is. either_word _ _ is (λ e. by (codes "show") e refl (show_named program words))
+    (λ is. either_word _ _ is (λ e. by (codes "explain") e refl (explain_named program words))
+    (λ is. either_word _ _ is (λ e. by (codes "dump") e refl (dump_named program words))
+    (λ is. either_word _ _ is (λ e. by (codes "diff") e refl (diff_named program words))
+    (λ e. by (codes "import") e refl (import_named program words))))))
+  where
+    by : (name : Text) → bytes_eq word name ≡ true → asks_question (Some name) ≡ true → named_is name program words → asks_question (subcommand_name (subcommand_of command_line (program ∷ word ∷ words))) ≡ true
+    by name same one named = subst (λ w. asks_question (subcommand_name (subcommand_of command_line (program ∷ w ∷ words))) ≡ true) (sym (same_bytes word name same)) (ap asks_question named ∙ one)
 
 own_words_agree : (s : Subcommand) (words : List Text) → Agrees (asked_by s words anywhere nothing_given) (own_fault s words) (found_by s words)
 own_words_agree Batch words = subcommand_reads Batch words
@@ -224,14 +269,21 @@ unfolding walked walk_fault defaults_fault
 after_delimiter program [] = refl
 after_delimiter program (word ∷ words) = refl
 
+no_question : (word : Word) → IsOther word → is_question word ≡ false
+no_question word other = rw (flipped (codes "get") word other.no_get, flipped (codes "show") word other.no_show, flipped (codes "explain") word other.no_explain, flipped (codes "dump") word other.no_dump, flipped (codes "diff") word other.no_diff, flipped (codes "import") word other.no_import) refl
+
 asks_help : (word : Word) (words : List Word) → IsOther word → is_help word ≡ true → invocation (word ∷ words) ≡ help
-asks_help word words other h = rw (flipped (codes "batch") word other.no_batch, flipped (codes "check") word other.no_check, flipped (codes "replay") word other.no_replay, flipped (codes "serve") word other.no_serve, flipped (codes "dump") word other.no_dump, flipped (codes "help") word other.no_help, h) refl
+asks_help word words other h = rw (flipped (codes "batch") word other.no_batch, flipped (codes "check") word other.no_check, flipped (codes "replay") word other.no_replay, flipped (codes "serve") word other.no_serve, no_question word other, flipped (codes "help") word other.no_help, h) refl
 
 tells_version : (word : Word) (words : List Word) → IsOther word → is_help word ≡ false → is_version word ≡ true → invocation (word ∷ words) ≡ version
-tells_version word words other h v = rw (flipped (codes "batch") word other.no_batch, flipped (codes "check") word other.no_check, flipped (codes "replay") word other.no_replay, flipped (codes "serve") word other.no_serve, flipped (codes "dump") word other.no_dump, flipped (codes "help") word other.no_help, h, v) refl
+tells_version word words other h v = rw (flipped (codes "batch") word other.no_batch, flipped (codes "check") word other.no_check, flipped (codes "replay") word other.no_replay, flipped (codes "serve") word other.no_serve, no_question word other, flipped (codes "help") word other.no_help, h, v) refl
 
 asks_nothing : (word : Word) (words : List Word) → IsOther word → is_help word ≡ false → is_version word ≡ false → invocation (word ∷ words) ≡ usage_error
-asks_nothing word words other h v = rw (flipped (codes "batch") word other.no_batch, flipped (codes "check") word other.no_check, flipped (codes "replay") word other.no_replay, flipped (codes "serve") word other.no_serve, flipped (codes "dump") word other.no_dump, flipped (codes "help") word other.no_help, h, v) refl
+asks_nothing word words other h v = rw (flipped (codes "batch") word other.no_batch, flipped (codes "check") word other.no_check, flipped (codes "replay") word other.no_replay, flipped (codes "serve") word other.no_serve, no_question word other, flipped (codes "help") word other.no_help, h, v) refl
+
+question_asked : (word : Word) (words : List Word) → bytes_eq word (codes "batch") ≡ false → bytes_eq word (codes "check") ≡ false → bytes_eq word (codes "replay") ≡ false → bytes_eq word (codes "serve") ≡ false
+    → is_question word ≡ true → invocation (word ∷ words) ≡ ask
+question_asked word words b c r s q = rw (b, c, r, s, q) refl
 
 agrees_on_first : (program word : Text) (words : List Text) → First word → IsOther word → AgreesOn (invocation (word ∷ words)) (program ∷ word ∷ words)
 unfolding chars
@@ -244,23 +296,50 @@ agrees_on_first program word words (tells h v turn) other =
 agrees_on_first program word words (mistake h v turn) other =
     subst (λ i. AgreesOn i (program ∷ word ∷ words)) (sym (asks_nothing word words other h v)) (inl (first_mistaken program word words turn))
 
-agrees_on_words : (program word : Text) (words : List Text) (is_batch is_check is_replay is_serve is_dump is_topic : Bool) → bytes_eq word (codes "batch") ≡ is_batch → bytes_eq word (codes "check") ≡ is_check
-    → bytes_eq word (codes "replay") ≡ is_replay → bytes_eq word (codes "serve") ≡ is_serve → bytes_eq word (codes "dump") ≡ is_dump → bytes_eq word (codes "help") ≡ is_topic → AgreesOn (invocation (word ∷ words)) (program ∷ word ∷ words)
+neither : (a b : Bool) → (a || b) ≡ false → (a ≡ false) × (b ≡ false)
+neither true b e = absurd (true≢false e)
+neither false b e = (refl, e)
+
+-- a word that is none of the subcommands
+other_word : (word : Word) → bytes_eq word (codes "batch") ≡ false → bytes_eq word (codes "check") ≡ false → bytes_eq word (codes "replay") ≡ false → bytes_eq word (codes "serve") ≡ false → is_question word ≡ false
+    → bytes_eq word (codes "help") ≡ false → IsOther word
+other_word word b c r s q h =
+    let after_get = neither (bytes_eq word (codes "get")) _ q in
+    let after_show = neither (bytes_eq word (codes "show")) _ after_get.1 in
+    let after_explain = neither (bytes_eq word (codes "explain")) _ after_show.1 in
+    let after_dump = neither (bytes_eq word (codes "dump")) _ after_explain.1 in
+    let last = neither (bytes_eq word (codes "diff")) (bytes_eq word (codes "import")) after_dump.1 in
+    record {
+      no_batch = flipped word (codes "batch") b;
+      no_check = flipped word (codes "check") c;
+      no_replay = flipped word (codes "replay") r;
+      no_serve = flipped word (codes "serve") s;
+      no_get = flipped word (codes "get") after_get.0;
+      no_show = flipped word (codes "show") after_show.0;
+      no_explain = flipped word (codes "explain") after_explain.0;
+      no_dump = flipped word (codes "dump") after_dump.0;
+      no_diff = flipped word (codes "diff") last.0;
+      no_import = flipped word (codes "import") last.1;
+      no_help = flipped word (codes "help") h;
+    }
+
+agrees_on_words : (program word : Text) (words : List Text) (is_batch is_check is_replay is_serve is_ask is_topic : Bool) → bytes_eq word (codes "batch") ≡ is_batch → bytes_eq word (codes "check") ≡ is_check
+    → bytes_eq word (codes "replay") ≡ is_replay → bytes_eq word (codes "serve") ≡ is_serve → is_question word ≡ is_ask → bytes_eq word (codes "help") ≡ is_topic → AgreesOn (invocation (word ∷ words)) (program ∷ word ∷ words)
 unfolding walked walk_fault
-agrees_on_words program word words true is_check is_replay is_serve is_dump is_topic b c r s d h =
+agrees_on_words program word words true is_check is_replay is_serve is_ask is_topic b c r s q h =
     subst (λ w. AgreesOn (invocation (w ∷ words)) (program ∷ w ∷ words)) (sym (same_bytes word (codes "batch") b)) (agrees_on_subcommand Batch program words)
-agrees_on_words program word words false true is_replay is_serve is_dump is_topic b c r s d h =
+agrees_on_words program word words false true is_replay is_serve is_ask is_topic b c r s q h =
     subst (λ w. AgreesOn (invocation (w ∷ words)) (program ∷ w ∷ words)) (sym (same_bytes word (codes "check") c)) (agrees_on_subcommand Check program words)
-agrees_on_words program word words false false true is_serve is_dump is_topic b c r s d h =
+agrees_on_words program word words false false true is_serve is_ask is_topic b c r s q h =
     subst (λ w. AgreesOn (invocation (w ∷ words)) (program ∷ w ∷ words)) (sym (same_bytes word (codes "replay") r)) (agrees_on_subcommand Replay program words)
-agrees_on_words program word words false false false true is_dump is_topic b c r s d h =
+agrees_on_words program word words false false false true is_ask is_topic b c r s q h =
     subst (λ w. AgreesOn (invocation (w ∷ words)) (program ∷ w ∷ words)) (sym (same_bytes word (codes "serve") s)) (serve_named program words)
-agrees_on_words program word words false false false false true is_topic b c r s d h =
-    subst (λ w. AgreesOn (invocation (w ∷ words)) (program ∷ w ∷ words)) (sym (same_bytes word (codes "dump") d)) (dump_named program words)
-agrees_on_words program word words false false false false false true b c r s d h =
+agrees_on_words program word words false false false false true is_topic b c r s q h =
+    subst (λ asked. AgreesOn asked (program ∷ word ∷ words)) (sym (question_asked word words b c r s q)) (question_named program word words q)
+agrees_on_words program word words false false false false false true b c r s q h =
     subst (λ w. AgreesOn (invocation (w ∷ words)) (program ∷ w ∷ words)) (sym (same_bytes word (codes "help") h)) (first_refused program (codes "help") words (kind.DisplayHelp ∷ kind.InvalidSubcommand ∷ []) refl)
-agrees_on_words program word words false false false false false false b c r s d h =
-    let other : IsOther word = record { no_batch = flipped word (codes "batch") b; no_check = flipped word (codes "check") c; no_replay = flipped word (codes "replay") r; no_serve = flipped word (codes "serve") s; no_dump = flipped word (codes "dump") d; no_help = flipped word (codes "help") h } in
+agrees_on_words program word words false false false false false false b c r s q h =
+    let other : IsOther word = other_word word b c r s q h in
     agrees_on_first program word words (first_of_word word other) other
 
 -- what a parse finds of the words is what they ask for

@@ -9,7 +9,7 @@ use Rattle.clap.specs.declared.parser.matches.ArgMatches.{ArgMatches}
 use Rattle.clap.specs.declared.parser.matches.ArgMatches.TheViews.{out-ArgMatches, out-SubCommand}
 use Rattle.clap.specs.Walk.{Row}
 use Rattle.prt_addr.specs.Word.{Word}
-use Rattle.prt_words.specs.CommandLine.{IsConflict, IsModeOf, IsTaskOf, command_line, invocation_of, subcommand_name, flag_text, text_of_flag}
+use Rattle.prt_words.specs.CommandLine.{asks_question, IsConflict, IsModeOf, IsTaskOf, command_line, invocation_of, subcommand_name, flag_text, text_of_flag}
 use Rattle.std.specs.List.{list_all}
 use Rattle.clap.specs.Kinds.{HasKind, IsAmong, Kinds}
 use Rattle.clap.specs.Words.{Text, kind_of}
@@ -17,11 +17,11 @@ use Rattle.clap.specs.declared.error.Error.{Error}
 use Rattle.clap.specs.declared.error.kind.ErrorKind.{ErrorKind}
 use Rattle.clap.specs.declared.error.kind.ErrorKind.TheVariants.{DisplayHelp, DisplayVersion, InvalidSubcommand}
 use Rattle.prt_words.specs.Faults.{FaultOf, IsStatusOf, IsWordsFault, words_status}
-use Rattle.prt_words.specs.Invocation.{Invocation, batch, check, replay, serve, dump, help, help_on, version, invocation, usage_error, file_of}
+use Rattle.prt_words.specs.Invocation.{Invocation, ask, batch, check, replay, serve, help, help_on, version, invocation, usage_error, file_of}
 use Rattle.prt_words.specs.declared.task.Mode.{Mode}
 use Rattle.prt_words.specs.declared.fault.Fault.{Fault}
 use Rattle.prt_words.specs.declared.task.Task.{Task}
-use Rattle.prt_words.specs.declared.task.Task.TheVariants.{Batch, Check, Dump, Replay, Serve}
+use Rattle.prt_words.specs.declared.task.Task.TheVariants.{Ask, Batch, Check, Replay, Serve}
 use Rattle.prt_words.proofs.ParsedWords.{words_agree}
 use Rattle.prt_words.proofs.Walks.{Agrees, HasMode}
 use Rattle.prt_words.proofs.WordClasses.{IsMistake, is_mistake}
@@ -76,80 +76,72 @@ check_no_serve = other_name 99 (Some (codes "check")) (Some (codes "serve")) ref
 replay_no_serve : Some (codes "replay") ≡ Some (codes "serve") → ⊥
 replay_no_serve = other_name 114 (Some (codes "replay")) (Some (codes "serve")) refl refl
 
-batch_no_dump : Some (codes "batch") ≡ Some (codes "dump") → ⊥
-batch_no_dump = other_name 98 (Some (codes "batch")) (Some (codes "dump")) refl refl
+-- a name that asks a question is none that asks none
+no_question : (name : Option Text) (other : Text) → asks_question (Some other) ≡ false → name ≡ Some other → asks_question name ≡ true → ⊥
+no_question name other none same is = true≢false (sym is ∙ ap asks_question same ∙ none)
 
-check_no_dump : Some (codes "check") ≡ Some (codes "dump") → ⊥
-check_no_dump = other_name 99 (Some (codes "check")) (Some (codes "dump")) refl refl
-
-replay_no_dump : Some (codes "replay") ≡ Some (codes "dump") → ⊥
-replay_no_dump = other_name 114 (Some (codes "replay")) (Some (codes "dump")) refl refl
-
-serve_no_dump : Some (codes "serve") ≡ Some (codes "dump") → ⊥
-serve_no_dump = other_name 115 (Some (codes "serve")) (Some (codes "dump")) refl refl
-
--- a parse without an error found `serve`, `dump` or another task
+-- a parse without an error found `serve`, a question or another task
 serve_is : (asked : Invocation) (kinds : Kinds) (found : Option (Text × List Row)) → Agrees asked kinds found → kinds ≡ [] → subcommand_name found ≡ Some (codes "serve") → asked ≡ serve
 serve_is (batch script) kinds found agrees none is = absurd (batch_no_serve (sym agrees.1 ∙ is))
 serve_is (check file) kinds found agrees none is = absurd (check_no_serve (sym agrees.1 ∙ is))
 serve_is (replay file) kinds found agrees none is = absurd (replay_no_serve (sym agrees.1 ∙ is))
 serve_is serve kinds found agrees none is = refl
-serve_is dump kinds found agrees none is = absurd (serve_no_dump (sym is ∙ agrees))
+serve_is ask kinds found agrees none is = absurd (no_question (subcommand_name found) (codes "serve") refl is agrees)
 serve_is help kinds found agrees none is = absurd (not_empty _ _ (sym agrees ∙ none))
 serve_is version kinds found agrees none is = absurd (not_empty _ _ (sym agrees ∙ none))
 serve_is help_on kinds found agrees none is = absurd (not_empty _ _ (sym agrees ∙ none))
 serve_is usage_error kinds found (inl mistake) none is = absurd (subst IsMistake none mistake)
 serve_is usage_error kinds found (inr conflict) none is = absurd (batch_no_serve (sym conflict.1 ∙ is))
 
-dump_is : (asked : Invocation) (kinds : Kinds) (found : Option (Text × List Row)) → Agrees asked kinds found → kinds ≡ [] → subcommand_name found ≡ Some (codes "dump") → asked ≡ dump
-dump_is (batch script) kinds found agrees none is = absurd (batch_no_dump (sym agrees.1 ∙ is))
-dump_is (check file) kinds found agrees none is = absurd (check_no_dump (sym agrees.1 ∙ is))
-dump_is (replay file) kinds found agrees none is = absurd (replay_no_dump (sym agrees.1 ∙ is))
-dump_is serve kinds found agrees none is = absurd (serve_no_dump (sym agrees ∙ is))
-dump_is dump kinds found agrees none is = refl
-dump_is help kinds found agrees none is = absurd (not_empty _ _ (sym agrees ∙ none))
-dump_is version kinds found agrees none is = absurd (not_empty _ _ (sym agrees ∙ none))
-dump_is help_on kinds found agrees none is = absurd (not_empty _ _ (sym agrees ∙ none))
-dump_is usage_error kinds found (inl mistake) none is = absurd (subst IsMistake none mistake)
-dump_is usage_error kinds found (inr conflict) none is = absurd (batch_no_dump (sym conflict.1 ∙ is))
+ask_is : (asked : Invocation) (kinds : Kinds) (found : Option (Text × List Row)) → Agrees asked kinds found → kinds ≡ [] → asks_question (subcommand_name found) ≡ true → asked ≡ ask
+ask_is (batch script) kinds found agrees none is = absurd (no_question (subcommand_name found) (codes "batch") refl agrees.1 is)
+ask_is (check file) kinds found agrees none is = absurd (no_question (subcommand_name found) (codes "check") refl agrees.1 is)
+ask_is (replay file) kinds found agrees none is = absurd (no_question (subcommand_name found) (codes "replay") refl agrees.1 is)
+ask_is serve kinds found agrees none is = absurd (no_question (subcommand_name found) (codes "serve") refl agrees is)
+ask_is ask kinds found agrees none is = refl
+ask_is help kinds found agrees none is = absurd (not_empty _ _ (sym agrees ∙ none))
+ask_is version kinds found agrees none is = absurd (not_empty _ _ (sym agrees ∙ none))
+ask_is help_on kinds found agrees none is = absurd (not_empty _ _ (sym agrees ∙ none))
+ask_is usage_error kinds found (inl mistake) none is = absurd (subst IsMistake none mistake)
+ask_is usage_error kinds found (inr conflict) none is = absurd (no_question (subcommand_name found) (codes "batch") refl conflict.1 is)
 
-task_is : (asked : Invocation) (kinds : Kinds) (found : Option (Text × List Row)) (task : Task) → Agrees asked kinds found → kinds ≡ [] → (subcommand_name found ≡ Some (codes "serve") → ⊥) → (subcommand_name found ≡ Some (codes "dump") → ⊥) → IsTaskOf found task
+task_is : (asked : Invocation) (kinds : Kinds) (found : Option (Text × List Row)) (task : Task) → Agrees asked kinds found → kinds ≡ [] → (subcommand_name found ≡ Some (codes "serve") → ⊥) → asks_question (subcommand_name found) ≡ false → IsTaskOf found task
     → asked ≡ invocation_of task
-task_is asked kinds found (Serve serving) agrees none other no_dump is = absurd is
-task_is asked kinds found (Dump path) agrees none other no_dump is = absurd is
-task_is (batch script) kinds found (Batch task) agrees none other no_dump is =
+task_is asked kinds found (Serve serving) agrees none other no_ask is = absurd is
+task_is asked kinds found (Ask asking) agrees none other no_ask is = absurd is
+task_is (batch script) kinds found (Batch task) agrees none other no_ask is =
     script_is (some_mode task.mode script.mode (mode_is (Some script.mode) (Some task.mode) found agrees.4 is.4)) (flag_is task.is_verbose script.verbose (flag_text (codes "verbose") found) agrees.5 is.5 is.6)
     (sym (is.3 ∙ agrees.3)) (sym (is.2 ∙ agrees.2))
-task_is (batch script) kinds found (Check file) agrees none other no_dump is = absurd (no_check (sym agrees.1 ∙ is.0))
-task_is (batch script) kinds found (Replay file) agrees none other no_dump is = absurd (no_replay (sym agrees.1 ∙ is.0))
-task_is (check file) kinds found (Batch task) agrees none other no_dump is = absurd (is.0 agrees.1)
-task_is (check file) kinds found (Check path) agrees none other no_dump is = ap check (sym (is.1 ∙ agrees.2))
-task_is (check file) kinds found (Replay path) agrees none other no_dump is = absurd (check_no_replay (sym agrees.1 ∙ is.0))
-task_is (replay file) kinds found (Batch task) agrees none other no_dump is = absurd (is.1 agrees.1)
-task_is (replay file) kinds found (Check path) agrees none other no_dump is = absurd (check_no_replay (sym is.0 ∙ agrees.1))
-task_is (replay file) kinds found (Replay path) agrees none other no_dump is = ap replay (sym (is.1 ∙ agrees.2))
-task_is serve kinds found task agrees none other no_dump is = absurd (other agrees)
-task_is dump kinds found task agrees none other no_dump is = absurd (no_dump agrees)
-task_is help kinds found task agrees none other no_dump is = absurd (not_empty _ _ (sym agrees ∙ none))
-task_is version kinds found task agrees none other no_dump is = absurd (not_empty _ _ (sym agrees ∙ none))
-task_is help_on kinds found task agrees none other no_dump is = absurd (not_empty _ _ (sym agrees ∙ none))
-task_is usage_error kinds found task (inl mistake) none other no_dump is = absurd (subst IsMistake none mistake)
-task_is usage_error kinds found (Batch task) (inr conflict) none other no_dump is = absurd (no_mode task.mode (mode_is None (Some task.mode) found conflict.2 is.4))
-task_is usage_error kinds found (Check path) (inr conflict) none other no_dump is = absurd (no_check (sym conflict.1 ∙ is.0))
-task_is usage_error kinds found (Replay path) (inr conflict) none other no_dump is = absurd (no_replay (sym conflict.1 ∙ is.0))
+task_is (batch script) kinds found (Check file) agrees none other no_ask is = absurd (no_check (sym agrees.1 ∙ is.0))
+task_is (batch script) kinds found (Replay file) agrees none other no_ask is = absurd (no_replay (sym agrees.1 ∙ is.0))
+task_is (check file) kinds found (Batch task) agrees none other no_ask is = absurd (is.0 agrees.1)
+task_is (check file) kinds found (Check path) agrees none other no_ask is = ap check (sym (is.1 ∙ agrees.2))
+task_is (check file) kinds found (Replay path) agrees none other no_ask is = absurd (check_no_replay (sym agrees.1 ∙ is.0))
+task_is (replay file) kinds found (Batch task) agrees none other no_ask is = absurd (is.1 agrees.1)
+task_is (replay file) kinds found (Check path) agrees none other no_ask is = absurd (check_no_replay (sym is.0 ∙ agrees.1))
+task_is (replay file) kinds found (Replay path) agrees none other no_ask is = ap replay (sym (is.1 ∙ agrees.2))
+task_is serve kinds found task agrees none other no_ask is = absurd (other agrees)
+task_is ask kinds found task agrees none other no_ask is = absurd (true≢false (sym agrees ∙ no_ask))
+task_is help kinds found task agrees none other no_ask is = absurd (not_empty _ _ (sym agrees ∙ none))
+task_is version kinds found task agrees none other no_ask is = absurd (not_empty _ _ (sym agrees ∙ none))
+task_is help_on kinds found task agrees none other no_ask is = absurd (not_empty _ _ (sym agrees ∙ none))
+task_is usage_error kinds found task (inl mistake) none other no_ask is = absurd (subst IsMistake none mistake)
+task_is usage_error kinds found (Batch task) (inr conflict) none other no_ask is = absurd (no_mode task.mode (mode_is None (Some task.mode) found conflict.2 is.4))
+task_is usage_error kinds found (Check path) (inr conflict) none other no_ask is = absurd (no_check (sym conflict.1 ∙ is.0))
+task_is usage_error kinds found (Replay path) (inr conflict) none other no_ask is = absurd (no_replay (sym conflict.1 ∙ is.0))
 
 -- a script that can be executed in no way
-conflict_is : (asked : Invocation) (kinds : Kinds) (found : Option (Text × List Row)) → Agrees asked kinds found → kinds ≡ [] → (subcommand_name found ≡ Some (codes "serve") → ⊥) → (subcommand_name found ≡ Some (codes "dump") → ⊥) → IsConflict found
+conflict_is : (asked : Invocation) (kinds : Kinds) (found : Option (Text × List Row)) → Agrees asked kinds found → kinds ≡ [] → (subcommand_name found ≡ Some (codes "serve") → ⊥) → asks_question (subcommand_name found) ≡ false → IsConflict found
     → asked ≡ usage_error
-conflict_is (batch script) kinds found agrees none other no_dump is = absurd (no_mode script.mode (sym (mode_is (Some script.mode) None found agrees.4 is.2)))
-conflict_is (check file) kinds found agrees none other no_dump is = absurd (is.0 agrees.1)
-conflict_is (replay file) kinds found agrees none other no_dump is = absurd (is.1 agrees.1)
-conflict_is serve kinds found agrees none other no_dump is = absurd (other agrees)
-conflict_is dump kinds found agrees none other no_dump is = absurd (no_dump agrees)
-conflict_is help kinds found agrees none other no_dump is = absurd (not_empty _ _ (sym agrees ∙ none))
-conflict_is version kinds found agrees none other no_dump is = absurd (not_empty _ _ (sym agrees ∙ none))
-conflict_is help_on kinds found agrees none other no_dump is = absurd (not_empty _ _ (sym agrees ∙ none))
-conflict_is usage_error kinds found agrees none other no_dump is = refl
+conflict_is (batch script) kinds found agrees none other no_ask is = absurd (no_mode script.mode (sym (mode_is (Some script.mode) None found agrees.4 is.2)))
+conflict_is (check file) kinds found agrees none other no_ask is = absurd (is.0 agrees.1)
+conflict_is (replay file) kinds found agrees none other no_ask is = absurd (is.1 agrees.1)
+conflict_is serve kinds found agrees none other no_ask is = absurd (other agrees)
+conflict_is ask kinds found agrees none other no_ask is = absurd (true≢false (sym agrees ∙ no_ask))
+conflict_is help kinds found agrees none other no_ask is = absurd (not_empty _ _ (sym agrees ∙ none))
+conflict_is version kinds found agrees none other no_ask is = absurd (not_empty _ _ (sym agrees ∙ none))
+conflict_is help_on kinds found agrees none other no_ask is = absurd (not_empty _ _ (sym agrees ∙ none))
+conflict_is usage_error kinds found agrees none other no_ask is = refl
 
 mistake_status : (k : ErrorKind) → is_mistake k ≡ true → words_status k ≡ 2
 mistake_status DisplayHelp bad = absurd (true≢false (sym bad))
@@ -176,7 +168,7 @@ status_of_kind (batch script) kinds found k agrees among = subst (IsAmong k) agr
 status_of_kind (check file) kinds found k agrees among = subst (IsAmong k) agrees.0 among
 status_of_kind (replay file) kinds found k agrees among = subst (IsAmong k) agrees.0 among
 status_of_kind serve kinds found k agrees among = either_status k
-status_of_kind dump kinds found k agrees among = either_status k
+status_of_kind ask kinds found k agrees among = either_status k
 status_of_kind help kinds found k agrees among = shown (subst (IsAmong k) agrees among)
   where
     shown : IsAmong k (DisplayHelp ∷ []) → words_status k ≡ 0
@@ -225,32 +217,32 @@ pub path_of : (operand path : Option (Bor Text)) → MatchOption operand (path �
 path_of None path is = ap (option_map (λ s. s.now)) is
 path_of (Some word) path is = is
 
--- the task that a parse without an error found: `serve`, `dump` or another
+-- the task that a parse without an error found: `serve`, a question or another
 pub served_is : (words : List Text) (m : ArgMatches) → subcommand_rows_of m ≡ subcommand_of command_line words → fault_of command_line words ≡ [] → subcommand_name_of m ≡ Some (codes "serve")
     → invocation (drop 1 words) ≡ serve
 served_is words m found none named =
     serve_is (invocation (drop 1 words)) (fault_of command_line words) (subcommand_of command_line words) (words_agree words) none
     (sym (ap subcommand_name found) ∙ sym (name_of_found (out-ArgMatches m).subcommand) ∙ named)
 
-pub dumped_is : (words : List Text) (m : ArgMatches) → subcommand_rows_of m ≡ subcommand_of command_line words → fault_of command_line words ≡ [] → subcommand_name_of m ≡ Some (codes "dump")
-    → invocation (drop 1 words) ≡ dump
-dumped_is words m found none named =
-    dump_is (invocation (drop 1 words)) (fault_of command_line words) (subcommand_of command_line words) (words_agree words) none
-    (sym (ap subcommand_name found) ∙ sym (name_of_found (out-ArgMatches m).subcommand) ∙ named)
+pub asked_is : (words : List Text) (m : ArgMatches) → subcommand_rows_of m ≡ subcommand_of command_line words → fault_of command_line words ≡ [] → asks_question (subcommand_name_of m) ≡ true
+    → invocation (drop 1 words) ≡ ask
+asked_is words m found none named =
+    ask_is (invocation (drop 1 words)) (fault_of command_line words) (subcommand_of command_line words) (words_agree words) none
+    (ap asks_question (sym (ap subcommand_name found) ∙ sym (name_of_found (out-ArgMatches m).subcommand)) ∙ named)
 
 pub other_is : (words : List Text) (m : ArgMatches) (task : Task) → subcommand_rows_of m ≡ subcommand_of command_line words → fault_of command_line words ≡ []
-    → (subcommand_name_of m ≡ Some (codes "serve") → ⊥) → (subcommand_name_of m ≡ Some (codes "dump") → ⊥) → IsTaskOf (subcommand_rows_of m) task → invocation (drop 1 words) ≡ invocation_of task
-other_is words m task found none other no_dump is =
+    → (subcommand_name_of m ≡ Some (codes "serve") → ⊥) → asks_question (subcommand_name_of m) ≡ false → IsTaskOf (subcommand_rows_of m) task → invocation (drop 1 words) ≡ invocation_of task
+other_is words m task found none other no_ask is =
     task_is (invocation (drop 1 words)) (fault_of command_line words) (subcommand_of command_line words) task (words_agree words) none
     (λ named. other (name_of_found (out-ArgMatches m).subcommand ∙ ap subcommand_name found ∙ named))
-    (λ named. no_dump (name_of_found (out-ArgMatches m).subcommand ∙ ap subcommand_name found ∙ named)) (subst (λ f. IsTaskOf f task) found is)
+    (ap asks_question (sym (ap subcommand_name found) ∙ sym (name_of_found (out-ArgMatches m).subcommand)) ∙ no_ask) (subst (λ f. IsTaskOf f task) found is)
 
 pub conflicting_is : (words : List Text) (m : ArgMatches) → subcommand_rows_of m ≡ subcommand_of command_line words → fault_of command_line words ≡ []
-    → (subcommand_name_of m ≡ Some (codes "serve") → ⊥) → (subcommand_name_of m ≡ Some (codes "dump") → ⊥) → IsConflict (subcommand_rows_of m) → invocation (drop 1 words) ≡ usage_error
-conflicting_is words m found none other no_dump is =
+    → (subcommand_name_of m ≡ Some (codes "serve") → ⊥) → asks_question (subcommand_name_of m) ≡ false → IsConflict (subcommand_rows_of m) → invocation (drop 1 words) ≡ usage_error
+conflicting_is words m found none other no_ask is =
     conflict_is (invocation (drop 1 words)) (fault_of command_line words) (subcommand_of command_line words) (words_agree words) none
     (λ named. other (name_of_found (out-ArgMatches m).subcommand ∙ ap subcommand_name found ∙ named))
-    (λ named. no_dump (name_of_found (out-ArgMatches m).subcommand ∙ ap subcommand_name found ∙ named)) (subst IsConflict found is)
+    (ap asks_question (sym (ap subcommand_name found) ∙ sym (name_of_found (out-ArgMatches m).subcommand)) ∙ no_ask) (subst IsConflict found is)
 
 pub conflict_fault : {T : Type 0} (asked : Invocation) (result : Result T Fault) → IfErr result (λ fault. asked ≡ usage_error) → IfErr result (IsWordsFault usage_error) → IfErr result (IsWordsFault asked)
 conflict_fault asked (Ok task) same is = tt

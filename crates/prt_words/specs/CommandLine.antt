@@ -1,14 +1,15 @@
 -- The words that the program knows, as a parse reads them, and what it finds of its subcommands.
 use Rattle.std.specs.Prelude.{◌≡◌, ◌≢◌, ◌≤◌, Bool, true, false, List, [], ◌∷◌, Option, Some, None, codes, option_and_then, option_map}
+use Rattle.std.specs.Option.{option_map_or}
 use Rattle.clap.specs.Words.{App, Row, Rule, Text, first_of, one_of, new_app, new_rule, with_rule, with_subcommand}
 use Rattle.clap.specs.Simple.{on_top}
-use Rattle.clap.specs.declared.builder.action.ArgAction.TheVariants.{SetTrue}
+use Rattle.clap.specs.declared.builder.action.ArgAction.TheVariants.{Append, SetTrue}
 use Rattle.clap.specs.declared.builder.command.Command.{Command}
 use Rattle.clap.specs.declared.builder.command.Command.TheViews.{out-Command}
-use Rattle.prt_words.specs.Invocation.{Invocation, batch, check, dump, file_of, mode_of, replay, serve}
+use Rattle.prt_words.specs.Invocation.{Invocation, ask, batch, check, file_of, is_question, mode_of, replay, serve}
 use Rattle.prt_words.specs.declared.serving.Serving.{Serving}
 use Rattle.prt_words.specs.declared.task.Task.{Task}
-use Rattle.prt_words.specs.declared.task.Task.TheVariants.{Batch, Check, Dump, Replay, Serve}
+use Rattle.prt_words.specs.declared.task.Task.TheVariants.{Ask, Batch, Check, Replay, Serve}
 use Rattle.prt_words.specs.declared.task.Mode.{Mode}
 
 abbrev pub flag_rule : Text → Rule
@@ -42,14 +43,48 @@ number_rule name missing = record (option_rule name) { defaults = missing ∷ []
 abbrev pub serve_line : App
 serve_line = with_rule (with_rule (with_rule (with_rule (with_rule (with_rule (new_app (codes "serve")) (needed_rule (codes "db"))) (needed_rule (codes "listen"))) (option_rule (codes "feed"))) (number_rule (codes "workers") (codes "4"))) (number_rule (codes "sessions") (codes "0"))) (number_rule (codes "idle") (codes "0"))
 
+-- the words of a question
+abbrev pub words_rule : Rule
+words_rule = record (new_rule (codes "words")) { action = Some Append; value_names = 1 }
+
+-- which tables are asked
+abbrev pub place_line : Text → App
+place_line name = with_rule (with_rule (new_app name) (option_rule (codes "db"))) (option_rule (codes "server"))
+
+-- and in which form the answer is
+abbrev pub tables_line : Text → App
+tables_line name = with_rule (place_line name) (flag_rule (codes "json"))
+
+abbrev pub question_line : Text → App
+question_line name = with_rule (tables_line name) words_rule
+
+abbrev pub get_line : App
+get_line = question_line (codes "get")
+
+abbrev pub show_line : App
+show_line = question_line (codes "show")
+
+abbrev pub explain_line : App
+explain_line = question_line (codes "explain")
+
 abbrev pub dump_line : App
-dump_line = with_rule (new_app (codes "dump")) (needed_rule (codes "db"))
+dump_line = tables_line (codes "dump")
+
+abbrev pub diff_line : App
+diff_line = with_rule (with_rule (place_line (codes "diff")) (flag_rule (codes "check"))) file_rule
+
+abbrev pub import_line : App
+import_line = with_rule (new_app (codes "import")) file_rule
 
 abbrev pub opening_line : App
 opening_line = on_top (λ top. record top { subcommand_required = true; arg_required_else_help = true; has_version = true }) (new_app (codes "prt"))
 
+-- with the subcommands that ask questions
+abbrev pub with_questions : App → App
+with_questions app = with_subcommand (with_subcommand (with_subcommand (with_subcommand (with_subcommand (with_subcommand app get_line.top) show_line.top) explain_line.top) dump_line.top) diff_line.top) import_line.top
+
 abbrev pub command_line : App
-command_line = with_subcommand (with_subcommand (with_subcommand (with_subcommand (with_subcommand opening_line batch_line.top) check_line.top) replay_line.top) serve_line.top) dump_line.top
+command_line = with_questions (with_subcommand (with_subcommand (with_subcommand (with_subcommand opening_line batch_line.top) check_line.top) replay_line.top) serve_line.top)
 
 -- whether an argument of the command is one of its subcommands too
 abbrev pub has_globals : Command → Bool
@@ -84,7 +119,11 @@ IsModeOf found = IsModeBy (flag_text (codes "force") found) (flag_text (codes "a
 abbrev pub IsConflict : Option (Text × List Row) → Type 0
 IsConflict found = (subcommand_name found ≢ Some (codes "check")) × (subcommand_name found ≢ Some (codes "replay")) × IsModeOf found None
 
--- the task is that of the subcommand that a parse found, other than `serve` and `dump`
+-- the subcommand of this name asks a question
+abbrev pub asks_question : Option Text → Bool
+asks_question name = option_map_or is_question name false
+
+-- the task is that of the subcommand that a parse found, other than `serve` and a question
 abbrev pub IsTaskOf : Option (Text × List Row) → Task → Type 0
 IsTaskOf found (Batch script) =
     (subcommand_name found ≢ Some (codes "check"))
@@ -101,7 +140,7 @@ IsTaskOf found (Replay file) =
     (subcommand_name found ≡ Some (codes "replay"))
     × (option_map (λ path. path.now) file ≡ option_and_then file_of (named_file found))
 IsTaskOf found (Serve serving) = ⊥
-IsTaskOf found (Dump path) = ⊥
+IsTaskOf found (Ask asked) = ⊥
 
 -- what a task was asked for by
 abbrev pub invocation_of : Task → Invocation
@@ -114,7 +153,7 @@ invocation_of (Batch script) = batch (record {
 invocation_of (Check file) = check (option_map (λ path. path.now) file)
 invocation_of (Replay file) = replay (option_map (λ path. path.now) file)
 invocation_of (Serve serving) = serve
-invocation_of (Dump path) = dump
+invocation_of (Ask asked) = ask
 
 -- 1 to 64 workers, at most 1,000,000 sessions, and at most as many seconds without a byte
 abbrev pub IsServing : Serving → Type 0

@@ -5,7 +5,7 @@ use Rattle.clap.specs.declared.error.Error.{Error}
 use Rattle.clap.specs.declared.error.kind.ErrorKind.{ErrorKind}
 use Rattle.clap.specs.declared.error.kind.ErrorKind.TheVariants.{DisplayHelp, DisplayVersion, OutOfMemory}
 use Rattle.prt_refusals.specs.declared.refusal.Refusal.TheVariants.{NoMemory}
-use Rattle.prt_words.specs.Invocation.{Invocation, batch, check, replay, serve, dump, help, help_on, version, usage_error}
+use Rattle.prt_words.specs.Invocation.{Invocation, ask, batch, check, replay, serve, help, help_on, version, usage_error}
 use Rattle.prt_words.specs.declared.fault.Fault.{Fault}
 use Rattle.prt_words.specs.declared.fault.Fault.TheVariants.{Words, Opening, Listener}
 
@@ -31,7 +31,7 @@ IsStatusOf (batch script) status = ⊥
 IsStatusOf (check file) status = ⊥
 IsStatusOf (replay file) status = ⊥
 IsStatusOf serve status = (status ≡ 0) ⊎ (status ≡ 2)
-IsStatusOf dump status = (status ≡ 0) ⊎ (status ≡ 2)
+IsStatusOf ask status = (status ≡ 0) ⊎ (status ≡ 2)
 IsStatusOf help status = status ≡ 0
 IsStatusOf version status = status ≡ 0
 IsStatusOf help_on status = (status ≡ 0) ⊎ (status ≡ 2)

@@ -26,8 +26,8 @@ pub data Invocation : Type 0 where
   replay : Option Word → Invocation
   -- the word `serve`: sessions over TCP, help on that, or bad words
   serve : Invocation
-  -- the word `dump`: the lines that put a database back, help on that, or bad words
-  dump : Invocation
+  -- the word of a question: what tables say, what differs from them or is imported, help on that, or bad words
+  ask : Invocation
   help : Invocation
   -- the version, and the formats of database file that are read
   version : Invocation
@@ -201,6 +201,10 @@ asked_by subcommand (word ∷ words) place given = asked_with place given (part_
 abbrev pub arguments : {Z : Type 0} → List (String Z) → List Word
 arguments words = drop 1 (map string_bytes words)
 
+-- `get`, `show`, `explain`, `dump`, `diff` and `import`
+abbrev pub is_question : Word → Bool
+is_question word = bytes_eq word (codes "get") || (bytes_eq word (codes "show") || (bytes_eq word (codes "explain") || (bytes_eq word (codes "dump") || (bytes_eq word (codes "diff") || bytes_eq word (codes "import")))))
+
 -- what they ask for
 abbrev pub invocation : List Word → Invocation
 invocation [] = usage_error
@@ -209,7 +213,7 @@ invocation (word ∷ words) =
     else (if bytes_eq word (codes "check") then asked_by Check words anywhere nothing_given
     else (if bytes_eq word (codes "replay") then asked_by Replay words anywhere nothing_given
     else (if bytes_eq word (codes "serve") then serve
-    else (if bytes_eq word (codes "dump") then dump
+    else (if is_question word then ask
     else (if bytes_eq word (codes "help") then help_on
     else (if is_help word then help
     else (if is_version word then version else usage_error)))))))

@@ -1,7 +1,7 @@
 //! The words that the program knows, as clap reads them.
 ghost use Rattle.std.specs.Prelude.{◌≡◌, IfOk, false};
 ghost use Rattle.clap.specs.Words.{app_of, rule_of};
-ghost use Rattle.prt_words.specs.CommandLine.{batch_line, check_line, command_line, database_rule, dump_line, file_rule, flag_rule, has_globals, needed_rule, number_rule, option_rule, replay_line, serve_line};
+ghost use Rattle.prt_words.specs.CommandLine.{batch_line, check_line, command_line, database_rule, diff_line, dump_line, explain_line, file_rule, flag_rule, get_line, has_globals, import_line, needed_rule, number_rule, option_rule, place_line, question_line, replay_line, serve_line, show_line, tables_line, with_questions, words_rule};
 
 use crate::version::VERSION;
 use clap::{Arg, ArgAction, Command};
@@ -187,20 +187,168 @@ pub(crate) fn serve_line<'a>(alloc: Global) -> Result<Command<'a>, AllocError>
         .arg(idle)
 }
 
+/// Makes the operand that has the words of a question.
+fn words_operand<'a>(alloc: Global, value: &'a str, help: &'a str) -> Arg<'a>
+    ensures rule { rule_of result ≡ words_rule }
+    ensures own { result.global ≡ false }
+{
+    Arg::new(alloc, "words")
+        .action(ArgAction::Append)
+        .value_name(value)
+        .help(help)
+}
+
+/// Says which words name the tables that are asked.
+fn place_line<'a>(alloc: Global, name: &'a str, about: &'a str) -> Result<Command<'a>, AllocError>
+    ensures line { IfOk result (λ command. app_of command ≡ place_line name.entry.now) }
+    ensures own { IfOk result (λ command. has_globals command ≡ false) }
+{
+    let database = option(alloc, "db", "PATH", "The database file; it is only read");
+    let server = option(
+        alloc,
+        "server",
+        "ADDR:PORT",
+        "The feed of a server that has the database",
+    );
+    Command::new(alloc, name)
+        .about(about)
+        .arg(database)?
+        .arg(server)
+}
+
+/// Says which words name the tables that are asked, and the form of the answer.
+fn tables_line<'a>(alloc: Global, name: &'a str, about: &'a str) -> Result<Command<'a>, AllocError>
+    ensures line { IfOk result (λ command. app_of command ≡ tables_line name.entry.now) }
+    ensures own { IfOk result (λ command. has_globals command ≡ false) }
+{
+    let json = flag(alloc, "json", "Answer in JSON, in the names of `ip -j`");
+    let place = place_line(alloc, name, about)?;
+    place.arg(json)
+}
+
+/// Says which words may follow the name of a question.
+fn question_line<'a>(
+    alloc: Global,
+    name: &'a str,
+    about: &'a str,
+    value: &'a str,
+    help: &'a str,
+) -> Result<Command<'a>, AllocError>
+    ensures line { IfOk result (λ command. app_of command ≡ question_line name.entry.now) }
+    ensures own { IfOk result (λ command. has_globals command ≡ false) }
+{
+    let words = words_operand(alloc, value, help);
+    let tables = tables_line(alloc, name, about)?;
+    tables.arg(words)
+}
+
+/// Says which words may follow `get`.
+pub(crate) fn get_line<'a>(alloc: Global) -> Result<Command<'a>, AllocError>
+    ensures line { IfOk result (λ command. app_of command ≡ get_line) }
+    ensures own { IfOk result (λ command. has_globals command ≡ false) }
+{
+    question_line(
+        alloc,
+        "get",
+        "Says which route a packet gets",
+        "ADDRESS",
+        "The destination, and after it `from`, `iif` and `mark` with their values, as after `route get`",
+    )
+}
+
+/// Says which words may follow `show`.
+pub(crate) fn show_line<'a>(alloc: Global) -> Result<Command<'a>, AllocError>
+    ensures line { IfOk result (λ command. app_of command ≡ show_line) }
+    ensures own { IfOk result (λ command. has_globals command ≡ false) }
+{
+    question_line(
+        alloc,
+        "show",
+        "Lists routes or rules",
+        "OBJECT",
+        "`rule`, or `route` and the words that may follow `route show`; the routes of table main where it is missing",
+    )
+}
+
+/// Says which words may follow `explain`.
+pub(crate) fn explain_line<'a>(alloc: Global) -> Result<Command<'a>, AllocError>
+    ensures line { IfOk result (λ command. app_of command ≡ explain_line) }
+    ensures own { IfOk result (λ command. has_globals command ≡ false) }
+{
+    question_line(
+        alloc,
+        "explain",
+        "Says which rules a packet meets, and why it gets its route",
+        "ADDRESS",
+        "The destination, and after it `from`, `iif` and `mark` with their values, as after `route get`",
+    )
+}
+
 /// Says which words may follow `dump`.
 pub(crate) fn dump_line<'a>(alloc: Global) -> Result<Command<'a>, AllocError>
     ensures line { IfOk result (λ command. app_of command ≡ dump_line) }
     ensures own { IfOk result (λ command. has_globals command ≡ false) }
 {
-    let database = needed_option(
+    tables_line(
         alloc,
-        "db",
-        "PATH",
-        "The database file, made where there is none",
+        "dump",
+        "Prints commands that make the rules and routes of a database anew",
+    )
+}
+
+/// Says which words may follow `diff`.
+pub(crate) fn diff_line<'a>(alloc: Global) -> Result<Command<'a>, AllocError>
+    ensures line { IfOk result (λ command. app_of command ≡ diff_line) }
+    ensures own { IfOk result (λ command. has_globals command ≡ false) }
+{
+    let check = flag(
+        alloc,
+        "check",
+        "Print nothing; the status is 1 where anything differs",
     );
-    Command::new(alloc, "dump")
-        .about("Prints commands that make the rules and routes of a database anew")
-        .arg(database)
+    let file = file_operand(
+        alloc,
+        "What `ip -4 route show table all` and `ip -4 rule` print; standard input where it is missing or `-`",
+    );
+    let place = place_line(
+        alloc,
+        "diff",
+        "Prints the lines for `ip -batch` that bring the kernel to a database",
+    )?;
+    place.arg(check)?.arg(file)
+}
+
+/// Says which words may follow `import`.
+pub(crate) fn import_line<'a>(alloc: Global) -> Result<Command<'a>, AllocError>
+    ensures line { IfOk result (λ command. app_of command ≡ import_line) }
+    ensures own { IfOk result (λ command. has_globals command ≡ false) }
+{
+    let file = file_operand(
+        alloc,
+        "What `ip -4 route show table all` and `ip -4 rule` print; standard input where it is missing or `-`",
+    );
+    Command::new(alloc, "import")
+        .about("Prints a script that makes the rules and routes that `ip` prints")
+        .arg(file)
+}
+
+/// Adds the subcommands that ask questions.
+fn with_questions<'a>(alloc: Global, command: Command<'a>) -> Result<Command<'a>, AllocError>
+    ensures { IfOk result (λ made. app_of made ≡ with_questions (app_of command.entry)) }
+{
+    let get = get_line(alloc)?;
+    let show = show_line(alloc)?;
+    let explain = explain_line(alloc)?;
+    let dump = dump_line(alloc)?;
+    let diff = diff_line(alloc)?;
+    let import = import_line(alloc)?;
+    command
+        .subcommand(get)?
+        .subcommand(show)?
+        .subcommand(explain)?
+        .subcommand(dump)?
+        .subcommand(diff)?
+        .subcommand(import)
 }
 
 /// Says which words the program knows.
@@ -211,8 +359,7 @@ pub(crate) fn command_line<'a>(alloc: Global) -> Result<Command<'a>, AllocError>
     let check = check_line(alloc)?;
     let replay = replay_line(alloc)?;
     let serve = serve_line(alloc)?;
-    let dump = dump_line(alloc)?;
-    Command::new(alloc, "prt")
+    let command = Command::new(alloc, "prt")
         .bin_name("prt")?
         .about("The table service of an IPv4 policy router")
         .version(VERSION)
@@ -221,6 +368,6 @@ pub(crate) fn command_line<'a>(alloc: Global) -> Result<Command<'a>, AllocError>
         .subcommand(batch)?
         .subcommand(check)?
         .subcommand(replay)?
-        .subcommand(serve)?
-        .subcommand(dump)
+        .subcommand(serve)?;
+    with_questions(alloc, command)
 }

@@ -3,10 +3,15 @@ ghost use Rattle.std.specs.Prelude.{◌≡◌, ◌≢◌, IfOk};
 ghost use Rattle.clap.specs.Words.{kind_of};
 ghost use Rattle.prt_refusals.specs.declared.refusal.Refusal.TheVariants.{NoMemory};
 ghost use Rattle.prt_words.specs.Faults.{FaultOf, IsWordsFault, fault_status};
-ghost use Rattle.prt_words.specs.Invocation.{dump, serve, usage_error};
+ghost use Rattle.prt_words.specs.Invocation.{ask, serve, usage_error};
 ghost use Rattle.prt_words.specs.declared.fault.Fault.TheVariants.{Opening};
 
-use crate::command_line::{batch_line, command_line, dump_line, serve_line};
+use crate::asking::{QuestionWord, Verb};
+use crate::command_line::{
+    batch_line, command_line, diff_line, dump_line, explain_line, get_line, import_line,
+    serve_line, show_line,
+};
+use clap::Command;
 use clap::error::ErrorKind;
 use prt_refusals::Refusal;
 use std::alloc::{AllocError, Global};
@@ -127,20 +132,34 @@ pub(crate) fn serving_fault(alloc: Global, text: &str) -> Fault
     }
 }
 
-/// Makes the error of words of `dump` of which the text tells what is wrong, in the form of those of a parse.
-fn dumping_error(alloc: Global, text: &str) -> Result<clap::Error, AllocError>
-    ensures { IfOk result (λ error. kind_of error ≡ ErrorKind.ValueValidation) }
-{
-    dump_line(alloc)?
-        .bin_name("prt dump")?
-        .error(ErrorKind::ValueValidation, text)
+/// Gives the name of the program with a question's subcommand, and which words may follow it.
+fn asking_line<'a>(
+    alloc: Global,
+    word: QuestionWord,
+) -> Result<(&'static str, Command<'a>), AllocError> {
+    match word {
+        QuestionWord::Tables(Verb::Get) => Ok(("prt get", get_line(alloc)?)),
+        QuestionWord::Tables(Verb::Show) => Ok(("prt show", show_line(alloc)?)),
+        QuestionWord::Tables(Verb::Explain) => Ok(("prt explain", explain_line(alloc)?)),
+        QuestionWord::Tables(Verb::Dump) => Ok(("prt dump", dump_line(alloc)?)),
+        QuestionWord::Diff => Ok(("prt diff", diff_line(alloc)?)),
+        QuestionWord::Import => Ok(("prt import", import_line(alloc)?)),
+    }
 }
 
-/// Tells what is wrong with the words of `dump`, in this text.
-pub(crate) fn dumping_fault(alloc: Global, text: &str) -> Fault
-    ensures { IsWordsFault dump result }
+/// Makes the error of words of a question of which the text tells what is wrong, in the form of those of a parse.
+fn asking_error(alloc: Global, word: QuestionWord, text: &str) -> Result<clap::Error, AllocError>
+    ensures { IfOk result (λ error. kind_of error ≡ ErrorKind.ValueValidation) }
 {
-    match dumping_error(alloc, text) {
+    let (name, line) = asking_line(alloc, word)?;
+    line.bin_name(name)?.error(ErrorKind::ValueValidation, text)
+}
+
+/// Tells what is wrong with the words of a question, in this text.
+pub(crate) fn asking_fault(alloc: Global, word: QuestionWord, text: &str) -> Fault
+    ensures { IsWordsFault ask result }
+{
+    match asking_error(alloc, word, text) {
         Ok(error) => Fault::Words(error),
         Err(_) => Fault::Opening(Refusal::NoMemory),
     }

@@ -1,13 +1,14 @@
 //! The words of the program `prt`: what they ask for, or why it runs nothing.
 #![tactic(auto)]
 
+mod asking;
 mod command_line;
-mod dumping;
 mod fault;
 mod serving;
 mod task;
 mod version;
 
+pub use asking::{Asked, Asking, Diffing, Form, Shown, Source, Verb};
 pub use fault::{DONE, FAULT, Fault, report, words_fault};
 pub use serving::Serving;
 pub use task::{Batch, Mode, STANDARD_INPUT, Task, read_words};

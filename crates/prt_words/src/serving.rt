@@ -11,7 +11,7 @@ use std::alloc::Global;
 use std::net::{Ipv4Addr, SocketAddrV4};
 
 /// What is wrong where no database is named.
-pub(crate) const NO_DATABASE: &str = "a value is required for '--db <PATH>'";
+const NO_DATABASE: &str = "a value is required for '--db <PATH>'";
 
 /// What is wrong with a place to listen at.
 const BAD_LISTEN: &str =
@@ -65,7 +65,7 @@ fn number_within(word: &str, least: u32, most: u32) -> Option<u32>
 }
 
 /// Reads `ADDR:PORT`, whose address is spelled as in a command.
-fn place_of(word: &str) -> Option<SocketAddrV4> {
+pub(crate) fn place_of(word: &str) -> Option<SocketAddrV4> {
     let (address, port) = word.split_once(':')?;
     let Addr(address) = read_addr(address.as_bytes()).ok()?;
     let port = number_within(port, 0, 65535)?;

@@ -5,8 +5,8 @@ ghost use Rattle.prt_words.specs.CommandLine.{IsConflict, IsModeBy, IsTaskOf, Is
 ghost use Rattle.prt_words.specs.Faults.{IsWordsFault};
 ghost use Rattle.prt_words.specs.Invocation.{arguments, file_of, invocation, usage_error};
 
+use crate::asking::{Asked, asked_in};
 use crate::command_line::command_line;
-use crate::dumping::dumped_database;
 use crate::fault::{Fault, conflict_fault};
 use crate::serving::{Serving, serving_of};
 use clap::ArgMatches;
@@ -21,9 +21,6 @@ const REPLAY: &str = "replay";
 
 /// The subcommand that serves sessions.
 const SERVE: &str = "serve";
-
-/// The subcommand that prints the commands of a database.
-const DUMP: &str = "dump";
 
 /// The word for standard input in the place of a file.
 pub const STANDARD_INPUT: &str = "-";
@@ -61,8 +58,8 @@ pub enum Task<'a> {
     Replay(Option<&'a str>),
     /// To serve sessions over TCP.
     Serve(Serving<'a>),
-    /// To print commands that make the database at this path anew.
-    Dump(&'a str),
+    /// To answer a question.
+    Ask(Asked<'a>),
 }
 
 /// Gives the path of an operand; none for `-`, which is standard input.
@@ -77,7 +74,7 @@ fn file_of(operand: &str) -> Option<&str>
 }
 
 /// Gives the path of the file that the matches of a subcommand name.
-fn file_in<'a>(matches: &ArgMatches<'a>) -> Option<&'a str>
+pub(crate) fn file_in<'a>(matches: &ArgMatches<'a>) -> Option<&'a str>
     ensures { option_map (λ path. path.now) result ≡ option_and_then file_of (first_of (codes "file") (rows_of (found_of matches.now))) }
 {
     matches.get_str("file").and_then(file_of)
@@ -122,7 +119,7 @@ fn mode_in(alloc: Global, matches: &ArgMatches<'_>) -> Result<Mode, Fault>
     Ok(Mode::InTurn(OnRefusal::Stop))
 }
 
-/// Tells what the matches of all words ask for, where that is neither to serve nor to dump.
+/// Tells what the matches of all words ask for, where that is neither to serve nor to answer a question.
 ///
 /// # Errors
 ///
@@ -159,7 +156,7 @@ fn task_of<'a>(alloc: Global, matches: &ArgMatches<'a>) -> Result<Task<'a>, Faul
 ///
 /// # Errors
 ///
-/// `Words` where they ask for help, for the version or for nothing that there is, where a value of `serve` is none that it may have, or where a script is to go on and to be executed together; `Opening` with `NoMemory` where memory is refused.
+/// `Words` where they ask for help, for the version or for nothing that there is, where a value of `serve` or of a question is none that it may have, or where a script is to go on and to be executed together; `Opening` with `NoMemory` where memory is refused.
 pub fn read_words<'a>(alloc: Global, words: &'a [String]) -> Result<Task<'a>, Fault>
     ensures task { IfOk result (λ task. invocation (arguments words.entry.now) ≡ invocation_of task) }
     ensures limits { IfOk result IsWithinLimits }
@@ -168,8 +165,8 @@ pub fn read_words<'a>(alloc: Global, words: &'a [String]) -> Result<Task<'a>, Fa
     let matches = command_line(alloc)?.try_get_matches_from(words)?;
     match matches.subcommand_matches(SERVE) {
         Some(found) => Ok(Task::Serve(serving_of(alloc, found)?)),
-        None => match matches.subcommand_matches(DUMP) {
-            Some(found) => Ok(Task::Dump(dumped_database(alloc, found)?)),
+        None => match asked_in(alloc, &matches)? {
+            Some(asked) => Ok(Task::Ask(asked)),
             None => task_of(alloc, &matches),
         },
     }

@@ -1,4 +1,4 @@
-# Bad words, help, a database that can't be opened, a full output, and a new database.
+# Bad words, help, databases that can't be opened or aren't there, a full output, and a new database.
 prt=$1
 "$prt" dump 2>/dev/null
 echo "status $?"
@@ -7,6 +7,9 @@ echo "status $?"
 "$prt" dump --help | head -n 1
 "$prt" dump --db missing/a.db 2>&1
 echo "status $?"
+"$prt" dump --db a.db 2>&1
+echo "status $?"
+"$prt" batch --db a.db </dev/null
 "$prt" dump --db a.db >/dev/full 2>errors
 echo "status $?"
 cat errors

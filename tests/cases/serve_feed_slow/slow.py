@@ -23,8 +23,8 @@ def main():
     slow, quick = Follower(server, room=2048), Follower(server)
     more = [Follower(server) for _ in range(14)]
     try:
-        print(Follower(server, tries=1).number)
-    except (OSError, ValueError):
+        print(Follower(server).number)
+    except OSError:
         print("no further feed")
     for other in more:
         other.close()

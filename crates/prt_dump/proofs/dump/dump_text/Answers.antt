@@ -17,6 +17,12 @@ returns-clause-plain c = record {
   routes = subst (Each (λ (route : Route). is_spelled (add_route route) ≡ true)) (c.deref.ensures.value ∙ c.in-Ok.ensures) (each_passes (λ (route : Route). is_spelled (add_route route)) c.deref.result.now c.in_ok-find_unplain.ensures.plain.1);
 }
 
+pub returns-clause-fits : goal.returns-clause-fits
+returns-clause-fits c = record {
+  rules = subst (Each (λ (rule : Rule). CommandFits (add_rule rule))) c.rules-2.ensures.value (recursion_from_All (λ (rule : Rule). CommandFits (add_rule rule)) c.rules-2.result.now c.recall_rules.ensures);
+  routes = subst (Each (λ (route : Route). CommandFits (add_route route))) (c.deref-2.ensures.value ∙ c.in-Ok.ensures) (recursion_from_All (λ (route : Route). CommandFits (add_route route)) c.deref-2.result.now c.recall_routes.ensures);
+}
+
 pub returns-clause-put_back : goal.returns-clause-put_back
 returns-clause-put_back c =
     let state = c.args.version.now in

@@ -8,10 +8,10 @@ pub returns-then-is_written : goal.returns-then-is_written
 returns-then-is_written g c =
     let is : c.deref.result.now ≡ line_state c.args.follower.now = cc in
     let counted : (line_state c.args.follower.now).count ≡ number_of c.args.follower.now = sym c.number-number.ensures.count ∙ c.number-number.ensures.value in
-    feeds_whole g.P.Spelling.line c.args.follower.now c.tell_on.new.follower c.deref.result.now c.write_opening-is_written.result c.tell_on.result _ _ _ c.if-is_written.true is counted c.write_opening-is_written.ensures c.tell_on.ensures
+    feeds_whole c.args.follower.now c.tell_on.new.follower c.deref.result.now c.write_opening-is_written.result c.tell_on.result _ _ _ c.if-is_written.true is counted c.write_opening-is_written.ensures c.tell_on.ensures
 
 pub returns-else-is_written : goal.returns-else-is_written
 returns-else-is_written g c =
     let is : c.deref.result.now ≡ line_state c.args.follower.now = cc in
     let counted : (line_state c.args.follower.now).count ≡ number_of c.args.follower.now = sym c.number-number.ensures.count ∙ c.number-number.ensures.value in
-    feeds_part g.P.Spelling.line c.args.follower.now c.deref.result.now c.write_opening-is_written.result _ _ c.if-is_written.false is counted c.write_opening-is_written.ensures
+    feeds_part c.args.follower.now c.deref.result.now c.write_opening-is_written.result _ _ c.if-is_written.false is counted c.write_opening-is_written.ensures

@@ -4,4 +4,4 @@ use Rattle.prt_serve.proofs.feed.tell_on.Given as goal
 
 -- what it learned was written
 abbrev pub invariant-loop : goal.invariant-loop
-invariant-loop g l = Tells g.P.Spelling.line l.initial.follower l.follower true (g.W.Write.contents l.initial.writer) (g.W.Write.contents l.writer)
+invariant-loop g l = Tells l.initial.follower l.follower true (g.W.Write.contents l.initial.writer) (g.W.Write.contents l.writer)

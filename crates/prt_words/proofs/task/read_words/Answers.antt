@@ -7,7 +7,7 @@ use Rattle.prt_words.specs.CommandLine.{command_line}
 use Rattle.prt_words.specs.Invocation.{invocation, arguments}
 use Rattle.prt_words.proofs.WordClasses.{simple_line, free_line}
 use Rattle.prt_words.proofs.ParsedWords.{words_agree}
-use Rattle.prt_words.proofs.WordsRead.{conflict_fault, conflicting_is, dumped_is, other_is, served_is, words_fault}
+use Rattle.prt_words.proofs.WordsRead.{asked_is, conflict_fault, conflicting_is, other_is, served_is, words_fault}
 use Rattle.prt_words.proofs.task.read_words.Goals as goal
 
 pub returns-in_err-matches-clause-fault : goal.returns-in_err-matches-clause-fault
@@ -37,21 +37,21 @@ returns-in-Some-clause-task c =
     let none = sym (ap (λ (a : App). fault_of a texts) line) ∙ c.in_ok-matches.ensures.kinds (ap is_simple_and_free line ∙ free_line) in
     served_is texts c.in_ok-matches.matches found none (c.subcommand_matches.ensures.found.0 (ap is_some c.in-Some.is))
 
-pub returns-in_err-dumped_database-in-Some-subcommand_matches-clause-fault : goal.returns-in_err-dumped_database-in-Some-subcommand_matches-clause-fault
-returns-in_err-dumped_database-in-Some-subcommand_matches-clause-fault c =
+pub returns-in_err-asked-in-None-clause-fault : goal.returns-in_err-asked-in-None-clause-fault
+returns-in_err-asked-in-None-clause-fault c =
     let texts : List (List ℕ) = map string_bytes c.args.words.now in
     let line = c.in_ok-command_line.ensures in
     let found = (c.in_ok-matches.ensures.matches (ap is_simple line ∙ simple_line)).1 ∙ ap (λ (a : App). subcommand_of a texts) line in
     let none = sym (ap (λ (a : App). fault_of a texts) line) ∙ c.in_ok-matches.ensures.kinds (ap is_simple_and_free line ∙ free_line) in
-    rw (dumped_is texts c.in_ok-matches.matches found none (c.subcommand_matches-in-None.ensures.found.0 (ap is_some c.in-Some-subcommand_matches.is))) (search rules)
+    rw (asked_is texts c.in_ok-matches.matches found none c.in_err-asked-in-None.ensures.fault.0) (search rules)
 
-pub returns-in-Some-subcommand_matches-clause-task : goal.returns-in-Some-subcommand_matches-clause-task
-returns-in-Some-subcommand_matches-clause-task c =
+pub returns-in-Some-2-clause-task : goal.returns-in-Some-2-clause-task
+returns-in-Some-2-clause-task c =
     let texts : List (List ℕ) = map string_bytes c.args.words.now in
     let line = c.in_ok-command_line.ensures in
     let found = (c.in_ok-matches.ensures.matches (ap is_simple line ∙ simple_line)).1 ∙ ap (λ (a : App). subcommand_of a texts) line in
     let none = sym (ap (λ (a : App). fault_of a texts) line) ∙ c.in_ok-matches.ensures.kinds (ap is_simple_and_free line ∙ free_line) in
-    dumped_is texts c.in_ok-matches.matches found none (c.subcommand_matches-in-None.ensures.found.0 (ap is_some c.in-Some-subcommand_matches.is))
+    asked_is texts c.in_ok-matches.matches found none (sym c.in_ok-asked-in-None.ensures.asked ∙ ap is_some c.in-Some-2.is)
 
 pub returns-clause-task : goal.returns-clause-task
 returns-clause-task c =
@@ -61,7 +61,7 @@ returns-clause-task c =
     let none = sym (ap (λ (a : App). fault_of a texts) line) ∙ c.in_ok-matches.ensures.kinds (ap is_simple_and_free line ∙ free_line) in
     IfOk-weaker c.task_of.result _ _ (λ task is. other_is texts c.in_ok-matches.matches task found none
     (λ named. absurd (true≢false (sym (c.subcommand_matches.ensures.found.1 named) ∙ ap is_some c.in-None.is)))
-    (λ named. absurd (true≢false (sym (c.subcommand_matches-in-None.ensures.found.1 named) ∙ ap is_some c.in-None-subcommand_matches.is))) is) c.task_of.ensures.task
+    (sym c.in_ok-asked-in-None.ensures.asked ∙ ap is_some c.in-None-2.is) is) c.task_of.ensures.task
 
 pub returns-clause-fault : goal.returns-clause-fault
 returns-clause-fault c =
@@ -71,4 +71,4 @@ returns-clause-fault c =
     let none = sym (ap (λ (a : App). fault_of a texts) line) ∙ c.in_ok-matches.ensures.kinds (ap is_simple_and_free line ∙ free_line) in
     conflict_fault (invocation (arguments c.args.words.now)) c.task_of.result (IfErr-weaker c.task_of.result _ _ (λ fault is. conflicting_is texts c.in_ok-matches.matches found none
     (λ named. absurd (true≢false (sym (c.subcommand_matches.ensures.found.1 named) ∙ ap is_some c.in-None.is)))
-    (λ named. absurd (true≢false (sym (c.subcommand_matches-in-None.ensures.found.1 named) ∙ ap is_some c.in-None-subcommand_matches.is))) is) c.task_of.ensures.conflict) c.task_of.ensures.fault
+    (sym c.in_ok-asked-in-None.ensures.asked ∙ ap is_some c.in-None-2.is) is) c.task_of.ensures.conflict) c.task_of.ensures.fault

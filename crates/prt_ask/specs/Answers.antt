@@ -1,0 +1,51 @@
+-- What a state answers.
+use Rattle.std.specs.Prelude.{◌≡◌, ◌⊎◌, ℕ, List}
+use Rattle.prt_command.specs.declared.request.Query.{Query}
+use Rattle.prt_command.specs.declared.request.Query.TheVariants.{Get, RouteShow, RuleShow}
+use Rattle.prt_diff.specs.Text.{changes_text}
+use Rattle.prt_dump.specs.PutBack.{IsWhyNot, dump_text}
+use Rattle.prt_dump.specs.declared.refusal.NotDumped.{NotDumped}
+use Rattle.prt_dump.specs.declared.refusal.NotDumped.TheVariants as dumps
+use Rattle.prt_explain.specs.Explanation.{explanation_text}
+use Rattle.json.specs.Json.{Json}
+use Rattle.prt_json.specs.Fields.{json_line}
+use Rattle.prt_json.specs.Json.{answer_json, routes_json, rules_json, tables_json}
+use Rattle.prt_listing.specs.QueryText.{query_text}
+use Rattle.prt_version.specs.State.{State}
+use Rattle.prt_words.specs.declared.asking.Form.TheVariants.{Lines, Json as InJson}
+use Rattle.prt_ask.specs.declared.question.Question.{Question}
+use Rattle.prt_ask.specs.declared.refusal.NotAnswered.{NotAnswered}
+use Rattle.prt_ask.specs.declared.refusal.NotAnswered.TheVariants.{Rule, Route, Change, NoMemory}
+use Rattle.prt_ask.specs.declared.question.Question.TheVariants as questions
+
+-- as `ip -j` answers a query
+abbrev pub query_json : Query → State → Json
+query_json (RouteShow selector) state = routes_json state selector
+query_json RuleShow state = rules_json state
+query_json (Get packet) state = answer_json state packet
+
+-- of a dump the lines that make the state anew, or all tables; of an explanation in JSON the answer alone; of a difference what brings the found state to this one
+abbrev pub answer : Question → State → List ℕ
+answer (questions.Dump Lines) state = dump_text state
+answer (questions.Dump InJson) state = json_line (tables_json state)
+answer (questions.Query query Lines) state = query_text state query
+answer (questions.Query query InJson) state = json_line (query_json query state)
+answer (questions.Explain packet Lines) state = explanation_text state packet
+answer (questions.Explain packet InJson) state = json_line (answer_json state packet)
+answer (questions.Diff found) state = changes_text found.now state
+
+-- why there is no dump, as why there is no answer
+abbrev pub as_answer : NotDumped → NotAnswered
+as_answer (dumps.Rule place) = Rule place
+as_answer (dumps.Route place) = Route place
+as_answer dumps.NoMemory = NoMemory
+
+-- a change has no line, or memory is refused
+abbrev pub IsOfChange : NotAnswered → Type 0
+IsOfChange reason = (reason ≡ Change) ⊎ (reason ≡ NoMemory)
+
+-- why a state has no answer: a dump in lines has a row without a line, or a difference a change without one; and memory may be refused
+abbrev pub IsNotAnswered : Question → State → NotAnswered → Type 0
+IsNotAnswered (questions.Dump Lines) state reason = (why : NotDumped) × IsWhyNot state why × (reason ≡ as_answer why)
+IsNotAnswered (questions.Diff found) state reason = IsOfChange reason
+IsNotAnswered question state reason = reason ≡ NoMemory

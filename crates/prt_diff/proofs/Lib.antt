@@ -1,0 +1,15 @@
+pub mod Members
+pub mod Runs
+pub mod RuleDeletes
+pub mod RuleAdds
+pub mod RuleClasses
+pub mod RouteDeletes
+pub mod RoutePuts
+pub mod SameRoutes
+pub mod BroughtRoutes
+pub mod Bring
+pub mod Nothing
+pub mod Finds
+pub mod Pushes
+pub mod RuleRuns
+pub mod Texts

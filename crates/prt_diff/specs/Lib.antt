@@ -1,0 +1,5 @@
+pub mod Routes
+pub mod Rules
+pub mod Changes
+pub mod Brought
+pub mod Text

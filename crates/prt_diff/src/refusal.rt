@@ -1,0 +1,10 @@
+use prt_command::Command;
+
+/// Why changes are not written as lines.
+#[derive(Clone, Copy, PartialEq)]
+pub enum NotWritten {
+    /// No line asks for this command.
+    NoLine(Command),
+    /// Memory was refused.
+    NoMemory,
+}

@@ -1,0 +1,72 @@
+//! The lines of the commands that bring one version to another.
+ghost use Rattle.std.specs.Prelude.{◌≡◌, ◌++◌, All, IfErr, IfOk, OnOk, codes};
+ghost use Rattle.prt_spelling.specs.Line.{command_line};
+ghost use Rattle.prt_spelling.specs.Spelled.{IsWhyNotSpelled};
+ghost use Rattle.prt_diff.specs.Changes.{changes};
+ghost use Rattle.prt_diff.specs.Text.{IsAskedFor, IsWhyNotWritten, changes_text, commands_text};
+
+use crate::diff::changes;
+use crate::refusal::NotWritten;
+use prt_command::Command;
+use prt_listing::push_text;
+use prt_spelling::{NotSpelled, command_line};
+use prt_version::Version;
+use std::alloc::{AllocError, Global};
+
+/// Appends these bytes, and a newline.
+fn push_line(text: &mut Vec<u8>, line: &[u8]) -> Result<(), AllocError>
+    ensures { OnOk result (text.new.items ≡ text.old.items ++ (line.now ++ codes "\n")) }
+{
+    text.extend_from_slice(line)?;
+    push_text(text, "\n")
+}
+
+/// Appends the line of the command, and a newline.
+fn push_command(alloc: Global, text: &mut Vec<u8>, command: &Command) -> Result<(), NotSpelled>
+    ensures text { OnOk result (text.new.items ≡ text.old.items ++ (command_line command.now ++ codes "\n")) }
+    ensures read { OnOk result (IsAskedFor command.now) }
+    ensures reason { IfErr result (λ reason. IsWhyNotSpelled command.now reason) }
+{
+    let line = command_line(alloc, command)?;
+    let Ok(()) = push_line(text, &line) else {
+        return Err(NotSpelled::NoMemory);
+    };
+    Ok(())
+}
+
+/// Gives the lines of the commands, each with a newline.
+fn commands_text(alloc: Global, commands: &[Command]) -> Result<Vec<u8>, NotWritten>
+    ensures text { IfOk result (λ text. text.items ≡ commands_text commands.now) }
+    ensures read { IfOk result (λ text. All IsAskedFor commands.now) }
+    ensures reason { IfErr result (λ reason. IsWhyNotWritten commands.now reason) }
+{
+    let mut text = Vec::new(alloc);
+    for command in commands {
+        match push_command(alloc, &mut text, command) {
+            Ok(()) => {}
+            Err(NotSpelled::NoLine) => return Err(NotWritten::NoLine(*command)),
+            Err(NotSpelled::NoMemory) => return Err(NotWritten::NoMemory),
+        }
+    }
+    Ok(text)
+}
+
+/// Gives the lines of what [`changes`] gives, as `ip -batch` reads them: each asks for its command, and ends with a
+/// newline. Where nothing differs there are none.
+///
+/// [`changes`]: crate::changes
+///
+/// # Errors
+///
+/// `NoLine` with the first command that no line asks for: of a rule or a route with an interface whose name has `#`, a
+/// control byte or a byte above 0x7e, or that a table may not hold. `NoMemory` may come instead.
+pub fn changes_text(alloc: Global, found: &Version, wanted: &Version) -> Result<Vec<u8>, NotWritten>
+    ensures text { IfOk result (λ text. text.items ≡ changes_text found.now wanted.now) }
+    ensures read { IfOk result (λ text. All IsAskedFor (changes found.now wanted.now)) }
+    ensures reason { IfErr result (λ reason. IsWhyNotWritten (changes found.now wanted.now) reason) }
+{
+    let Ok(commands) = changes(alloc, found, wanted) else {
+        return Err(NotWritten::NoMemory);
+    };
+    commands_text(alloc, &commands)
+}

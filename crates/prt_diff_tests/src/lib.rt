@@ -1,0 +1,5 @@
+//! Tests of the changes between two versions.
+#![tactic(auto)]
+
+#[cfg(test)]
+mod changes;

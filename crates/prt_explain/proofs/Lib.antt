@@ -1,0 +1,4 @@
+pub mod AskedRules
+pub mod Lookups
+pub mod RunnersUp
+pub mod Texts

@@ -1,0 +1,3 @@
+pub mod Explanation
+pub mod Asked
+pub mod Steps

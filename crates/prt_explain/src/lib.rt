@@ -1,0 +1,13 @@
+//! Why a packet goes where it goes, as a text for people: each rule that is asked, what it finds, and the answer.
+#![tactic(auto)]
+
+mod explanation;
+mod laws;
+mod lookup;
+mod mismatch;
+mod notes;
+
+pub use explanation::explanation_text;
+pub use laws::{
+    asks_up_to_decider, ends_with_answer, mismatch_is_told, runner_up_is_next, silence_is_told,
+};

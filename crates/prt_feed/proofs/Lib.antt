@@ -1,0 +1,6 @@
+pub mod Rules
+pub mod Steps
+pub mod Lines
+pub mod Texts
+pub mod Taking
+pub mod Sent

@@ -1,0 +1,5 @@
+pub mod Feed
+pub mod Following
+pub mod Numbered
+pub mod Reading
+pub mod Steps

@@ -1,0 +1,15 @@
+//! What a feed sends, and what a client makes of it.
+#![tactic(auto)]
+
+mod laws;
+mod opening;
+mod reading;
+mod text;
+
+pub use laws::{
+    changes_are_followed, feed_is_followed, opening_is_read, sent_opening_is_read,
+    text_has_one_reading,
+};
+pub use opening::{NotRead, Opening};
+pub use reading::read_opening;
+pub use text::{change_line, opening_text};

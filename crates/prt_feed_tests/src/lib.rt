@@ -1,0 +1,5 @@
+//! Tests of feeds.
+#![tactic(auto)]
+
+#[cfg(test)]
+mod feeds;

@@ -1,0 +1,5 @@
+use Rattle.std.proofs.Common.{inr}
+use Rattle.prt_host.proofs.asking.ask_server.Goals as goal
+
+pub returns-in-Ok-clause-part : goal.returns-in-Ok-clause-part
+returns-in-Ok-clause-part g c = λ not_done. inr (_, c.write_answer.ensures.part _ c.answer-answered.ensures.text not_done)

@@ -1,0 +1,46 @@
+//! What is asked from outside a session.
+ghost use Rattle.std.specs.Prelude.{◌≡◌, ◌≢◌, ◌⊎◌};
+ghost use Rattle.prt_host.specs.Asking.{IsDone, IsNotDone, IsTouched};
+
+use crate::asking::{REFUSED, ask};
+use crate::databases::DatabaseFiles;
+use crate::importing::{diff, import_script};
+use crate::machine::Machine;
+use prt_words::{Asked, DONE, FAULT};
+use sqlite::{Alter, Connection};
+use std::alloc::{Alloc, Global};
+use std::fs::Files;
+use std::io::{Read, Write};
+use std::net::Net;
+use std::sync::Wait;
+
+/// Answers what is asked, and gives the exit status: that of `ask`, `diff` or `import_script`.
+pub(crate) fn answer_question<
+    S: Alter + Drop,
+    M: Machine<Connection<S>> + Drop,
+    F: Files + Alloc + Clone + Drop,
+    N: Net + Wait + Copy + Drop,
+    R: Read,
+    W: Write,
+    E: Write,
+>(
+    databases: &mut DatabaseFiles<'_, S, M, F, N>,
+    alloc: Global,
+    asked: &Asked<'_>,
+    input: &mut R,
+    output: &mut W,
+    errors: &mut E,
+) -> u8
+    ensures status { (result ≡ DONE) ⊎ ((result ≡ REFUSED) ⊎ (result ≡ FAULT)) }
+    ensures whole { result ≡ DONE → IsDone S.Store M.opens M.refuses M.closes databases.old.machine databases.new.machine (W.contents output.old) (W.contents output.new) asked.now }
+    ensures part { result ≢ DONE → IsNotDone S.Store M.opens M.refuses M.closes databases.old.machine databases.new.machine (W.contents output.old) (W.contents output.new) asked.now }
+    ensures touched { IsTouched S.Store M.opens M.refuses M.closes databases.old.machine databases.new.machine asked.now }
+{
+    match asked {
+        Asked::Tables(asking) => ask(databases, alloc, asking, output, errors),
+        Asked::Diff(diffing) => diff(databases, alloc, diffing, input, output, errors),
+        Asked::Import(file) => {
+            import_script(databases.files, alloc, *file, input, output, errors)
+        }
+    }
+}

@@ -1,0 +1,5 @@
+pub mod Cuts
+pub mod Translating
+pub mod Parts
+pub mod ScriptLines
+pub mod Executing

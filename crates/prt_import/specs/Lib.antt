@@ -1,0 +1,14 @@
+pub mod Known
+pub mod Lines
+pub mod Then
+pub mod Fault
+pub mod TableNames
+pub mod Steps
+pub mod Translation
+pub mod NewLines
+pub mod Told
+pub mod Script
+pub mod Draft
+pub mod Imported
+pub mod ScriptLines
+pub mod Accepted

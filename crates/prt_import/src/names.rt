@@ -1,0 +1,93 @@
+//! Names of tables.
+ghost use Rattle.std.specs.Prelude.{◌≡◌, [], ◌∷◌, ◌++◌, MatchOption, OnOk};
+ghost use Rattle.prt_command.specs.Reading.{line_words};
+ghost use Rattle.prt_route.specs.Names.{number_in};
+ghost use Rattle.prt_import.specs.TableNames.{entry_of, file_names, names_of};
+
+use crate::lines::next_line;
+use prt_addr::read_number;
+use prt_command::{is, line_text, next_word};
+use std::alloc::{AllocError, Global};
+
+/// A name and the number of its table.
+#[derive(Drop)]
+struct Named {
+    name: Vec<u8>,
+    number: u32,
+}
+
+/// Names of tables, as `/etc/iproute2/rt_tables` and the files of `rt_tables.d` give them.
+#[derive(Drop)]
+pub struct Names {
+    entries: Vec<Named>,
+    alloc: Global,
+}
+
+/// Reads a line `NUMBER NAME`.
+fn read_entry(line: &[u8]) -> Option<(u32, &[u8])>
+    ensures { MatchOption result (entry_of (line_words line.now) ≡ []) (λ entry. entry_of (line_words line.now) ≡ (entry.1.now, entry.0) ∷ []) }
+{
+    let text = line_text(line).ok()?;
+    let (number, rest) = next_word(text)?;
+    let (name, _) = next_word(rest)?;
+    Some((read_number(number).ok()?, name))
+}
+
+impl Names {
+    /// Begins with no names.
+    pub fn new(alloc: Global) -> Names
+        ensures { names_of result ≡ [] }
+    {
+        Names {
+            entries: Vec::new(alloc),
+            alloc,
+        }
+    }
+
+    /// Adds a name.
+    fn push(&mut self, number: u32, name: &[u8]) -> Result<(), AllocError>
+        ensures { OnOk result (names_of self.new ≡ names_of self.old ++ (name.now, number) ∷ []) }
+    {
+        let name = Vec::from_slice(self.alloc, name)?;
+        self.entries.push(Named { name, number })?;
+        Ok(())
+    }
+
+    /// Adds the name of a line, if it has one.
+    fn push_line(&mut self, line: &[u8]) -> Result<(), AllocError>
+        ensures { OnOk result (names_of self.new ≡ names_of self.old ++ entry_of (line_words line.now)) }
+    {
+        match read_entry(line) {
+            Some((number, name)) => self.push(number, name),
+            None => Ok(()),
+        }
+    }
+
+    /// Adds the names of a file: of each line that is `NUMBER NAME`. A `#` begins a comment; other lines say nothing.
+    ///
+    /// # Errors
+    ///
+    /// Memory is refused; some of the names may have been added.
+    pub fn read(&mut self, text: &[u8]) -> Result<(), AllocError>
+        ensures { OnOk result (names_of self.new ≡ names_of self.old ++ file_names text.now) }
+    {
+        let mut rest = text;
+        while let Some((line, after)) = next_line(rest) {
+            self.push_line(line)?;
+            rest = after;
+        }
+        Ok(())
+    }
+
+    /// Finds the number of the table with this name, the first of them if there are several.
+    pub fn find(&self, name: &[u8]) -> Option<u32>
+        ensures { result ≡ number_in (names_of self.now) name.now }
+    {
+        for entry in &self.entries {
+            if is(name, &entry.name) {
+                return Some(entry.number);
+            }
+        }
+        None
+    }
+}

@@ -1,0 +1,113 @@
+//! What is told of the words of a line.
+ghost use Rattle.std.specs.Prelude.{◌≡◌, ◌++◌, OnOk, map};
+ghost use Rattle.prt_command.specs.Reading.{words};
+ghost use Rattle.prt_import.specs.TableNames.{names_of};
+ghost use Rattle.prt_import.specs.declared.step.Place.TheVariants.{Destination};
+ghost use Rattle.prt_import.specs.Told.{fault_word, is_kernels, is_kernels_value, note_of, noted, notes_of, numbered, remark_of};
+
+use crate::known::{Meaning, Object, Role, meaning_of};
+use crate::left::{Left, Source};
+use crate::names::Names;
+use crate::reason::Reason;
+use crate::step::{Place, step_of};
+use prt_command::{is, next_word};
+use std::alloc::{AllocError, Global};
+
+/// Finds the word for which a line has to be left out, in a text that begins at this place of the line; an empty word where
+/// there is none.
+pub(crate) fn word_at_fault<'a>(
+    names: &Names,
+    object: Object,
+    place: Place,
+    text: &'a [u8],
+) -> &'a [u8]
+    ensures { result.now ≡ fault_word (names_of names.now) object place (words text.now) }
+{
+    let mut place = place;
+    let mut rest = text;
+    while let Some((word, after)) = next_word(rest) {
+        match step_of(names, object, place, word) {
+            Ok(step) => place = step.next,
+            Err(_) => return word,
+        }
+        rest = after;
+    }
+    &text[..0]
+}
+
+/// Tells why a word of a route's line is left off, where that is told.
+fn note_of(place: Place, word: &[u8]) -> Option<Reason>
+    ensures { result ≡ note_of place word.now }
+{
+    match (place, meaning_of(Object::Route, word)) {
+        (Place::Item, Some(Meaning::Told(reason))) => Some(reason),
+        (Place::Item, Some(Meaning::Before(Role::Metric))) => Some(Reason::Metric),
+        _ => None,
+    }
+}
+
+/// Tells of a word of a route's line, if it is one that is told.
+fn push_note(
+    alloc: Global,
+    notes: &mut Vec<Left>,
+    source: Source<'_>,
+    place: Place,
+    word: &[u8],
+) -> Result<(), AllocError>
+    ensures { OnOk result (map remark_of notes.new.items ≡ map remark_of notes.old.items ++ noted (numbered source.entry) word.now (note_of place word.now)) }
+{
+    match note_of(place, word) {
+        Some(reason) => {
+            notes.push(Left::new(alloc, source, word, reason)?)?;
+            Ok(())
+        }
+        None => Ok(()),
+    }
+}
+
+/// Tells of each word of a route's line that is left off.
+pub(crate) fn push_notes(
+    alloc: Global,
+    notes: &mut Vec<Left>,
+    source: Source<'_>,
+    names: &Names,
+) -> Result<(), AllocError>
+    ensures { OnOk result (map remark_of notes.new.items ≡ map remark_of notes.old.items ++ notes_of (names_of names.now) (numbered source.entry) Destination (words source.entry.line.now)) }
+{
+    let mut place = Place::Destination;
+    let mut rest = source.line;
+    while let Some((word, after)) = next_word(rest) {
+        let Ok(step) = step_of(names, Object::Route, place, word) else {
+            return Ok(());
+        };
+        push_note(alloc, notes, source, place, word)?;
+        place = step.next;
+        rest = after;
+    }
+    Ok(())
+}
+
+/// Tells whether a word and its value say that the kernel made a route: by its protocol, or in table local.
+fn is_kernels_value(word: &[u8], value: &[u8]) -> bool
+    ensures { result ≡ is_kernels_value word.now value.now }
+{
+    (is(word, b"proto") && is(value, b"kernel")) || (is(word, b"table") && is(value, b"local"))
+}
+
+/// Tells whether a route's line says that the kernel made it: it has the kernel's protocol, or is in table local.
+pub(crate) fn is_kernels(text: &[u8]) -> bool
+    ensures { result ≡ is_kernels (words text.now) }
+{
+    let mut before: &[u8] = b"";
+    let mut rest = text;
+    while let Some((word, after)) = next_word(rest) {
+        if is(before, b"proto") && is(word, b"kernel")
+            || is(before, b"table") && is(word, b"local")
+        {
+            return true;
+        }
+        before = word;
+        rest = after;
+    }
+    false
+}

@@ -1,0 +1,7 @@
+//! Tests of scripts of what `ip` printed.
+#![tactic(auto)]
+
+#[cfg(test)]
+mod listings;
+#[cfg(test)]
+mod told;

@@ -1,0 +1,6 @@
+pub mod Fields
+pub mod RouteJson
+pub mod RuleJson
+pub mod AnswerJson
+pub mod Json
+pub mod Steps

@@ -1,0 +1,5 @@
+//! Tests of routes, rules and answers as JSON.
+#![tactic(auto)]
+
+#[cfg(test)]
+mod shown;

@@ -1,0 +1,297 @@
+//! What the words of a question ask for: those of `get`, `show`, `explain`, `dump`, `diff` and `import`.
+ghost use Rattle.std.specs.Prelude.{◌≡◌, IfErr, IfOk, Some, is_some, true};
+ghost use Rattle.clap.specs.Words.{subcommand_name_of};
+ghost use Rattle.prt_words.specs.CommandLine.{asks_question};
+ghost use Rattle.prt_words.specs.Faults.{IsWordsFault};
+ghost use Rattle.prt_words.specs.Invocation.{ask};
+
+use crate::fault::{Fault, asking_fault};
+use crate::serving::place_of;
+use crate::task::file_in;
+use clap::ArgMatches;
+use prt_refusals::Refusal;
+use std::alloc::{AllocError, Global};
+use std::net::SocketAddrV4;
+
+/// What is wrong where no tables are named, or more than one.
+const NO_TABLES: &str = "one of '--db <PATH>' and '--server <ADDR:PORT>' is required, and not both";
+
+/// What is wrong with a place of a server.
+const BAD_SERVER: &str =
+    "invalid value for '--server <ADDR:PORT>': it is an IPv4 address, `:` and a port of 0 to 65535";
+
+/// What is wrong where no packet is named.
+const NO_ADDRESS: &str = "a value is required for '<ADDRESS>...'";
+
+/// The subcommand that says which route a packet gets.
+const GET: &str = "get";
+
+/// The subcommand that lists routes or rules.
+const SHOW: &str = "show";
+
+/// The subcommand that says why a packet gets its route.
+const EXPLAIN: &str = "explain";
+
+/// The subcommand that prints the commands of a database.
+const DUMP: &str = "dump";
+
+/// The subcommand that prints what brings the kernel to a database.
+const DIFF: &str = "diff";
+
+/// The subcommand that makes a script of what `ip` prints.
+const IMPORT: &str = "import";
+
+/// Where the tables are that are asked.
+#[derive(Clone, Copy)]
+pub enum Source<'a> {
+    /// In the database file at this path.
+    Database(&'a str),
+    /// At the server whose feed is at this place.
+    Server(SocketAddrV4),
+}
+
+/// In which form an answer is written.
+#[derive(Clone, Copy)]
+pub enum Form {
+    /// In lines for a person, or for a script.
+    Lines,
+    /// In JSON.
+    Json,
+}
+
+/// What is asked of tables.
+#[derive(Clone, Copy)]
+pub enum Verb {
+    /// Which route a packet gets.
+    Get,
+    /// Which routes or rules there are.
+    Show,
+    /// Why a packet gets its route.
+    Explain,
+    /// Which commands make the tables anew.
+    Dump,
+}
+
+/// A question to tables, as they are at one moment.
+#[derive(Drop)]
+pub struct Asking<'a> {
+    pub source: Source<'a>,
+    pub verb: Verb,
+    /// The line of a script that asks it: `route get` or `route show` and the words that were given, or `rule show`. Of a
+    /// dump it says nothing.
+    pub line: Vec<u8>,
+    pub form: Form,
+}
+
+/// What is shown of what differs.
+#[derive(Clone, Copy)]
+pub enum Shown {
+    /// The lines that make it the same.
+    Lines,
+    /// Whether anything differs, by the status alone.
+    Status,
+}
+
+/// A question of what differs between what `ip` prints and tables.
+#[derive(Drop)]
+pub struct Diffing<'a> {
+    pub source: Source<'a>,
+    /// The path of what `ip` printed; standard input where there is none.
+    pub file: Option<&'a str>,
+    pub shown: Shown,
+}
+
+/// What is asked from outside a session.
+#[derive(Drop)]
+pub enum Asked<'a> {
+    /// What tables answer.
+    Tables(Asking<'a>),
+    /// What differs from tables.
+    Diff(Diffing<'a>),
+    /// Which script makes what `ip` printed, in the file of this path; on standard input where there is none.
+    Import(Option<&'a str>),
+}
+
+/// A subcommand that asks a question.
+#[derive(Clone, Copy)]
+pub(crate) enum QuestionWord {
+    Tables(Verb),
+    Diff,
+    Import,
+}
+
+/// Gives the subcommand of a name, if it asks a question.
+fn question_word(name: &str) -> Option<QuestionWord>
+    ensures { is_some result ≡ asks_question (Some name.now) }
+{
+    if name == GET {
+        Some(QuestionWord::Tables(Verb::Get))
+    } else if name == SHOW {
+        Some(QuestionWord::Tables(Verb::Show))
+    } else if name == EXPLAIN {
+        Some(QuestionWord::Tables(Verb::Explain))
+    } else if name == DUMP {
+        Some(QuestionWord::Tables(Verb::Dump))
+    } else if name == DIFF {
+        Some(QuestionWord::Diff)
+    } else if name == IMPORT {
+        Some(QuestionWord::Import)
+    } else {
+        None
+    }
+}
+
+/// Gives the words that begin the line of a question, and those of the given ones that follow.
+fn opening_of<'b, 'a>(verb: Verb, words: &'b [&'a str]) -> (&'static str, &'b [&'a str]) {
+    let Verb::Show = verb else {
+        return ("route get", words);
+    };
+    match words.split_first() {
+        Some((object, rest)) if *object == "rule" => ("rule show", rest),
+        Some((object, rest)) if *object == "route" => ("route show", rest),
+        _ => ("route show", words),
+    }
+}
+
+/// Makes the line that asks a question.
+fn line_of(alloc: Global, verb: Verb, words: &[&str]) -> Result<Vec<u8>, AllocError> {
+    let (opening, rest) = opening_of(verb, words);
+    let mut line = Vec::from_slice(alloc, opening.as_bytes())?;
+    for word in rest {
+        line.push(b' ')?;
+        line.extend_from_slice(word.as_bytes())?;
+    }
+    Ok(line)
+}
+
+/// Why words ask nothing.
+#[derive(Clone, Copy)]
+enum BadQuestion {
+    /// The text says what is wrong with them.
+    Words(&'static str),
+    /// Memory is refused.
+    NoMemory,
+}
+
+impl From<AllocError> for BadQuestion {
+    fn from(_: AllocError) -> BadQuestion {
+        BadQuestion::NoMemory
+    }
+}
+
+/// Gives where the tables are that the matches name.
+///
+/// # Errors
+///
+/// They name none or two, or a place that is none.
+fn source_in<'a>(matches: &ArgMatches<'a>) -> Result<Source<'a>, BadQuestion> {
+    match (matches.get_str("db"), matches.get_str("server")) {
+        (Some(path), None) => Ok(Source::Database(path)),
+        (None, Some(word)) => match place_of(word) {
+            Some(place) => Ok(Source::Server(place)),
+            None => Err(BadQuestion::Words(BAD_SERVER)),
+        },
+        _ => Err(BadQuestion::Words(NO_TABLES)),
+    }
+}
+
+/// Gives the words of the question that the matches have.
+///
+/// # Errors
+///
+/// They have none, where there have to be some.
+fn words_in<'b, 'a>(verb: Verb, matches: &'b ArgMatches<'a>) -> Result<&'b [&'a str], BadQuestion> {
+    match (verb, matches.get_strs("words")) {
+        (_, Some(words)) => Ok(words),
+        (Verb::Get | Verb::Explain, None) => Err(BadQuestion::Words(NO_ADDRESS)),
+        (Verb::Show | Verb::Dump, None) => Ok(&[]),
+    }
+}
+
+/// Tells what the matches of a question to tables ask for.
+///
+/// # Errors
+///
+/// What is wrong with them, or that memory is refused.
+fn asking_of<'a>(
+    alloc: Global,
+    verb: Verb,
+    matches: &ArgMatches<'a>,
+) -> Result<Asking<'a>, BadQuestion> {
+    let source = source_in(matches)?;
+    let words = words_in(verb, matches)?;
+    let form = if matches.get_flag("json") {
+        Form::Json
+    } else {
+        Form::Lines
+    };
+    let line = line_of(alloc, verb, words)?;
+    Ok(Asking {
+        source,
+        verb,
+        line,
+        form,
+    })
+}
+
+/// Tells what the matches of `diff` ask for.
+///
+/// # Errors
+///
+/// What is wrong with them.
+fn diffing_of<'a>(matches: &ArgMatches<'a>) -> Result<Diffing<'a>, BadQuestion> {
+    let source = source_in(matches)?;
+    let shown = if matches.get_flag("check") {
+        Shown::Status
+    } else {
+        Shown::Lines
+    };
+    Ok(Diffing {
+        source,
+        file: file_in(matches),
+        shown,
+    })
+}
+
+/// Tells what the matches of a question's subcommand ask for.
+///
+/// # Errors
+///
+/// What is wrong with them, or that memory is refused.
+fn asked_of<'a>(
+    alloc: Global,
+    word: QuestionWord,
+    matches: &ArgMatches<'a>,
+) -> Result<Asked<'a>, BadQuestion> {
+    match word {
+        QuestionWord::Tables(verb) => Ok(Asked::Tables(asking_of(alloc, verb, matches)?)),
+        QuestionWord::Diff => Ok(Asked::Diff(diffing_of(matches)?)),
+        QuestionWord::Import => Ok(Asked::Import(file_in(matches))),
+    }
+}
+
+/// Tells what the matches of all words ask, where they ask a question.
+///
+/// # Errors
+///
+/// `Words` where they name no tables, or two, or have no address where one has to be; `Opening` with `NoMemory` where
+/// memory is refused. They ask a question then.
+pub(crate) fn asked_in<'a>(
+    alloc: Global,
+    matches: &ArgMatches<'a>,
+) -> Result<Option<Asked<'a>>, Fault>
+    ensures asked { IfOk result (λ asked. is_some asked ≡ asks_question (subcommand_name_of matches.now)) }
+    ensures fault { IfErr result (λ fault. (asks_question (subcommand_name_of matches.now) ≡ true) × IsWordsFault ask fault) }
+{
+    let Some((name, found)) = matches.subcommand() else {
+        return Ok(None);
+    };
+    let Some(word) = question_word(name) else {
+        return Ok(None);
+    };
+    match asked_of(alloc, word, found) {
+        Ok(asked) => Ok(Some(asked)),
+        Err(BadQuestion::Words(text)) => Err(asking_fault(alloc, word, text)),
+        Err(BadQuestion::NoMemory) => Err(Fault::Opening(Refusal::NoMemory)),
+    }
+}
