@@ -1,8 +1,9 @@
 """Rules and routes that `ip` made at random are imported, changed, and brought back: the kernel then has what the database has.
 
     diff.py PROGRAM NAMESPACE ROUNDS
+    diff.py PROGRAM NAMESPACE SCRIPT ..
 
-In each round the namespace gets random rules and routes, and a database gets what was imported of them and a random script.
+Of scripts the kernel gets the tables of each. Else in each round the namespace gets random rules and routes, and a database gets what was imported of them and a random script.
 Then `ip -batch` executes what `prt diff` prints. After it nothing differs, the listings are equal, and the kernel and the
 database answer packets alike.
 """
@@ -12,7 +13,7 @@ import random
 import subprocess
 import sys
 
-PROGRAM, SPACE, ROUNDS = sys.argv[1], sys.argv[2], int(sys.argv[3])
+PROGRAM, SPACE = sys.argv[1], sys.argv[2]
 DEVICES = ["d0", "d1", "d2"]
 TABLES = ["main", "default", "7", "100", "1000000"]
 PROBES = 30
@@ -74,12 +75,12 @@ def rule(random, priority):
     return " ".join(parts)
 
 
-def make_space():
-    for number, device in enumerate(DEVICES):
+def make_space(addresses):
+    for number, (device, address) in enumerate(addresses.items()):
         # Both ends of a cable, since not each kernel has devices without one.
         ip("link", "add", device, "type", "veth", "peer", "name", "p%d" % number)
         ip("link", "set", "p%d" % number, "up")
-        ip("address", "add", "192.0.%d.1/24" % number, "dev", device)
+        ip("address", "add", address, "dev", device)
         ip("link", "set", device, "up")
     ip("link", "set", "lo", "up")
 
@@ -135,12 +136,25 @@ def probes(random):
     return wrong
 
 
+def without_database():
+    for name in ["routes.db", "routes.db-wal"]:
+        if os.path.exists(name):
+            os.remove(name)
+
+
+def one_script(script):
+    """Brings the kernel to the tables of a script."""
+    without_database()
+    prt("batch", "--force", "--db", "routes.db", script)
+    difference = prt("diff", "--db", "routes.db", input=listed())
+    done = ip("-batch", "-", input=difference.stdout)
+    again = prt("diff", "--db", "routes.db", "--check", input=listed())
+    print("%s: %d lines, %s" % (os.path.basename(script), len(difference.stdout.splitlines()), done.stderr or "the same" if again.returncode == 0 else "other"))
+
+
 def one_round(random):
     fill_space(random)
-    if os.path.exists("routes.db"):
-        for name in ["routes.db", "routes.db-wal"]:
-            if os.path.exists(name):
-                os.remove(name)
+    without_database()
     found = listed()
     imported = prt("import", input=found)
     if imported.returncode:
@@ -160,13 +174,18 @@ def one_round(random):
 
 
 def main():
-    make_space()
-    lines = wrong = 0
-    for seed in range(ROUNDS):
+    if not sys.argv[3].isdigit():
+        make_space({"eth0": "192.0.2.10/24", "eth1": "198.51.100.10/24", "wg0": "10.200.0.1/32"})
+        for script in sys.argv[3:]:
+            one_script(script)
+        return
+    make_space({device: "192.0.%d.1/24" % number for number, device in enumerate(DEVICES)})
+    rounds, lines, wrong = int(sys.argv[3]), 0, 0
+    for seed in range(rounds):
         changed, differ = one_round(random.Random(seed))
         lines += changed
         wrong += differ
-    print("%d rounds, %s lines, %d packets answered otherwise" % (ROUNDS, "many" if lines > ROUNDS else lines, wrong))
+    print("%d rounds, %s lines, %d packets answered otherwise" % (rounds, "many" if lines > rounds else lines, wrong))
 
 
 main()
