@@ -16,7 +16,7 @@ too_low : (j k : ℕ) → k + 1 ≤ j → j ≡ k → ⊥
 too_low j k above same = omega (arith, above, same)
 
 pub one_more : (state : State) (packets : List PacketC) (before after : List AnswerC) (k : ℕ) (packet : PacketC) (answer : AnswerC)
-    → k < length packets → k < length before → AreAnswers state packets before after k → Ok answer ≡ answer_to state (slice_index_or packets k packet)
+    → k < length packets → k < length before → AreAnswers state packets before after k → answer_to state (slice_index_or packets k packet) ≡ Ok answer
     → AreAnswers state packets before (slice_set after k answer) (k + 1)
 one_more state packets before after k packet answer in_packets in_before done found =
     let in_after : k < length after = let size = done.size in omega (arith, size, in_before) in
@@ -26,7 +26,7 @@ one_more state packets before after k packet answer in_packets in_before done fo
         | inl same ↦
             ap (λ n. answer_to state (slice_index_or packets n q)) same.1
             ∙ ap (answer_to state) (get_or_default packets k q packet in_packets)
-            ∙ sym found
+            ∙ found
             ∙ ap (λ r. Ok r) (sym (ap (λ n. slice_index_or (slice_set after k answer) n b) same.1 ∙ get_or-set_same after k answer b in_after))
         | inr other ↦
             let ne = other.1 in

@@ -21,5 +21,9 @@ interface_named (b ∷ bs) = ok_or (device (b ∷ bs)) BadName
 abbrev pub interface_of : List ℕ → Result (List ℕ) Refusal
 interface_of bytes = interface_named (name_in bytes)
 
+-- the packet, with the name of its interface
+abbrev pub packet_by : PacketC → List ℕ → Packet
+packet_by packet name = record { dst = record { 0 = packet.destination }; src = record { 0 = packet.source }; iif = name; mark = packet.mark }
+
 abbrev pub packet_of : PacketC → Result Packet Refusal
-packet_of packet = interface_of packet.interface >>= λ name. Ok (record { dst = record { 0 = packet.destination }; src = record { 0 = packet.source }; iif = name; mark = packet.mark })
+packet_of packet = interface_of packet.interface >>= λ name. Ok (packet_by packet name)

@@ -83,79 +83,84 @@ fn addr_number(addr: Option<Addr>) -> u32
     }
 }
 
-/// Puts zeros after a name, at least one.
-fn zero_ended(name: &[u8]) -> [u8; NAME_BYTES]
-    ensures { result ≡ zero_ended name.now }
+/// Writes a name with zeros after it, at least one.
+fn write_zero_ended(name: &[u8], bytes: &mut [u8; NAME_BYTES])
+    ensures { bytes.new ≡ zero_ended name.now }
 {
-    let mut bytes = [0u8; NAME_BYTES];
+    *bytes = [0; NAME_BYTES];
     let len = if name.len() < NAME_BYTES {
         name.len()
     } else {
         NAME_BYTES - 1
     };
     bytes[..len].copy_from_slice(&name[..len]);
-    bytes
 }
 
-/// Gives the bytes of an interface's name; all zeros where there is none.
-fn name_bytes(dev: &Option<Dev>) -> [u8; NAME_BYTES]
-    ensures { result ≡ name_bytes dev.now }
+/// Writes the bytes of an interface's name, with zeros after it.
+// Out of line and by value: a copy of a length that is not known keeps the compiler from taking a route apart.
+#[inline(never)]
+fn write_dev(dev: Dev, bytes: &mut [u8; NAME_BYTES])
+    ensures { bytes.new ≡ zero_ended dev }
+{
+    write_zero_ended(dev.as_bytes(), bytes);
+}
+
+/// Writes the bytes of an interface's name; all zeros where there is none.
+fn write_name(dev: Option<Dev>, bytes: &mut [u8; NAME_BYTES])
+    ensures { bytes.new ≡ name_bytes dev }
 {
     match dev {
-        Some(dev) => zero_ended(dev.as_bytes()),
-        None => [0; NAME_BYTES],
+        Some(dev) => write_dev(dev, bytes),
+        None => *bytes = [0; NAME_BYTES],
     }
 }
 
-/// Gives an answer in which no route decides.
-fn without_route(number: u64, kind: u32, priority: u32) -> AnswerC
-    ensures { result ≡ without_route number kind priority }
+/// Writes an answer in which no route decides.
+fn write_without_route(number: u64, kind: u32, priority: u32, answer: &mut AnswerC)
+    ensures { answer.new ≡ without_route number kind priority }
 {
-    AnswerC {
-        number,
-        kind,
-        table: 0,
-        priority,
-        destination: 0,
-        prefix_length: 0,
-        metric: 0,
-        has_gateway: 0,
-        gateway: 0,
-        has_source: 0,
-        source: 0,
-        device: [0; NAME_BYTES],
-    }
+    answer.number = number;
+    answer.kind = kind;
+    answer.table = 0;
+    answer.priority = priority;
+    answer.destination = 0;
+    answer.prefix_length = 0;
+    answer.metric = 0;
+    answer.has_gateway = 0;
+    answer.gateway = 0;
+    answer.has_source = 0;
+    answer.source = 0;
+    answer.device = [0; NAME_BYTES];
 }
 
-/// Gives an answer in which this route decides.
-fn by_route(number: u64, priority: u32, route: &Route) -> AnswerC
-    ensures { result ≡ by_route number priority route.now }
+/// Writes an answer in which this route decides.
+fn write_by_route(number: u64, priority: u32, route: &Route, answer: &mut AnswerC)
+    ensures { answer.new ≡ by_route number priority route.now }
 {
-    AnswerC {
-        number,
-        kind: kind_number(route.kind),
-        table: route.table,
-        priority,
-        destination: route.prefix.bits(),
-        prefix_length: u32::from(route.prefix.len()),
-        metric: route.metric,
-        has_gateway: has(route.via),
-        gateway: addr_number(route.via),
-        has_source: has(route.src),
-        source: addr_number(route.src),
-        device: name_bytes(&route.dev),
-    }
+    answer.number = number;
+    answer.kind = kind_number(route.kind);
+    answer.table = route.table;
+    answer.priority = priority;
+    answer.destination = route.prefix.bits();
+    answer.prefix_length = u32::from(route.prefix.len());
+    answer.metric = route.metric;
+    answer.has_gateway = has(route.via);
+    answer.gateway = addr_number(route.via);
+    answer.has_source = has(route.src);
+    answer.source = addr_number(route.src);
+    write_name(route.dev, &mut answer.device);
 }
 
-/// Gives an answer in the form that C reads.
-pub(crate) fn answer_of(answer: &Answer) -> AnswerC
-    ensures { result ≡ answer_of answer.now.number answer.now.verdict }
+/// Writes an answer in the form that C reads.
+// Field by field into C's own memory: a copy that was made of a whole answer would wait until its fields are written.
+pub(crate) fn write_answer(found: &Answer, answer: &mut AnswerC)
+    ensures { answer.new ≡ answer_of found.now.number found.now.verdict }
 {
-    match &answer.verdict {
-        Verdict::Route(priority, route) => by_route(answer.number, *priority, route),
+    match &found.verdict {
+        Verdict::Route(priority, route) => write_by_route(found.number, *priority, route, answer),
         Verdict::RuleSays(priority, action) => {
-            without_route(answer.number, action_number(*action), *priority)
+            write_without_route(found.number, action_number(*action), *priority, answer);
         }
-        Verdict::NoRoute => without_route(answer.number, 0, 0),
+        Verdict::NoRoute => write_without_route(found.number, 0, 0, answer),
     }
 }

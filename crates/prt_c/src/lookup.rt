@@ -1,27 +1,36 @@
 //! Lookups of packets.
-ghost use Rattle.std.specs.Prelude.{◌≡◌};
+ghost use Rattle.std.specs.Prelude.{◌≡◌, Err, IfErr, Ok, OnErr, OnOk};
 ghost use Rattle.prt_c.specs.Lookup.{answer_to, held_answer, status, written};
 ghost use Rattle.prt_c.specs.States.{held_state};
 
-use crate::answer::{AnswerC, answer_of};
+use crate::answer::{AnswerC, write_answer};
 use crate::held::Held;
-use crate::packet::{PacketC, packet_of};
+use crate::packet::{PacketC, packet_by, read_interface};
 use crate::parts::Parts;
 use crate::status::{DONE, EMPTY};
+use prt_route::Dev;
 use prt_version::{Refusal, Version};
 use std::alloc::Global;
 use std::mem::replace;
 
-/// Looks a packet up. It takes no memory.
+/// Looks a packet up, and writes the answer. It takes no memory.
 ///
 /// # Errors
 ///
-/// `BadName` where its interface has no such name.
-pub(crate) fn answer_to(version: &Version, packet: &PacketC) -> Result<AnswerC, Refusal>
-    ensures { result ≡ answer_to version.now packet.now }
+/// `BadName` where its interface has no such name; the answer is then as it was.
+pub(crate) fn look_up(
+    version: &Version,
+    packet: &PacketC,
+    answer: &mut AnswerC,
+) -> Result<(), Refusal>
+    ensures found { OnOk result (answer_to version.now packet.now ≡ Ok answer.new) }
+    ensures refused { IfErr result (λ reason. answer_to version.now packet.now ≡ Err reason) }
+    ensures same { OnErr result (answer.new ≡ answer.old) }
 {
-    let packet = packet_of(packet)?;
-    Ok(answer_of(&version.select(&packet)))
+    let mut looked_up = packet_by(packet, Dev::loopback());
+    read_interface(&packet.interface, &mut looked_up.iif)?;
+    write_answer(&version.select(&looked_up), answer);
+    Ok(())
 }
 
 /// Looks a packet up in the version that is held.
@@ -43,13 +52,10 @@ pub extern "C" fn prt_lookup(
         return EMPTY;
     };
     let owner = parts.into_box();
-    let looked_up = answer_to(&owner.version, packet);
+    let looked_up = look_up(&owner.version, packet, answer);
     *version = Held::of_parts(Parts::of(owner));
     match looked_up {
-        Ok(found) => {
-            *answer = found;
-            DONE
-        }
+        Ok(()) => DONE,
         Err(reason) => reason.code(),
     }
 }

@@ -5,7 +5,7 @@ ghost use Rattle.prt_c.specs.States.{held_state};
 
 use crate::answer::AnswerC;
 use crate::held::Held;
-use crate::lookup::answer_to;
+use crate::lookup::look_up;
 use crate::packet::PacketC;
 use crate::parts::Parts;
 use crate::status::{DONE, EMPTY};
@@ -39,8 +39,8 @@ fn answer_all(version: &Version, packets: &[PacketC], answers: &mut [AnswerC]) -
 {
     let room = smaller(packets.len(), answers.len());
     for place in 0..room {
-        match answer_to(version, &packets[place]) {
-            Ok(answer) => answers[place] = answer,
+        match look_up(version, &packets[place], &mut answers[place]) {
+            Ok(()) => {}
             Err(reason) => {
                 return LookedUp {
                     count: place,

@@ -1,5 +1,5 @@
-ghost use Rattle.std.specs.Prelude.{◌≡◌, ◌==◌, position};
-ghost use Rattle.prt_c.specs.Packet.{interface_of, name_in, packet_of};
+ghost use Rattle.std.specs.Prelude.{◌≡◌, ◌==◌, Err, IfErr, Ok, OnOk, codes, position};
+ghost use Rattle.prt_c.specs.Packet.{interface_of, name_in, packet_by};
 
 use prt_route::{Addr, Dev, Refusal, read_dev};
 use prt_rule::Packet;
@@ -40,34 +40,33 @@ fn name_in(bytes: &[u8]) -> &[u8]
     }
 }
 
-/// Reads the name of an interface; none stands for `lo`.
-///
-/// # Errors
-///
-/// `BadName` where the bytes before the first zero are no such name.
-fn interface_of(bytes: &[u8]) -> Result<Dev, Refusal>
-    ensures { result ≡ interface_of bytes.now }
+/// Makes the packet that C describes, with this interface.
+pub(crate) fn packet_by(packet: &PacketC, iif: Dev) -> Packet
+    ensures { result ≡ packet_by packet.now iif }
 {
-    let name = name_in(bytes);
-    if name.is_empty() {
-        return Ok(Dev::loopback());
-    }
-    read_dev(name)
-}
-
-/// Makes the packet that C describes.
-///
-/// # Errors
-///
-/// `BadName` where its interface has no such name.
-pub(crate) fn packet_of(packet: &PacketC) -> Result<Packet, Refusal>
-    ensures { result ≡ packet_of packet.now }
-{
-    let iif = interface_of(&packet.interface)?;
-    Ok(Packet {
+    Packet {
         dst: Addr(packet.destination),
         src: Addr(packet.source),
         iif,
         mark: packet.mark,
-    })
+    }
+}
+
+/// Reads the name of an interface over `lo`, which stays where none stands there.
+///
+/// # Errors
+///
+/// `BadName` where the bytes before the first zero are no such name.
+// In place: a copy of what is read would wait until the name is written.
+pub(crate) fn read_interface(bytes: &[u8], iif: &mut Dev) -> Result<(), Refusal>
+    requires { iif.old ≡ codes "lo" }
+    ensures read { OnOk result (interface_of bytes.now ≡ Ok iif.new) }
+    ensures refused { IfErr result (λ reason. interface_of bytes.now ≡ Err reason) }
+{
+    let name = name_in(bytes);
+    if name.is_empty() {
+        return Ok(());
+    }
+    *iif = read_dev(name)?;
+    Ok(())
 }

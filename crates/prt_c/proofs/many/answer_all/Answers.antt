@@ -6,4 +6,4 @@ pub loop-place-preserved : goal.loop-place-preserved
 loop-place-preserved c =
     let within = c.loop-place-test.true in
     let room = c.smaller-room.ensures in
-    one_more _ _ _ _ _ _ _ (omega (arith, within, room.first)) (omega (arith, within, room.second)) c.loop-place.invariant c.in-Ok.ensures
+    one_more _ _ _ _ _ _ _ (omega (arith, within, room.first)) (omega (arith, within, room.second)) c.loop-place.invariant c.in-Ok.ensures.found
