@@ -22,14 +22,14 @@ _prt() {
   case ${COMP_WORDS[1]} in
     batch) options='--force --atomic --db --verbose --help' ;;
     check | replay) options=--help ;;
-    dump | explain | get | show) options='--db --server --json --help' ;;
+    dump | explain | get | show) options='--db --server --json --names --help' ;;
     diff) options='--db --server --check --help' ;;
-    import) options=--help ;;
+    import) options='--db --help' ;;
     serve) options='--db --listen --feed --workers --sessions --idle --help' ;;
     help) options='batch check diff dump explain get import replay serve show' ;;
   esac
   case ${COMP_WORDS[1]} in
-    batch | check | diff | import | replay)
+    batch | check | diff | explain | import | replay)
       if [[ $word != -* ]]; then
         compopt -o filenames
         mapfile -t COMPREPLY < <(compgen -f -- "$word")

@@ -8,6 +8,7 @@ use Rattle.prt_dump.specs.declared.refusal.NotDumped.{NotDumped}
 use Rattle.prt_dump.specs.declared.refusal.NotDumped.TheVariants as dumps
 use Rattle.prt_explain.specs.Explanation.{explanation_text}
 use Rattle.json.specs.Json.{Json}
+use Rattle.prt_json.specs.ExplanationJson.{explanation_json}
 use Rattle.prt_json.specs.Fields.{json_line}
 use Rattle.prt_json.specs.Json.{answer_json, routes_json, rules_json, tables_json}
 use Rattle.prt_listing.specs.QueryText.{query_text}
@@ -24,14 +25,14 @@ query_json (RouteShow selector) state = routes_json state selector
 query_json RuleShow state = rules_json state
 query_json (Get packet) state = answer_json state packet
 
--- of a dump the lines that make the state anew, or all tables; of an explanation in JSON the answer alone; of a difference what brings the found state to this one
+-- of a dump the lines that make the state anew, or all tables; of an explanation the reasons and the answer; of a difference what brings the found state to this one
 abbrev pub answer : Question → State → List ℕ
 answer (questions.Dump Lines) state = dump_text state
 answer (questions.Dump InJson) state = json_line (tables_json state)
 answer (questions.Query query Lines) state = query_text state query
 answer (questions.Query query InJson) state = json_line (query_json query state)
 answer (questions.Explain packet Lines) state = explanation_text state packet
-answer (questions.Explain packet InJson) state = json_line (answer_json state packet)
+answer (questions.Explain packet InJson) state = json_line (explanation_json state packet)
 answer (questions.Diff found) state = changes_text found.now state
 
 -- why there is no dump, as why there is no answer

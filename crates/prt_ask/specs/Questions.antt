@@ -1,5 +1,5 @@
 -- What a line asks from outside a session, by the subcommand that it came with.
-use Rattle.std.specs.Prelude.{List, ℕ, Option, Some, None, Result, Ok, Err}
+use Rattle.std.specs.Prelude.{List, ℕ, Option, Some, Result, Ok, Err}
 use Rattle.prt_command.specs.Reading.{reading}
 use Rattle.prt_command.specs.declared.request.Query.TheVariants.{Get}
 use Rattle.prt_command.specs.declared.request.Request.{Request}

@@ -9,7 +9,7 @@ use prt_command::{Query, Refusal};
 use prt_diff::changes_text;
 use prt_dump::dump_text;
 use prt_explain::explanation_text;
-use prt_json::{answer_json, routes_json, rules_json, tables_json};
+use prt_json::{answer_json, explanation_json, routes_json, rules_json, tables_json};
 use prt_listing::query_text;
 use prt_version::Version;
 use prt_words::Form;
@@ -47,7 +47,7 @@ pub fn answer(
         Question::Query(query, Form::Lines) => query_text(&mut text, version, query),
         Question::Query(query, Form::Json) => push_query_json(&mut text, version, query),
         Question::Explain(packet, Form::Lines) => explanation_text(&mut text, version, packet),
-        Question::Explain(packet, Form::Json) => answer_json(&mut text, version, packet),
+        Question::Explain(packet, Form::Json) => explanation_json(&mut text, version, packet),
     };
     match pushed {
         Ok(()) => Ok(text),

@@ -55,9 +55,7 @@ pub fn question_of<'a>(verb: Verb, line: &[u8], form: Form) -> Result<Question<'
     ensures { result ≡ question verb line.now form }
 {
     match verb {
-        Verb::Get => question_in(verb, line, form),
-        Verb::Show => question_in(verb, line, form),
-        Verb::Explain => question_in(verb, line, form),
         Verb::Dump => Ok(Question::Dump(form)),
+        Verb::Get | Verb::Show | Verb::Explain => question_in(verb, line, form),
     }
 }

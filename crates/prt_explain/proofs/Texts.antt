@@ -68,7 +68,7 @@ asked_by rule rules routes packet false = lines_append (rule_lines rule routes p
 asked-first : (rule : Rule) (rules : List Rule) (routes : List Route) (packet : Packet) → asked_text (rule ∷ rules) routes packet ≡ lines_text (rule_lines rule routes packet) ++ cond (is_some (decision rule routes packet)) [] (asked_text rules routes packet)
 asked-first rule rules routes packet = asked_by rule rules routes packet (is_some (decision rule routes packet))
 
-dropped : (rules : List Rule) (i : ℕ) (rule : Rule) → i < length rules → rule ≡ get_or rules i rule → drop i rules ≡ rule ∷ drop (i + 1) rules
+pub dropped : (rules : List Rule) (i : ℕ) (rule : Rule) → i < length rules → rule ≡ get_or rules i rule → drop i rules ≡ rule ∷ drop (i + 1) rules
 dropped rules i rule inside is = rw add-one (drop-cons rules i rule inside ∙ ap (λ r. r ∷ drop (suc i) rules) (sym is))
 
 -- the rule at i is asked: its lines stand there, and those of the rules after it are still to come if it doesn't decide

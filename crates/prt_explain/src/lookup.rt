@@ -12,7 +12,7 @@ use std::alloc::AllocError;
 
 /// The routes that a lookup in a table comes upon first.
 #[derive(Clone, Copy)]
-pub(crate) struct Found {
+pub struct Found {
     /// The best route of the table for the address.
     pub best: Route,
     /// The best of the routes for the address that this one is better than.
@@ -54,12 +54,15 @@ fn best_of(routes: &[Route]) -> Option<Route>
     Some(routes[best])
 }
 
-/// Gives the best route of the table for the address, if there is one, and the runner-up.
-pub(crate) fn look_up(
-    version: &Version,
-    table: u32,
-    addr: Addr,
-) -> Result<Option<Found>, AllocError>
+/// Gives the best route of the table for the address, and the one that comes next: the best of those that it is better than.
+/// `None` where no route of the table has the address. A throw route is found as any other.
+///
+/// It goes through all routes of the table, and so takes longer than a lookup of the best route alone.
+///
+/// # Errors
+///
+/// Memory is refused.
+pub fn look_up(version: &Version, table: u32, addr: Addr) -> Result<Option<Found>, AllocError>
     ensures { IfOk result (λ it. it ≡ found version.now.routes table addr) }
 {
     let mut routes = candidates(version, table, addr)?;

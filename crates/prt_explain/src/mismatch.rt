@@ -28,8 +28,10 @@ fn takes_mark(given: &Option<Mark>, mark: u32) -> bool
     }
 }
 
-/// Gives the first part of the rule's selector that the packet doesn't agree with, in the order of a rule's text.
-pub(crate) fn first_mismatch(rule: &Rule, packet: &Packet) -> Option<Part>
+/// Gives the first part of the rule's selector that the packet doesn't agree with, in the order of a rule's text: `from`,
+/// `to`, `fwmark`, `iif`. `None` where it agrees with all of them. It doesn't look at `not`: a rule matches where there is no
+/// such part, and an inverted one where there is one.
+pub fn first_mismatch(rule: &Rule, packet: &Packet) -> Option<Part>
     ensures { part_of result ≡ first_mismatch rule.now packet.now }
 {
     if !rule.from.contains(packet.src) {

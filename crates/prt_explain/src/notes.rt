@@ -90,8 +90,8 @@ fn is_throw(kind: Kind) -> bool
 }
 
 /// Tells whether a rule says nothing where it finds this route: it suppresses unicast routes whose prefixes have this
-/// length or less (`ip-rule(8)`, `suppress_prefixlength`).
-fn suppresses(suppress: Option<u8>, route: &Route) -> bool
+/// length, of 0 to 32 bits, or less (`ip-rule(8)`, `suppress_prefixlength`), and none where no length is given.
+pub fn suppresses(suppress: Option<u8>, route: &Route) -> bool
     ensures { result ≡ suppresses suppress route.now }
 {
     match suppress {

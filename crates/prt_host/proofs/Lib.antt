@@ -1,3 +1,3 @@
-pub mod Touched
+mod Asked
 mod Runs
 mod Served

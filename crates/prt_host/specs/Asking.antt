@@ -1,17 +1,26 @@
 -- What comes of a question.
-use Rattle.std.specs.Prelude.{◌≡◌, ◌⊎◌, ℕ, false, List, Ok, Option}
+use Rattle.std.specs.Prelude.{◌≡◌, ◌⊎◌, ℕ, Bool, true, false, List, [], Ok, Option, Some, None, option_map}
+use Rattle.std.specs.List.{list_all}
 use Rattle.std.specs.Io.KnownBytes.{Appends}
 use Rattle.sqlite.specs.Held.{Held}
 use Rattle.sqlite.specs.Store.{Ghosts}
+use Rattle.prt_addr.specs.Word.{Word}
 use Rattle.prt_ask.specs.Answers.{answer}
 use Rattle.prt_ask.specs.Questions.{question}
+use Rattle.prt_ask.specs.declared.question.Question.{Question}
 use Rattle.prt_diff.specs.Text.{changes_text}
-use Rattle.prt_import.specs.Imported.{IsImportOf}
-use Rattle.prt_import.specs.TableNames.{TableNames}
 use Rattle.prt_import.specs.Accepted.{IsExecuted}
+use Rattle.prt_import.specs.Imported.{IsImportOf}
+use Rattle.prt_import.specs.Naming.{with_names}
+use Rattle.prt_import.specs.TableNames.{TableNames, names_of}
 use Rattle.prt_import.specs.declared.accepted.Accepted.{Accepted}
 use Rattle.prt_import.specs.declared.imported.Imported.{Imported}
-use Rattle.prt_ask.specs.declared.question.Question.{Question}
+use Rattle.prt_import.specs.declared.left.Left.{Left}
+use Rattle.prt_import.specs.declared.naming.Text.{Text}
+use Rattle.prt_import.specs.declared.naming.Text.TheVariants as forms
+use Rattle.prt_import.specs.declared.reason.Reason.{Reason}
+use Rattle.prt_import.specs.declared.reason.Reason.TheVariants.{Kernel}
+use Rattle.prt_program.specs.Program.{RunsText}
 use Rattle.prt_refusals.specs.declared.refusal.Refusal.{Refusal}
 use Rattle.prt_publisher.specs.Openings.{HasOpened}
 use Rattle.prt_replies.specs.Written.{Written}
@@ -19,14 +28,38 @@ use Rattle.prt_version.specs.State.{State}
 use Rattle.prt_words.specs.declared.asking.Asked.{Asked}
 use Rattle.prt_words.specs.declared.asking.Asked.TheVariants.{Tables, Diff, Import}
 use Rattle.prt_words.specs.declared.asking.Asking.{Asking}
-use Rattle.prt_words.specs.declared.asking.Shown.TheVariants.{Lines}
+use Rattle.prt_words.specs.declared.asking.Form.{Form}
+use Rattle.prt_words.specs.declared.asking.Form.TheVariants.{Json, Lines as InLines}
+use Rattle.prt_words.specs.declared.asking.Labels.{Labels}
+use Rattle.prt_words.specs.declared.asking.Labels.TheVariants.{Names, Numbers}
+use Rattle.prt_words.specs.declared.asking.Shown.{Shown}
+use Rattle.prt_words.specs.declared.asking.Shown.TheVariants.{Lines, Status}
 use Rattle.prt_words.specs.declared.asking.Source.{Source}
-use Rattle.prt_words.specs.declared.asking.Source.TheVariants.{Database, Server}
+use Rattle.prt_words.specs.declared.asking.Source.TheVariants.{Database, Server, Script}
+use Rattle.prt_words.specs.declared.fault.TheConstants.{DONE}
 use Rattle.prt_host.specs.Closing.{IsClosedAgain, LeavesNoneOpen}
+use Rattle.prt_host.specs.Sessions.{RunsOverMachine}
+use Rattle.prt_host.specs.declared.inquiry.Inquiry.{Inquiry}
+
+-- ---- what is said
+
+abbrev pub text_form : Form → Text
+text_form InLines = forms.Lines
+text_form Json = forms.Json
+
+-- a text with tables called by their numbers, or by names
+abbrev pub called : Labels → Form → TableNames → List ℕ → List ℕ
+called Numbers form names text = text
+called Names form names text = with_names (text_form form) names text
+
+abbrev pub said : Inquiry → State → List ℕ
+said inquiry state = called inquiry.labels inquiry.form (names_of inquiry.names.now) (answer inquiry.question state)
 
 -- nothing was written, or a part of this text
 abbrev pub IsCutOff : List ℕ → (writer0 writer : Option (List ℕ)) → Type 0
 IsCutOff text writer0 writer = (writer ≡ writer0) ⊎ Written false writer0 writer text
+
+-- ---- what `ip` printed
 
 -- What a new database accepts of the script of a text, with some names of tables.
 pub record IsListing (accepted : Accepted) : Type 0 where
@@ -36,60 +69,110 @@ pub record IsListing (accepted : Accepted) : Type 0 where
   pub is_of : IsImportOf imported names text
   pub executed : IsExecuted accepted imported.script.items
 
--- that was written
-abbrev pub HasImported : (writer0 writer : Option (List ℕ)) → Type 0
-HasImported writer0 writer = (accepted : Accepted) × IsListing accepted × Appends writer0 writer accepted.script.items
+abbrev pub is_kernel : Reason → Bool
+is_kernel Kernel = true
+is_kernel reason = false
+
+-- the kernel makes a line itself
+abbrev pub is_kernels : Left → Bool
+is_kernels line = is_kernel line.reason
+
+-- no line is left out but for those
+abbrev pub AreKernels : List Left → Type 0
+AreKernels lines = list_all is_kernels lines ≡ true
+
+-- all of it is kept
+abbrev pub IsKept : (accepted : Accepted) → IsListing accepted → Type 0
+IsKept accepted listing = AreKernels listing.imported.left.items × AreKernels accepted.left.items
+
+-- a listing that is kept
+abbrev pub IsWholeListing : Accepted → Type 0
+IsWholeListing accepted = (listing : IsListing accepted) × IsKept accepted listing
+
+-- ---- what was done
 
 module _ {M S : Type 0} (g : Ghosts S) (opens : M → M → List ℕ → Held S → Type 0) (refuses : M → M → List ℕ → Type 0) (closes : M → M → Held S → Type 0) (old new : M) where
-  -- no database was touched, or the one at the source was opened and closed, or refused
-  abbrev pub TouchesAtMost : Source → Type 0
-  TouchesAtMost (Database path) = (new ≡ old) ⊎ (((reason : Refusal) × LeavesNoneOpen opens refuses closes g reason old new path.now) ⊎ IsClosedAgain opens closes (λ first last. (stored : State) × HasOpened g first last stored) old new path.now)
-  TouchesAtMost (Server place) = new ≡ old
+  -- The database at a path was opened and closed, and this holds of its state. No other was touched.
+  abbrev pub IsAskedAt : List ℕ → (State → Type 0) → Type 0
+  IsAskedAt path Holds = IsClosedAgain opens closes (λ first last. (stored : State) × HasOpened g first last stored × Holds stored) old new path
 
-  abbrev pub IsTouched : Asked → Type 0
-  IsTouched (Tables asking) = TouchesAtMost asking.source
-  IsTouched (Diff diffing) = TouchesAtMost diffing.source
-  IsTouched (Import file) = new ≡ old
+  -- no database was touched, or the one at a path could not be opened
+  abbrev pub IsNotOpened : List ℕ → Type 0
+  IsNotOpened path = (new ≡ old) ⊎ ((reason : Refusal) × LeavesNoneOpen opens refuses closes g reason old new path)
+
+  -- The state at a source was asked, and this holds of it: that of a database, one that a server told, or what a script makes of a new database.
+  abbrev pub IsAskedOf : Source → (State → Type 0) → Type 0
+  IsAskedOf (Database path) Holds = IsAskedAt path.now Holds
+  IsAskedOf (Server place) Holds = (new ≡ old) × (told : State) × Holds told
+  IsAskedOf (Script file) Holds = (new ≡ old) × (made : Accepted) × (text : List ℕ) × IsExecuted made text × Holds made.version
+
+  abbrev pub IsNotAsked : Source → Type 0
+  IsNotAsked (Database path) = IsNotOpened path.now
+  IsNotAsked source = new ≡ old
 
 module _ {M S : Type 0} (g : Ghosts S) (opens : M → M → List ℕ → Held S → Type 0) (refuses : M → M → List ℕ → Type 0) (closes : M → M → Held S → Type 0) (old new : M) (writer0 writer : Option (List ℕ)) where
-  -- The database at a path was opened and closed, and all that its state says was written.
-  abbrev pub IsAnswered : List ℕ → (says : State → List ℕ) → Type 0
-  IsAnswered path says = IsClosedAgain opens closes (λ first last. (stored : State) × HasOpened g first last stored × Appends writer0 writer (says stored)) old new path
+  -- all that the state at a source says was written
+  abbrev pub IsAnswered : Source → (says : State → List ℕ) → Type 0
+  IsAnswered source says = IsAskedOf g opens refuses closes old new source (λ state. Appends writer0 writer (says state))
 
-  -- None could be opened, and nothing was written; or one was opened and closed, and nothing was written, or a part of what its state says.
-  abbrev pub IsNotAnswered : List ℕ → (says : State → List ℕ) → Type 0
-  IsNotAnswered path says =
-      ((reason : Refusal) × LeavesNoneOpen opens refuses closes g reason old new path × (writer ≡ writer0))
-      ⊎ IsClosedAgain opens closes (λ first last. (stored : State) × HasOpened g first last stored × IsCutOff (says stored) writer0 writer) old new path
-
-  -- the same of a server, whose state was told; no database was touched
-  abbrev pub IsAnsweredFrom : Source → (says : State → List ℕ) → Type 0
-  IsAnsweredFrom (Database path) says = IsAnswered path.now says
-  IsAnsweredFrom (Server place) says = (new ≡ old) × (told : State) × Appends writer0 writer (says told)
-
-  abbrev pub IsNotAnsweredFrom : Source → (says : State → List ℕ) → Type 0
-  IsNotAnsweredFrom (Database path) says = IsNotAnswered path.now says
-  IsNotAnsweredFrom (Server place) says = (new ≡ old) × ((writer ≡ writer0) ⊎ ((told : State) × IsCutOff (says told) writer0 writer))
+  -- in any case: it was not asked, and nothing was written; or it was, and a part at most
+  abbrev pub IsAnsweredAtMost : Source → (says : State → List ℕ) → Type 0
+  IsAnsweredAtMost source says =
+      (IsNotAsked g opens refuses closes old new source × (writer ≡ writer0))
+      ⊎ IsAskedOf g opens refuses closes old new source (λ state. IsCutOff (says state) writer0 writer)
 
   -- a question was asked, and all of its answer was written
   abbrev pub HasAnswered : Asking → Type 0
-  HasAnswered asking = (asked : Question) × (question asking.verb asking.line.items asking.form ≡ Ok asked) × IsAnsweredFrom asking.source (answer asked)
+  HasAnswered asking =
+      (asked : Question) × (question asking.verb asking.line.items asking.form ≡ Ok asked)
+      × (names : TableNames) × IsAnswered asking.source (λ state. called asking.labels asking.form names (answer asked state))
 
-  -- Its words ask nothing, and nothing was done; or it was asked, and nothing was written, or a part of its answer.
-  abbrev pub HasNotAnswered : Asking → Type 0
-  HasNotAnswered asking = ((new ≡ old) × (writer ≡ writer0)) ⊎ ((asked : Question) × (question asking.verb asking.line.items asking.form ≡ Ok asked) × IsNotAnsweredFrom asking.source (answer asked))
+  -- in any case: its words ask nothing, or it was answered in part at most
+  abbrev pub HasAnsweredAtMost : Asking → Type 0
+  HasAnsweredAtMost asking =
+      (IsNotAsked g opens refuses closes old new asking.source × (writer ≡ writer0))
+      ⊎ ((asked : Question) × (question asking.verb asking.line.items asking.form ≡ Ok asked)
+      × (names : TableNames) × IsAnsweredAtMost asking.source (λ state. called asking.labels asking.form names (answer asked state)))
 
-  -- What differs from the state of a listing was written.
-  abbrev pub HasDiffed : Source → Type 0
-  HasDiffed source = (accepted : Accepted) × IsListing accepted × IsAnsweredFrom source (changes_text accepted.version)
+  -- what differs from the state of a listing was written, or nothing differs
+  abbrev pub HasCompared : Shown → Source → Type 0
+  HasCompared Lines source = (accepted : Accepted) × IsWholeListing accepted × IsAnswered source (changes_text accepted.version)
+  HasCompared Status source = (accepted : Accepted) × IsWholeListing accepted × (writer ≡ writer0) × IsAskedOf g opens refuses closes old new source (λ state. changes_text accepted.version state ≡ [])
+
+  -- In any case: there was no listing, or a part at most was written of what differs from it. A status alone writes nothing.
+  abbrev pub HasComparedAtMost : Shown → Source → Type 0
+  HasComparedAtMost Lines source =
+      (IsNotAsked g opens refuses closes old new source × (writer ≡ writer0))
+      ⊎ ((accepted : Accepted) × IsListing accepted × IsAnsweredAtMost source (changes_text accepted.version))
+  HasComparedAtMost Status source = (writer ≡ writer0) × (IsNotAsked g opens refuses closes old new source ⊎ IsAskedOf g opens refuses closes old new source (λ state. Unit {0}))
+
+  -- the script of a listing was written, or run over the database at a path, with this status
+  abbrev pub IsImported : Option Word → Accepted → (status : ℕ) → Type 0
+  IsImported None accepted status = (new ≡ old) × Appends writer0 writer accepted.script.items
+  IsImported (Some path) accepted status =
+      RunsText (λ old new path reason. LeavesNoneOpen opens refuses closes g reason old new path) (RunsOverMachine g opens closes old new) old new path accepted.script.items writer0 writer status
+
+  -- all of a listing was imported, and no line was refused
+  abbrev pub HasImported : Option Word → Type 0
+  HasImported database = (accepted : Accepted) × IsWholeListing accepted × IsImported database accepted DONE
+
+  -- the script was written in part, or run to its end with some status
+  abbrev pub IsImportedInPart : Option Word → Accepted → Type 0
+  IsImportedInPart None accepted = (new ≡ old) × IsCutOff accepted.script.items writer0 writer
+  IsImportedInPart (Some path) accepted = (status : ℕ) × IsImported (Some path) accepted status
+
+  -- in any case: there was no listing, and nothing was done, or it was imported in part
+  abbrev pub HasImportedAtMost : Option Word → Type 0
+  HasImportedAtMost database = ((new ≡ old) × (writer ≡ writer0)) ⊎ ((accepted : Accepted) × IsListing accepted × IsImportedInPart database accepted)
 
   -- what was asked is done, where the exit status is 0
   abbrev pub IsDone : Asked → Type 0
   IsDone (Tables asking) = HasAnswered asking
-  IsDone (Diff diffing) = diffing.shown ≡ Lines → HasDiffed diffing.source
-  IsDone (Import file) = HasImported writer0 writer
+  IsDone (Diff diffing) = HasCompared diffing.shown diffing.source
+  IsDone (Import importing) = HasImported (option_map (λ path. path.now) importing.database)
 
-  -- what is left where it is not
-  abbrev pub IsNotDone : Asked → Type 0
-  IsNotDone (Tables asking) = HasNotAnswered asking
-  IsNotDone asked = Unit {0}
+  -- and what is left in any case
+  abbrev pub IsDoneAtMost : Asked → Type 0
+  IsDoneAtMost (Tables asking) = HasAnsweredAtMost asking
+  IsDoneAtMost (Diff diffing) = HasComparedAtMost diffing.shown diffing.source
+  IsDoneAtMost (Import importing) = HasImportedAtMost (option_map (λ path. path.now) importing.database)

@@ -1,4 +1,5 @@
 pub mod Closing
+pub mod Sessions
 pub mod Asking
 pub mod Runs
 pub mod Serving

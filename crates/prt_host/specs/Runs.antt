@@ -6,13 +6,11 @@ use Rattle.sqlite.specs.Store.{Ghosts}
 use Rattle.prt_addr.specs.Word.{Word}
 use Rattle.prt_refusals.specs.declared.refusal.Refusal.{Refusal}
 use Rattle.prt_desk.specs.Files.{IsWhatWasLeft}
-use Rattle.prt_desk.specs.Remains.{Remains}
-use Rattle.prt_desk.specs.StoreDesk.{IsKept, IsStoreMishap, LeavesFound, MayBeStored, StandsFor}
-use Rattle.prt_program.specs.Program.{LeavesDatabases, Runs, RunsAt, RunsNothing, SessionFact, SessionLeaves, Streams}
-use Rattle.prt_publisher.specs.Openings.{HasOpened, OpensOne}
+use Rattle.prt_desk.specs.StoreDesk.{IsStoreMishap, MayBeStored}
+use Rattle.prt_program.specs.Program.{LeavesDatabases, Runs, RunsNothing, SessionLeaves, Streams}
+use Rattle.prt_publisher.specs.Openings.{HasOpened}
 use Rattle.prt_rows.specs.Format.{BeginsFormat2}
 use Rattle.prt_store.specs.Exits.{IsKnown}
-use Rattle.prt_version.specs.Sound.{IsSound}
 use Rattle.prt_version.specs.State.{State}
 use Rattle.prt_words.specs.CommandLine.{IsServing}
 use Rattle.prt_words.specs.Invocation.{Invocation, ask, serve}
@@ -21,15 +19,10 @@ use Rattle.prt_words.specs.declared.asking.Asked.{Asked}
 use Rattle.prt_words.specs.declared.serving.Serving.{Serving}
 use Rattle.prt_words.specs.declared.task.Mode.{Mode}
 use Rattle.prt_host.specs.Closing.{LeavesNoneOpen}
-use Rattle.prt_host.specs.Asking.{IsDone, IsNotDone, IsTouched}
+use Rattle.prt_host.specs.Asking.{IsDone, IsDoneAtMost}
+use Rattle.prt_host.specs.Sessions.{RunsOverMachine}
 use Rattle.prt_host.specs.Serving.{HasServed, IsServed}
 use Rattle.prt_host.specs.declared.asking.TheConstants.{REFUSED}
-
--- A session was run over the database at a path of a machine, by a desk over the connection that was found there, and the connection was closed as the desk had it. Where its file is known, each state that an opening may make of what was left then is one that the session left stored.
-abbrev pub RunsOverMachine : {M S : Type 0} → Ghosts S → (M → M → List ℕ → Held S → Type 0) → (M → M → Held S → Type 0) → M → M → Word → SessionFact
-RunsOverMachine g opens closes old new path =
-    RunsAt (λ _ _ opened. IsSound opened) (λ old new path desk. OpensOne g (opens old new path) desk) (λ old new desk. IsKept g desk × closes old new desk.tables) (LeavesFound g)
-    (StandsFor g) (Remains g) IsStoreMishap old new path
 
 module _ {M S : Type 0} (g : Ghosts S) (opens : M → M → List ℕ → Held S → Type 0) (refuses : M → M → List ℕ → Type 0) (closes : M → M → Held S → Type 0) (old new : M) where
   -- The database at a path was opened, served and closed; or it was refused, and no other was touched. This is the exit status.
@@ -39,13 +32,12 @@ module _ {M S : Type 0} (g : Ghosts S) (opens : M → M → List ℕ → Held S 
     pub done : status ≡ DONE → IsServed opens closes g old new serving.database.now
     pub why : status ≢ DONE → (status ≡ FAULT) × (((reason : Refusal) × LeavesNoneOpen opens refuses closes g reason old new serving.database.now) ⊎ IsServed opens closes g old new serving.database.now)
 
-  -- A question was answered, or in part, or not. This is the exit status.
+  -- A question was answered, in part at most, or to its end. This is the exit status.
   pub record Asks (writer0 writer : Option (List ℕ)) (status : ℕ) : Type 0 where
     pub question : Asked
     pub status_is : (status ≡ DONE) ⊎ ((status ≡ REFUSED) ⊎ (status ≡ FAULT))
     pub whole : status ≡ DONE → IsDone g opens refuses closes old new writer0 writer question
-    pub part : status ≢ DONE → IsNotDone g opens refuses closes old new writer0 writer question
-    pub touched : IsTouched g opens refuses closes old new question
+    pub at_most : IsDoneAtMost g opens refuses closes old new writer0 writer question
 
   -- What becomes of a run, with its exit status. A script, a check or a replay was run, and no database was touched where none was asked for. Or nothing was run. Or sessions were served, or a question was answered, as the words ask.
   pub record RunsPrt {File : Type 0} (bytes : File → Option (List ℕ)) (asked : Invocation) (streams : Streams) (status : ℕ) : Type 0 where

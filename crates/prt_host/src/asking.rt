@@ -1,32 +1,36 @@
-//! Questions to a database, or to the server that has it.
-ghost use Rattle.std.specs.Prelude.{◌≡◌, ◌≢◌, ◌⊎◌, IfOk, List, false, ℕ};
+//! Questions to a database, to the server that has it, or to what a script makes.
+ghost use Rattle.std.specs.Prelude.{◌≡◌, ◌⊎◌, IfErr, IfOk, List, false, ℕ};
 ghost use Rattle.std.specs.Io.KnownBytes.{Appends};
-ghost use Rattle.prt_ask.specs.Answers.{answer};
-ghost use Rattle.prt_host.specs.Asking.{HasAnswered, HasNotAnswered, IsAnswered, IsAnsweredFrom, IsCutOff, IsNotAnswered, IsNotAnsweredFrom, TouchesAtMost};
+ghost use Rattle.prt_host.specs.Asking.{HasAnswered, HasAnsweredAtMost, IsAnswered, IsAnsweredAtMost, IsAskedAt, IsCutOff, IsNotOpened, said};
+ghost use Rattle.prt_import.specs.Accepted.{IsExecuted};
 ghost use Rattle.prt_replies.specs.Written.{Written};
 ghost use Rattle.prt_version.specs.State.{State};
 
 use crate::databases::DatabaseFiles;
+use crate::inquiry::{Inquiry, said};
+use crate::left::tell_left;
 use crate::machine::{Machine, Wanted};
 use crate::opening::open_desk;
+use crate::reading::{names_for, read_whole, report_no_memory};
 use crate::telling::tell;
-use prt_ask::{NotAnswered, Question, answer, question_of};
+use prt_ask::{NotAnswered, question_of};
 use prt_feed::{NotRead, read_opening};
+use prt_import::{Accepted, accept};
 use prt_program::{Refusal, cause_message, log_message, question_message};
 use prt_replies::{Reply, Text, write_reply};
 use prt_version::Version;
-use prt_words::{Asking, DONE, FAULT, Fault, Source, report};
+use prt_words::{Asking, DONE, FAULT, Fault, STANDARD_INPUT, Source, report};
 use sqlite::{Alter, Connection};
-use std::alloc::{AllocError, Global};
+use std::alloc::{Alloc, AllocError, Global};
 use std::fmt::Display;
 use std::fs::Files;
-use std::io::{self, BufReader, Write};
+use std::io::{self, BufReader, Read, Write};
 use std::net::{Net, OpenStream, SocketAddr, SocketAddrV4, TcpStream};
 use std::sync::Wait;
 use std::time::Duration;
 use thiserror::Error;
 
-/// The exit status where the words ask nothing, where a rule or a route has no line, where what `ip` prints can't all be
+/// The exit status where the words ask nothing, where a rule or a route has no line, where a line is refused or can't be
 /// kept, and where anything differs.
 pub(crate) const REFUSED: u8 = 1;
 
@@ -106,7 +110,7 @@ fn report_none<P: Display, W: Write, E: Write>(
     ensures unwritten { W.contents output.new ≡ W.contents output.old }
 {
     if let NotAnswered::NoMemory = reason {
-        return report(&Fault::Opening(Refusal::NoMemory), output, errors);
+        return report_no_memory(output, errors);
     }
     tell(none_message(alloc, place, reason), errors);
     REFUSED
@@ -116,7 +120,7 @@ fn report_none<P: Display, W: Write, E: Write>(
 pub(crate) fn write_text<W: Write>(text: Vec<u8>, output: &mut W) -> u8
     ensures status { (result ≡ DONE) ⊎ (result ≡ FAULT) }
     ensures whole { result ≡ DONE → Appends (W.contents output.old) (W.contents output.new) text.items }
-    ensures part { result ≢ DONE → (result ≡ FAULT) × Written false (W.contents output.old) (W.contents output.new) text.items }
+    ensures part { Written false (W.contents output.old) (W.contents output.new) text.items }
 {
     if write_reply(output, &Reply::Answered(Text::new(text))) {
         DONE
@@ -135,7 +139,7 @@ fn write_answer<P: Display, W: Write, E: Write>(
 ) -> u8
     ensures status { (result ≡ DONE) ⊎ ((result ≡ REFUSED) ⊎ (result ≡ FAULT)) }
     ensures whole { (text : List ℕ) → IfOk answered (λ made. made.items ≡ text) → result ≡ DONE → Appends (W.contents output.old) (W.contents output.new) text }
-    ensures part { (text : List ℕ) → IfOk answered (λ made. made.items ≡ text) → result ≢ DONE → IsCutOff text (W.contents output.old) (W.contents output.new) }
+    ensures part { (text : List ℕ) → IfOk answered (λ made. made.items ≡ text) → IsCutOff text (W.contents output.old) (W.contents output.new) }
 {
     match answered {
         Ok(text) => write_text(text, output),
@@ -155,13 +159,14 @@ fn ask_database<
     databases: &mut DatabaseFiles<'_, S, M, F, H>,
     alloc: Global,
     path: &str,
-    question: &Question<'_>,
+    inquiry: &Inquiry<'_>,
     output: &mut W,
     errors: &mut E,
 ) -> u8
     ensures status { (result ≡ DONE) ⊎ ((result ≡ REFUSED) ⊎ (result ≡ FAULT)) }
-    ensures whole { result ≡ DONE → IsAnswered S.Store M.opens M.refuses M.closes databases.old.machine databases.new.machine (W.contents output.old) (W.contents output.new) path.now (answer question.now) }
-    ensures part { result ≢ DONE → IsNotAnswered S.Store M.opens M.refuses M.closes databases.old.machine databases.new.machine (W.contents output.old) (W.contents output.new) path.now (answer question.now) }
+    ensures whole { result ≡ DONE → IsAskedAt S.Store M.opens M.refuses M.closes databases.old.machine databases.new.machine path.now (λ state. Appends (W.contents output.old) (W.contents output.new) (said inquiry.now state)) }
+    ensures at_most { (IsNotOpened S.Store M.opens M.refuses M.closes databases.old.machine databases.new.machine path.now × (W.contents output.new ≡ W.contents output.old))
+        ⊎ IsAskedAt S.Store M.opens M.refuses M.closes databases.old.machine databases.new.machine path.now (λ state. IsCutOff (said inquiry.now state) (W.contents output.old) (W.contents output.new)) }
 {
     let (files, rt) = (databases.files, databases.rt);
     let opened = open_desk(&mut databases.machine, files, rt, alloc, path, Wanted::Ours);
@@ -175,7 +180,7 @@ fn ask_database<
             return status;
         }
     };
-    let answered = answer(alloc, desk.version(), question);
+    let answered = said(alloc, desk.version(), inquiry);
     if let Err(reason) = databases.machine.close(desk.release()) {
         tell(log_message(alloc, path, &reason), errors);
     }
@@ -198,17 +203,17 @@ fn ask_server<N: Net, W: Write, E: Write>(
     rt: &N,
     alloc: Global,
     place: SocketAddrV4,
-    question: &Question<'_>,
+    inquiry: &Inquiry<'_>,
     output: &mut W,
     errors: &mut E,
 ) -> u8
     ensures status { (result ≡ DONE) ⊎ ((result ≡ REFUSED) ⊎ (result ≡ FAULT)) }
-    ensures whole { result ≡ DONE → (told : State) × Appends (W.contents output.old) (W.contents output.new) (answer question.now told) }
-    ensures part { result ≢ DONE → (W.contents output.new ≡ W.contents output.old) ⊎ ((told : State) × IsCutOff (answer question.now told) (W.contents output.old) (W.contents output.new)) }
+    ensures whole { result ≡ DONE → (told : State) × Appends (W.contents output.old) (W.contents output.new) (said inquiry.now told) }
+    ensures part { (W.contents output.new ≡ W.contents output.old) ⊎ ((told : State) × IsCutOff (said inquiry.now told) (W.contents output.old) (W.contents output.new)) }
 {
     match read_tables(rt, alloc, place) {
         Ok(version) => {
-            let answered = answer(alloc, &version, question);
+            let answered = said(alloc, &version, inquiry);
             write_answer(alloc, &place, answered, output, errors)
         }
         Err(reason) => {
@@ -218,67 +223,147 @@ fn ask_server<N: Net, W: Write, E: Write>(
     }
 }
 
-/// Asks the database or the server at a source, and gives the exit status.
+/// Executes a script over a new database, and leaves out each line that is refused.
+///
+/// # Errors
+///
+/// The exit status, where the script can't be read or memory is refused.
+fn run_over_new<F: Files, R: Read, W: Write, E: Write>(
+    files: &F,
+    alloc: Global,
+    file: Option<&str>,
+    input: &mut R,
+    output: &mut W,
+    errors: &mut E,
+) -> Result<Accepted, u8>
+    ensures made { IfOk result (λ made. (text : List ℕ) × IsExecuted made text) }
+    ensures fault { IfErr result (λ status. status ≡ FAULT) }
+    ensures unwritten { W.contents output.new ≡ W.contents output.old }
+{
+    let text = read_whole(files, alloc, file, input, output, errors)?;
+    match accept(alloc, &text) {
+        Ok(accepted) => Ok(accepted),
+        Err(_) => Err(report_no_memory(output, errors)),
+    }
+}
+
+/// Asks what a script makes of a new database, tells which of its lines are refused, and gives the exit status.
+fn ask_script<F: Files, R: Read, W: Write, E: Write>(
+    files: &F,
+    alloc: Global,
+    file: Option<&str>,
+    inquiry: &Inquiry<'_>,
+    input: &mut R,
+    output: &mut W,
+    errors: &mut E,
+) -> u8
+    ensures status { (result ≡ DONE) ⊎ ((result ≡ REFUSED) ⊎ (result ≡ FAULT)) }
+    ensures whole { result ≡ DONE → (made : Accepted) × (text : List ℕ) × IsExecuted made text × Appends (W.contents output.old) (W.contents output.new) (said inquiry.now made.version) }
+    ensures part { (W.contents output.new ≡ W.contents output.old) ⊎ ((made : Accepted) × (text : List ℕ) × IsExecuted made text × IsCutOff (said inquiry.now made.version) (W.contents output.old) (W.contents output.new)) }
+{
+    let made = match run_over_new(files, alloc, file, input, output, errors) {
+        Ok(made) => made,
+        Err(status) => return status,
+    };
+    let left = tell_left(alloc, &made.left, errors);
+    let place = file.unwrap_or(STANDARD_INPUT);
+    let answered = said(alloc, &made.version, inquiry);
+    match write_answer(alloc, &place, answered, output, errors) {
+        DONE => left,
+        status => status,
+    }
+}
+
+/// Asks the tables at a source, and gives the exit status.
 pub(crate) fn ask_source<
     S: Alter + Drop,
     M: Machine<Connection<S>> + Drop,
     F: Files,
     N: Net + Wait + Copy + Drop,
+    R: Read,
     W: Write,
     E: Write,
 >(
     databases: &mut DatabaseFiles<'_, S, M, F, N>,
     alloc: Global,
     source: &Source<'_>,
-    question: &Question<'_>,
+    inquiry: &Inquiry<'_>,
+    input: &mut R,
     output: &mut W,
     errors: &mut E,
 ) -> u8
     ensures status { (result ≡ DONE) ⊎ ((result ≡ REFUSED) ⊎ (result ≡ FAULT)) }
-    ensures whole { result ≡ DONE → IsAnsweredFrom S.Store M.opens M.refuses M.closes databases.old.machine databases.new.machine (W.contents output.old) (W.contents output.new) source.now (answer question.now) }
-    ensures part { result ≢ DONE → IsNotAnsweredFrom S.Store M.opens M.refuses M.closes databases.old.machine databases.new.machine (W.contents output.old) (W.contents output.new) source.now (answer question.now) }
-    ensures touched { TouchesAtMost S.Store M.opens M.refuses M.closes databases.old.machine databases.new.machine source.now }
+    ensures whole { result ≡ DONE → IsAnswered S.Store M.opens M.refuses M.closes databases.old.machine databases.new.machine (W.contents output.old) (W.contents output.new) source.now (said inquiry.now) }
+    ensures at_most { IsAnsweredAtMost S.Store M.opens M.refuses M.closes databases.old.machine databases.new.machine (W.contents output.old) (W.contents output.new) source.now (said inquiry.now) }
 {
     match source {
-        Source::Database(path) => ask_database(databases, alloc, path, question, output, errors),
-        Source::Server(place) => {
-            ask_server(&databases.rt, alloc, *place, question, output, errors)
+        Source::Database(path) => ask_database(databases, alloc, path, inquiry, output, errors),
+        Source::Server(place) => ask_server(&databases.rt, alloc, *place, inquiry, output, errors),
+        Source::Script(file) => {
+            ask_script(
+                databases.files,
+                alloc,
+                *file,
+                inquiry,
+                input,
+                output,
+                errors,
+            )
         }
     }
 }
 
 /// Asks a question, and gives the exit status.
 ///
-/// The status is 0 where all of the answer was written. It is 1 where the words ask nothing, as of a line with a fault, or
-/// where a dump has a rule or a route with a name that no line can spell. It is 3 for a fault of opening, of the server, of
-/// memory or of the writer.
+/// The status is 0 where all of the answer was written. It is 1 where the words ask nothing, as of a line with a fault,
+/// where a line of the script that is asked is refused, and where a dump has a rule or a route with a name that no line can
+/// spell. It is 3 for a fault of opening, of the server, of reading, of memory or of the writer.
 ///
 /// A database is opened and closed. There has to be one at its path, and no rule or route of it changes; its tables may be
-/// made those of the newest format. Of a server no database is touched.
+/// made those of the newest format. Of a server or of a script no database is touched.
 pub(crate) fn ask<
     S: Alter + Drop,
     M: Machine<Connection<S>> + Drop,
-    F: Files,
+    F: Files + Alloc + Clone + Drop,
     N: Net + Wait + Copy + Drop,
+    R: Read,
     W: Write,
     E: Write,
 >(
     databases: &mut DatabaseFiles<'_, S, M, F, N>,
     alloc: Global,
     asking: &Asking<'_>,
+    input: &mut R,
     output: &mut W,
     errors: &mut E,
 ) -> u8
     ensures status { (result ≡ DONE) ⊎ ((result ≡ REFUSED) ⊎ (result ≡ FAULT)) }
     ensures whole { result ≡ DONE → HasAnswered S.Store M.opens M.refuses M.closes databases.old.machine databases.new.machine (W.contents output.old) (W.contents output.new) asking.now }
-    ensures part { result ≢ DONE → HasNotAnswered S.Store M.opens M.refuses M.closes databases.old.machine databases.new.machine (W.contents output.old) (W.contents output.new) asking.now }
-    ensures touched { TouchesAtMost S.Store M.opens M.refuses M.closes databases.old.machine databases.new.machine asking.now.source }
+    ensures at_most { HasAnsweredAtMost S.Store M.opens M.refuses M.closes databases.old.machine databases.new.machine (W.contents output.old) (W.contents output.new) asking.now }
 {
-    match question_of(asking.verb, &asking.line, asking.form) {
-        Ok(question) => ask_source(databases, alloc, &asking.source, &question, output, errors),
+    let question = match question_of(asking.verb, &asking.line, asking.form) {
+        Ok(question) => question,
         Err(refusal) => {
             tell(question_message(alloc, refusal, &asking.line), errors);
-            REFUSED
+            return REFUSED;
         }
-    }
+    };
+    let Ok(names) = names_for(databases.files, alloc, asking.labels) else {
+        return report_no_memory(output, errors);
+    };
+    let inquiry = Inquiry {
+        question,
+        form: asking.form,
+        labels: asking.labels,
+        names: &names,
+    };
+    ask_source(
+        databases,
+        alloc,
+        &asking.source,
+        &inquiry,
+        input,
+        output,
+        errors,
+    )
 }

@@ -5,7 +5,7 @@ ghost use Rattle.prt_host.specs.Closing.{IsOnlyRead};
 use crate::machine::{Machine, Wanted};
 use prt_program::Refusal;
 use prt_reasons::{Reason, columns_reason, rows_reason};
-use sqlite::{Alter, Connection, Error as LibraryError};
+use sqlite::{Alter, Connection, Error as LibraryError, ErrorCode};
 use std::fs::{self, Files, OpenOptions};
 use std::io;
 use thiserror::Error;
@@ -19,6 +19,8 @@ pub enum Cause {
     Tables(Reason),
     #[error("{0}")]
     Library(LibraryError),
+    #[error("{0}: the server that has it can be asked, by --server")]
+    Locked(LibraryError),
 }
 
 /// Asks the system why there is no new file at a path. One that it makes is removed again.
@@ -77,6 +79,16 @@ pub(crate) fn close_refused<S: Alter + Drop, M: Machine<Connection<S>>>(
     reason
 }
 
+/// Says what failed in the words of the library. Of a file that is only asked, who has it can be asked too.
+fn library_cause(wanted: Wanted, error: LibraryError) -> Cause {
+    match (wanted, error) {
+        (Wanted::Ours, LibraryError::SqliteFailure(ErrorCode::DatabaseBusy)) => {
+            Cause::Locked(error)
+        }
+        (_, error) => Cause::Library(error),
+    }
+}
+
 /// Tells why a database could not be opened, if that is known. The system is asked first, since the library says no more
 /// of a file than that it can't be opened.
 pub(crate) fn cause_of<F: Files>(
@@ -93,6 +105,6 @@ pub(crate) fn cause_of<F: Files>(
     }
     match found {
         Ok(reason) => reason.map(Cause::Tables),
-        Err(error) => Some(Cause::Library(error)),
+        Err(error) => Some(library_cause(wanted, error)),
     }
 }

@@ -1,144 +1,67 @@
 //! What `ip` prints, as a script, and what differs from it.
-ghost use Rattle.std.specs.Prelude.{◌≡◌, ◌⊎◌, IfErr, IfOk};
-ghost use Rattle.prt_host.specs.Asking.{HasDiffed, HasImported, IsListing, TouchesAtMost};
+ghost use Rattle.std.specs.Prelude.{◌≡◌, ◌⊎◌, IfErr, IfOk, [], option_map};
+ghost use Rattle.prt_host.specs.Asking.{HasCompared, HasImported, HasComparedAtMost, HasImportedAtMost, IsAskedOf, IsImported, IsImportedInPart, IsListing, IsNotAsked, IsWholeListing, said};
 ghost use Rattle.prt_import.specs.Imported.{IsImportOf};
 ghost use Rattle.prt_import.specs.TableNames.{TableNames};
 ghost use Rattle.prt_words.specs.declared.asking.Shown.TheVariants as shows;
 
 use crate::asking::{REFUSED, ask_source, write_text};
 use crate::databases::DatabaseFiles;
+use crate::inquiry::Inquiry;
+use crate::left::tell_left;
 use crate::machine::Machine;
-use crate::telling::tell;
+use crate::reading::{read_whole, report_no_memory, report_unread, table_names};
 use prt_ask::Question;
-use prt_import::{Accepted, Imported, Left, Names, Reason, accept, import};
-use prt_program::{Refusal, cause_message};
-use prt_words::{DONE, Diffing, FAULT, Fault, STANDARD_INPUT, Shown, Source, report};
+use prt_import::{Accepted, Imported, Names, accept, import};
+use prt_ip_json::{NotListed, is_json, listing_of};
+use prt_program::{Refusal, run_text};
+use prt_words::{DONE, Diffing, FAULT, Form, Importing, Labels, Shown, Source};
 use sqlite::{Alter, Connection};
-use std::alloc::{Alloc, AllocError, Global};
-use std::fs::{self, Files};
-use std::io::{self, Read, Write};
+use std::alloc::{Alloc, Global};
+use std::fs::Files;
+use std::io::{IsTerminal, Read, Write};
 use std::net::Net;
+use std::rt::Clock;
 use std::sync::Wait;
 
-/// Where iproute2 has the names of tables, the first before the others.
-const NAMES: [&str; 2] = ["/etc/iproute2/rt_tables", "/usr/share/iproute2/rt_tables"];
-
-/// Where iproute2 has further files with names of tables.
-const MORE_NAMES: [&str; 2] = [
-    "/etc/iproute2/rt_tables.d",
-    "/usr/share/iproute2/rt_tables.d",
-];
-
-/// Reads a file whole.
-fn read_file<F: Files>(files: &F, alloc: Global, path: &str) -> io::Result<Vec<u8>> {
-    let mut text = Vec::new(alloc);
-    fs::open(files, path)?.read_to_end(&mut text)?;
-    Ok(text)
-}
-
-/// Reads a file whole, or the input where none is named.
-fn read_text<F: Files, R: Read>(
-    files: &F,
-    alloc: Global,
-    file: Option<&str>,
-    input: &mut R,
-) -> io::Result<Vec<u8>> {
-    let Some(path) = file else {
-        let mut text = Vec::new(alloc);
-        input.read_to_end(&mut text)?;
-        return Ok(text);
-    };
-    read_file(files, alloc, path)
-}
-
-/// Adds the names of tables in the files of a folder whose names end with `.conf`. A folder that can't be read has none.
-fn add_names_in<F: Files + Alloc + Clone + Drop>(
-    files: &F,
-    alloc: Global,
-    folder: &str,
-    names: &mut Names,
-) -> Result<(), AllocError> {
-    let Ok(entries) = fs::read_dir(files, folder) else {
-        return Ok(());
-    };
-    for entry in entries {
-        let Ok(entry) = entry else {
-            return Ok(());
-        };
-        if entry.file_name().ends_with(".conf") {
-            let path = format!(in alloc; "{folder}/{}", entry.file_name())?;
-            if let Ok(text) = read_file(files, alloc, path.as_str()) {
-                names.read(&text)?;
-            }
-        }
+/// Gives the lines of what `ip` printed, also where that is the JSON of `ip -j`.
+fn lines_of(alloc: Global, text: Vec<u8>) -> Result<Vec<u8>, NotListed> {
+    if is_json(&text) {
+        listing_of(alloc, &text)
+    } else {
+        Ok(text)
     }
-    Ok(())
 }
 
-/// Reads the names of tables that iproute2 has. A file that can't be read gives none.
-fn table_names<F: Files + Alloc + Clone + Drop>(
-    files: &F,
-    alloc: Global,
-) -> Result<Names, AllocError> {
-    let mut names = Names::new(alloc);
-    for path in NAMES {
-        if let Ok(text) = read_file(files, alloc, path) {
-            names.read(&text)?;
-        }
-    }
-    for folder in MORE_NAMES {
-        add_names_in(files, alloc, folder, &mut names)?;
-    }
-    Ok(names)
-}
-
-/// Makes the message of a line that is left out, or of what is left out of one.
-fn left_message(alloc: Global, left: &Left) -> Result<String, AllocError> {
-    format!(in alloc; "prt: {left}\n")
-}
-
-/// Tells what was left out, and gives the exit status for it. What the kernel makes itself isn't told.
-fn tell_left<E: Write>(alloc: Global, left: &[Left], errors: &mut E) -> u8
-    ensures { (result ≡ DONE) ⊎ (result ≡ REFUSED) }
-{
-    let mut status = DONE;
-    for line in left {
-        if line.reason != Reason::Kernel {
-            tell(left_message(alloc, line), errors);
-            status = REFUSED;
-        }
-    }
-    status
-}
-
-/// Makes a script of a text, by the names of tables that iproute2 has.
+/// Makes a script of lines, by the names of tables that iproute2 has.
 fn script_of<F: Files + Alloc + Clone + Drop>(
     files: &F,
     alloc: Global,
-    text: &[u8],
+    lines: &[u8],
 ) -> Result<Imported, Refusal>
-    ensures { IfOk result (λ imported. (names : TableNames) × IsImportOf imported names text.now) }
+    ensures { IfOk result (λ imported. (names : TableNames) × IsImportOf imported names lines.now) }
 {
     let names = table_names(files, alloc)?;
-    import(alloc, &names, text)
+    import(alloc, &names, lines)
 }
 
-/// Reads what `ip` printed, and tells what can't be kept of it. Gives what a new database accepts, and the exit status for
-/// what was told.
+/// Makes what a new database accepts of lines that `ip` prints, and tells what can't be kept of them. Gives the exit status
+/// for what was told, too.
 ///
 /// # Errors
 ///
 /// `NoMemory` alone.
-fn listing_of<F: Files + Alloc + Clone + Drop, E: Write>(
+fn keep_lines<F: Files + Alloc + Clone + Drop, E: Write>(
     files: &F,
     alloc: Global,
-    text: &[u8],
+    lines: &[u8],
     errors: &mut E,
 ) -> Result<(Accepted, u8), Refusal>
     ensures made { IfOk result (λ read. IsListing read.0) }
     ensures status { IfOk result (λ read. (read.1 ≡ DONE) ⊎ (read.1 ≡ REFUSED)) }
+    ensures kept { IfOk result (λ read. read.1 ≡ DONE → IsWholeListing read.0) }
 {
-    let imported = match script_of(files, alloc, text) {
+    let imported = match script_of(files, alloc, lines) {
         Ok(imported) => imported,
         Err(refusal) => return Err(refusal),
     };
@@ -152,7 +75,7 @@ fn listing_of<F: Files + Alloc + Clone + Drop, E: Write>(
     Ok((accepted, if left == DONE { refused } else { left }))
 }
 
-/// Reads what `ip` printed, of a file or of the input, as `listing_of` does.
+/// Reads what `ip` printed, of a file or of the input, as `keep_lines` does.
 ///
 /// # Errors
 ///
@@ -167,47 +90,106 @@ fn read_listing<F: Files + Alloc + Clone + Drop, R: Read, W: Write, E: Write>(
 ) -> Result<(Accepted, u8), u8>
     ensures made { IfOk result (λ read. IsListing read.0) }
     ensures status { IfOk result (λ read. (read.1 ≡ DONE) ⊎ (read.1 ≡ REFUSED)) }
+    ensures kept { IfOk result (λ read. read.1 ≡ DONE → IsWholeListing read.0) }
     ensures fault { IfErr result (λ status. status ≡ FAULT) }
     ensures unwritten { W.contents output.new ≡ W.contents output.old }
 {
-    let text = match read_text(files, alloc, file, input) {
-        Ok(text) => text,
-        Err(error) => {
-            let status = report(&Fault::Opening(Refusal::ReadFault), output, errors);
-            let place = file.unwrap_or(STANDARD_INPUT);
-            tell(cause_message(alloc, &place, &error), errors);
-            return Err(status);
-        }
+    let text = read_whole(files, alloc, file, input, output, errors)?;
+    let lines = match lines_of(alloc, text) {
+        Ok(lines) => lines,
+        Err(NotListed::NoMemory) => return Err(report_no_memory(output, errors)),
+        Err(reason) => return Err(report_unread(alloc, file, &reason, output, errors)),
     };
-    match listing_of(files, alloc, &text, errors) {
+    match keep_lines(files, alloc, &lines, errors) {
         Ok(read) => Ok(read),
-        Err(_) => Err(report(&Fault::Opening(Refusal::NoMemory), output, errors)),
+        Err(_) => Err(report_no_memory(output, errors)),
     }
 }
 
-/// Prints the script of what `ip` printed, and gives the exit status.
-///
-/// The status is 1 where a line of it can't be kept, which standard error names, unless the kernel makes it itself. It is 3
-/// where it can't be read, for want of memory, and where the script can't be written.
-pub(crate) fn import_script<F: Files + Alloc + Clone + Drop, R: Read, W: Write, E: Write>(
-    files: &F,
+/// Prints a script, or runs it over the database at a path, and gives the exit status.
+fn print_or_run<
+    S: Alter + Drop,
+    M: Machine<Connection<S>> + Drop,
+    F: Files + Clock,
+    N: Wait + Copy + Drop,
+    W: Write + IsTerminal,
+    E: Write,
+>(
+    databases: &mut DatabaseFiles<'_, S, M, F, N>,
     alloc: Global,
-    file: Option<&str>,
+    database: Option<&str>,
+    accepted: Accepted,
+    output: &mut W,
+    errors: &mut E,
+) -> u8
+    ensures status { (result ≡ DONE) ⊎ ((result ≡ REFUSED) ⊎ (result ≡ FAULT)) }
+    ensures whole { result ≡ DONE → IsImported S.Store M.opens M.refuses M.closes databases.old.machine databases.new.machine (W.contents output.old) (W.contents output.new) (option_map (λ path. path.now) database.entry) accepted DONE }
+    ensures part { IsImportedInPart S.Store M.opens M.refuses M.closes databases.old.machine databases.new.machine (W.contents output.old) (W.contents output.new) (option_map (λ path. path.now) database.entry) accepted }
+{
+    match database {
+        Some(path) => {
+            let files = databases.files;
+            run_text(
+                files,
+                databases,
+                alloc,
+                path,
+                &accepted.script,
+                output,
+                errors,
+            )
+        }
+        None => write_text(accepted.script, output),
+    }
+}
+
+/// Prints the script of what `ip` printed, or runs it over a database, and gives the exit status.
+///
+/// The status is 1 where a line can't be kept, which standard error names, unless the kernel makes it itself, and where the
+/// database refuses a line. It is 3 where the listing can't be read, for want of memory, for a fault of opening or of the
+/// store, and where the script or a reply can't be written.
+pub(crate) fn import_listing<
+    S: Alter + Drop,
+    M: Machine<Connection<S>> + Drop,
+    F: Files + Alloc + Clone + Clock + Drop,
+    N: Wait + Copy + Drop,
+    R: Read,
+    W: Write + IsTerminal,
+    E: Write,
+>(
+    databases: &mut DatabaseFiles<'_, S, M, F, N>,
+    alloc: Global,
+    importing: &Importing<'_>,
     input: &mut R,
     output: &mut W,
     errors: &mut E,
 ) -> u8
     ensures status { (result ≡ DONE) ⊎ ((result ≡ REFUSED) ⊎ (result ≡ FAULT)) }
-    ensures whole { result ≡ DONE → HasImported (W.contents output.old) (W.contents output.new) }
+    ensures whole { result ≡ DONE → HasImported S.Store M.opens M.refuses M.closes databases.old.machine databases.new.machine (W.contents output.old) (W.contents output.new) (option_map (λ path. path.now) importing.now.database) }
+    ensures at_most { HasImportedAtMost S.Store M.opens M.refuses M.closes databases.old.machine databases.new.machine (W.contents output.old) (W.contents output.new) (option_map (λ path. path.now) importing.now.database) }
 {
-    let (accepted, status) = match read_listing(files, alloc, file, input, output, errors) {
+    let read = read_listing(
+        databases.files,
+        alloc,
+        importing.file,
+        input,
+        output,
+        errors,
+    );
+    let (accepted, left) = match read {
         Ok(read) => read,
         Err(status) => return status,
     };
-    if write_text(accepted.script, output) == DONE {
-        status
-    } else {
-        FAULT
+    match print_or_run(
+        databases,
+        alloc,
+        importing.database,
+        accepted,
+        output,
+        errors,
+    ) {
+        DONE => left,
+        status => status,
     }
 }
 
@@ -217,21 +199,29 @@ fn compare<
     M: Machine<Connection<S>> + Drop,
     F: Files,
     N: Net + Wait + Copy + Drop,
+    R: Read,
     E: Write,
 >(
     databases: &mut DatabaseFiles<'_, S, M, F, N>,
     alloc: Global,
     source: &Source<'_>,
-    question: &Question<'_>,
+    inquiry: &Inquiry<'_>,
+    input: &mut R,
     errors: &mut E,
 ) -> u8
     ensures status { (result ≡ DONE) ⊎ ((result ≡ REFUSED) ⊎ (result ≡ FAULT)) }
-    ensures touched { TouchesAtMost S.Store M.opens M.refuses M.closes databases.old.machine databases.new.machine source.now }
+    ensures same { result ≡ DONE → IsAskedOf S.Store M.opens M.refuses M.closes databases.old.machine databases.new.machine source.now (λ state. said inquiry.now state ≡ []) }
+    ensures part { IsNotAsked S.Store M.opens M.refuses M.closes databases.old.machine databases.new.machine source.now ⊎ IsAskedOf S.Store M.opens M.refuses M.closes databases.old.machine databases.new.machine source.now (λ state. Unit {0}) }
 {
     let mut lines: Vec<u8> = Vec::new(alloc);
-    match ask_source(databases, alloc, source, question, &mut lines, errors) {
-        DONE if !lines.is_empty() => REFUSED,
-        status => status,
+    let asked = ask_source(databases, alloc, source, inquiry, input, &mut lines, errors);
+    if asked != DONE {
+        return asked;
+    }
+    if lines.as_slice().is_empty() {
+        DONE
+    } else {
+        REFUSED
     }
 }
 
@@ -239,7 +229,7 @@ fn compare<
 /// is to be shown, whether anything differs.
 ///
 /// The status is 1 where anything differs of which the status alone is shown, and where a line can't be kept, as of
-/// `import_script`. It is 3 as of `ask` and `import_script`.
+/// `import_listing`. It is 3 as of `ask` and `import_listing`.
 pub(crate) fn diff<
     S: Alter + Drop,
     M: Machine<Connection<S>> + Drop,
@@ -257,18 +247,24 @@ pub(crate) fn diff<
     errors: &mut E,
 ) -> u8
     ensures status { (result ≡ DONE) ⊎ ((result ≡ REFUSED) ⊎ (result ≡ FAULT)) }
-    ensures whole { result ≡ DONE → diffing.now.shown ≡ shows.Lines → HasDiffed S.Store M.opens M.refuses M.closes databases.old.machine databases.new.machine (W.contents output.old) (W.contents output.new) diffing.now.source }
-    ensures touched { TouchesAtMost S.Store M.opens M.refuses M.closes databases.old.machine databases.new.machine diffing.now.source }
+    ensures whole { result ≡ DONE → HasCompared S.Store M.opens M.refuses M.closes databases.old.machine databases.new.machine (W.contents output.old) (W.contents output.new) diffing.now.shown diffing.now.source }
+    ensures at_most { HasComparedAtMost S.Store M.opens M.refuses M.closes databases.old.machine databases.new.machine (W.contents output.old) (W.contents output.new) diffing.now.shown diffing.now.source }
 {
     let read = read_listing(databases.files, alloc, diffing.file, input, output, errors);
-    let (accepted, status) = match read {
+    let (accepted, left) = match read {
         Ok(read) => read,
         Err(status) => return status,
     };
-    let (source, question) = (&diffing.source, Question::Diff(&accepted.version));
-    let asked = match diffing.shown {
-        Shown::Lines => ask_source(databases, alloc, source, &question, output, errors),
-        Shown::Status => compare(databases, alloc, source, &question, errors),
+    let inquiry = Inquiry {
+        question: Question::Diff(&accepted.version),
+        form: Form::Lines,
+        labels: Labels::Numbers,
+        names: &Names::new(alloc),
     };
-    if asked == DONE { status } else { asked }
+    let source = &diffing.source;
+    let asked = match diffing.shown {
+        Shown::Lines => ask_source(databases, alloc, source, &inquiry, input, output, errors),
+        Shown::Status => compare(databases, alloc, source, &inquiry, input, errors),
+    };
+    if asked == DONE { left } else { asked }
 }

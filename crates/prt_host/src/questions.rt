@@ -1,27 +1,28 @@
 //! What is asked from outside a session.
-ghost use Rattle.std.specs.Prelude.{◌≡◌, ◌≢◌, ◌⊎◌};
-ghost use Rattle.prt_host.specs.Asking.{IsDone, IsNotDone, IsTouched};
+ghost use Rattle.std.specs.Prelude.{◌≡◌, ◌⊎◌};
+ghost use Rattle.prt_host.specs.Asking.{IsDone, IsDoneAtMost};
 
 use crate::asking::{REFUSED, ask};
 use crate::databases::DatabaseFiles;
-use crate::importing::{diff, import_script};
+use crate::importing::{diff, import_listing};
 use crate::machine::Machine;
 use prt_words::{Asked, DONE, FAULT};
 use sqlite::{Alter, Connection};
 use std::alloc::{Alloc, Global};
 use std::fs::Files;
-use std::io::{Read, Write};
+use std::io::{IsTerminal, Read, Write};
 use std::net::Net;
+use std::rt::Clock;
 use std::sync::Wait;
 
-/// Answers what is asked, and gives the exit status: that of `ask`, `diff` or `import_script`.
+/// Answers what is asked, and gives the exit status: that of `ask`, `diff` or `import_listing`.
 pub(crate) fn answer_question<
     S: Alter + Drop,
     M: Machine<Connection<S>> + Drop,
-    F: Files + Alloc + Clone + Drop,
+    F: Files + Alloc + Clone + Clock + Drop,
     N: Net + Wait + Copy + Drop,
     R: Read,
-    W: Write,
+    W: Write + IsTerminal,
     E: Write,
 >(
     databases: &mut DatabaseFiles<'_, S, M, F, N>,
@@ -33,14 +34,13 @@ pub(crate) fn answer_question<
 ) -> u8
     ensures status { (result ≡ DONE) ⊎ ((result ≡ REFUSED) ⊎ (result ≡ FAULT)) }
     ensures whole { result ≡ DONE → IsDone S.Store M.opens M.refuses M.closes databases.old.machine databases.new.machine (W.contents output.old) (W.contents output.new) asked.now }
-    ensures part { result ≢ DONE → IsNotDone S.Store M.opens M.refuses M.closes databases.old.machine databases.new.machine (W.contents output.old) (W.contents output.new) asked.now }
-    ensures touched { IsTouched S.Store M.opens M.refuses M.closes databases.old.machine databases.new.machine asked.now }
+    ensures at_most { IsDoneAtMost S.Store M.opens M.refuses M.closes databases.old.machine databases.new.machine (W.contents output.old) (W.contents output.new) asked.now }
 {
     match asked {
-        Asked::Tables(asking) => ask(databases, alloc, asking, output, errors),
+        Asked::Tables(asking) => ask(databases, alloc, asking, input, output, errors),
         Asked::Diff(diffing) => diff(databases, alloc, diffing, input, output, errors),
-        Asked::Import(file) => {
-            import_script(databases.files, alloc, *file, input, output, errors)
+        Asked::Import(importing) => {
+            import_listing(databases, alloc, importing, input, output, errors)
         }
     }
 }

@@ -21,19 +21,22 @@ cut_before (b ∷ bs) (suc at) within ends before =
     let later = cut_before bs at (omega arith) ends (λ k h. before (suc k) (omega (arith, h))) in
     simp none (ap (onto_first b) later)
 
+-- what stands behind a place
+pub rest_after : (bs : List ℕ) (at : ℕ) → at < length bs → (from bs (at + 1) ≡ drop (suc at) bs) × (length (from bs (at + 1)) < length bs)
+rest_after bs at within =
+    let rest : from bs (at + 1) ≡ drop (at + 1) bs = take_all (length bs - (at + 1)) (drop (at + 1) bs) (let e = length-drop (at + 1) bs in omega (arith, e)) in
+    let e : at + 1 ≡ suc at = omega arith in
+    let n : length (from bs (at + 1)) ≡ length bs - (at + 1) = ap length rest ∙ length-drop (at + 1) bs in
+    (rest ∙ ap (λ n. drop n bs) e, omega (arith, n, within))
+
 -- the first line, where a newline ends it
 pub cut_at : (bs : List ℕ) (at : ℕ) → position is_newline bs ≡ Some at → (lines_of bs ≡ take at bs ∷ lines_of (from bs (at + 1))) × (length (from bs (at + 1)) < length bs)
 cut_at bs at h =
     let found = position-Some is_newline bs at 0 h in
-    let cut = cut_before bs at found.0 found.1 found.2 in
-    let rest : from bs (at + 1) ≡ drop (at + 1) bs = take_all (length bs - (at + 1)) (drop (at + 1) bs) (let e = length-drop (at + 1) bs in omega (arith, e)) in
-    let e : suc at ≡ at + 1 = omega arith in
-    let n : length (from bs (at + 1)) ≡ length bs - (at + 1) = ap length rest ∙ length-drop (at + 1) bs in (
-      cut ∙ ap (λ n. take at bs ∷ lines_of (drop n bs)) e ∙ ap (λ xs. take at bs ∷ lines_of xs) (sym rest),
-      let within : at < length bs = found.0 in omega (arith, n, within),
-    )
+    let rest = rest_after bs at found.0 in
+    (cut_before bs at found.0 found.1 found.2 ∙ ap (λ xs. take at bs ∷ lines_of xs) (sym rest.0), rest.1)
 
-none_before : (n m : ℕ) (b : Bool) → nat_lt n m ≡ b → cond b (Some n) None ≡ None → m ≤ n
+pub none_before : (n m : ℕ) (b : Bool) → nat_lt n m ≡ b → cond b (Some n) None ≡ None → m ≤ n
 none_before n m true e h = absurd cc
 none_before n m false e h = ltb-false n m e
 

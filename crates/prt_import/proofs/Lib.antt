@@ -3,3 +3,4 @@ pub mod Translating
 pub mod Parts
 pub mod ScriptLines
 pub mod Executing
+pub mod NamedPieces

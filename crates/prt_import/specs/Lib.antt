@@ -3,6 +3,7 @@ pub mod Lines
 pub mod Then
 pub mod Fault
 pub mod TableNames
+pub mod Naming
 pub mod Steps
 pub mod Translation
 pub mod NewLines

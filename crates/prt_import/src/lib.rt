@@ -1,4 +1,5 @@
-//! What `ip -4 route show table all` and `ip -4 rule` print, as a script of lines of the command language.
+//! What `ip -4 route show table all` and `ip -4 rule` print, as a script of lines of the command language; and the names
+//! that the host has for tables.
 #![tactic(auto)]
 
 mod accepted;
@@ -6,9 +7,11 @@ mod draft;
 mod fault;
 mod imported;
 mod known;
+mod laws;
 mod left;
 mod lines;
 mod names;
+mod naming;
 mod reason;
 mod route;
 mod rule;
@@ -18,7 +21,9 @@ mod translate;
 
 pub use accepted::{Accepted, accept};
 pub use imported::{Imported, import};
+pub use laws::{keeps_without_names, keeps_without_tables};
 pub use left::Left;
 pub use names::Names;
+pub use naming::{Text, with_names};
 pub use prt_command::Refusal;
 pub use reason::Reason;

@@ -1,7 +1,8 @@
 //! Names of tables.
-ghost use Rattle.std.specs.Prelude.{◌≡◌, [], ◌∷◌, ◌++◌, MatchOption, OnOk};
+ghost use Rattle.std.specs.Prelude.{◌≡◌, [], ◌∷◌, ◌++◌, MatchOption, OnOk, option_map};
 ghost use Rattle.prt_command.specs.Reading.{line_words};
 ghost use Rattle.prt_route.specs.Names.{number_in};
+ghost use Rattle.prt_import.specs.Naming.{last_name};
 ghost use Rattle.prt_import.specs.TableNames.{entry_of, file_names, names_of};
 
 use crate::lines::next_line;
@@ -89,5 +90,18 @@ impl Names {
             }
         }
         None
+    }
+
+    /// Finds the name of the table with this number, the last of them if there are several.
+    pub(crate) fn last(&self, number: u32) -> Option<&[u8]>
+        ensures { option_map (λ name. name.now) result ≡ last_name (names_of self.now) number }
+    {
+        let mut last: Option<&[u8]> = None;
+        for entry in &self.entries {
+            if entry.number == number {
+                last = Some(&entry.name);
+            }
+        }
+        last
     }
 }

@@ -4,4 +4,6 @@
 #[cfg(test)]
 mod listings;
 #[cfg(test)]
+mod named;
+#[cfg(test)]
 mod told;

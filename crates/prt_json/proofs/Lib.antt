@@ -1,2 +1,4 @@
 pub mod Tokens
 pub mod Depth
+pub mod Asked
+pub mod Deciding

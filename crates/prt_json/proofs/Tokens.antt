@@ -8,19 +8,41 @@ use Rattle.prt_json.specs.Fields.{Member, array_of, items, members, object_of}
 use Rattle.prt_json.specs.Steps.{fields_tokens, values_tokens}
 
 -- the tokens of one field, if it is there
-abbrev pub field_tokens : Option Member → List Token
+abbrev field_tokens : Option Member → List Token
 field_tokens None = []
 field_tokens (Some field) = key field.0 ∷ json_tokens field.1
 
 -- ---- one more
 
-pub fields_tokens-append : (fields : List (Option Member)) (field : Option Member) → fields_tokens (fields ++ field ∷ []) ≡ fields_tokens fields ++ field_tokens field
-fields_tokens-append [] None = refl
-fields_tokens-append [] (Some field) = ap (λ ts. key field.0 ∷ ts) (append-nil (json_tokens field.1))
-fields_tokens-append (None ∷ fields) field = fields_tokens-append fields field
-fields_tokens-append (Some first ∷ fields) field =
-    ap (λ ts. key first.0 ∷ (json_tokens first.1 ++ ts)) (fields_tokens-append fields field)
-    ∙ ap (λ ts. key first.0 ∷ ts) (sym (append_assoc (json_tokens first.1) (fields_tokens fields) (field_tokens field)))
+pub fields_tokens-both : (fields others : List (Option Member)) → fields_tokens (fields ++ others) ≡ fields_tokens fields ++ fields_tokens others
+fields_tokens-both [] others = refl
+fields_tokens-both (None ∷ fields) others = fields_tokens-both fields others
+fields_tokens-both (Some field ∷ fields) others =
+    ap (λ ts. key field.0 ∷ (json_tokens field.1 ++ ts)) (fields_tokens-both fields others)
+    ∙ ap (λ ts. key field.0 ∷ ts) (sym (append_assoc (json_tokens field.1) (fields_tokens fields) (fields_tokens others)))
+
+one_field : (field : Option Member) → fields_tokens (field ∷ []) ≡ field_tokens field
+one_field None = refl
+one_field (Some field) = ap (λ ts. key field.0 ∷ ts) (append-nil (json_tokens field.1))
+
+fields_tokens-append : (fields : List (Option Member)) (field : Option Member) → fields_tokens (fields ++ field ∷ []) ≡ fields_tokens fields ++ field_tokens field
+fields_tokens-append fields field = fields_tokens-both fields (field ∷ []) ∙ ap (λ ts. fields_tokens fields ++ ts) (one_field field)
+
+-- a field that is there, by its key and its value
+pub one_pushed : (name : List ℕ) (value : Json) (old one new : List Token) → one ≡ old ++ key name ∷ [] → new ≡ one ++ json_tokens value → new ≡ old ++ fields_tokens (Some (name, value) ∷ [])
+one_pushed name value old one new named pushed =
+    pushed
+    ∙ ap (λ ts. ts ++ json_tokens value) named
+    ∙ append_assoc old (key name ∷ []) (json_tokens value)
+    ∙ ap (λ ts. old ++ ts) (sym (one_field (Some (name, value))))
+
+-- fields, and then others
+pub then_fields : (fields others : List (Option Member)) (old one new : List Token) → one ≡ old ++ fields_tokens fields → new ≡ one ++ fields_tokens others → new ≡ old ++ fields_tokens (fields ++ others)
+then_fields fields others old one new first second =
+    second
+    ∙ ap (λ ts. ts ++ fields_tokens others) first
+    ∙ append_assoc old (fields_tokens fields) (fields_tokens others)
+    ∙ ap (λ ts. old ++ ts) (sym (fields_tokens-both fields others))
 
 pub values_tokens-append : (values : List Json) (value : Json) → values_tokens (values ++ value ∷ []) ≡ values_tokens values ++ json_tokens value
 values_tokens-append [] value = append-nil (json_tokens value)

@@ -1,25 +1,20 @@
 //! The documents, and how one is appended.
-ghost use Rattle.std.specs.Prelude.{◌≡◌, ◌++◌, IsOkUnless, OnErr, OnOk, map};
-ghost use Rattle.prt_refusals.specs.declared.refusal.Refusal.TheVariants.{NoMemory};
+ghost use Rattle.std.specs.Prelude.{◌≡◌, ◌++◌, OnErr, OnOk};
 ghost use Rattle.prt_listing.specs.Keeps.{Keeps};
 ghost use Rattle.json.specs.Tree.{json_tokens};
-ghost use Rattle.prt_json.specs.AnswerJson.{answers};
+ghost use Rattle.prt_json.specs.Appends.{Appends};
+ghost use Rattle.prt_json.specs.ExplanationJson.{explanation_json};
 ghost use Rattle.prt_json.specs.Fields.{ReadsBack, json_line};
-ghost use Rattle.prt_json.specs.Json.{all_tables, answer_json, routes_json, rules_json, tables_json};
-ghost use Rattle.prt_json.specs.RouteJson.{route_json};
-ghost use Rattle.prt_json.specs.RuleJson.{rule_json};
-ghost use Rattle.prt_json.specs.Steps.{document_json, values_tokens};
+ghost use Rattle.prt_json.specs.Json.{answer_json, routes_json, rules_json, tables_json};
+ghost use Rattle.prt_json.specs.Steps.{document_json};
 
-use crate::answer::{drop_answer, route_answer};
-use crate::push::push_object;
-use crate::route::route_fields;
-use crate::rule::rule_fields;
+use crate::arrays::{push_answer, push_routes, push_rules};
+use crate::explanation::push_explanation;
+use crate::route::all_tables;
 use json::Writer;
 use prt_command::{Packet, Refusal, Selector};
 use prt_listing::push_text;
-use prt_route::{Range, Route};
-use prt_rule::Rule;
-use prt_version::{Verdict, Version};
+use prt_version::Version;
 use std::alloc::{AllocError, Global};
 use std::mem;
 
@@ -29,108 +24,8 @@ enum Document<'a> {
     Routes(&'a Selector),
     Rules,
     Answer(&'a Packet),
+    Explanation(&'a Packet),
     Tables,
-}
-
-/// The selector that takes each route of each table.
-fn all_tables() -> Selector
-    ensures { result ≡ all_tables }
-{
-    Selector {
-        table: None,
-        range: Range::All,
-        kind: None,
-        proto: None,
-        scope: None,
-        dev: None,
-    }
-}
-
-/// Writes each of the routes.
-fn push_each_route(
-    out: &mut Writer,
-    alloc: Global,
-    selector: &Selector,
-    routes: &[Route],
-) -> Result<(), AllocError>
-    ensures ok { OnOk result (out.new.tokens ≡ out.old.tokens ++ values_tokens (map (λ route. route_json selector.now route) routes.now)) }
-    ensures before { out.new.before ≡ out.old.before }
-{
-    for route in routes {
-        push_object(out, alloc, &route_fields(selector, route))?;
-    }
-    Ok(())
-}
-
-/// Writes each of the rules.
-fn push_each_rule(out: &mut Writer, alloc: Global, rules: &[Rule]) -> Result<(), AllocError>
-    ensures ok { OnOk result (out.new.tokens ≡ out.old.tokens ++ values_tokens (map rule_json rules.now)) }
-    ensures before { out.new.before ≡ out.old.before }
-{
-    for rule in rules {
-        push_object(out, alloc, &rule_fields(rule))?;
-    }
-    Ok(())
-}
-
-/// Writes the object of a verdict, if a rule decides.
-fn push_verdict(
-    out: &mut Writer,
-    alloc: Global,
-    packet: &Packet,
-    verdict: &Verdict,
-) -> Result<(), AllocError>
-    ensures ok { OnOk result (out.new.tokens ≡ out.old.tokens ++ values_tokens (answers packet.now verdict.now)) }
-    ensures before { out.new.before ≡ out.old.before }
-{
-    match verdict {
-        Verdict::Route(_, route) => push_object(out, alloc, &route_answer(packet, route)),
-        Verdict::RuleSays(_, action) => push_object(out, alloc, &drop_answer(packet, *action)),
-        Verdict::NoRoute => Ok(()),
-    }
-}
-
-/// Writes the array of the routes that a selector takes.
-fn push_routes(
-    out: &mut Writer,
-    alloc: Global,
-    version: &Version,
-    selector: &Selector,
-) -> Result<(), AllocError>
-    ensures ok { OnOk result (out.new.tokens ≡ out.old.tokens ++ json_tokens (routes_json version.now selector.now)) }
-    ensures before { out.new.before ≡ out.old.before }
-{
-    let Ok(routes) = version.routes(selector) else {
-        return Err(AllocError);
-    };
-    out.begin_array()?;
-    push_each_route(out, alloc, selector, &routes)?;
-    out.end_array()
-}
-
-/// Writes the array of the rules.
-fn push_rules(out: &mut Writer, alloc: Global, version: &Version) -> Result<(), AllocError>
-    ensures ok { OnOk result (out.new.tokens ≡ out.old.tokens ++ json_tokens (rules_json version.now)) }
-    ensures before { out.new.before ≡ out.old.before }
-{
-    out.begin_array()?;
-    push_each_rule(out, alloc, version.rules())?;
-    out.end_array()
-}
-
-/// Writes the array of what becomes of a packet.
-fn push_answer(
-    out: &mut Writer,
-    alloc: Global,
-    version: &Version,
-    packet: &Packet,
-) -> Result<(), AllocError>
-    ensures ok { OnOk result (out.new.tokens ≡ out.old.tokens ++ json_tokens (answer_json version.now packet.now)) }
-    ensures before { out.new.before ≡ out.old.before }
-{
-    out.begin_array()?;
-    push_verdict(out, alloc, packet, &version.select(packet).verdict)?;
-    out.end_array()
 }
 
 /// Writes the object of all that a version holds.
@@ -162,6 +57,7 @@ fn push_document(
         Document::Routes(selector) => push_routes(out, alloc, version, selector),
         Document::Rules => push_rules(out, alloc, version),
         Document::Answer(packet) => push_answer(out, alloc, version, packet),
+        Document::Explanation(packet) => push_explanation(out, alloc, version, packet),
         Document::Tables => push_tables(out, alloc, version),
     }
 }
@@ -190,10 +86,7 @@ fn push_line(out: &mut Vec<u8>, version: &Version, document: &Document) -> Resul
 ///
 /// `NoMemory` where memory is refused; `out` is as it was.
 fn append(out: &mut Vec<u8>, version: &Version, document: &Document) -> Result<(), Refusal>
-    ensures ok { OnOk result (out.new.items ≡ out.old.items ++ json_line (document_json version.now document.now)) }
-    ensures reads_back { OnOk result (ReadsBack (document_json version.now document.now)) }
-    ensures err { OnErr result (out.new.items ≡ out.old.items) }
-    ensures reason { IsOkUnless result NoMemory }
+    ensures { Appends result out.old.items out.new.items (document_json version.now document.now) }
 {
     let len = out.len();
     if push_line(out, version, document).is_err() {
@@ -211,10 +104,7 @@ fn append(out: &mut Vec<u8>, version: &Version, document: &Document) -> Result<(
 ///
 /// `NoMemory` where memory is refused; `out` is as it was.
 pub fn routes_json(out: &mut Vec<u8>, version: &Version, selector: &Selector) -> Result<(), Refusal>
-    ensures ok { OnOk result (out.new.items ≡ out.old.items ++ json_line (routes_json version.now selector.now)) }
-    ensures reads_back { OnOk result (ReadsBack (routes_json version.now selector.now)) }
-    ensures err { OnErr result (out.new.items ≡ out.old.items) }
-    ensures reason { IsOkUnless result NoMemory }
+    ensures { Appends result out.old.items out.new.items (routes_json version.now selector.now) }
 {
     append(out, version, &Document::Routes(selector))
 }
@@ -225,10 +115,7 @@ pub fn routes_json(out: &mut Vec<u8>, version: &Version, selector: &Selector) ->
 ///
 /// `NoMemory` where memory is refused; `out` is as it was.
 pub fn rules_json(out: &mut Vec<u8>, version: &Version) -> Result<(), Refusal>
-    ensures ok { OnOk result (out.new.items ≡ out.old.items ++ json_line (rules_json version.now)) }
-    ensures reads_back { OnOk result (ReadsBack (rules_json version.now)) }
-    ensures err { OnErr result (out.new.items ≡ out.old.items) }
-    ensures reason { IsOkUnless result NoMemory }
+    ensures { Appends result out.old.items out.new.items (rules_json version.now) }
 {
     append(out, version, &Document::Rules)
 }
@@ -242,12 +129,34 @@ pub fn rules_json(out: &mut Vec<u8>, version: &Version) -> Result<(), Refusal>
 ///
 /// `NoMemory` where memory is refused; `out` is as it was.
 pub fn answer_json(out: &mut Vec<u8>, version: &Version, packet: &Packet) -> Result<(), Refusal>
-    ensures ok { OnOk result (out.new.items ≡ out.old.items ++ json_line (answer_json version.now packet.now)) }
-    ensures reads_back { OnOk result (ReadsBack (answer_json version.now packet.now)) }
-    ensures err { OnErr result (out.new.items ≡ out.old.items) }
-    ensures reason { IsOkUnless result NoMemory }
+    ensures { Appends result out.old.items out.new.items (answer_json version.now packet.now) }
 {
     append(out, version, &Document::Answer(packet))
+}
+
+/// Appends why the packet goes where it goes as one object, and a newline: `packet`, what was asked, `rules`, those that
+/// are asked, up to the one that decides, and `answer` as `answer_json` shows it.
+///
+/// A rule has the fields of `rules_json`, and behind them:
+///
+/// - `matches`, true or false, and `mismatch`, the first part of its selector that the packet doesn't agree with, if one
+///   doesn't. A rule with `not` matches where there is one.
+/// - Where it matches and finds a route in its table, `found`, the best one, and `runner_up`, the next one, if there is
+///   one, both as `routes_json` shows routes of all tables; and `suppressed`, true where the rule says nothing since the
+///   best one's prefix is too short. It also says nothing where that is a throw route.
+/// - `decides`, true or false.
+///
+/// # Errors
+///
+/// `NoMemory` where memory is refused; `out` is as it was.
+pub fn explanation_json(
+    out: &mut Vec<u8>,
+    version: &Version,
+    packet: &Packet,
+) -> Result<(), Refusal>
+    ensures { Appends result out.old.items out.new.items (explanation_json version.now packet.now) }
+{
+    append(out, version, &Document::Explanation(packet))
 }
 
 /// Appends all that the version holds as one object, and a newline: `number`, how many commands were accepted, `rules`
@@ -257,10 +166,7 @@ pub fn answer_json(out: &mut Vec<u8>, version: &Version, packet: &Packet) -> Res
 ///
 /// `NoMemory` where memory is refused; `out` is as it was.
 pub fn tables_json(out: &mut Vec<u8>, version: &Version) -> Result<(), Refusal>
-    ensures ok { OnOk result (out.new.items ≡ out.old.items ++ json_line (tables_json version.now)) }
-    ensures reads_back { OnOk result (ReadsBack (tables_json version.now)) }
-    ensures err { OnErr result (out.new.items ≡ out.old.items) }
-    ensures reason { IsOkUnless result NoMemory }
+    ensures { Appends result out.old.items out.new.items (tables_json version.now) }
 {
     append(out, version, &Document::Tables)
 }

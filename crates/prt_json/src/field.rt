@@ -3,10 +3,12 @@ ghost use Rattle.std.specs.Prelude.{◌≡◌, option_map, decimal, unwrap_or};
 ghost use Rattle.prt_addr.specs.Addr.{addr_text};
 ghost use Rattle.prt_listing.specs.Parts.{table_text};
 ghost use Rattle.json.specs.Json.{string};
+ghost use Rattle.prt_json.specs.ExplanationJson.{truth_field};
 ghost use Rattle.prt_json.specs.Fields.{dev_field, empty_field, text_field};
 ghost use Rattle.prt_json.specs.Steps.{member_of, value_json};
 
 use prt_addr::{Addr, Prefix};
+use prt_listing::Part;
 use prt_route::{Dev, table_name};
 
 /// A value of a field.
@@ -15,6 +17,7 @@ pub(crate) enum Value {
     Null,
     /// An array without values.
     Empty,
+    Truth(bool),
     Number(u64),
     /// A string, as are all that follow.
     Name(&'static str),
@@ -25,6 +28,7 @@ pub(crate) enum Value {
     Addr(Addr),
     Prefix(Prefix),
     Dev(Dev),
+    Part(Part),
 }
 
 /// A field of an object: its name and its value.
@@ -50,6 +54,13 @@ pub(crate) fn empty_field(name: &'static str) -> Option<Field>
     ensures { member_of result ≡ empty_field name.now }
 {
     Some(Field(name, Value::Empty))
+}
+
+/// Makes the field of what is true or false.
+pub(crate) fn truth_field(name: &'static str, is_true: bool) -> Option<Field>
+    ensures { member_of result ≡ truth_field name.now is_true }
+{
+    Some(Field(name, Value::Truth(is_true)))
 }
 
 /// Gives the name of a number or, where it has none, its digits.

@@ -1,6 +1,7 @@
 //! Values, fields and objects, written token by token.
 ghost use Rattle.std.specs.Prelude.{◌≡◌, ◌∷◌, ◌++◌, OnOk};
 ghost use Rattle.std.specs.Str.Lossy.{utf8_lossy};
+ghost use Rattle.prt_listing.specs.Steps.{part_text};
 ghost use Rattle.json.specs.Json.{array, no_items, string};
 ghost use Rattle.json.specs.Token.{key as key_token};
 ghost use Rattle.json.specs.Tree.{json_tokens};
@@ -11,7 +12,7 @@ ghost use Rattle.prt_json.specs.Steps.{fields_tokens, members_of, value_json};
 use crate::field::{Field, Value};
 use json::Writer;
 use prt_addr::{addr_text, prefix_text};
-use prt_route::Dev;
+use prt_listing::{Part, push_part};
 use std::alloc::{AllocError, Global};
 
 /// Writes an array without values.
@@ -35,13 +36,23 @@ fn push_hexadecimal(out: &mut Writer, alloc: Global, number: u32) -> Result<(), 
     out.string(text.as_str())
 }
 
-/// Writes the name of an interface, as a string. U+FFFD stands for what is no UTF-8 in it.
-fn push_dev(out: &mut Writer, alloc: Global, dev: &Dev) -> Result<(), AllocError>
-    ensures ok { OnOk result (out.new.tokens ≡ out.old.tokens ++ json_tokens (string (utf8_lossy dev.now))) }
+/// Writes bytes as a string. U+FFFD stands for what is no UTF-8 in them.
+fn push_lossy(out: &mut Writer, alloc: Global, bytes: &[u8]) -> Result<(), AllocError>
+    ensures ok { OnOk result (out.new.tokens ≡ out.old.tokens ++ json_tokens (string (utf8_lossy bytes.now))) }
     ensures before { out.new.before ≡ out.old.before }
 {
-    let name = String::from_utf8_lossy(alloc, dev.as_bytes())?;
-    out.string(name.as_str())
+    let text = String::from_utf8_lossy(alloc, bytes)?;
+    out.string(text.as_str())
+}
+
+/// Writes a part of a text, as a string.
+fn push_part_text(out: &mut Writer, alloc: Global, part: &Part) -> Result<(), AllocError>
+    ensures ok { OnOk result (out.new.tokens ≡ out.old.tokens ++ json_tokens (string (utf8_lossy (part_text part.now)))) }
+    ensures before { out.new.before ≡ out.old.before }
+{
+    let mut text = Vec::new(alloc);
+    push_part(&mut text, part)?;
+    push_lossy(out, alloc, &text)
 }
 
 /// Writes a value.
@@ -52,13 +63,15 @@ fn push_value(out: &mut Writer, alloc: Global, value: &Value) -> Result<(), Allo
     match value {
         Value::Null => out.null(),
         Value::Empty => push_empty(out),
+        Value::Truth(is_true) => out.boolean(*is_true),
         Value::Number(number) => out.u64(*number),
         Value::Name(name) => out.string(name),
         Value::Digits(number) => out.quoted_u64(u64::from(*number)),
         Value::Hexadecimal(number) => push_hexadecimal(out, alloc, *number),
         Value::Addr(addr) => out.string(addr_text(*addr).as_str()),
         Value::Prefix(prefix) => out.string(prefix_text(prefix).as_str()),
-        Value::Dev(dev) => push_dev(out, alloc, dev),
+        Value::Dev(dev) => push_lossy(out, alloc, dev.as_bytes()),
+        Value::Part(part) => push_part_text(out, alloc, part),
     }
 }
 
@@ -72,7 +85,11 @@ fn push_field(out: &mut Writer, alloc: Global, field: &Field) -> Result<(), Allo
 }
 
 /// Writes the fields that are there.
-fn push_fields(out: &mut Writer, alloc: Global, fields: &[Option<Field>]) -> Result<(), AllocError>
+pub(crate) fn push_fields(
+    out: &mut Writer,
+    alloc: Global,
+    fields: &[Option<Field>],
+) -> Result<(), AllocError>
     ensures ok { OnOk result (out.new.tokens ≡ out.old.tokens ++ fields_tokens (members_of fields.now)) }
     ensures before { out.new.before ≡ out.old.before }
 {

@@ -1,5 +1,6 @@
 //! The fields of a route, as `ip -j route show` names them.
 ghost use Rattle.std.specs.Prelude.{◌≡◌};
+ghost use Rattle.prt_json.specs.Json.{all_tables};
 ghost use Rattle.prt_json.specs.RouteJson.{destinations_field, gateway_field, metric_field, prefsrc_field, protocol_field, route_fields, route_dev_field, scope_field, table_field, type_field};
 ghost use Rattle.prt_json.specs.Steps.{member_of, members_of};
 
@@ -7,8 +8,8 @@ use crate::field::{Field, Value, addr_field, dev_field, empty_field, name_or_dig
 use prt_addr::Addr;
 use prt_listing::is_everything;
 use prt_route::{
-    BOOT_PROTOCOL, Dev, GLOBAL_SCOPE, Kind, MAIN_TABLE, Prefix, Route, Selector, protocol_name,
-    scope_name,
+    BOOT_PROTOCOL, Dev, GLOBAL_SCOPE, Kind, MAIN_TABLE, Prefix, Range, Route, Selector,
+    protocol_name, scope_name,
 };
 
 /// Makes the field of the kind, but for unicast.
@@ -115,4 +116,18 @@ pub(crate) fn route_fields(selector: &Selector, route: &Route) -> [Option<Field>
         metric_field(route.metric),
         empty_field("flags"),
     ]
+}
+
+/// The selector that takes each route of each table.
+pub(crate) fn all_tables() -> Selector
+    ensures { result ≡ all_tables }
+{
+    Selector {
+        table: None,
+        range: Range::All,
+        kind: None,
+        proto: None,
+        scope: None,
+        dev: None,
+    }
 }

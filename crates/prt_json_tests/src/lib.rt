@@ -1,5 +1,9 @@
-//! Tests of routes, rules and answers as JSON.
+//! Tests of routes, rules, answers and explanations as JSON.
 #![tactic(auto)]
 
+#[cfg(test)]
+mod explained;
+#[cfg(test)]
+mod script;
 #[cfg(test)]
 mod shown;

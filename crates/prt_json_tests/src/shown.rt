@@ -1,9 +1,10 @@
+use crate::script::{joined, version_after};
 use prt_addr::read_addr;
 use prt_command::{Packet, Query, Refusal, Request, read_line};
 use prt_json::{answer_json, routes_json, rules_json, tables_json};
 use prt_route::read_dev;
 use prt_version::Version;
-use std::alloc::{AllocError, Global};
+use std::alloc::Global;
 use std::test::Fail;
 
 // What is expected here was printed by `ip -j` of iproute2 6.1.0, in a network namespace with these routes and rules.
@@ -182,36 +183,6 @@ const DROPPED: [(&str, &str); 3] = [
     ),
     ("route get 11.0.0.1", "[]"),
 ];
-
-/// The version after the command of this line.
-fn next_version(version: &Version, line: &str) -> Result<Version, Refusal> {
-    match read_line(line.as_bytes())? {
-        Some(Request::Command(command)) => match version.check(&command) {
-            Ok(change) => version.next(&change),
-            Err(reason) => Err(reason),
-        },
-        _ => Err(Refusal::UnknownVerb),
-    }
-}
-
-/// A new database after the commands of this script.
-fn version_after(alloc: Global, script: &str) -> Result<Version, Refusal> {
-    let mut version = Version::opening(alloc)?;
-    for line in script.lines() {
-        version = next_version(&version, line)?;
-    }
-    Ok(version)
-}
-
-/// The lines as one.
-fn joined(alloc: Global, lines: &str) -> Result<Vec<u8>, AllocError> {
-    let mut text = Vec::new(alloc);
-    for line in lines.lines() {
-        text.extend_from_slice(line.as_bytes())?;
-    }
-    text.extend_from_slice(b"\n")?;
-    Ok(text)
-}
 
 /// What the query of this line shows.
 fn shown(alloc: Global, version: &Version, line: &str) -> Result<Vec<u8>, Fail> {

@@ -1,9 +1,9 @@
 -- A fault that was reported, and an input that was left alone.
-use Rattle.std.proofs.Common.{◌≡◌, ◌≢◌, ◌∙◌, ℕ, inl, inr, refl, List, Option, Some, None, Result, Ok, Err}
+use Rattle.std.proofs.Common.{◌≡◌, ◌≢◌, ◌∙◌, ℕ, arith, inl, inr, refl, sym, List, Option, Some, None, Result, Ok, Err}
 use Rattle.std.specs.Prelude.{OnErr}
 use Rattle.prt_addr.specs.Word.{Word}
 use Rattle.prt_refusals.specs.declared.refusal.Refusal.{Refusal}
-use Rattle.prt_program.specs.Faults.{IsFault, database_of}
+use Rattle.prt_program.specs.Faults.{IsDatabaseFault, IsFault, IsOpening, database_of}
 use Rattle.prt_words.specs.Faults.{fault_status}
 use Rattle.prt_words.specs.Invocation.{Invocation, batch, check, replay}
 use Rattle.prt_program.specs.Program.{IsUntouched, LeavesInput, LeavesInputFor, RunsNothing}
@@ -35,3 +35,11 @@ unread _ input = refl
 pub at_fault : {A E P : Type 0} (r : Result A E) → P → OnErr r P
 at_fault (Ok value) holds = tt
 at_fault (Err error) holds = holds
+
+-- no database was opened, and that was reported
+pub not_run : {D : Type 0} (refuses : D → D → Word → Refusal → Type 0) (old new : D) (path : Word) (fault : Fault) (status : ℕ) (writer0 writer1 writer : Option (List ℕ))
+    → IsOpening (IsDatabaseFault (Some path)) fault → status ≡ fault_status fault → writer1 ≡ writer0 → (status ≢ 0 → writer ≡ writer1) → IsUntouched refuses (Some path) old new
+    → (status ≡ 3) × (writer ≡ writer0) × IsUntouched refuses (Some path) old new
+not_run refuses old new path (Words error) status writer0 writer1 writer may is same kept left = absurd may
+not_run refuses old new path (Opening reason) status writer0 writer1 writer may is same kept left = (is, kept (λ zero. let bad : 3 ≡ 0 = sym is ∙ zero in absurd (omega arith)) ∙ same, left)
+not_run refuses old new path Listener status writer0 writer1 writer may is same kept left = absurd may

@@ -4,6 +4,7 @@ use Rattle.prt_addr.specs.Word.{Word}
 use Rattle.prt_refusals.specs.declared.refusal.Refusal.{Refusal}
 use Rattle.prt_program.specs.Databases.{OpensAndCloses}
 use Rattle.prt_program.specs.Faults.{database_of}
+use Rattle.prt_refusals.specs.declared.on_refusal.OnRefusal.TheVariants.{GoOn}
 use Rattle.prt_words.specs.Faults.{IsStatusOf}
 use Rattle.prt_words.specs.Invocation.{Invocation, batch, check, replay}
 use Rattle.prt_replay.specs.Replay.{ReplayIs}
@@ -78,6 +79,17 @@ abbrev pub RunsBatch : (Word → SessionFact) → Option Word → SessionFact
 RunsBatch RunAt None mode streams status = (left : State) × RunsOn (λ desk after. after ≡ settled desk) IsNoMemory mode opening_state left streams status
 RunsBatch RunAt (Some path) mode streams status = RunAt path mode streams status
 
+-- no database was touched, or the one at this path was refused
+abbrev pub IsUntouched : {D : Type 0} → (refuses : D → D → Word → Refusal → Type 0) → Option Word → D → D → Type 0
+IsUntouched refuses None old new = new ≡ old
+IsUntouched refuses (Some path) old new = (new ≡ old) ⊎ ((reason : Refusal) × refuses old new path reason)
+
+-- a session over a text was run at a path, and went on after refused lines; or the database there was refused, and nothing was written
+abbrev pub RunsText : {D : Type 0} → (refuses : D → D → Word → Refusal → Type 0) → (Word → SessionFact) → D → D → Word → List ℕ → Option (List ℕ) → Option (List ℕ) → ℕ → Type 0
+RunsText refuses RunAt old new path text writer0 writer status =
+    RunAt path (InTurn GoOn) (streams_of (Some text) writer0 writer) status
+    ⊎ ((status ≡ 3) × (writer ≡ writer0) × IsUntouched refuses (Some path) old new)
+
 -- A check was run, and this is its exit status.
 pub record RunsCheck (streams : Streams) (status : ℕ) : Type 0 where
   pub reader : Option (List ℕ)
@@ -102,11 +114,6 @@ Runs bytes RunAt (batch script) streams status = RunsOver bytes (RunsBatch RunAt
 Runs bytes RunAt (check file) streams status = RunsOver bytes RunsCheck file streams status
 Runs bytes RunAt (replay file) streams status = RunsOver bytes RunsReplay file streams status
 Runs bytes RunAt asked streams status = ⊥
-
--- no database was touched, or the one at this path was refused
-abbrev pub IsUntouched : {D : Type 0} → (refuses : D → D → Word → Refusal → Type 0) → Option Word → D → D → Type 0
-IsUntouched refuses None old new = new ≡ old
-IsUntouched refuses (Some path) old new = (new ≡ old) ⊎ ((reason : Refusal) × refuses old new path reason)
 
 -- Nothing was run: the words ask for none, or there was a fault of opening. What the writer had is there alone, unless help was asked for.
 abbrev pub RunsNothing : {D : Type 0} → (refuses : D → D → Word → Refusal → Type 0) → D → D → Invocation → Option (List ℕ) → Option (List ℕ) → ℕ → Type 0

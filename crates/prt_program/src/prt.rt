@@ -119,7 +119,7 @@ fn buffered<R: Read + Drop>(alloc: Global, input: R) -> Result<BufReader<R>, Fau
 }
 
 /// Runs a script over the database that is asked for, and gives the exit status of the session.
-fn run_batch<H: Host, R: Read + Drop>(
+pub(crate) fn run_batch<H: Host, R: Read + Drop>(
     around: &mut Surroundings<'_, '_, H>,
     database: Option<&str>,
     input: R,

@@ -51,9 +51,9 @@ words_rule = record (new_rule (codes "words")) { action = Some Append; value_nam
 abbrev pub place_line : Text → App
 place_line name = with_rule (with_rule (new_app name) (option_rule (codes "db"))) (option_rule (codes "server"))
 
--- and in which form the answer is
+-- in which form the answer is, and how it calls tables
 abbrev pub tables_line : Text → App
-tables_line name = with_rule (place_line name) (flag_rule (codes "json"))
+tables_line name = with_rule (with_rule (place_line name) (flag_rule (codes "json"))) (flag_rule (codes "names"))
 
 abbrev pub question_line : Text → App
 question_line name = with_rule (tables_line name) words_rule
@@ -74,7 +74,7 @@ abbrev pub diff_line : App
 diff_line = with_rule (with_rule (place_line (codes "diff")) (flag_rule (codes "check"))) file_rule
 
 abbrev pub import_line : App
-import_line = with_rule (new_app (codes "import")) file_rule
+import_line = with_rule (with_rule (new_app (codes "import")) (option_rule (codes "db"))) file_rule
 
 abbrev pub opening_line : App
 opening_line = on_top (λ top. record top { subcommand_required = true; arg_required_else_help = true; has_version = true }) (new_app (codes "prt"))

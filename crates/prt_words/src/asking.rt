@@ -7,7 +7,7 @@ ghost use Rattle.prt_words.specs.Invocation.{ask};
 
 use crate::fault::{Fault, asking_fault};
 use crate::serving::place_of;
-use crate::task::file_in;
+use crate::task::{file_in, file_of};
 use clap::ArgMatches;
 use prt_refusals::Refusal;
 use std::alloc::{AllocError, Global};
@@ -19,6 +19,10 @@ const NO_TABLES: &str = "one of '--db <PATH>' and '--server <ADDR:PORT>' is requ
 /// What is wrong with a place of a server.
 const BAD_SERVER: &str =
     "invalid value for '--server <ADDR:PORT>': it is an IPv4 address, `:` and a port of 0 to 65535";
+
+/// What is wrong where no tables and no script are named.
+const NO_SCRIPT: &str =
+    "one of '--db <PATH>', '--server <ADDR:PORT>' and a script before the address is required";
 
 /// What is wrong where no packet is named.
 const NO_ADDRESS: &str = "a value is required for '<ADDRESS>...'";
@@ -48,6 +52,8 @@ pub enum Source<'a> {
     Database(&'a str),
     /// At the server whose feed is at this place.
     Server(SocketAddrV4),
+    /// Those that the script at this path makes of a new database; the one on standard input where there is none.
+    Script(Option<&'a str>),
 }
 
 /// In which form an answer is written.
@@ -57,6 +63,15 @@ pub enum Form {
     Lines,
     /// In JSON.
     Json,
+}
+
+/// How tables are called in an answer.
+#[derive(Clone, Copy)]
+pub enum Labels {
+    /// By their numbers, but for main, local and default.
+    Numbers,
+    /// By the names that iproute2 has for them, where it has one.
+    Names,
 }
 
 /// What is asked of tables.
@@ -81,6 +96,7 @@ pub struct Asking<'a> {
     /// dump it says nothing.
     pub line: Vec<u8>,
     pub form: Form,
+    pub labels: Labels,
 }
 
 /// What is shown of what differs.
@@ -101,6 +117,15 @@ pub struct Diffing<'a> {
     pub shown: Shown,
 }
 
+/// A question of which script makes what `ip` printed.
+#[derive(Clone, Copy)]
+pub struct Importing<'a> {
+    /// The path of what `ip` printed; standard input where there is none.
+    pub file: Option<&'a str>,
+    /// The path of the database over which the script is run; it is printed where there is none.
+    pub database: Option<&'a str>,
+}
+
 /// What is asked from outside a session.
 #[derive(Drop)]
 pub enum Asked<'a> {
@@ -108,8 +133,8 @@ pub enum Asked<'a> {
     Tables(Asking<'a>),
     /// What differs from tables.
     Diff(Diffing<'a>),
-    /// Which script makes what `ip` printed, in the file of this path; on standard input where there is none.
-    Import(Option<&'a str>),
+    /// Which script makes what `ip` printed.
+    Import(Importing<'a>),
 }
 
 /// A subcommand that asks a question.
@@ -179,33 +204,57 @@ impl From<AllocError> for BadQuestion {
     }
 }
 
-/// Gives where the tables are that the matches name.
+/// Gives where the tables are that the matches name, if they name any.
+///
+/// # Errors
+///
+/// They name two, or a place that is none.
+fn named_source<'a>(matches: &ArgMatches<'a>) -> Result<Option<Source<'a>>, BadQuestion> {
+    match (matches.get_str("db"), matches.get_str("server")) {
+        (None, None) => Ok(None),
+        (Some(path), None) => Ok(Some(Source::Database(path))),
+        (None, Some(word)) => match place_of(word) {
+            Some(place) => Ok(Some(Source::Server(place))),
+            None => Err(BadQuestion::Words(BAD_SERVER)),
+        },
+        (Some(_), Some(_)) => Err(BadQuestion::Words(NO_TABLES)),
+    }
+}
+
+/// Gives where the tables are that the matches of `diff` name.
 ///
 /// # Errors
 ///
 /// They name none or two, or a place that is none.
 fn source_in<'a>(matches: &ArgMatches<'a>) -> Result<Source<'a>, BadQuestion> {
-    match (matches.get_str("db"), matches.get_str("server")) {
-        (Some(path), None) => Ok(Source::Database(path)),
-        (None, Some(word)) => match place_of(word) {
-            Some(place) => Ok(Source::Server(place)),
-            None => Err(BadQuestion::Words(BAD_SERVER)),
-        },
-        _ => Err(BadQuestion::Words(NO_TABLES)),
+    match named_source(matches)? {
+        Some(source) => Ok(source),
+        None => Err(BadQuestion::Words(NO_TABLES)),
     }
 }
 
-/// Gives the words of the question that the matches have.
+/// Gives where the tables are of a question with these words, and the words that ask it. The first word of an explanation
+/// names a script where the matches name no other tables.
 ///
 /// # Errors
 ///
-/// They have none, where there have to be some.
-fn words_in<'b, 'a>(verb: Verb, matches: &'b ArgMatches<'a>) -> Result<&'b [&'a str], BadQuestion> {
-    match (verb, matches.get_strs("words")) {
-        (_, Some(words)) => Ok(words),
-        (Verb::Get | Verb::Explain, None) => Err(BadQuestion::Words(NO_ADDRESS)),
-        (Verb::Show | Verb::Dump, None) => Ok(&[]),
+/// No tables are named, or two, or a place that is none.
+fn source_and_words<'b, 'a>(
+    verb: Verb,
+    matches: &ArgMatches<'a>,
+    words: &'b [&'a str],
+) -> Result<(Source<'a>, &'b [&'a str]), BadQuestion> {
+    match (named_source(matches)?, verb, words.split_first()) {
+        (Some(source), _, _) => Ok((source, words)),
+        (None, Verb::Explain, Some((file, rest))) => Ok((Source::Script(file_of(file)), rest)),
+        (None, Verb::Explain, None) => Err(BadQuestion::Words(NO_SCRIPT)),
+        (None, _, _) => Err(BadQuestion::Words(NO_TABLES)),
     }
+}
+
+/// Tells whether a question needs words that say of what it is.
+fn needs_words(verb: Verb) -> bool {
+    matches!(verb, Verb::Get | Verb::Explain)
 }
 
 /// Tells what the matches of a question to tables ask for.
@@ -218,12 +267,20 @@ fn asking_of<'a>(
     verb: Verb,
     matches: &ArgMatches<'a>,
 ) -> Result<Asking<'a>, BadQuestion> {
-    let source = source_in(matches)?;
-    let words = words_in(verb, matches)?;
+    let given = matches.get_strs("words").unwrap_or(&[]);
+    let (source, words) = source_and_words(verb, matches, given)?;
+    if words.is_empty() && needs_words(verb) {
+        return Err(BadQuestion::Words(NO_ADDRESS));
+    }
     let form = if matches.get_flag("json") {
         Form::Json
     } else {
         Form::Lines
+    };
+    let labels = if matches.get_flag("names") {
+        Labels::Names
+    } else {
+        Labels::Numbers
     };
     let line = line_of(alloc, verb, words)?;
     Ok(Asking {
@@ -231,6 +288,7 @@ fn asking_of<'a>(
         verb,
         line,
         form,
+        labels,
     })
 }
 
@@ -266,7 +324,10 @@ fn asked_of<'a>(
     match word {
         QuestionWord::Tables(verb) => Ok(Asked::Tables(asking_of(alloc, verb, matches)?)),
         QuestionWord::Diff => Ok(Asked::Diff(diffing_of(matches)?)),
-        QuestionWord::Import => Ok(Asked::Import(file_in(matches))),
+        QuestionWord::Import => Ok(Asked::Import(Importing {
+            file: file_in(matches),
+            database: matches.get_str("db"),
+        })),
     }
 }
 

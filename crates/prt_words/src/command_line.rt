@@ -203,7 +203,12 @@ fn place_line<'a>(alloc: Global, name: &'a str, about: &'a str) -> Result<Comman
     ensures line { IfOk result (λ command. app_of command ≡ place_line name.entry.now) }
     ensures own { IfOk result (λ command. has_globals command ≡ false) }
 {
-    let database = option(alloc, "db", "PATH", "The database file; it is only read");
+    let database = option(
+        alloc,
+        "db",
+        "PATH",
+        "The database file, which has to be there; no rule and no route of it changes",
+    );
     let server = option(
         alloc,
         "server",
@@ -222,8 +227,13 @@ fn tables_line<'a>(alloc: Global, name: &'a str, about: &'a str) -> Result<Comma
     ensures own { IfOk result (λ command. has_globals command ≡ false) }
 {
     let json = flag(alloc, "json", "Answer in JSON, in the names of `ip -j`");
+    let names = flag(
+        alloc,
+        "names",
+        "Call tables by their names in iproute2's `rt_tables`",
+    );
     let place = place_line(alloc, name, about)?;
-    place.arg(json)
+    place.arg(json)?.arg(names)
 }
 
 /// Says which words may follow the name of a question.
@@ -280,7 +290,7 @@ pub(crate) fn explain_line<'a>(alloc: Global) -> Result<Command<'a>, AllocError>
         "explain",
         "Says which rules a packet meets, and why it gets its route",
         "ADDRESS",
-        "The destination, and after it `from`, `iif` and `mark` with their values, as after `route get`",
+        "The destination, and after it `from`, `iif` and `mark` with their values, as after `route get`; without --db and --server a script before it",
     )
 }
 
@@ -296,6 +306,17 @@ pub(crate) fn dump_line<'a>(alloc: Global) -> Result<Command<'a>, AllocError>
     )
 }
 
+/// Makes the operand that names a listing of the kernel's.
+fn listing_operand<'a>(alloc: Global) -> Arg<'a>
+    ensures rule { rule_of result ≡ file_rule }
+    ensures own { result.global ≡ false }
+{
+    file_operand(
+        alloc,
+        "What `ip -4 route show table all` and `ip -4 rule` print, or these with `-j`; standard input where it is missing or `-`",
+    )
+}
+
 /// Says which words may follow `diff`.
 pub(crate) fn diff_line<'a>(alloc: Global) -> Result<Command<'a>, AllocError>
     ensures line { IfOk result (λ command. app_of command ≡ diff_line) }
@@ -306,10 +327,7 @@ pub(crate) fn diff_line<'a>(alloc: Global) -> Result<Command<'a>, AllocError>
         "check",
         "Print nothing; the status is 1 where anything differs",
     );
-    let file = file_operand(
-        alloc,
-        "What `ip -4 route show table all` and `ip -4 rule` print; standard input where it is missing or `-`",
-    );
+    let file = listing_operand(alloc);
     let place = place_line(
         alloc,
         "diff",
@@ -323,12 +341,16 @@ pub(crate) fn import_line<'a>(alloc: Global) -> Result<Command<'a>, AllocError>
     ensures line { IfOk result (λ command. app_of command ≡ import_line) }
     ensures own { IfOk result (λ command. has_globals command ≡ false) }
 {
-    let file = file_operand(
+    let database = option(
         alloc,
-        "What `ip -4 route show table all` and `ip -4 rule` print; standard input where it is missing or `-`",
+        "db",
+        "PATH",
+        "Run the script over this database file in place of printing it",
     );
+    let file = listing_operand(alloc);
     Command::new(alloc, "import")
         .about("Prints a script that makes the rules and routes that `ip` prints")
+        .arg(database)?
         .arg(file)
 }
 

@@ -8,7 +8,7 @@ mod serving;
 mod task;
 mod version;
 
-pub use asking::{Asked, Asking, Diffing, Form, Shown, Source, Verb};
+pub use asking::{Asked, Asking, Diffing, Form, Importing, Labels, Shown, Source, Verb};
 pub use fault::{DONE, FAULT, Fault, report, words_fault};
 pub use serving::Serving;
 pub use task::{Batch, Mode, STANDARD_INPUT, Task, read_words};

@@ -63,7 +63,7 @@ pub enum Task<'a> {
 }
 
 /// Gives the path of an operand; none for `-`, which is standard input.
-fn file_of(operand: &str) -> Option<&str>
+pub(crate) fn file_of(operand: &str) -> Option<&str>
     ensures { option_map (λ path. path.now) result ≡ file_of operand.entry.now }
 {
     if operand == STANDARD_INPUT {

@@ -28,3 +28,5 @@ explain rules.db 11.2.2.3
 # A mistake in a policy: the rule is asked too late.
 printf 'rule add priority 50 from 192.0.2.9 table 9\nroute add default dev eth5 table 9\n' | "$prt" batch --db rules.db >/dev/null
 explain rules.db 10.2.2.3 from 192.0.2.9
+# The same in JSON.
+"$prt" explain --db rules.db --json 10.2.2.3 iif eth9

@@ -11,6 +11,6 @@ returns c =
     let checked = c.in_ok-arg.ensures.shape c.flag-check.ensures.own ∙ ap₂ with_rule c.in_ok-place.ensures.line c.flag-check.ensures.rule in
     let checked_own = c.in_ok-arg.ensures.globals ∙ ap₂ either c.in_ok-place.ensures.own c.flag-check.ensures.own in
     record {
-      line = IfOk-weaker c.arg-2.result _ _ (λ command added. added.shape c.file_operand-file.ensures.own ∙ ap₂ with_rule checked c.file_operand-file.ensures.rule) c.arg-2.ensures;
-      own = IfOk-weaker c.arg-2.result _ _ (λ command added. added.globals ∙ ap₂ either checked_own c.file_operand-file.ensures.own) c.arg-2.ensures;
+      line = IfOk-weaker c.arg-2.result _ _ (λ command added. added.shape c.listing_operand-file.ensures.own ∙ ap₂ with_rule checked c.listing_operand-file.ensures.rule) c.arg-2.ensures;
+      own = IfOk-weaker c.arg-2.result _ _ (λ command added. added.globals ∙ ap₂ either checked_own c.listing_operand-file.ensures.own) c.arg-2.ensures;
     }

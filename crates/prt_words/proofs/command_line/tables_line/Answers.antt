@@ -7,7 +7,10 @@ abbrev either : Bool → Bool → Bool
 either a b = a || b
 
 pub returns : goal.returns
-returns c = record {
-  line = IfOk-weaker c.arg.result _ _ (λ command added. added.shape c.flag-json.ensures.own ∙ ap₂ with_rule c.in_ok-place.ensures.line c.flag-json.ensures.rule) c.arg.ensures;
-  own = IfOk-weaker c.arg.result _ _ (λ command added. added.globals ∙ ap₂ either c.in_ok-place.ensures.own c.flag-json.ensures.own) c.arg.ensures;
-}
+returns c =
+    let formed = c.in_ok-arg.ensures.shape c.flag-json.ensures.own ∙ ap₂ with_rule c.in_ok-place.ensures.line c.flag-json.ensures.rule in
+    let formed_own = c.in_ok-arg.ensures.globals ∙ ap₂ either c.in_ok-place.ensures.own c.flag-json.ensures.own in
+    record {
+      line = IfOk-weaker c.arg-2.result _ _ (λ command added. added.shape c.flag-names.ensures.own ∙ ap₂ with_rule formed c.flag-names.ensures.rule) c.arg-2.ensures;
+      own = IfOk-weaker c.arg-2.result _ _ (λ command added. added.globals ∙ ap₂ either formed_own c.flag-names.ensures.own) c.arg-2.ensures;
+    }

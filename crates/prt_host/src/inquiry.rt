@@ -1,0 +1,61 @@
+//! What is asked of tables, and how an answer calls them.
+ghost use Rattle.std.specs.Prelude.{◌≡◌, IfOk};
+ghost use Rattle.prt_host.specs.Asking.{called, said, text_form};
+ghost use Rattle.prt_import.specs.TableNames.{names_of};
+
+use prt_ask::{NotAnswered, Question, answer};
+use prt_import::{Names, Text, with_names};
+use prt_version::Version;
+use prt_words::{Form, Labels};
+use std::alloc::Global;
+
+/// A question, and how its answer calls tables.
+#[derive(Clone, Copy)]
+pub(crate) struct Inquiry<'a> {
+    pub(crate) question: Question<'a>,
+    pub(crate) form: Form,
+    pub(crate) labels: Labels,
+    /// The names that tables have.
+    pub(crate) names: &'a Names,
+}
+
+/// Gives the form of a text in which names are put.
+fn text_form(form: Form) -> Text
+    ensures { result ≡ text_form form }
+{
+    match form {
+        Form::Lines => Text::Lines,
+        Form::Json => Text::Json,
+    }
+}
+
+/// Gives a text with tables called as these labels do.
+fn called(alloc: Global, inquiry: &Inquiry<'_>, text: Vec<u8>) -> Result<Vec<u8>, NotAnswered>
+    ensures { IfOk result (λ made. made.items ≡ called inquiry.now.labels inquiry.now.form (names_of inquiry.now.names.now) text.items) }
+{
+    let Labels::Names = inquiry.labels else {
+        return Ok(text);
+    };
+    match with_names(alloc, inquiry.names, text_form(inquiry.form), &text) {
+        Ok(named) => Ok(named),
+        Err(_) => Err(NotAnswered::NoMemory),
+    }
+}
+
+/// Gives what a version answers.
+///
+/// # Errors
+///
+/// As of `answer`.
+pub(crate) fn said(
+    alloc: Global,
+    version: &Version,
+    inquiry: &Inquiry<'_>,
+) -> Result<Vec<u8>, NotAnswered>
+    ensures { IfOk result (λ text. text.items ≡ said inquiry.now version.now) }
+{
+    match answer(alloc, version, &inquiry.question) {
+        Ok(text) => called(alloc, inquiry, text),
+        Err(reason) => Err(reason),
+    }
+}

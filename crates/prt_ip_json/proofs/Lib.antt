@@ -1,0 +1,4 @@
+pub mod Cuts
+pub mod Values
+pub mod Joining
+pub mod Texts

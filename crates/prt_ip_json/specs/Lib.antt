@@ -1,0 +1,4 @@
+pub mod Words
+pub mod Listing
+pub mod Documents
+pub mod Steps

@@ -1,0 +1,14 @@
+//! What `ip -j` prints of rules and routes, as the lines that `ip` prints without `-j`.
+#![tactic(auto)]
+
+mod cut;
+mod fault;
+mod line;
+mod listing;
+mod member;
+mod naming;
+mod reading;
+mod words;
+
+pub use fault::NotListed;
+pub use listing::{is_json, listing_of};

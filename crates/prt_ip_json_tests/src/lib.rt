@@ -1,0 +1,5 @@
+//! Tests of lines from JSON.
+#![tactic(auto)]
+
+#[cfg(test)]
+mod listings;

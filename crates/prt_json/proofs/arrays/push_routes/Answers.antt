@@ -1,0 +1,7 @@
+use Rattle.std.proofs.lemmas.Result.{on_ok_weaker}
+use Rattle.prt_json.proofs.Tokens.{whole_array}
+use Rattle.prt_json.proofs.arrays.push_routes.Goals as goal
+
+pub returns-clause-ok : goal.returns-clause-ok
+returns-clause-ok c =
+    on_ok_weaker c.end_array.result (whole_array _ _ _ _ _ c.in_ok-begin_array.ensures.ok (rw (c.deref.ensures.value, c.in-Ok.ensures.value) at c.in_ok-push_each_route.ensures.ok)) c.end_array.ensures.ok
