@@ -26,7 +26,7 @@ route_words =
     ∷ (codes "metric", Before Same)
     ∷ (codes "onlink", Told reasons.OnLink)
     ∷ each State (codes "dead" ∷ codes "linkdown" ∷ codes "pervasive" ∷ codes "offload" ∷ codes "trap" ∷ codes "notify" ∷ codes "unresolved" ∷ codes "rt_offload" ∷ codes "rt_trap" ∷ codes "rt_offload_failed" ∷ [])
-    ++ each (Before Metric) (codes "mtu" ∷ codes "advmss" ∷ codes "window" ∷ codes "rtt" ∷ codes "rttvar" ∷ codes "rto_min" ∷ codes "ssthresh" ∷ codes "cwnd" ∷ codes "initcwnd" ∷ codes "initrwnd" ∷ codes "reordering" ∷ codes "hoplimit" ∷ codes "features" ∷ codes "quickack" ∷ codes "congctl" ∷ codes "fastopen_no_cookie" ∷ codes "realms" ∷ codes "expires" ∷ codes "ttl-propagate" ∷ [])
+    ++ each (Before Metric) (codes "mtu" ∷ codes "advmss" ∷ codes "window" ∷ codes "rtt" ∷ codes "rttvar" ∷ codes "rto_min" ∷ codes "ssthresh" ∷ codes "cwnd" ∷ codes "initcwnd" ∷ codes "initrwnd" ∷ codes "reordering" ∷ codes "hoplimit" ∷ codes "features" ∷ codes "quickack" ∷ codes "congctl" ∷ codes "fastopen_no_cookie" ∷ codes "realm" ∷ codes "realms" ∷ codes "expires" ∷ codes "ttl-propagate" ∷ [])
     ++ (codes "tcp_usec_ts", Told reasons.Metric)
     ∷ (codes "nexthop", Out reasons.SeveralNextHops)
     ∷ (codes "nhid", Out reasons.NextHopObject)

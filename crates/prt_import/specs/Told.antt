@@ -78,11 +78,11 @@ abbrev pub notes_of : TableNames → Numbered → Place → List Word → List R
 notes_of names line place [] = []
 notes_of names line place (w ∷ ws) = then_notes (noted line w (note_of place w)) (step_of names Route place w) (λ step. notes_of names line step.next ws)
 
--- ---- routes that the kernel makes: with its protocol, or in table local
+-- ---- routes that the kernel makes: with its protocol
 
 -- a word and its value
 abbrev pub is_kernels_value : Word → Word → Bool
-is_kernels_value w v = (bytes_eq (codes "proto") w && bytes_eq (codes "kernel") v) || (bytes_eq (codes "table") w && bytes_eq (codes "local") v)
+is_kernels_value w v = bytes_eq (codes "proto") w && bytes_eq (codes "kernel") v
 
 -- in these words after this one
 abbrev pub is_kernels_after : Word → List Word → Bool

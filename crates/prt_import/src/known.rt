@@ -54,7 +54,7 @@ pub enum Meaning {
 type Known = (&'static str, Meaning);
 
 /// The items of a route (`ip-route(8)`).
-const ROUTE_WORDS: [Known; 44] = [
+const ROUTE_WORDS: [Known; 45] = [
     ("via", Meaning::Before(Role::Gateway)),
     ("dev", Meaning::Before(Role::Same)),
     ("table", Meaning::Before(Role::Table)),
@@ -89,6 +89,7 @@ const ROUTE_WORDS: [Known; 44] = [
     ("quickack", Meaning::Before(Role::Metric)),
     ("congctl", Meaning::Before(Role::Metric)),
     ("fastopen_no_cookie", Meaning::Before(Role::Metric)),
+    ("realm", Meaning::Before(Role::Metric)),
     ("realms", Meaning::Before(Role::Metric)),
     ("expires", Meaning::Before(Role::Metric)),
     ("ttl-propagate", Meaning::Before(Role::Metric)),

@@ -87,23 +87,21 @@ pub(crate) fn push_notes(
     Ok(())
 }
 
-/// Tells whether a word and its value say that the kernel made a route: by its protocol, or in table local.
+/// Tells whether a word and its value say that the kernel made a route: by its protocol.
 fn is_kernels_value(word: &[u8], value: &[u8]) -> bool
     ensures { result ≡ is_kernels_value word.now value.now }
 {
-    (is(word, b"proto") && is(value, b"kernel")) || (is(word, b"table") && is(value, b"local"))
+    is(word, b"proto") && is(value, b"kernel")
 }
 
-/// Tells whether a route's line says that the kernel made it: it has the kernel's protocol, or is in table local.
+/// Tells whether a route's line says that the kernel made it: it has the kernel's protocol.
 pub(crate) fn is_kernels(text: &[u8]) -> bool
     ensures { result ≡ is_kernels (words text.now) }
 {
     let mut before: &[u8] = b"";
     let mut rest = text;
     while let Some((word, after)) = next_word(rest) {
-        if is(before, b"proto") && is(word, b"kernel")
-            || is(before, b"table") && is(word, b"local")
-        {
+        if is_kernels_value(before, word) {
             return true;
         }
         before = word;

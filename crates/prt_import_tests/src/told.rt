@@ -72,7 +72,7 @@ line 24: encap: encapsulation: 10.9.0.0/16  encap ip id 10 src 0.0.0.0 dst 10.1.
 line 25: inet6: another family of addresses: 10.10.0.0/16 via inet6 fe80::1 dev eth0
 line 26: tos: a type of service: 10.12.0.0/16 tos 0x10 via 192.0.2.7 dev eth0
 line 27: multicast: no such type of routes: multicast 239.0.0.0/8 dev eth0 scope link
-line 28: the kernel makes it itself: broadcast 10.18.0.255 dev eth0 table local scope link
+line 28: broadcast: no such type of routes: broadcast 10.18.0.255 dev eth0 table local scope link
 line 29: the kernel makes it itself: local 192.0.2.5 dev eth0 table local proto kernel scope host src 192.0.2.5
 line 30: other: unknown name of a protocol: 10.20.0.0/16 dev eth0 proto other scope link
 line 31: elsewhere: unknown name of a table: 10.20.0.0/16 dev eth0 table elsewhere scope link

@@ -1,0 +1,61 @@
+"""Has `ip` make a route with each item of ip-route(8), and a rule with each of ip-rule(8), and tells what import makes of it."""
+
+import re
+import subprocess
+import sys
+
+PROGRAM, SPACE = sys.argv[1:]
+IP = ["ip", "-n", SPACE]
+PREFIX = "10.9.0.0/16"
+THROUGH = "via 192.0.2.9"
+ROUTES = [f"{kind} {PREFIX}" for kind in ("unicast", "local", "broadcast", "multicast", "anycast")]
+ROUTES = [f"{route} dev d0" for route in ROUTES] + [f"{kind} {PREFIX}" for kind in ("blackhole", "unreachable", "prohibit", "throw")]
+ROUTES += [f"{PREFIX} {item}" for item in (
+    "dev d0", THROUGH, "via inet6 fe80::1 dev d0", "nhid 1", f"{THROUGH} dev d0 onlink", "dev d0 src 192.0.2.2",
+    "nexthop via 192.0.2.3 nexthop via 192.0.2.4 weight 2", "nexthop via 192.0.2.3 onlink dev d0",
+    "encap ip id 1 dst 192.0.2.8 dev d0")]
+ROUTES += [f"{PREFIX} {THROUGH} {item}" for item in (
+    "tos 0x10", "dsfield 0x10", "metric 5", "preference 6", "table 7", "proto static", "proto 99", "scope global", "realm 3", "realm 2/3",
+    "mtu 1400", "mtu lock 1400", "advmss 1000", "window 100", "rtt 30ms", "rttvar 20ms", "rto_min 5ms", "ssthresh 9", "cwnd 9", "initcwnd 9",
+    "initrwnd 9", "reordering 4", "hoplimit 9", "features ecn", "quickack 1", "congctl cubic", "fastopen_no_cookie 1")]
+ROUTES += [f"{PREFIX} dev d0 scope {scope}" for scope in ("link", "host", "7")]
+RULES = [f"{selector} table 7" for selector in (
+    "not from 10.0.0.0/8", "from 10.0.0.0/8", "to 10.0.0.0/8", "tos 0x10", "dsfield 0x10", "fwmark 7", "fwmark 7/0xf", "iif d0", "iif gone", "oif d0",
+    "uidrange 0-9", "ipproto tcp", "sport 9", "dport 8-9", "tun_id 5", "realms 2/3", "suppress_prefixlength 8", "suppress_ifgroup 5", "protocol 99")]
+RULES += ["blackhole", "unreachable", "prohibit", "goto 400", "nop", "from 10.0.0.0/8 nat 10.1.0.0"]
+
+
+def run(*words, input=None):
+    return subprocess.run(words, input=input, capture_output=True, text=True)
+
+
+def said(words):
+    """What import makes of what `ip` lists so, but for what this machine has itself; the same with -j."""
+    listed = [run(*IP, *flags, "-4", *words).stdout for flags in ((), ("-j",))]
+    told = [run(PROGRAM, "import", input=text) for text in listed]
+    # `ip` puts a tab behind the priority of a rule, and JSON has no tabs.
+    lines = [re.sub(r"line \d+", "line N", each.stdout + each.stderr.replace("\t", " ")) for each in told]
+    return lines[0] if lines[0] == lines[1] else f"otherwise with -j:\n{lines[0]}{lines[1]}"
+
+
+def tell(add, remove, words):
+    """Adds, tells and removes, where `ip` can make it."""
+    made = run(*IP, "-4", *add.split())
+    if made.returncode == 0:
+        print(add)
+        print("".join(f"\t{line}\n" for line in said(words).splitlines() if line not in ("rule flush", "rule del priority 0")), end="")
+        for words in remove:
+            run(*IP, "-4", *words.split())
+    return made.returncode == 0
+
+
+def main():
+    for line in ("link add d0 type veth peer name d1", "link set d1 up", "address add 192.0.2.2/24 dev d0", "link set d0 up", "nexthop add id 1 via 192.0.2.3 dev d0"):
+        run(*IP, *line.split())
+    listing = ("route", "show", "table", "all", "root", PREFIX)
+    made = [tell(f"route add {route}", (f"route flush table all root {PREFIX}", f"route del {PREFIX}"), listing) for route in ROUTES]
+    made += [tell(f"rule add priority 300 {rule}", ("rule del priority 300",), ("rule", "show", "priority", "300")) for rule in RULES]
+    print(f"{made.count(True)} made, {made.count(False)} refused by ip", file=sys.stderr)
+
+
+main()
