@@ -29,24 +29,25 @@ def run(*words, input=None):
     return subprocess.run(words, input=input, capture_output=True, text=True)
 
 
-def said(words):
-    """What import makes of what `ip` lists so, but for what this machine has itself; the same with -j."""
-    listed = [run(*IP, *flags, "-4", *words).stdout for flags in ((), ("-j",))]
-    told = [run(PROGRAM, "import", input=text) for text in listed]
-    # `ip` puts a tab behind the priority of a rule, and JSON has no tabs.
-    lines = [re.sub(r"line \d+", "line N", each.stdout + each.stderr.replace("\t", " ")) for each in told]
-    return lines[0] if lines[0] == lines[1] else f"otherwise with -j:\n{lines[0]}{lines[1]}"
+def said(text):
+    """The lines that import makes of a text, and what it tells of it, but for the text itself."""
+    told = run(PROGRAM, "import", input=text)
+    lines = [line for line in told.stdout.splitlines() if line not in ("rule flush", "rule del priority 0")]
+    # `ip` says "realm" of one realm, and its JSON has no word for that.
+    return lines + [re.sub(r"line \d+: |: (300:|(\w+ )?10\.9\.0\.0/16).*", "", line).replace("realms:", "realm:") for line in told.stderr.splitlines()]
 
 
-def tell(add, remove, words):
+def tell(add, remove, listing):
     """Adds, tells and removes, where `ip` can make it."""
-    made = run(*IP, "-4", *add.split())
-    if made.returncode == 0:
-        print(add)
-        print("".join(f"\t{line}\n" for line in said(words).splitlines() if line not in ("rule flush", "rule del priority 0")), end="")
-        for words in remove:
-            run(*IP, "-4", *words.split())
-    return made.returncode == 0
+    if run(*IP, "-4", *add.split()).returncode != 0:
+        return False
+    lines, of_json = (said(run(*IP, *flags, "-4", *listing).stdout) for flags in ((), ("-j",)))
+    print(add, *lines, sep="\n\t")
+    if lines != of_json:
+        print("otherwise with -j:", *of_json, sep="\n\t")
+    for words in remove:
+        run(*IP, "-4", *words.split())
+    return True
 
 
 def main():
@@ -55,7 +56,9 @@ def main():
     listing = ("route", "show", "table", "all", "root", PREFIX)
     made = [tell(f"route add {route}", (f"route flush table all root {PREFIX}", f"route del {PREFIX}"), listing) for route in ROUTES]
     made += [tell(f"rule add priority 300 {rule}", ("rule del priority 300",), ("rule", "show", "priority", "300")) for rule in RULES]
-    print(f"{made.count(True)} made, {made.count(False)} refused by ip", file=sys.stderr)
+    if False in made:
+        print("left out: ip can't make each item here", file=sys.stderr)
+        sys.exit(77)
 
 
 main()
