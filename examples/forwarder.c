@@ -124,6 +124,8 @@ static void follow(prt_tables *tables, FILE *feed) {
     atomic_store(&ahead, number - executed);
     hand_out(tables);
     while ((length = getline(&line, &room, feed)) > 0) {
+        if (*line == '#')
+            continue;
         end_if(strtoull(line, &command, 10) != ++number || *command != ' ', "a change is missing", 0);
         execute(tables, command + 1, (size_t)(line + length - command) - 2);
         hand_out(tables);

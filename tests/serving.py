@@ -3,9 +3,12 @@
 The program's path is the first argument of a case; it runs in an empty folder, in which the database is made.
 """
 
+import atexit
 import os
 import re
+import signal
 import socket
+import sqlite3
 import subprocess
 import sys
 import threading
@@ -14,23 +17,41 @@ PROGRAM = sys.argv[1]
 DATABASE = "routes.db"
 # How many seconds a client waits for anything before its case fails.
 PATIENCE = 50
+# Each server that was started.
+RUNNING = []
+
+
+def end_all():
+    """Ends each server that still runs: a case that fails, or takes too long, leaves none behind."""
+    for process in RUNNING:
+        process.kill()
+
+
+def give_up(*_):
+    end_all()
+    os._exit(1)
+
+
+atexit.register(end_all)
+signal.signal(signal.SIGTERM, give_up)
 
 
 class Server:
-    """A server on a free port of the loopback, with these further words, and these variables in its environment.
+    """A server on a port of the loopback, a free one if none is said, with these further words and variables.
 
     It runs under a program where words for that are given.
     """
 
-    def __init__(self, *words, database=DATABASE, variables=None, under=()):
+    def __init__(self, *words, database=DATABASE, variables=None, under=(), port=0):
         self.process = subprocess.Popen(
-            [*under, PROGRAM, "serve", "--listen", "127.0.0.1:0", "--db", database, *words],
+            [*under, PROGRAM, "serve", "--listen", f"127.0.0.1:{port}", "--db", database, *words],
             stdin=subprocess.DEVNULL,
             stdout=subprocess.PIPE,
             stderr=subprocess.PIPE,
             text=True,
             env=os.environ | (variables or {}),
         )
+        RUNNING.append(self.process)
         self.port = self.port_after("listening")
         # Where it sends its changes, if it does.
         self.feed_port = self.port_after("feeding") if "--feed" in words else None
@@ -44,9 +65,9 @@ class Server:
             sys.exit(f"the server said {line!r} and {self.process.communicate()[1]!r}")
         return int(told[1])
 
-    def connect(self):
-        """A client's end of a connection."""
-        end = socket.create_connection(("127.0.0.1", self.port), PATIENCE)
+    def connect(self, room=None):
+        """A client's end of a connection, with room for so many bytes that came and weren't read, where that is said."""
+        end = connected(self.port, room)
         end.setsockopt(socket.IPPROTO_TCP, socket.TCP_NODELAY, 1)
         return end
 
@@ -55,10 +76,34 @@ class Server:
         said, told = self.process.communicate(timeout=PATIENCE)
         return self.process.returncode, said + told
 
-    def kill(self, signal):
-        """Kills it with this signal."""
-        self.process.send_signal(signal)
-        self.process.communicate(timeout=PATIENCE)
+    def kill(self, number):
+        """Kills it with the signal of this number. Gives all that it said since it was listening."""
+        self.process.send_signal(number)
+        said, told = self.process.communicate(timeout=PATIENCE)
+        return said + told
+
+    def memory(self):
+        """The memory that it has now, in KB."""
+        with open(f"/proc/{self.process.pid}/status", encoding="ascii") as status:
+            return int(next(line for line in status if line.startswith("VmRSS:")).split()[1])
+
+    def processor_time(self):
+        """The seconds of a processor that it has used so far."""
+        with open(f"/proc/{self.process.pid}/stat", encoding="ascii") as figures:
+            user, system = figures.read().rpartition(")")[2].split()[11:13]
+        return (int(user) + int(system)) / os.sysconf("SC_CLK_TCK")
+
+
+def connected(port, room=None):
+    """A connection to a port of the loopback."""
+    end = socket.socket()
+    end.settimeout(PATIENCE)
+    if room:
+        end.setsockopt(socket.SOL_SOCKET, socket.SO_RCVBUF, room)
+        # In small segments: what the other side keeps of what it has sent is some of its segments.
+        end.setsockopt(socket.IPPROTO_TCP, socket.TCP_MAXSEG, 512)
+    end.connect(("127.0.0.1", port))
+    return end
 
 
 def read_all(end):
@@ -103,6 +148,16 @@ class Client:
         self.end.sendall(line.encode() + b"\n")
         return self.replies.readline().decode().rstrip("\n")
 
+    def listing(self, line):
+        """All lines of the reply to a listing; the last one says how many there are, or is a refusal."""
+        self.end.sendall(line.encode() + b"\n")
+        lines = []
+        while not lines or not lines[-1].startswith((b"end ", b"error ")):
+            lines.append(self.replies.readline())
+            if not lines[-1]:
+                break
+        return [line.decode().rstrip("\n") for line in lines]
+
     def close(self):
         self.replies.close()
         self.end.close()
@@ -125,11 +180,7 @@ class Follower:
 
     def begin(self, server, room):
         """Connects, and gives the first line; nothing where the connection is closed."""
-        self.end = socket.socket()
-        self.end.settimeout(PATIENCE)
-        if room:
-            self.end.setsockopt(socket.SOL_SOCKET, socket.SO_RCVBUF, room)
-        self.end.connect(("127.0.0.1", server.feed_port))
+        self.end = connected(server.feed_port, room)
         self.lines = self.end.makefile("r")
         try:
             return self.lines.readline()
@@ -141,9 +192,11 @@ class Follower:
         self.end.close()
 
     def next(self):
-        """The number and the line of the next change; None where the feed has ended."""
-        number, _, line = self.lines.readline().partition(" ")
-        return (int(number), line) if number else None
+        """The number and the line of the next change; None where the feed has ended, perhaps within a line. Comments are left out."""
+        while (told := self.lines.readline()).startswith("#"):
+            pass
+        number, _, line = told.partition(" ")
+        return (int(number), line) if line.endswith("\n") else None
 
     def changes(self, count=None):
         """So many changes, or all until the feed ends, whose numbers have to follow each other."""
@@ -164,12 +217,28 @@ def batch(script, *words):
     return subprocess.run([PROGRAM, "batch", "--force", *words], input=script, capture_output=True).stdout
 
 
+def database_of(count, path=DATABASE):
+    """Makes a database of so many routes, of 10.0.0.0/24, 10.0.1.0/24 and so on, by another program: at once."""
+    batch(b"", "--db", path)
+    with sqlite3.connect(path) as database:
+        database.executemany(
+            "INSERT INTO route VALUES (254, ?, 24, 0, 1, -1, ?, -1, 3, 253)",
+            (((10 << 24) + (place << 8), f"eth{place % 7}") for place in range(count)),
+        )
+    database.close()
+
+
+def preloaded(source):
+    """The path of a library, made here of a source that lies beside this file, for LD_PRELOAD."""
+    made = os.path.abspath(source.replace(".c", ".so"))
+    source = os.path.join(os.path.dirname(os.path.realpath(__file__)), source)
+    subprocess.run(["cc", "-shared", "-fPIC", "-O1", "-o", made, source, "-ldl"], check=True)
+    return made
+
+
 def slow_sync(milliseconds, failing="fails"):
     """Variables of a server whose syncs take so long each, and fail while a file of this name is there."""
-    made = os.path.abspath("sync.so")
-    source = os.path.join(os.path.dirname(os.path.realpath(__file__)), "sync.c")
-    subprocess.run(["cc", "-shared", "-fPIC", "-O1", "-o", made, source, "-ldl"], check=True)
-    return {"LD_PRELOAD": made, "SYNC_MS": str(milliseconds), "SYNC_FAILS": os.path.abspath(failing)}
+    return {"LD_PRELOAD": preloaded("sync.c"), "SYNC_MS": str(milliseconds), "SYNC_FAILS": os.path.abspath(failing)}
 
 
 def in_threads(count, work):

@@ -1,2 +1,4 @@
 pub mod Answers
+pub mod Ends
+pub mod Mirrors
 pub mod Questions

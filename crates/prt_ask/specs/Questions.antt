@@ -27,4 +27,5 @@ question_in verb form (Err reason) = Err reason
 -- `dump` has no line
 abbrev pub question : Verb → List ℕ → Form → Result Question Refusal
 question verbs.Dump line form = Ok (questions.Dump form)
+question verbs.Replace line form = Ok questions.Replace
 question verb line form = question_in verb form (reading line)

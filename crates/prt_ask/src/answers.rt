@@ -1,12 +1,15 @@
 //! Answers.
 ghost use Rattle.std.specs.Prelude.{◌≡◌, ◌++◌, IfErr, IfOk, OnOk};
-ghost use Rattle.prt_ask.specs.Answers.{IsNotAnswered, answer, query_json};
+ghost use Rattle.prt_ask.specs.Answers.{AreNotes, AreNotesOf, IsNotAnswered, IsOfChange, IsPlainQuestion, answer, query_json};
+ghost use Rattle.prt_diff.specs.Text.{changes_text};
 ghost use Rattle.prt_json.specs.Fields.{json_line};
 
-use crate::question::Question;
+use crate::difference::find_difference;
+use crate::notes::Notes;
+use crate::question::{Comparison, Question};
 use crate::refusal::NotAnswered;
 use prt_command::{Query, Refusal};
-use prt_diff::changes_text;
+use prt_diff::replacing_text;
 use prt_dump::dump_text;
 use prt_explain::explanation_text;
 use prt_json::{answer_json, explanation_json, routes_json, rules_json, tables_json};
@@ -26,23 +29,48 @@ fn push_query_json(out: &mut Vec<u8>, version: &Version, query: &Query) -> Resul
     }
 }
 
-/// Gives what a version answers to a question.
+/// What tables answer.
+#[derive(Drop)]
+pub struct Answered {
+    /// What is written.
+    pub text: Vec<u8>,
+    /// What a person is told.
+    pub notes: Notes,
+}
+
+/// Gives the lines that bring what was found to tables, and what is to be told of them.
 ///
 /// # Errors
 ///
-/// Of a dump in lines, and of a difference, a rule or a route that no line can spell. `NoMemory` of any.
-pub fn answer(
+/// `Change` where no line can spell a change, and `NoMemory`.
+fn compared(
+    alloc: Global,
+    comparison: &Comparison<'_>,
+    wanted: &Version,
+) -> Result<Answered, NotAnswered>
+    ensures text { IfOk result (λ made. made.text.items ≡ changes_text comparison.now.fence.now comparison.now.found.now wanted.now) }
+    ensures notes { IfOk result (λ made. AreNotesOf comparison.now.fence.now comparison.now.found.now wanted.now made.notes) }
+    ensures reason { IfErr result IsOfChange }
+{
+    let difference = find_difference(alloc, comparison.fence, comparison.found, wanted)?;
+    Ok(difference.answer)
+}
+
+/// Gives the text of an answer that is no difference.
+fn answer_text(
     alloc: Global,
     version: &Version,
     question: &Question<'_>,
 ) -> Result<Vec<u8>, NotAnswered>
+    requires { IsPlainQuestion question.now }
     ensures text { IfOk result (λ text. text.items ≡ answer question.now version.now) }
     ensures reason { IfErr result (IsNotAnswered question.now version.now) }
 {
     let mut text = Vec::new(alloc);
     let pushed = match question {
+        Question::Diff(_) => unreachable!(),
         Question::Dump(Form::Lines) => return Ok(dump_text(alloc, version)?),
-        Question::Diff(found) => return Ok(changes_text(alloc, found, version)?),
+        Question::Replace => return Ok(replacing_text(alloc, version)?),
         Question::Dump(Form::Json) => tables_json(&mut text, version),
         Question::Query(query, Form::Lines) => query_text(&mut text, version, query),
         Question::Query(query, Form::Json) => push_query_json(&mut text, version, query),
@@ -53,4 +81,28 @@ pub fn answer(
         Ok(()) => Ok(text),
         Err(_) => Err(NotAnswered::NoMemory),
     }
+}
+
+/// Gives what a version answers to a question, and what a person is told of it.
+///
+/// # Errors
+///
+/// Of a dump in lines, and of a difference, a rule or a route that no line can spell. `NoMemory` of any.
+pub fn answer(
+    alloc: Global,
+    version: &Version,
+    question: &Question<'_>,
+) -> Result<Answered, NotAnswered>
+    ensures text { IfOk result (λ made. made.text.items ≡ answer question.now version.now) }
+    ensures notes { IfOk result (λ made. AreNotes question.now version.now made.notes) }
+    ensures reason { IfErr result (IsNotAnswered question.now version.now) }
+{
+    if let Question::Diff(comparison) = question {
+        return compared(alloc, comparison, version);
+    }
+    let text = answer_text(alloc, version, question)?;
+    Ok(Answered {
+        text,
+        notes: Notes::none(alloc),
+    })
 }

@@ -2,9 +2,16 @@
 #![tactic(auto)]
 
 mod answers;
+mod difference;
+mod following;
+mod mirror;
+mod notes;
 mod question;
 mod refusal;
 
-pub use answers::answer;
-pub use question::{Question, question_of};
+pub use answers::{Answered, answer};
+pub use following::{FollowEnd, follow};
+pub use mirror::Mirror;
+pub use notes::Notes;
+pub use question::{Comparison, Question, question_of};
 pub use refusal::NotAnswered;

@@ -4,20 +4,32 @@ ghost use Rattle.prt_ask.specs.Questions.{question, question_by, question_in};
 ghost use Rattle.prt_command.specs.Reading.{reading};
 
 use prt_command::{Packet, Query, Refusal, Request, read_line};
+use prt_diff::Fence;
 use prt_version::Version;
 use prt_words::{Form, Verb};
+
+/// Tables that are to be brought to others.
+#[derive(Clone, Copy)]
+pub struct Comparison<'a> {
+    /// What of both is compared.
+    pub fence: &'a Fence,
+    /// The tables that were found.
+    pub found: &'a Version,
+}
 
 /// What is asked of tables.
 #[derive(Clone, Copy)]
 pub enum Question<'a> {
     /// Which commands make them anew.
     Dump(Form),
+    /// Which commands put them in the place of what is there.
+    Replace,
     /// What a query of a script asks.
     Query(Query, Form),
     /// Why such a packet gets its route.
     Explain(Packet, Form),
-    /// Which commands bring these to them.
-    Diff(&'a Version),
+    /// Which commands bring other tables to them.
+    Diff(Comparison<'a>),
 }
 
 /// Gives the question of what a line asks for.
@@ -56,6 +68,7 @@ pub fn question_of<'a>(verb: Verb, line: &[u8], form: Form) -> Result<Question<'
 {
     match verb {
         Verb::Dump => Ok(Question::Dump(form)),
+        Verb::Replace => Ok(Question::Replace),
         Verb::Get | Verb::Show | Verb::Explain => question_in(verb, line, form),
     }
 }

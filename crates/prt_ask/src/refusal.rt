@@ -1,5 +1,7 @@
 use prt_diff::NotWritten;
 use prt_dump::NotDumped;
+use prt_refusals::Refusal;
+use std::alloc::AllocError;
 
 /// Why tables don't answer a question.
 #[derive(Clone, Copy, Debug, PartialEq, Eq)]
@@ -10,6 +12,10 @@ pub enum NotAnswered {
     Route(usize),
     /// No line can spell a change.
     Change,
+    /// A change is refused over what was found: there is no room for it.
+    Refused(Refusal),
+    /// A change of the tables isn't the next one.
+    Gap,
     /// Memory was refused.
     NoMemory,
 }
@@ -39,5 +45,16 @@ impl From<NotWritten> for NotAnswered {
             NotWritten::NoLine(_) => NotAnswered::Change,
             NotWritten::NoMemory => NotAnswered::NoMemory,
         }
+    }
+}
+
+impl From<AllocError> for NotAnswered {
+    ghost use Rattle.std.specs.Prelude.{◌≡◌};
+    ghost use Rattle.prt_ask.specs.declared.refusal.NotAnswered.TheVariants.{NoMemory};
+
+    ghost from_gives = { λ _ given. given ≡ NoMemory };
+
+    fn from(_: AllocError) -> NotAnswered {
+        NotAnswered::NoMemory
     }
 }

@@ -28,15 +28,15 @@ use std::sync::Wait;
 ///
 /// A command is checked, committed, published and noted, and only then acknowledged. After a failed commit or
 /// publication the desk is closed: it refuses each command, and goes on answering queries from the version that was
-/// published last.
+/// published last. End it by `end`: the drop of the publisher's front gives no memory back.
 #[derive(Drop)]
-pub struct StoreDesk<S: Alter + Drop, H: Wait + Drop> {
-    publisher: Publisher<S, H>,
+pub struct StoreDesk<S: Alter + Drop, H: Drop> {
+    publisher: Publisher<S>,
     domain: Domain,
     pub(crate) rt: H,
 }
 
-impl<S: Alter + Drop, H: Wait + Drop> Model for StoreDesk<S, H> {
+impl<S: Alter + Drop, H: Drop> Model for StoreDesk<S, H> {
     ghost use Rattle.sqlite.specs.Held.{Held, held_code};
     ghost use Rattle.prt_publisher.specs.Standing.{IsQuiet, Standing, standing_code};
 
@@ -49,9 +49,9 @@ impl<S: Alter + Drop, H: Wait + Drop> Model for StoreDesk<S, H> {
     ghost invariant = { λ desk. IsQuiet desk.publisher.phase };
 }
 
-impl<S: Alter + Drop, H: Wait + Drop> StoreDesk<S, H> {
+impl<S: Alter + Drop, H: Drop> StoreDesk<S, H> {
     /// Makes a desk over a publisher with no command under way, and its domain.
-    pub fn new(rt: H, publisher: Publisher<S, H>, domain: Domain) -> StoreDesk<S, H>
+    pub fn new(rt: H, publisher: Publisher<S>, domain: Domain) -> StoreDesk<S, H>
         requires { IsQuiet publisher.phase }
         ensures { result ≡ publisher }
     {
@@ -74,7 +74,7 @@ impl<S: Alter + Drop, H: Wait + Drop> StoreDesk<S, H> {
         self.publisher.published()
     }
 
-    /// Gives the connection back, with its tables as they are.
+    /// Gives the connection back, with its tables as they are. It waits for nobody, as `Publisher::release`.
     pub fn release(self) -> Connection<S>
         ensures tables { result ≡ self.tables }
         ensures kept { IsKept S.Store self }
@@ -83,7 +83,16 @@ impl<S: Alter + Drop, H: Wait + Drop> StoreDesk<S, H> {
     }
 }
 
-impl<S: Alter + Drop, H: Wait + Copy + Drop> StoreDesk<S, H> {
+impl<S: Alter + Drop, H: Wait + Drop> StoreDesk<S, H> {
+    /// Ends the publisher's front, which waits for readers that are inside, and gives the connection back, with its tables
+    /// as they are.
+    pub fn end(self) -> Connection<S>
+        ensures tables { result ≡ self.tables }
+        ensures kept { IsKept S.Store self }
+    {
+        self.publisher.end(&self.rt)
+    }
+
     /// Makes an open desk over the database of a connection on which nothing is pending. Its tables are made where they
     /// are missing; four empty tables become those of a new database.
     ///
@@ -121,7 +130,7 @@ impl<S: Alter + Drop, H: Wait + Copy + Drop> StoreDesk<S, H> {
         ensures crash_err { IfErr result (λ refused. (HasCleanDisk (state S.Store conn) → BeginsFormat2 (state S.Store conn).now.schema) →
             Survives (state S.Store conn) (state S.Store refused.1) (LeavesPart (state S.Store conn).now)) }
     {
-        match Publisher::adopt(rt, alloc, conn) {
+        match Publisher::adopt(alloc, conn) {
             Ok((publisher, domain)) => Ok(StoreDesk {
                 publisher,
                 domain,

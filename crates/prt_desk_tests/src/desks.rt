@@ -77,7 +77,7 @@ fn run_over<S: Alter + Drop, H: Wait + Copy + Drop>(
 ) -> Result<(Vec<u8>, Connection<S>), Refusal> {
     let mut desk = opened(rt, alloc, connection)?;
     let text = replies(alloc, &mut desk, script);
-    Ok((text, desk.release()))
+    Ok((text, desk.end()))
 }
 
 /// Sets the count of accepted commands to its limit.

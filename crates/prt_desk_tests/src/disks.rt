@@ -98,7 +98,7 @@ fn run_over<D: Disk + Drop, H: Wait + Copy + Drop>(
                 end,
                 failure,
             };
-            (Ok(ran), closed(desk.release()))
+            (Ok(ran), closed(desk.end()))
         }
         Err((reason, connection)) => (Err(reason), closed(connection)),
     }

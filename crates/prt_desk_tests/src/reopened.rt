@@ -48,7 +48,7 @@ fn reopened<D: Disk + Drop, H: Wait + Copy + Drop>(
     alloc: Global,
     desk: StoreDesk<FileStore<D>, H>,
 ) -> Result<StoreDesk<FileStore<D>, H>, Refusal> {
-    match desk.release().close_files() {
+    match desk.end().close_files() {
         Ok(files) => desk_in(rt, alloc, files),
         Err((_, store)) => {
             drop(store.close());

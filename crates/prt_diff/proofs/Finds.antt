@@ -16,10 +16,10 @@ use Rattle.prt_route.specs.declared.route.RouteKey.{RouteKey}
 use Rattle.prt_route.proofs.Edits.{listing_order}
 use Rattle.prt_trie.specs.Table.{has_same_key}
 use Rattle.prt_trie.proofs.Order.{rises_far}
-use Rattle.prt_version.proofs.RowOrder.{key_differs}
-use Rattle.prt_diff.specs.Routes.{has_route, is_kept, is_same_route, kept_routes, wanted_routes}
+use Rattle.prt_version.proofs.RowOrder.{key_differs, keys_both_ways}
+use Rattle.prt_diff.specs.Routes.{agrees, has_agreeing, is_kept, kept_routes, managed_routes, missing_routes, unwanted_routes, wanted_routes}
+use Rattle.prt_diff.specs.declared.fence.Fence.{Fence}
 use Rattle.prt_diff.proofs.Members.{IsIn, contains_in, differ, each_in, filtered_twice}
-use Rattle.prt_diff.proofs.SameRoutes.{routes_same}
 
 -- ---- the place where the search ends
 
@@ -101,50 +101,64 @@ key_kept p route (first ∷ routes) rises =
     (λ same. any_none (λ one. has_same_key one route) (filter p routes) (each_filtered (λ one. has_same_key one route ≡ false) p routes (each_implies (λ one. is_listed_before first one ≡ true) (λ one. has_same_key one route ≡ false) (λ one ahead. later_differs route first one ahead same) routes rises.0)))
     (key_kept p route routes rises.1)
 
-unlike_key : (route other : Route) → has_same_key other route ≡ false → is_same_route route other ≡ false
-unlike_key route other apart = by (is_same_route route other) refl
-  where
-    its_key : (route : Route) → has_same_key route route ≡ true
-    its_key route = grind (arith, nat_tests)
+-- a false part makes all false
+pub and_fails : (a b : Bool) → a ≡ false → (a && b) ≡ false
+and_fails true b is = differ is
+and_fails false b is = refl
 
-    by : (b : Bool) → is_same_route route other ≡ b → b ≡ false
-    by false is = refl
-    by true is = differ (sym (its_key route) ∙ ap (λ one. has_same_key one route) ((routes_same route other).0 is) ∙ apart)
+unlike_key : (route other : Route) → has_same_key other route ≡ false → agrees route other ≡ false
+unlike_key route other apart = simp (keys_both_ways route other ∙ apart) refl
 
 or_nothing : (b : Bool) → (b || false) ≡ b
 or_nothing true = refl
 or_nothing false = refl
 
-route_found_by : (route first : Route) (routes : List Route) (b : Bool) → has_same_key first route ≡ b → (b ≡ true → has_route route routes ≡ false) → has_route route routes ≡ passes (is_same_route route) (find (λ one. has_same_key one route) routes) → has_route route (first ∷ routes) ≡ passes (is_same_route route) (cond b (Some first) (find (λ one. has_same_key one route) routes))
-route_found_by route first routes true is none rest = ap (λ b. is_same_route route first || b) (none refl) ∙ or_nothing (is_same_route route first)
-route_found_by route first routes false is none rest = ap (λ b. b || has_route route routes) (unlike_key route first is) ∙ rest
+route_found_by : (route first : Route) (routes : List Route) (b : Bool) → has_same_key first route ≡ b → (b ≡ true → has_agreeing route routes ≡ false) → has_agreeing route routes ≡ passes (agrees route) (find (λ one. has_same_key one route) routes) → has_agreeing route (first ∷ routes) ≡ passes (agrees route) (cond b (Some first) (find (λ one. has_same_key one route) routes))
+route_found_by route first routes true is none rest = ap (λ b. agrees route first || b) (none refl) ∙ or_nothing (agrees route first)
+route_found_by route first routes false is none rest = ap (λ b. b || has_agreeing route routes) (unlike_key route first is) ∙ rest
 
 -- the route is there, where the one that has its key is the same
-pub route_found : (route : Route) (routes : List Route) → IsRising is_listed_before routes → has_route route routes ≡ passes (is_same_route route) (find (λ one. has_same_key one route) routes)
+pub route_found : (route : Route) (routes : List Route) → IsRising is_listed_before routes → has_agreeing route routes ≡ passes (agrees route) (find (λ one. has_same_key one route) routes)
 route_found route [] rises = refl
 route_found route (first ∷ routes) rises =
     route_found_by route first routes (has_same_key first route) refl
-    (λ same. any_none (is_same_route route) routes (each_implies (λ one. is_listed_before first one ≡ true) (λ one. is_same_route route one ≡ false) (λ one ahead. unlike_key route one (later_differs route first one ahead same)) routes rises.0))
+    (λ same. any_none (agrees route) routes (each_implies (λ one. is_listed_before first one ≡ true) (λ one. agrees route one ≡ false) (λ one ahead. unlike_key route one (later_differs route first one ahead same)) routes rises.0))
     (route_found route routes rises.1)
 
 -- ---- what the code asks
 
 -- no kept route has the key
-pub free_if : (route : Route) (found : List Route) (one : Option Route) → IsRising is_listed_before found → one ≡ find (λ other. has_same_key other route) found → not (passes is_kept one) ≡ not (has_key (key_of route) (kept_routes found))
-free_if route found one rises is = ap not (ap (passes is_kept) is ∙ sym (key_kept is_kept route found rises))
+pub free_if : (fence : Fence) (route : Route) (found : List Route) (one : Option Route) → IsRising is_listed_before found → one ≡ find (λ other. has_same_key other route) found → not (passes (is_kept fence) one) ≡ not (has_key (key_of route) (kept_routes fence found))
+free_if fence route found one rises is = ap not (ap (passes (is_kept fence)) is ∙ sym (key_kept (is_kept fence) route found rises))
 
 -- the route is managed, and no kept one has its key
-abbrev pub is_free_and_managed : List Route → Route → Bool
-is_free_and_managed found other = not (is_kept other) && not (has_key (key_of other) (kept_routes found))
+abbrev pub is_free_and_managed : Fence → List Route → Route → Bool
+is_free_and_managed fence found other = not (is_kept fence other) && not (has_key (key_of other) (kept_routes fence found))
 
-pub wanted_if : (route : Route) (found wanted : List Route) (one : Option Route) → IsRising is_listed_before wanted → one ≡ find (λ other. has_same_key other route) wanted → passes (is_free_and_managed found) one ≡ has_key (key_of route) (wanted_routes found wanted)
-wanted_if route found wanted one rises is =
-    ap (passes (is_free_and_managed found)) is
-    ∙ sym (key_kept (is_free_and_managed found) route wanted rises)
-    ∙ ap (has_key (key_of route)) (sym (filtered_twice (λ route. not (is_kept route)) (λ route. not (has_key (key_of route) (kept_routes found))) wanted))
+pub wanted_if : (fence : Fence) (route : Route) (found wanted : List Route) (one : Option Route) → IsRising is_listed_before wanted → one ≡ find (λ other. has_same_key other route) wanted → passes (is_free_and_managed fence found) one ≡ has_key (key_of route) (wanted_routes fence found wanted)
+wanted_if fence route found wanted one rises is =
+    ap (passes (is_free_and_managed fence found)) is
+    ∙ sym (key_kept (is_free_and_managed fence found) route wanted rises)
+    ∙ ap (has_key (key_of route)) (sym (filtered_twice (λ route. not (is_kept fence route)) (λ route. not (has_key (key_of route) (kept_routes fence found))) wanted))
 
-pub found_if : (route : Route) (routes : List Route) (one : Option Route) → IsRising is_listed_before routes → one ≡ find (λ other. has_same_key other route) routes → passes (is_same_route route) one ≡ has_route route routes
-found_if route routes one rises is = ap (passes (is_same_route route)) is ∙ sym (route_found route routes rises)
+pub agreeing_if : (route : Route) (routes : List Route) (one : Option Route) → IsRising is_listed_before routes → one ≡ find (λ other. has_same_key other route) routes → passes (agrees route) one ≡ has_agreeing route routes
+agreeing_if route routes one rises is = ap (passes (agrees route)) is ∙ sym (route_found route routes rises)
+
+-- the route is managed, and no wanted one has its key
+abbrev pub is_unwanted : Fence → List Route → List Route → Route → Bool
+is_unwanted fence found wanted route = not (is_kept fence route) && not (has_key (key_of route) (wanted_routes fence found wanted))
+
+pub unwanted_are : (fence : Fence) (found wanted : List Route) → unwanted_routes fence found wanted ≡ filter (is_unwanted fence found wanted) found
+unwanted_are fence found wanted = filtered_twice (λ route. not (is_kept fence route)) (λ route. not (has_key (key_of route) (wanted_routes fence found wanted))) found
+
+-- the route is managed, no kept one has its key, and it is not found so
+abbrev pub is_missing : Fence → List Route → List Route → Route → Bool
+is_missing fence found wanted route = not (is_kept fence route) && (not (has_key (key_of route) (kept_routes fence found)) && not (has_agreeing route found))
+
+pub missing_are : (fence : Fence) (found wanted : List Route) → missing_routes fence found wanted ≡ filter (is_missing fence found wanted) wanted
+missing_are fence found wanted =
+    filtered_twice (λ route. not (has_key (key_of route) (kept_routes fence found))) (λ route. not (has_agreeing route found)) (managed_routes fence wanted)
+    ∙ filtered_twice (λ route. not (is_kept fence route)) (λ route. not (has_key (key_of route) (kept_routes fence found)) && not (has_agreeing route found)) wanted
 
 pub is_in_at : {X : Type 0} (xs : List X) (i : ℕ) (x : X) → i < length xs → x ≡ get_or xs i x → IsIn x xs
 is_in_at xs i x inside is = contains_in x xs (i, inside, sym is)

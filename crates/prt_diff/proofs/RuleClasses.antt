@@ -1,17 +1,15 @@
 -- Rules that are sorted by priority are known by those of each priority.
 use Rattle.std.proofs.Common.{◌≡◌, ◌⊎◌, inl, inr, ℕ, ◌<◌, ◌≤◌, Bool, true, false, List, [], ◌∷◌, map, refl, sym, ap, ◌∙◌, arith, cond}
-use Rattle.std.specs.Prelude.{filter, ◌==◌}
+use Rattle.std.specs.Prelude.{◌==◌}
 use Rattle.std.specs.List.{AllByRecursion as Each}
-use Rattle.std.proofs.lemmas.Bool.{eqb-true, eq-eqb, ne_eqb, and_parts}
+use Rattle.std.proofs.lemmas.Bool.{eq-eqb, ne_eqb}
 use Rattle.std.proofs.lemmas.Bool.Decides.{nat_tests}
 use Rattle.prt_addr.specs.Rising.{IsRising}
 use Rattle.prt_addr.proofs.Each.{each_implies}
 use Rattle.prt_rule.specs.Rule.{is_before}
-use Rattle.prt_rule.specs.Same.{is_same_rule}
 use Rattle.prt_rule.specs.declared.rule.Rule.{Rule}
-use Rattle.prt_rule.proofs.SameRules.{rules_same}
-use Rattle.prt_dump.specs.PutBack.{without_id}
-use Rattle.prt_diff.specs.Rules.{are_same_rules, rules_at}
+use Rattle.prt_diff.specs.Between.{AreSame}
+use Rattle.prt_diff.specs.Rules.{rules_at, without_id}
 use Rattle.prt_diff.proofs.Members.{none_pass}
 
 -- ---- sorted by priority
@@ -28,17 +26,13 @@ pub rises_by_priority : (rules : List Rule) → IsRising is_before rules → Ris
 rises_by_priority [] rises = tt
 rises_by_priority (rule ∷ rules) rises = (each_implies (λ other. is_before rule other ≡ true) (λ (other : Rule). rule.priority ≤ other.priority) (not_lower rule) rules rises.0, rises_by_priority rules rises.1)
 
--- the same but for ids
-abbrev pub AreSame : List Rule → List Rule → Type 0
-AreSame rules others = map without_id rules ≡ map without_id others
-
 abbrev pub AreSameAtEach : List Rule → List Rule → Type 0
 AreSameAtEach rules others = (priority : ℕ) → AreSame (rules_at priority rules) (rules_at priority others)
 
 at_its_own : (rule : Rule) (rules : List Rule) → rules_at rule.priority (rule ∷ rules) ≡ rule ∷ rules_at rule.priority rules
 at_its_own rule rules = ap (λ b. cond b (rule ∷ rules_at rule.priority rules) (rules_at rule.priority rules)) (eq-eqb rule.priority rule.priority refl)
 
-none_below : (priority : ℕ) (rule : Rule) (rules : List Rule) → priority < rule.priority → RisesByPriority (rule ∷ rules) → rules_at priority (rule ∷ rules) ≡ []
+pub none_below : (priority : ℕ) (rule : Rule) (rules : List Rule) → priority < rule.priority → RisesByPriority (rule ∷ rules) → rules_at priority (rule ∷ rules) ≡ []
 none_below priority rule rules below rises =
     none_pass (λ (other : Rule). other.priority == priority) (rule ∷ rules) (
       ne_eqb rule.priority priority (λ same. absurd (omega arith)),
@@ -95,39 +89,3 @@ same_by_priority (a ∷ rules) (b ∷ others) rises others_rise same =
     let first : without_id a ≡ without_id b = same_head a b (rules_at a.priority rules) (rules_at a.priority others) (first_at a b rules others equal same) in
     let rest : AreSame rules others = same_by_priority rules others rises.1 others_rise.1 (λ priority. others_by priority a b rules others (a.priority == priority) (b.priority == priority) (ap (λ n. n == priority) equal) (same priority)) in
     ap (λ rule. rule ∷ map without_id rules) first ∙ ap (λ rules. without_id b ∷ rules) rest
-
--- ---- where both have the same
-
-pub same_rules : (rules others : List Rule) → are_same_rules rules others ≡ true → AreSame rules others
-same_rules [] [] same = refl
-same_rules [] (b ∷ others) same = absurd cc
-same_rules (a ∷ rules) [] same = absurd cc
-same_rules (a ∷ rules) (b ∷ others) same =
-    let both = and_parts (is_same_rule a b) (are_same_rules rules others) same in
-    ap (λ rule. rule ∷ map without_id rules) (ap without_id ((rules_same a b).0 both.0)) ∙ ap (λ rules. without_id b ∷ rules) (same_rules rules others both.1)
-
-pub same_themselves : (rules : List Rule) → are_same_rules rules rules ≡ true
-same_themselves [] = refl
-same_themselves (rule ∷ rules) = simp ((rules_same rule rule).1 refl) (same_themselves rules)
-
--- ---- those whose priority passes a test
-
-filtered_by : (q : ℕ → Bool) (priority : ℕ) (rule : Rule) (rest rules : List Rule) (b k : Bool) → q rule.priority ≡ b → (rule.priority == priority) ≡ k → rules_at priority rest ≡ cond (q priority) rules [] → rules_at priority (cond b (rule ∷ rest) rest) ≡ cond (q priority) (cond k (rule ∷ rules) rules) []
-filtered_by q priority rule rest rules true true passes at h =
-    let here : q priority ≡ true = ap q (sym (eqb-true rule.priority priority at)) ∙ passes in
-    ap (λ k. cond k (rule ∷ rules_at priority rest) (rules_at priority rest)) at
-    ∙ ap (λ xs. rule ∷ xs) (h ∙ ap (λ b. cond b rules []) here)
-    ∙ sym (ap (λ b. cond b (rule ∷ rules) []) here)
-filtered_by q priority rule rest rules true false passes at h = ap (λ k. cond k (rule ∷ rules_at priority rest) (rules_at priority rest)) at ∙ h
-filtered_by q priority rule rest rules false true fails at h =
-    let here : q priority ≡ false = ap q (sym (eqb-true rule.priority priority at)) ∙ fails in
-    h ∙ ap (λ b. cond b rules []) here ∙ sym (ap (λ b. cond b (rule ∷ rules) []) here)
-filtered_by q priority rule rest rules false false fails at h = h
-
-pub filtered_at : (q : ℕ → Bool) (priority : ℕ) (rules : List Rule) → rules_at priority (filter (λ (rule : Rule). q rule.priority) rules) ≡ cond (q priority) (rules_at priority rules) []
-filtered_at q priority [] = by (q priority)
-  where
-    by : (b : Bool) → [] ≡ cond b (rules_at priority []) []
-    by true = refl
-    by false = refl
-filtered_at q priority (rule ∷ rules) = filtered_by q priority rule (filter (λ (rule : Rule). q rule.priority) rules) (rules_at priority rules) (q rule.priority) (rule.priority == priority) refl refl (filtered_at q priority rules)

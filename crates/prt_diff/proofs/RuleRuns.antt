@@ -1,19 +1,18 @@
--- The rules of one priority stand side by side, and are compared one by one.
-use Rattle.std.proofs.Common.{◌≡◌, ℕ, zero, suc, ◌+◌, ◌-◌, ◌<◌, ◌≤◌, Bool, true, false, ◌&&◌, List, [], ◌∷◌, ◌++◌, length, get_or, take, drop, refl, sym, ap, ◌∙◌, subst, arith}
+-- The rules of one priority stand side by side.
+use Rattle.std.proofs.Common.{◌≡◌, ℕ, zero, suc, ◌+◌, ◌-◌, ◌≤◌, Bool, true, false, List, [], ◌∷◌, ◌++◌, length, take, drop, sym, ap, ◌∙◌, subst, arith}
 use Rattle.std.specs.Prelude.{filter, ◌==◌, nat_lt, nat_le}
 use Rattle.std.specs.List.{AllByRecursion as Each}
 use Rattle.std.specs.List.Sorted.{IsNonDecreasingBy, IsPartitionPoint, IsPartitionedBy}
 use Rattle.std.proofs.lemmas.Bool.Decides.{nat_tests}
-use Rattle.std.proofs.lemmas.List.{append-nil, get_or-drop, get_or-take, length-drop, length-take-le, take-append-drop, take_more, take_rest}
+use Rattle.std.proofs.lemmas.List.{append-nil, get_or-drop, get_or-take, length-drop, length-take-le, take-append-drop, take_rest}
 use Rattle.std.proofs.lemmas.List.Elements.{filter-append, recursion_from_All}
 use Rattle.std.proofs.lemmas.List.Sorted.{IsNonDecreasingBy-drop, IsPartitionedBy-leb, IsPartitionedBy-ltb}
 use Rattle.prt_addr.specs.Rising.{IsRising}
 use Rattle.prt_rule.specs.Rule.{is_before}
-use Rattle.prt_rule.specs.Same.{is_same_rule}
 use Rattle.prt_rule.specs.declared.rule.Rule.{Rule}
 use Rattle.prt_version.proofs.SortedRows.{rising_numbers}
-use Rattle.prt_diff.specs.Rules.{are_same_rules, rules_at}
-use Rattle.prt_diff.proofs.Members.{all_pass, differ, each_both, none_pass}
+use Rattle.prt_diff.specs.Rules.{rules_at}
+use Rattle.prt_diff.proofs.Members.{all_pass, each_both, none_pass}
 
 -- ---- side by side
 
@@ -82,40 +81,3 @@ run_is priority start count rules bound count_bound first second =
     ap (take count) (take_rest rules start)
     ∙ run_of priority start count rules bound (subst (λ rest. count ≤ length rest) (take_rest rules start) count_bound) first
     (subst (λ rest. IsPartitionPoint (λ (rule : Rule). nat_le rule.priority priority ≡ true) (λ (rule : Rule). nat_le rule.priority priority ≡ false) rest count) (take_rest rules start) second)
-
--- ---- one by one
-
-both_longer : (rules others : List Rule) (a b : Rule) → are_same_rules rules others ≡ true → is_same_rule a b ≡ true → are_same_rules (rules ++ a ∷ []) (others ++ b ∷ []) ≡ true
-both_longer [] [] a b same last = ap (λ s. s && true) last
-both_longer [] (other ∷ others) a b same last = differ (sym same)
-both_longer (rule ∷ rules) [] a b same last = differ (sym same)
-both_longer (rule ∷ rules) (other ∷ others) a b same last = by (is_same_rule rule other) same (both_longer rules others a b)
-  where
-    by : (s : Bool) → (s && are_same_rules rules others) ≡ true → (are_same_rules rules others ≡ true → is_same_rule a b ≡ true → are_same_rules (rules ++ a ∷ []) (others ++ b ∷ []) ≡ true) → (s && are_same_rules (rules ++ a ∷ []) (others ++ b ∷ [])) ≡ true
-    by true both rest = rest both last
-    by false both rest = differ (sym both)
-
--- one pair more
-pub same_more : (rules others : List Rule) (i : ℕ) (a b : Rule) → i < length rules → i < length others → ((d : Rule) → a ≡ get_or rules i d) → ((d : Rule) → b ≡ get_or others i d) → are_same_rules (take i rules) (take i others) ≡ true → is_same_rule a b ≡ true → are_same_rules (take (i + 1) rules) (take (i + 1) others) ≡ true
-same_more rules others i a b inside other_inside at other_at so_far same =
-    ap (λ xs. are_same_rules xs (take (i + 1) others)) (take_more rules i a inside ∙ ap (λ x. take i rules ++ x ∷ []) (sym (at a)))
-    ∙ ap (λ ys. are_same_rules (take i rules ++ a ∷ []) ys) (take_more others i b other_inside ∙ ap (λ y. take i others ++ y ∷ []) (sym (other_at b)))
-    ∙ both_longer (take i rules) (take i others) a b so_far same
-
-and_false : (b c : Bool) → c ≡ false → (b && c) ≡ false
-and_false true c is = is
-and_false false c is = refl
-
--- a pair that is not the same
-pub unlike_at : (rules others : List Rule) (i : ℕ) (d e : Rule) → i < length rules → i < length others → is_same_rule (get_or rules i d) (get_or others i e) ≡ false → are_same_rules rules others ≡ false
-unlike_at [] others i d e inside other_inside unlike = absurd (omega arith)
-unlike_at (rule ∷ rules) [] i d e inside other_inside unlike = absurd (omega arith)
-unlike_at (rule ∷ rules) (other ∷ others) zero d e inside other_inside unlike = ap (λ s. s && are_same_rules rules others) unlike
-unlike_at (rule ∷ rules) (other ∷ others) (suc i) d e inside other_inside unlike = and_false (is_same_rule rule other) (are_same_rules rules others) (unlike_at rules others i d e (omega arith) (omega arith) unlike)
-
--- lists of other lengths
-pub unlike_lengths : (rules others : List Rule) → (length rules ≡ length others → ⊥) → are_same_rules rules others ≡ false
-unlike_lengths [] [] apart = absurd (apart refl)
-unlike_lengths [] (other ∷ others) apart = refl
-unlike_lengths (rule ∷ rules) [] apart = refl
-unlike_lengths (rule ∷ rules) (other ∷ others) apart = and_false (is_same_rule rule other) (are_same_rules rules others) (unlike_lengths rules others (λ same. apart (omega (arith, same))))

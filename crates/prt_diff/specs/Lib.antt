@@ -1,5 +1,8 @@
+pub mod Names
+pub mod Fence
 pub mod Routes
 pub mod Rules
-pub mod Changes
-pub mod Brought
+pub mod Plan
+pub mod Between
 pub mod Text
+pub mod Replacing

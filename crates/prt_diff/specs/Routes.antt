@@ -1,61 +1,115 @@
 -- Which routes differ: ip-route(8).
-use Rattle.std.specs.Prelude.{ℕ, Bool, not, ◌&&◌, ◌||◌, ◌==◌, if◌then◌else◌, List, [], ◌∷◌, filter, Option, Some, None, bytes_eq}
+use Rattle.std.specs.Prelude.{ℕ, zero, suc, ◌+◌, Bool, false, not, ◌&&◌, ◌||◌, ◌==◌, nat_le, if◌then◌else◌, List, [], ◌∷◌, ◌++◌, filter, Option, Some, None, is_none, is_some, bytes_eq}
 use Rattle.std.specs.List.{list_any}
 use Rattle.std.specs.Option.{option_eq}
-use Rattle.prt_addr.specs.Order.{insert_by}
-use Rattle.prt_route.specs.Edit.{has_key}
-use Rattle.prt_route.specs.Names.{local_table}
-use Rattle.prt_route.specs.Route.{is_listed_before, is_same_key, key_of}
+use Rattle.prt_route.specs.Edit.{after_edit, has_key}
+use Rattle.prt_route.specs.Names.{main_table}
+use Rattle.prt_route.specs.Route.{is_same_key, key_of}
 use Rattle.prt_route.specs.RouteChoice.{is_same_addr, is_same_kind}
 use Rattle.prt_route.specs.declared.choice.RouteChoice.{RouteChoice}
+use Rattle.prt_route.specs.declared.edit.RouteEdit.TheVariants.{Put}
 use Rattle.prt_route.specs.declared.route.Route.{Route}
+use Rattle.prt_rule.specs.declared.rule.Action.{Action}
+use Rattle.prt_rule.specs.declared.rule.Action.TheVariants.{Lookup}
+use Rattle.prt_rule.specs.declared.rule.Rule.{Rule}
 use Rattle.prt_command.specs.declared.request.Command.{Command}
 use Rattle.prt_command.specs.declared.request.Command.TheVariants.{RouteReplace, RouteDel}
+use Rattle.prt_diff.specs.Fence.{is_route_within}
+use Rattle.prt_diff.specs.declared.fence.Fence.{Fence}
 
 -- ---- kept and managed routes
 
-abbrev pub kernel_protocol : ℕ
-kernel_protocol = 2
+-- a route that may not be changed
+abbrev pub is_kept : Fence → Route → Bool
+is_kept fence route = not (is_route_within fence route)
 
--- a route that the kernel makes of an interface's address: it is of protocol kernel, or of table local
-abbrev pub is_kept : Route → Bool
-is_kept route = route.proto == kernel_protocol || route.table == local_table
+abbrev pub kept_routes : Fence → List Route → List Route
+kept_routes fence routes = filter (is_kept fence) routes
 
-abbrev pub kept_routes : List Route → List Route
-kept_routes routes = filter is_kept routes
+abbrev pub managed_routes : Fence → List Route → List Route
+managed_routes fence routes = filter (λ route. not (is_kept fence route)) routes
 
-abbrev pub managed_routes : List Route → List Route
-managed_routes routes = filter (λ route. not (is_kept route)) routes
-
--- the managed routes that are wanted, but for those whose key a kept one has that is found
-abbrev pub wanted_routes : List Route → List Route → List Route
-wanted_routes found wanted = filter (λ route. not (has_key (key_of route) (kept_routes found))) (managed_routes wanted)
-
--- these routes, each put at its place among the others
-abbrev pub insert_all : List Route → List Route → List Route
-insert_all [] others = others
-insert_all (route ∷ routes) others = insert_by is_listed_before route (insert_all routes others)
-
--- the kept routes that are found, and the wanted ones, in the order of listings
-abbrev pub brought_routes : List Route → List Route → List Route
-brought_routes found wanted = insert_all (wanted_routes found wanted) (kept_routes found)
+-- the managed routes that are wanted, except those with the key of a kept one that is found
+abbrev pub wanted_routes : Fence → List Route → List Route → List Route
+wanted_routes fence found wanted = filter (λ route. not (has_key (key_of route) (kept_routes fence found))) (managed_routes fence wanted)
 
 -- ---- what differs
 
--- equal in all
-abbrev pub is_same_route : Route → Route → Bool
-is_same_route a b = is_same_key (key_of a) (key_of b) && is_same_kind a.kind b.kind && option_eq is_same_addr a.via b.via && option_eq bytes_eq a.dev b.dev && option_eq is_same_addr a.src b.src && a.proto == b.proto && a.scope == b.scope
+-- the kernel finds the interface of such a route by its gateway
+abbrev pub leaves_dev : Route → Bool
+leaves_dev route = is_some route.via && is_none route.dev
 
-abbrev pub has_route : Route → List Route → Bool
-has_route route routes = list_any (is_same_route route) routes
+abbrev pub agrees_on_dev : Route → Route → Bool
+agrees_on_dev wanted found = leaves_dev wanted || option_eq bytes_eq wanted.dev found.dev
+
+abbrev pub agrees_on_src : Route → Route → Bool
+agrees_on_src wanted found = (leaves_dev wanted && is_none wanted.src) || option_eq is_same_addr wanted.src found.src
+
+-- The route that is found is as it is wanted. What the kernel fills in is no difference.
+abbrev pub agrees : Route → Route → Bool
+agrees wanted found = is_same_key (key_of wanted) (key_of found) && is_same_kind wanted.kind found.kind && option_eq is_same_addr wanted.via found.via && agrees_on_dev wanted found && agrees_on_src wanted found && wanted.proto == found.proto && wanted.scope == found.scope
+
+abbrev pub has_agreeing : Route → List Route → Bool
+has_agreeing route routes = list_any (agrees route) routes
 
 -- the managed routes that are found, whose key no wanted one has
-abbrev pub unwanted_routes : List Route → List Route → List Route
-unwanted_routes found wanted = filter (λ route. not (has_key (key_of route) (wanted_routes found wanted))) (managed_routes found)
+abbrev pub unwanted_routes : Fence → List Route → List Route → List Route
+unwanted_routes fence found wanted = filter (λ route. not (has_key (key_of route) (wanted_routes fence found wanted))) (managed_routes fence found)
 
 -- the wanted routes that are not found so
-abbrev pub missing_routes : List Route → List Route → List Route
-missing_routes found wanted = filter (λ route. not (has_route route found)) (wanted_routes found wanted)
+abbrev pub missing_routes : Fence → List Route → List Route → List Route
+missing_routes fence found wanted = filter (λ route. not (has_agreeing route found)) (wanted_routes fence found wanted)
+
+-- ---- their order
+
+abbrev pub looks_up : ℕ → Action → Bool
+looks_up table (Lookup other) = table == other
+looks_up table action = false
+
+abbrev pub is_lookup_of : ℕ → Rule → Bool
+is_lookup_of table rule = looks_up table rule.action
+
+-- some rule looks up the table
+abbrev pub is_looked_up : List Rule → ℕ → Bool
+is_looked_up rules table = list_any (is_lookup_of table) rules
+
+-- the rule looks up main for every packet
+abbrev pub is_main_rule : Rule → Bool
+is_main_rule rule = not rule.inverted && rule.from.len == 0 && rule.to.len == 0 && is_none rule.iif && is_none rule.mark && is_none rule.suppress && is_lookup_of main_table rule
+
+-- the route may reach a gateway of another, and a rule that is found looks up its table
+abbrev pub is_late_link : List Rule → Route → Bool
+is_late_link rules route = is_none route.via && is_looked_up rules route.table
+
+-- The kernel finds each gateway before the rules come: it looks through main, and no route that may reach one comes later.
+abbrev pub gateways_are_found : List Rule → List Route → Bool
+gateways_are_found rules routes = list_any is_main_rule rules && not (list_any (is_late_link rules) routes)
+
+-- the route comes before the rules: no rule that is found looks up its table, and the kernel finds its gateway
+abbrev pub is_early : List Rule → Bool → Route → Bool
+is_early rules gateways route = not (is_looked_up rules route.table) && (is_none route.via || gateways)
+
+abbrev pub early_routes : List Rule → List Route → List Route
+early_routes rules routes = filter (is_early rules (gateways_are_found rules routes)) routes
+
+abbrev pub late_routes : List Rule → List Route → List Route
+late_routes rules routes = filter (λ route. not (is_early rules (gateways_are_found rules routes) route)) routes
+
+-- routes of higher rank come first: those without a gateway before those with one, and longer prefixes before shorter ones
+abbrev pub rank : Route → ℕ
+rank route = (if is_none route.via then 33 else 0) + (if nat_le route.prefix.len 32 then route.prefix.len else 32)
+
+abbrev pub highest_first : ℕ → List Route → List Route
+highest_first zero routes = []
+highest_first (suc n) routes = filter (λ route. rank route == n) routes ++ highest_first n routes
+
+unfoldable pub in_turn : List Route → List Route
+in_turn routes = highest_first 66 routes
+
+-- the routes after these are put, one after another
+abbrev pub put_all : List Route → List Route → List Route
+put_all [] routes = routes
+put_all (route ∷ todo) routes = put_all todo (after_edit (Put route) routes)
 
 -- ---- the commands
 

@@ -7,7 +7,8 @@ use Rattle.prt_listing.specs.QueryText.{lines_text}
 use Rattle.prt_spelling.specs.Line.{command_line}
 use Rattle.prt_spelling.specs.Spelled.{is_spelled}
 use Rattle.prt_version.specs.State.{State}
-use Rattle.prt_diff.specs.Changes.{changes}
+use Rattle.prt_diff.specs.Plan.{changes}
+use Rattle.prt_diff.specs.declared.fence.Fence.{Fence}
 use Rattle.prt_diff.specs.declared.refusal.NotWritten.{NotWritten}
 use Rattle.prt_diff.specs.declared.refusal.NotWritten.TheVariants.{NoLine, NoMemory}
 
@@ -15,8 +16,8 @@ use Rattle.prt_diff.specs.declared.refusal.NotWritten.TheVariants.{NoLine, NoMem
 abbrev pub commands_text : List Command → List ℕ
 commands_text commands = lines_text (map command_line commands)
 
-abbrev pub changes_text : State → State → List ℕ
-changes_text found wanted = commands_text (changes found wanted)
+abbrev pub changes_text : Fence → State → State → List ℕ
+changes_text fence found wanted = commands_text (changes fence found wanted)
 
 -- the line of the command asks for it
 abbrev pub IsAskedFor : Command → Type 0

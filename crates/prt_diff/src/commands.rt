@@ -1,34 +1,33 @@
 //! The commands that change rules and routes.
 ghost use Rattle.std.specs.Prelude.{◌≡◌};
-ghost use Rattle.prt_dump.specs.Dump.{add_rule, new_rule};
 ghost use Rattle.prt_diff.specs.Routes.{choice_of, delete_route, named_metric, replace_route};
-ghost use Rattle.prt_diff.specs.Rules.{delete_rule, first_rule_at};
+ghost use Rattle.prt_diff.specs.Rules.{add_rule, delete_rule, new_rule, whole_choice};
 
 use prt_command::{Command, NewRule};
 use prt_route::{Route, RouteChoice};
 use prt_rule::{Rule, RuleChoice};
 
-/// Chooses the first rule of this priority.
-fn first_rule_at(priority: u32) -> RuleChoice
-    ensures { result ≡ first_rule_at priority }
+/// Chooses the rule by all that it has.
+fn whole_choice(rule: &Rule) -> RuleChoice
+    ensures { result ≡ whole_choice rule.now }
 {
     RuleChoice {
-        priority: Some(priority),
-        inverted: false,
-        from: None,
-        to: None,
-        iif: None,
-        mark: None,
-        action: None,
-        suppress: None,
+        priority: Some(rule.priority),
+        inverted: rule.inverted,
+        from: Some(rule.from),
+        to: Some(rule.to),
+        iif: rule.iif,
+        mark: rule.mark,
+        action: Some(rule.action),
+        suppress: rule.suppress,
     }
 }
 
-/// Gives the command that deletes the first rule of the priority of this one.
+/// Gives the command that deletes the rule.
 pub(crate) fn delete_rule(rule: &Rule) -> Command
     ensures { result ≡ delete_rule rule.now }
 {
-    Command::RuleDel(first_rule_at(rule.priority))
+    Command::RuleDel(whole_choice(rule))
 }
 
 /// Gives the rule as one to be added.

@@ -3,13 +3,22 @@
 
 mod commands;
 mod diff;
+mod fence;
 mod laws;
+mod names;
+mod outside;
+mod plan;
 mod refusal;
+mod replacing;
 mod routes;
 mod rules;
 mod text;
 
 pub use diff::changes;
-pub use laws::{brought_are_kept_and_wanted, changes_bring, no_changes_where_same};
+pub use fence::{Fence, NumberRange};
+pub use laws::{changes_bring, no_changes_where_same, no_gap_opens};
+pub use outside::{Outside, count_outside};
+pub use plan::Changes;
 pub use refusal::NotWritten;
-pub use text::changes_text;
+pub use replacing::replacing_text;
+pub use text::{changes_text, commands_text};

@@ -2,10 +2,11 @@
 ghost use Rattle.std.specs.Prelude.{◌≡◌, ◌++◌, All, IfErr, IfOk, OnOk, codes};
 ghost use Rattle.prt_spelling.specs.Line.{command_line};
 ghost use Rattle.prt_spelling.specs.Spelled.{IsWhyNotSpelled};
-ghost use Rattle.prt_diff.specs.Changes.{changes};
+ghost use Rattle.prt_diff.specs.Plan.{changes};
 ghost use Rattle.prt_diff.specs.Text.{IsAskedFor, IsWhyNotWritten, changes_text, commands_text};
 
 use crate::diff::changes;
+use crate::fence::Fence;
 use crate::refusal::NotWritten;
 use prt_command::Command;
 use prt_listing::push_text;
@@ -34,8 +35,13 @@ fn push_command(alloc: Global, text: &mut Vec<u8>, command: &Command) -> Result<
     Ok(())
 }
 
-/// Gives the lines of the commands, each with a newline.
-fn commands_text(alloc: Global, commands: &[Command]) -> Result<Vec<u8>, NotWritten>
+/// Gives the lines of the commands, as `ip -batch` reads them: each asks for its command, and ends with a newline.
+///
+/// # Errors
+///
+/// `NoLine` with the first command that no line asks for: of a rule or a route with an interface whose name has `#`, a
+/// control byte or a byte above 0x7e, or that a table may not hold. `NoMemory` may come instead.
+pub fn commands_text(alloc: Global, commands: &[Command]) -> Result<Vec<u8>, NotWritten>
     ensures text { IfOk result (λ text. text.items ≡ commands_text commands.now) }
     ensures read { IfOk result (λ text. All IsAskedFor commands.now) }
     ensures reason { IfErr result (λ reason. IsWhyNotWritten commands.now reason) }
@@ -51,22 +57,25 @@ fn commands_text(alloc: Global, commands: &[Command]) -> Result<Vec<u8>, NotWrit
     Ok(text)
 }
 
-/// Gives the lines of what [`changes`] gives, as `ip -batch` reads them: each asks for its command, and ends with a
-/// newline. Where nothing differs there are none.
+/// Gives the lines of the commands that [`changes`] gives. If nothing differs there are none.
 ///
 /// [`changes`]: crate::changes
 ///
 /// # Errors
 ///
-/// `NoLine` with the first command that no line asks for: of a rule or a route with an interface whose name has `#`, a
-/// control byte or a byte above 0x7e, or that a table may not hold. `NoMemory` may come instead.
-pub fn changes_text(alloc: Global, found: &Version, wanted: &Version) -> Result<Vec<u8>, NotWritten>
-    ensures text { IfOk result (λ text. text.items ≡ changes_text found.now wanted.now) }
-    ensures read { IfOk result (λ text. All IsAskedFor (changes found.now wanted.now)) }
-    ensures reason { IfErr result (λ reason. IsWhyNotWritten (changes found.now wanted.now) reason) }
+/// Those of [`commands_text`].
+pub fn changes_text(
+    alloc: Global,
+    fence: &Fence,
+    found: &Version,
+    wanted: &Version,
+) -> Result<Vec<u8>, NotWritten>
+    ensures text { IfOk result (λ text. text.items ≡ changes_text fence.now found.now wanted.now) }
+    ensures read { IfOk result (λ text. All IsAskedFor (changes fence.now found.now wanted.now)) }
+    ensures reason { IfErr result (λ reason. IsWhyNotWritten (changes fence.now found.now wanted.now) reason) }
 {
-    let Ok(commands) = changes(alloc, found, wanted) else {
+    let Ok(changes) = changes(alloc, fence, found, wanted) else {
         return Err(NotWritten::NoMemory);
     };
-    commands_text(alloc, &commands)
+    commands_text(alloc, &changes.commands)
 }

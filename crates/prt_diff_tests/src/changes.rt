@@ -1,6 +1,8 @@
 use prt_command::{Command, Refusal, Request, read_line};
-use prt_diff::{NotWritten, changes_text};
-use prt_route::{BOOT_PROTOCOL, Kind, LINK_SCOPE, MAIN_TABLE, Prefix, Route, read_dev};
+use prt_diff::{
+    Changes, Fence, NotWritten, changes, changes_text, commands_text, count_outside, replacing_text,
+};
+use prt_route::{BOOT_PROTOCOL, Kind, LINK_SCOPE, MAIN_TABLE, Prefix, Route, RouteKey, read_dev};
 use prt_version::Version;
 use std::alloc::Global;
 use std::test::Fail;
@@ -34,19 +36,17 @@ rule add priority 600 table 7
 rule add priority 650 to 10.2/16 table 7
 rule add priority 700 fwmark 7/0xff table 7";
 
-const CHANGES: &str = "rule del priority 0
-rule del priority 500
-rule del priority 500
-rule del priority 700
-route del 172.16.0.0/12
-route del 172.16.0.0/12 metric 7
+const CHANGES: &str = "rule add priority 650 from all to 10.2.0.0/16 lookup 7
+rule add priority 700 from all fwmark 0x7/0xff lookup 7
 route replace 10.1.2.3 dev wg1 table 7 scope link
 route replace 10.2.0.0/16 dev wg0 table 7 scope link
-route replace default via 192.0.2.2 metric 10
 route replace 172.16.0.0/12 via 192.0.2.9 metric 8
-rule add priority 500 from 10.0.0.0/8 lookup 100
-rule add priority 650 from all to 10.2.0.0/16 lookup 7
-rule add priority 700 from all fwmark 0x7/0xff lookup 7
+route replace default via 192.0.2.2 metric 10
+rule del priority 0 from all to all lookup local
+rule del priority 500 not from 10.1.0.0/16 to all prohibit
+rule del priority 700 from all to all fwmark 0x7 lookup 7
+route del 172.16.0.0/12
+route del 172.16.0.0/12 metric 7
 ";
 
 /// The version after the command.
@@ -73,32 +73,246 @@ fn after(mut version: Version, script: &str) -> Result<Version, Refusal> {
     Ok(version)
 }
 
+/// The version that the script makes of a new database.
+fn made(alloc: Global, script: &str) -> Result<Version, Refusal> {
+    after(Version::opening(alloc)?, script)
+}
+
 /// The lines of the changes between these two.
-fn text_of(alloc: Global, found: &Version, wanted: &Version) -> Result<Vec<u8>, Fail> {
-    match changes_text(alloc, found, wanted) {
+fn text_of(
+    alloc: Global,
+    fence: &Fence,
+    found: &Version,
+    wanted: &Version,
+) -> Result<Vec<u8>, Fail> {
+    match changes_text(alloc, fence, found, wanted) {
         Ok(text) => Ok(text),
         Err(NotWritten::NoLine(_)) => Err(Fail::from(Refusal::UnknownVerb)),
         Err(NotWritten::NoMemory) => Err(Fail::from(Refusal::NoMemory)),
     }
 }
 
+/// The changes between these two, of all that there is.
+fn all_changes(alloc: Global, found: &Version, wanted: &Version) -> Result<Changes, Fail> {
+    let Ok(changes) = changes(alloc, &Fence::all(alloc), found, wanted) else {
+        return Err(Fail::from(Refusal::NoMemory));
+    };
+    Ok(changes)
+}
+
+/// The lines of the changes between what these scripts make.
+fn lines_between(alloc: Global, found: &str, wanted: &str) -> Result<Vec<u8>, Fail> {
+    text_of(
+        alloc,
+        &Fence::all(alloc),
+        &made(alloc, found)?,
+        &made(alloc, wanted)?,
+    )
+}
+
 #[test]
 fn brings_what_differs(rt: HostRuntime) -> Result<(), Fail> {
-    let found = after(Version::opening(rt.alloc())?, FOUND)?;
-    let wanted = after(Version::opening(rt.alloc())?, WANTED)?;
-    assert_eq!(rt;
-        text_of(rt.alloc(), &found, &wanted)?.as_slice(),
-        CHANGES.as_bytes()
-    );
+    let found = made(rt.alloc(), FOUND)?;
+    let wanted = made(rt.alloc(), WANTED)?;
+    let fence = Fence::all(rt.alloc());
+    let text = text_of(rt.alloc(), &fence, &found, &wanted)?;
+    assert_eq!(rt; text.as_slice(), CHANGES.as_bytes());
     let brought = after(found, CHANGES)?;
+    let rest = text_of(rt.alloc(), &fence, &brought, &wanted)?;
+    assert_eq!(rt; rest.as_slice(), "".as_bytes());
+    let same = text_of(rt.alloc(), &fence, &wanted, &wanted)?;
+    assert_eq!(rt; same.as_slice(), "".as_bytes());
+    Ok(())
+}
+
+/// Shorewall puts main before its own rules: the new rule comes before the old one goes.
+#[test]
+fn moves_main_to_999(rt: HostRuntime) -> Result<(), Fail> {
+    let text = lines_between(
+        rt.alloc(),
+        "route add default via 192.0.2.1",
+        "rule add priority 999 table main
+rule del priority 32766
+route add default via 192.0.2.1 table 250
+rule add priority 1000 from 192.0.2.7 table 250",
+    )?;
     assert_eq!(rt;
-        text_of(rt.alloc(), &brought, &wanted)?.as_slice(),
-        "".as_bytes()
+        text.as_slice(),
+        "route replace default via 192.0.2.1 table 250
+rule add priority 999 from all lookup main
+rule add priority 1000 from 192.0.2.7 lookup 250
+rule del priority 32766 from all to all lookup main
+route del default
+"
+            .as_bytes()
     );
+    Ok(())
+}
+
+/// Cilium puts its own rules before local: the table is looked up throughout.
+#[test]
+fn moves_local_to_100(rt: HostRuntime) -> Result<(), Fail> {
+    let text = lines_between(
+        rt.alloc(),
+        "",
+        "rule del priority 0
+rule add priority 9 fwmark 0x200/0xf00 table 2004
+rule add priority 100 table local",
+    )?;
     assert_eq!(rt;
-        text_of(rt.alloc(), &wanted, &wanted)?.as_slice(),
-        "".as_bytes()
+        text.as_slice(),
+        "rule add priority 9 from all fwmark 0x200/0xf00 lookup 2004
+rule add priority 100 from all lookup local
+rule del priority 0 from all to all lookup local
+"
+            .as_bytes()
     );
+    Ok(())
+}
+
+const TWO_RULES: &str = "rule add priority 500 from 10.0.0.0/8 table 7
+rule add priority 500 from 10.1.0.0/16 table 8";
+
+#[test]
+fn moves_a_rule_behind_another(rt: HostRuntime) -> Result<(), Fail> {
+    let found = made(rt.alloc(), TWO_RULES)?;
+    let wanted = made(
+        rt.alloc(),
+        "rule add priority 500 from 10.1.0.0/16 table 8
+rule add priority 500 from 10.0.0.0/8 table 7",
+    )?;
+    let changes = all_changes(rt.alloc(), &found, &wanted)?;
+    assert_eq!(rt; changes.moved.len(), 1);
+    assert_eq!(rt; changes.left.len(), 0);
+    let text = text_of(rt.alloc(), &Fence::all(rt.alloc()), &found, &wanted)?;
+    assert_eq!(rt;
+        text.as_slice(),
+        "rule del priority 500 from 10.0.0.0/8 to all lookup 7
+rule add priority 500 from 10.0.0.0/8 lookup 7
+"
+            .as_bytes()
+    );
+    Ok(())
+}
+
+/// The kernel would delete the twin, which is wanted.
+#[test]
+fn leaves_a_rule_behind_its_twin(rt: HostRuntime) -> Result<(), Fail> {
+    let found = made(
+        rt.alloc(),
+        "rule add priority 500 not from 10.0.0.0/8 table 7
+rule add priority 500 from 10.0.0.0/8 table 7",
+    )?;
+    let wanted = made(
+        rt.alloc(),
+        "rule add priority 500 not from 10.0.0.0/8 table 7",
+    )?;
+    let changes = all_changes(rt.alloc(), &found, &wanted)?;
+    assert_eq!(rt; changes.commands.len(), 0);
+    assert_eq!(rt; changes.left.len(), 1);
+    Ok(())
+}
+
+/// The kernel would refuse the new rule beside its twin, since it compares no `not`.
+#[test]
+fn clears_the_way_for_a_twin(rt: HostRuntime) -> Result<(), Fail> {
+    let found = made(rt.alloc(), "rule add priority 100 not from 10/8 table 7")?;
+    let wanted = made(rt.alloc(), "rule add priority 100 from 10/8 table 7")?;
+    let changes = all_changes(rt.alloc(), &found, &wanted)?;
+    assert_eq!(rt; (changes.early.len(), changes.left.len()), (1, 0));
+    let text = text_of(rt.alloc(), &Fence::all(rt.alloc()), &found, &wanted)?;
+    assert_eq!(rt;
+        text.as_slice(),
+        "rule del priority 100 not from 10.0.0.0/8 to all lookup 7
+rule add priority 100 from 10.0.0.0/8 lookup 7
+"
+            .as_bytes()
+    );
+    Ok(())
+}
+
+/// The kernel compares no source where the new rule has all of them, but it compares marks as they are.
+#[test]
+fn clears_the_way_for_all_sources(rt: HostRuntime) -> Result<(), Fail> {
+    let found = made(
+        rt.alloc(),
+        "rule add priority 100 from 10/8 table 7
+rule add priority 100 from 10/8 fwmark 1 table 7
+rule add priority 200 table 7",
+    )?;
+    let wanted = made(
+        rt.alloc(),
+        "rule add priority 100 table 7
+rule add priority 200 from 10/8 table 7",
+    )?;
+    let changes = all_changes(rt.alloc(), &found, &wanted)?;
+    assert_eq!(rt; (changes.early.len(), changes.left.len()), (1, 0));
+    let text = text_of(rt.alloc(), &Fence::all(rt.alloc()), &found, &wanted)?;
+    assert_eq!(rt;
+        text.as_slice(),
+        "rule del priority 100 from 10.0.0.0/8 to all lookup 7
+rule add priority 100 from all lookup 7
+rule add priority 200 from 10.0.0.0/8 lookup 7
+rule del priority 100 from 10.0.0.0/8 to all fwmark 0x1 lookup 7
+rule del priority 200 from all to all lookup 7
+"
+            .as_bytes()
+    );
+    Ok(())
+}
+
+/// The words for the rule that bars would take the one before it, until that goes.
+#[test]
+fn goes_later_where_the_way_is_not_clear(rt: HostRuntime) -> Result<(), Fail> {
+    let found = made(
+        rt.alloc(),
+        "rule add priority 100 from 10/8 iif eth0 table 7
+rule add priority 100 from 10/8 table 7",
+    )?;
+    let wanted = made(rt.alloc(), "rule add priority 100 not from 10/8 table 7")?;
+    let changes = all_changes(rt.alloc(), &found, &wanted)?;
+    assert_eq!(rt; (changes.early.len(), changes.left.len()), (0, 0));
+    assert_eq!(rt; changes.commands.len(), 3);
+    Ok(())
+}
+
+/// The kernel fills the interface in.
+#[test]
+fn takes_the_interface_of_a_gateway_as_found(rt: HostRuntime) -> Result<(), Fail> {
+    let text = lines_between(
+        rt.alloc(),
+        "route add default via 192.0.2.1 dev eth0",
+        "route add default via 192.0.2.1",
+    )?;
+    assert_eq!(rt; text.as_slice(), "".as_bytes());
+    Ok(())
+}
+
+#[test]
+fn stays_within_the_fence(rt: HostRuntime) -> Result<(), Fail> {
+    let found = made(
+        rt.alloc(),
+        "route add default via 192.0.2.1
+route add 10.0.0.0/8 dev eth0 table 7",
+    )?;
+    let wanted = made(
+        rt.alloc(),
+        "rule add priority 500 table 7
+route add 172.16.0.0/12 dev eth0
+route add 10.1.0.0/16 dev eth0 table 7",
+    )?;
+    let mut fence = Fence::nothing(rt.alloc());
+    fence.add_tables(7, 7)?;
+    let text = text_of(rt.alloc(), &fence, &found, &wanted)?;
+    assert_eq!(rt;
+        text.as_slice(),
+        "route replace 10.1.0.0/16 dev eth0 table 7 scope link
+route del 10.0.0.0/8 table 7
+"
+            .as_bytes()
+    );
+    let outside = count_outside(&fence, &wanted)?;
+    assert_eq!(rt; (outside.rules, outside.routes), (4, 1));
     Ok(())
 }
 
@@ -119,10 +333,133 @@ fn route_through(name: &[u8]) -> Result<Route, Refusal> {
 
 #[test]
 fn names_what_no_line_spells(rt: HostRuntime) -> Result<(), Fail> {
-    let found = Version::opening(rt.alloc())?;
     let command = Command::RouteAdd(route_through(b"a#b")?);
-    let wanted = version_after(&found, &command)?;
-    let text = changes_text(rt.alloc(), &found, &wanted);
-    assert!(rt; matches!(text, Err(NotWritten::NoLine(Command::RouteReplace(_)))));
+    let text = commands_text(rt.alloc(), &[command]);
+    assert!(rt; matches!(text, Err(NotWritten::NoLine(Command::RouteAdd(_)))));
+    Ok(())
+}
+
+/// The version of a new database and a route through an interface of this name.
+fn version_through(alloc: Global, name: &[u8]) -> Result<Version, Refusal> {
+    version_after(
+        &Version::opening(alloc)?,
+        &Command::RouteAdd(route_through(name)?),
+    )
+}
+
+/// No command comes of the name, and the route is counted as one outside.
+fn is_left_out(alloc: Global, name: &[u8]) -> Result<bool, Fail> {
+    let fence = Fence::all(alloc);
+    let with_route = version_through(alloc, name)?;
+    let opening = Version::opening(alloc)?;
+    let coming = text_of(alloc, &fence, &opening, &with_route)?;
+    let going = text_of(alloc, &fence, &with_route, &opening)?;
+    let outside = count_outside(&fence, &with_route)?;
+    Ok(coming.is_empty() && going.is_empty() && outside.routes == 1)
+}
+
+#[test]
+fn leaves_out_names_that_ip_misreads(rt: HostRuntime) -> Result<(), Fail> {
+    assert!(rt; is_left_out(rt.alloc(), b"a\"b")?);
+    assert!(rt; is_left_out(rt.alloc(), b"a'b")?);
+    assert!(rt; is_left_out(rt.alloc(), b"a\\b")?);
+    assert!(rt; is_left_out(rt.alloc(), b"a#b")?);
+    assert!(rt; is_left_out(rt.alloc(), b"a\x0bb")?);
+    assert!(rt; is_left_out(rt.alloc(), b"a\xffb")?);
+    assert!(rt; is_left_out(rt.alloc(), b"-a")?);
+    assert!(rt; !is_left_out(rt.alloc(), b"a-b.1@~")?);
+    Ok(())
+}
+
+/// A rule of a priority where another has an interface that no line names moves among the others alone.
+#[test]
+fn leaves_a_rule_of_such_a_name(rt: HostRuntime) -> Result<(), Fail> {
+    let found = made(rt.alloc(), "rule add priority 500 iif a\"b table 7")?;
+    let wanted = made(rt.alloc(), "rule add priority 500 iif ab table 7")?;
+    let fence = Fence::all(rt.alloc());
+    let text = text_of(rt.alloc(), &fence, &found, &wanted)?;
+    assert_eq!(rt;
+        text.as_slice(),
+        "rule add priority 500 from all iif ab lookup 7\n".as_bytes()
+    );
+    let brought = after(found, "rule add priority 500 iif ab table 7")?;
+    let rest = text_of(rt.alloc(), &fence, &brought, &wanted)?;
+    assert_eq!(rt; rest.as_slice(), "".as_bytes());
+    Ok(())
+}
+
+/// What can't be kept of a listing shares the priority of one rule and the key of one route.
+#[test]
+fn leaves_what_the_unread_might_be_taken_for(rt: HostRuntime) -> Result<(), Fail> {
+    let found = made(
+        rt.alloc(),
+        "rule add priority 500 from 10/8 table 7
+rule add priority 600 from 10/8 table 7
+route add 10.1/16 dev eth0 table 7
+route add 10.1/16 dev eth0 table 7 metric 5",
+    )?;
+    let wanted = made(
+        rt.alloc(),
+        "rule add priority 500 from 10/8 table 8
+rule add priority 600 from 10/8 table 8
+route add 10.1/16 dev eth1 table 7
+route add 10.1/16 dev eth1 table 7 metric 5",
+    )?;
+    let mut fence = Fence::all(rt.alloc());
+    fence.add_unread_priority(500)?;
+    fence.add_unread_key(RouteKey {
+        table: 7,
+        prefix: Prefix::masked(0x0a01_0000, 16),
+        metric: 0,
+    })?;
+    let text = text_of(rt.alloc(), &fence, &found, &wanted)?;
+    assert_eq!(rt;
+        text.as_slice(),
+        "rule add priority 600 from 10.0.0.0/8 lookup 8
+route replace 10.1.0.0/16 dev eth1 table 7 scope link metric 5
+rule del priority 600 from 10.0.0.0/8 to all lookup 7
+"
+            .as_bytes()
+    );
+    let outside = count_outside(&fence, &wanted)?;
+    assert_eq!(rt; (outside.rules, outside.routes), (1, 1));
+    Ok(())
+}
+
+/// The kernel's own routes are left out, and so is what has a name that `ip -batch` can't read.
+#[test]
+fn replaces_all_that_ip_reads(rt: HostRuntime) -> Result<(), Fail> {
+    let version = made(
+        rt.alloc(),
+        "rule add priority 500 from 10/8 table 7
+rule add priority 600 iif a'b table 7
+route add default via 192.0.2.1
+route add 192.0.2.0/24 dev eth0
+route add 198.51.100.0/24 dev eth0 proto kernel scope link src 198.51.100.9
+route add 198.51.100.9 dev eth0 table local scope host
+route add 10.1/16 via 192.0.2.9 table 7
+route add 10.2/16 dev eth1 table 7
+route add 10.3/16 dev -x table 7
+route add throw 10.4/16 table 7",
+    )?;
+    let Ok(text) = replacing_text(rt.alloc(), &version) else {
+        return Err(Fail::from(Refusal::NoMemory));
+    };
+    assert_eq!(rt;
+        text.as_slice(),
+        "rule del priority 0
+rule flush
+rule add priority 0 from all lookup local
+rule add priority 500 from 10.0.0.0/8 lookup 7
+rule add priority 32766 from all lookup main
+rule add priority 32767 from all lookup default
+route replace 10.2.0.0/16 dev eth1 table 7 scope link
+route replace throw 10.4.0.0/16 table 7
+route replace 192.0.2.0/24 dev eth0 scope link
+route replace 10.1.0.0/16 via 192.0.2.9 table 7
+route replace default via 192.0.2.1
+"
+            .as_bytes()
+    );
     Ok(())
 }

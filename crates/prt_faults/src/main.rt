@@ -27,10 +27,11 @@ use std::alloc::Global;
 use std::io::{Read, Write};
 use std::process::ExitCode;
 use std::sync::Wait;
+use std::time::Clock;
 use std::{env, io};
 
 /// Makes the calls of a word that has a publisher, over new databases.
-fn run_over<S: Alter + Drop, H: Wait + Copy + Drop, R: Read, W: Write>(
+fn run_over<S: Alter + Drop, H: Wait + Clock + Copy + Drop, R: Read, W: Write>(
     rt: H,
     alloc: Global,
     word: &str,
@@ -47,7 +48,7 @@ fn run_over<S: Alter + Drop, H: Wait + Copy + Drop, R: Read, W: Write>(
 }
 
 /// Makes the calls of a word.
-fn run<H: Wait + Copy + Drop, R: Read, W: Write>(
+fn run<H: Wait + Clock + Copy + Drop, R: Read, W: Write>(
     rt: H,
     alloc: Global,
     word: &str,
@@ -67,7 +68,7 @@ fn run<H: Wait + Copy + Drop, R: Read, W: Write>(
 }
 
 /// Makes the calls of the program's word.
-fn run_word<H: Wait + Copy + Drop, R: Read, W: Write>(
+fn run_word<H: Wait + Clock + Copy + Drop, R: Read, W: Write>(
     rt: H,
     alloc: Global,
     words: io::Result<Vec<String>>,

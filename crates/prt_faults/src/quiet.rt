@@ -6,12 +6,12 @@ ghost use Rattle.prt_service.specs.Named.{IsNamed};
 
 use crate::output::{tell, tell_number};
 use crate::registries::{domain_keeps, registry_keeps};
-use crate::service::{adopted, command_of, look, submit};
+use crate::service::{adopted, command_of, look, service_over, submit};
 use crate::versions::{finds_route, selects_route};
 use crate::words::{are_lines_read, are_read};
 use prt_command::{Command, Refusal};
 use prt_grace::Domain;
-use prt_publisher::{Phase, Publisher, Receipt};
+use prt_publisher::{Phase, Publisher, Receipt, Seats};
 use prt_service::{Looker, Naming, Service};
 use prt_session::Reply;
 use prt_store::{Stamp, Store};
@@ -22,6 +22,7 @@ use std::alloc::Global;
 use std::io::Write;
 use std::marker::Brand;
 use std::sync::{Arc, Wait};
+use std::time::Clock;
 
 /// After this text no memory is given.
 const MARK: &[u8; 20] = b"no memory from here\n";
@@ -78,9 +79,9 @@ fn committed<S: Alter + Drop>(
 }
 
 /// Tells whether a looker that learns a receipt sees its command, holds the version, and goes.
-fn sees_command<S: Alter + Drop, R: Wait + Drop, J: Naming, H: Wait>(
+fn sees_command<S: Alter + Drop, J: Naming, H: Wait>(
     rt: &H,
-    service: &Service<S, R, J>,
+    service: &Service<S, J>,
     mut looker: Looker,
     receipt: Receipt,
 ) -> bool
@@ -97,44 +98,45 @@ fn sees_command<S: Alter + Drop, R: Wait + Drop, J: Naming, H: Wait>(
     is_seen && is_held && is_resting
 }
 
-/// Tells whether a service is made of a publisher, gives a looker, and the connection back.
-fn is_served<J: Naming, S: Alter + Drop, H: Wait + Copy + Drop>(
-    rt: H,
-    publisher: Publisher<S, H>,
+/// Tells whether a service is made of a publisher and its readers, gives a looker, and the connection back.
+fn is_served<J: Naming, S: Alter + Drop, H: Wait>(
+    rt: &H,
+    publisher: Publisher<S>,
+    seats: Seats,
     domain: Domain,
 ) -> bool
     requires quiet { IsQuiet publisher.phase }
     requires of { IsNamed J.book J.base J.ours_first publisher }
+    requires seats { (seats.book ≡ J.book) × (seats.base ≡ J.base) }
 {
-    let service: Service<S, H, J> = Service::new(publisher, domain);
-    let is_seen = match service.looker(&rt) {
+    let service: Service<S, J> = Service::new(publisher, seats, domain);
+    let is_seen = match service.looker(rt) {
         Ok(mut looker) => {
-            let is_seen = look(&rt, &service, &mut looker) == Ok(0);
-            looker.leave(&rt, &service);
+            let is_seen = look(rt, &service, &mut looker) == Ok(0);
+            looker.leave(rt, &service);
             is_seen
         }
         Err(_) => false,
     };
-    drop(service.release());
+    drop(service.end(rt));
     is_seen
 }
 
 /// What is there to be ended after the mark: a publisher, a store and its stamp; and a publisher for a service.
 #[derive(Drop)]
-struct Ended<S: Alter + Drop, H: Wait + Drop> {
-    publisher: Publisher<S, H>,
+struct Ended<S: Alter + Drop> {
+    publisher: Publisher<S>,
     store: Store<S>,
     stamp: Stamp,
 }
 
 /// Makes what is to be ended, and the versions before and after the command of its store.
-fn made_to_end<S: Alter + Drop, H: Wait + Drop>(
-    rt: H,
+fn made_to_end<S: Alter + Drop>(
     alloc: Global,
     first: Connection<S>,
     second: Connection<S>,
-) -> Result<(Ended<S, H>, Versions), Refusal> {
-    let (publisher, _domain) = adopted(rt, alloc, first)?;
+) -> Result<(Ended<S>, Versions), Refusal> {
+    let (publisher, _domain) = adopted(alloc, first)?;
     let (store, stamp, versions) = committed(alloc, second)?;
     let ended = Ended {
         publisher,
@@ -145,7 +147,7 @@ fn made_to_end<S: Alter + Drop, H: Wait + Drop>(
 }
 
 /// Tells whether a publisher and a store show what they have, and give their connections back.
-fn are_ended<S: Alter + Drop, H: Wait + Drop>(ended: Ended<S, H>) -> bool {
+fn are_ended<S: Alter + Drop>(ended: Ended<S>) -> bool {
     let Ended {
         publisher,
         store,
@@ -158,9 +160,9 @@ fn are_ended<S: Alter + Drop, H: Wait + Drop>(ended: Ended<S, H>) -> bool {
 }
 
 /// Has a command accepted by a service, sets the mark, and tells whether its receipt is learned after it.
-fn serve<J: Naming, S: Alter + Drop, H: Wait + Copy + Drop, W: Write>(
+fn serve<J: Naming, S: Alter + Drop, H: Wait + Clock + Copy + Drop, W: Write>(
     rt: H,
-    publisher: Publisher<S, H>,
+    publisher: Publisher<S>,
     domain: Domain,
     versions: &Versions,
     output: &mut W,
@@ -168,7 +170,7 @@ fn serve<J: Naming, S: Alter + Drop, H: Wait + Copy + Drop, W: Write>(
     requires quiet { IsQuiet publisher.phase }
     requires of { IsNamed J.book J.base J.ours_first publisher }
 {
-    let service: Service<S, H, J> = Service::new(publisher, domain);
+    let service: Service<S, J> = service_over(&rt, publisher, domain)?;
     let looker = service.looker(&rt)?;
     let (add, remove) = (command_of(LINES[0])?, command_of(LINES[1])?);
     let receipt = submit(&rt, &service, &add)?;
@@ -201,7 +203,7 @@ pub(crate) struct Databases<S: Alter + Drop> {
 /// # Errors
 ///
 /// Why a call was refused before the mark; `NoMemory` where one answered otherwise after it.
-pub(crate) fn run<S: Alter + Drop, H: Wait + Copy + Drop, W: Write>(
+pub(crate) fn run<S: Alter + Drop, H: Wait + Clock + Copy + Drop, W: Write>(
     rt: H,
     alloc: Global,
     databases: Databases<S>,
@@ -213,11 +215,15 @@ pub(crate) fn run<S: Alter + Drop, H: Wait + Copy + Drop, W: Write>(
         spare,
         served,
     } = databases;
-    let (ended, versions) = made_to_end(rt, alloc, published, stored)?;
-    let (spare, spare_domain) = adopted(rt, alloc, spare)?;
-    let (publisher, domain) = adopted(rt, alloc, served)?;
+    let (ended, versions) = made_to_end(alloc, published, stored)?;
+    let (mut spare, spare_domain) = adopted(alloc, spare)?;
+    let seats = match spare.seats(&rt, alloc) {
+        Ok(seats) => seats,
+        Err(reason) => return Err(reason),
+    };
+    let (publisher, domain) = adopted(alloc, served)?;
     let is_seen = serve::<Brand, S, H, W>(rt, publisher, domain, &versions, output)?;
-    let is_made = is_served::<Brand, S, H>(rt, spare, spare_domain);
+    let is_made = is_served::<Brand, S, H>(&rt, spare, seats, spare_domain);
     tell_number(output, 1)?;
     tell(output, &Reply::Refused(Refusal::Exists))?;
     if is_seen && is_made && are_ended(ended) {

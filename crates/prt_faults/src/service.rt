@@ -2,6 +2,8 @@
 //! nothing, and is made again.
 ghost use Rattle.std.specs.Prelude.{◌≡◌, IfOk, IsSome};
 ghost use Rattle.prt_command.specs.Storable.{IsStorable};
+ghost use Rattle.prt_publisher.specs.Standing.{IsQuiet};
+ghost use Rattle.prt_service.specs.Named.{IsNamed};
 
 use prt_command::{Addr, Command, Dev, Packet, Refusal, Request, read_line};
 use prt_grace::Domain;
@@ -10,19 +12,40 @@ use prt_service::{Looker, Naming, Service};
 use sqlite::{Alter, Connection};
 use std::alloc::Global;
 use std::sync::Wait;
+use std::time::Clock;
 
 /// A publisher over the database of a connection, and its domain.
-pub(crate) fn adopted<S: Alter + Drop, H: Wait + Drop>(
-    rt: H,
+pub(crate) fn adopted<S: Alter + Drop>(
     alloc: Global,
     connection: Connection<S>,
-) -> Result<(Publisher<S, H>, Domain), Refusal>
+) -> Result<(Publisher<S>, Domain), Refusal>
     ensures { IfOk result (λ made. made.0.phase ≡ Phase.Ready) }
 {
-    match Publisher::adopt(rt, alloc, connection) {
+    match Publisher::adopt(alloc, connection) {
         Ok(made) => Ok(made),
         Err((reason, _)) => Err(reason),
     }
+}
+
+/// Makes a service of the named front over a publisher.
+///
+/// # Errors
+///
+/// `NoMemory`. The publisher is gone then.
+pub(crate) fn service_over<J: Naming, S: Alter + Drop, H: Wait>(
+    rt: &H,
+    mut publisher: Publisher<S>,
+    domain: Domain,
+) -> Result<Service<S, J>, Refusal>
+    requires quiet { IsQuiet publisher.phase }
+    requires of { IsNamed J.book J.base J.ours_first publisher }
+{
+    let alloc = *publisher.published().shared_rules().allocator();
+    let seats = match publisher.seats(rt, alloc) {
+        Ok(seats) => seats,
+        Err(reason) => return Err(reason),
+    };
+    Ok(Service::new(publisher, seats, domain))
 }
 
 /// The command that a line asks for.
@@ -36,9 +59,9 @@ pub(crate) fn command_of(line: &str) -> Result<Command, Refusal>
 }
 
 /// Submits a command, and once more where memory was refused.
-pub(crate) fn submit<S: Alter + Drop, R: Wait + Drop, J: Naming, H: Wait>(
+pub(crate) fn submit<S: Alter + Drop, J: Naming, H: Wait + Clock>(
     rt: &H,
-    service: &Service<S, R, J>,
+    service: &Service<S, J>,
     command: &Command,
 ) -> Result<Receipt, Refusal>
     requires { IsStorable command.now }
@@ -51,9 +74,9 @@ pub(crate) fn submit<S: Alter + Drop, R: Wait + Drop, J: Naming, H: Wait>(
 }
 
 /// Refreshes a looker, and once more where nothing was fetched, and gives the number of the version that it looks with.
-pub(crate) fn look<S: Alter + Drop, R: Wait + Drop, J: Naming, H: Wait>(
+pub(crate) fn look<S: Alter + Drop, J: Naming, H: Wait>(
     rt: &H,
-    service: &Service<S, R, J>,
+    service: &Service<S, J>,
     looker: &mut Looker,
 ) -> Result<u64, Refusal>
     ensures same { (looker.new.known.book ≡ looker.old.known.book) × (looker.new.known.base ≡ looker.old.known.base) }

@@ -2,7 +2,7 @@
 ghost use Rattle.prt_publisher.specs.Standing.{IsQuiet};
 ghost use Rattle.prt_service.specs.Named.{IsNamed};
 
-use crate::service::adopted;
+use crate::service::{adopted, service_over};
 use prt_command::Refusal;
 use prt_grace::Domain;
 use prt_publisher::Publisher;
@@ -13,12 +13,13 @@ use std::alloc::Global;
 use std::io::{Read, Write};
 use std::marker::Brand;
 use std::sync::Wait;
+use std::time::Clock;
 
 /// Serves one session of a service of the named front.
-fn serve<J: Naming, S: Alter + Drop, H: Wait + Copy + Drop, R: Read, W: Write>(
+fn serve<J: Naming, S: Alter + Drop, H: Wait + Clock + Copy + Drop, R: Read, W: Write>(
     rt: H,
     alloc: Global,
-    publisher: Publisher<S, H>,
+    publisher: Publisher<S>,
     domain: Domain,
     input: &mut R,
     output: &mut W,
@@ -26,7 +27,7 @@ fn serve<J: Naming, S: Alter + Drop, H: Wait + Copy + Drop, R: Read, W: Write>(
     requires quiet { IsQuiet publisher.phase }
     requires of { IsNamed J.book J.base J.ours_first publisher }
 {
-    let service: Service<S, H, J> = Service::new(publisher, domain);
+    let service: Service<S, J> = service_over(&rt, publisher, domain)?;
     let mut looker = service.looker(&rt)?;
     let end = serve_session(
         &rt,
@@ -46,13 +47,13 @@ fn serve<J: Naming, S: Alter + Drop, H: Wait + Copy + Drop, R: Read, W: Write>(
 }
 
 /// Serves a session with the lines of the input, over the database of a connection.
-pub(crate) fn run<S: Alter + Drop, H: Wait + Copy + Drop, R: Read, W: Write>(
+pub(crate) fn run<S: Alter + Drop, H: Wait + Clock + Copy + Drop, R: Read, W: Write>(
     rt: H,
     alloc: Global,
     connection: Connection<S>,
     input: &mut R,
     output: &mut W,
 ) -> Result<(), Refusal> {
-    let (publisher, domain) = adopted(rt, alloc, connection)?;
+    let (publisher, domain) = adopted(alloc, connection)?;
     serve::<Brand, S, H, R, W>(rt, alloc, publisher, domain, input, output)
 }

@@ -7,7 +7,7 @@ ghost use Rattle.prt_publisher.specs.Standing.{IsQuiet};
 ghost use Rattle.prt_service.specs.Named.{IsNamed};
 
 use crate::output::{tell, tell_number};
-use crate::service::{adopted, command_of, look, packet, submit};
+use crate::service::{adopted, command_of, look, packet, service_over, submit};
 use prt_command::Refusal;
 use prt_grace::Domain;
 use prt_publisher::Publisher;
@@ -15,14 +15,35 @@ use prt_service::{Looker, Naming, Service};
 use prt_session::Reply;
 use sqlite::{Alter, Connection};
 use std::alloc::Global;
-use std::io::Write;
+use std::io::{self, Write};
 use std::marker::Brand;
 use std::sync::Wait;
+use std::time::{Clock, Duration};
+
+/// A handle whose clock doesn't sleep: a command that waits for room tries again at once.
+#[derive(Clone, Copy, Drop)]
+struct Hasty<H: Wait + Clock + Copy + Drop> {
+    rt: H,
+}
+
+impl<H: Wait + Clock + Copy + Drop> Wait for Hasty<H> {}
+
+impl<H: Wait + Clock + Copy + Drop> Clock for Hasty<H> {
+    fn monotonic(&self) -> io::Result<Duration> {
+        self.rt.monotonic()
+    }
+
+    fn since_1970(&self) -> io::Result<Duration> {
+        self.rt.since_1970()
+    }
+
+    // Leaves `sleep` out, which returns at once.
+}
 
 /// Submits the command after so many: a route is added and removed in turn. Gives the number of its receipt.
-fn submit_next<S: Alter + Drop, R: Wait + Drop, J: Naming, H: Wait>(
+fn submit_next<S: Alter + Drop, J: Naming, H: Wait + Clock>(
     rt: &H,
-    service: &Service<S, R, J>,
+    service: &Service<S, J>,
     accepted: u64,
 ) -> Result<u64, Refusal> {
     let line = if accepted % 2 == 0 {
@@ -43,9 +64,9 @@ fn submit_next<S: Alter + Drop, R: Wait + Drop, J: Naming, H: Wait>(
 /// # Errors
 ///
 /// Why a command was refused, other than `Busy`.
-fn submit_until<S: Alter + Drop, R: Wait + Drop, J: Naming, H: Wait, W: Write>(
+fn submit_until<S: Alter + Drop, J: Naming, H: Wait + Clock, W: Write>(
     rt: &H,
-    service: &Service<S, R, J>,
+    service: &Service<S, J>,
     accepted: u64,
     last: u64,
     output: &mut W,
@@ -77,9 +98,9 @@ fn submit_until<S: Alter + Drop, R: Wait + Drop, J: Naming, H: Wait, W: Write>(
 
 /// Submits commands beside a looker that refreshes at first, and then when a command was refused; rests it, and submits
 /// further ones.
-fn submit_beside<S: Alter + Drop, R: Wait + Drop, J: Naming, H: Wait, W: Write>(
+fn submit_beside<S: Alter + Drop, J: Naming, H: Wait + Clock, W: Write>(
     rt: &H,
-    service: &Service<S, R, J>,
+    service: &Service<S, J>,
     looker: &mut Looker,
     output: &mut W,
 ) -> Result<(), Refusal>
@@ -98,11 +119,7 @@ fn submit_beside<S: Alter + Drop, R: Wait + Drop, J: Naming, H: Wait, W: Write>(
 }
 
 /// Makes lookers until one is refused, or so many are there. Then all of them leave. How many there were.
-fn gather<S: Alter + Drop, R: Wait + Drop, J: Naming, H: Wait>(
-    rt: &H,
-    service: &Service<S, R, J>,
-    most: u64,
-) -> u64 {
+fn gather<S: Alter + Drop, J: Naming, H: Wait>(rt: &H, service: &Service<S, J>, most: u64) -> u64 {
     if most == 0 {
         return 0;
     }
@@ -117,9 +134,9 @@ fn gather<S: Alter + Drop, R: Wait + Drop, J: Naming, H: Wait>(
 }
 
 /// Goes on where the publisher was closed: a further command is refused, and the looker has the published version.
-fn go_on_closed<S: Alter + Drop, R: Wait + Drop, J: Naming, H: Wait, W: Write>(
+fn go_on_closed<S: Alter + Drop, J: Naming, H: Wait + Clock, W: Write>(
     rt: &H,
-    service: &Service<S, R, J>,
+    service: &Service<S, J>,
     looker: &mut Looker,
     output: &mut W,
 ) -> Result<(), Refusal> {
@@ -130,16 +147,16 @@ fn go_on_closed<S: Alter + Drop, R: Wait + Drop, J: Naming, H: Wait, W: Write>(
 }
 
 /// Runs a service of the named front.
-fn serve<J: Naming, S: Alter + Drop, H: Wait + Copy + Drop, W: Write>(
+fn serve<J: Naming, S: Alter + Drop, H: Wait + Clock + Copy + Drop, W: Write>(
     rt: H,
-    publisher: Publisher<S, H>,
+    publisher: Publisher<S>,
     domain: Domain,
     output: &mut W,
 ) -> Result<(), Refusal>
     requires quiet { IsQuiet publisher.phase }
     requires of { IsNamed J.book J.base J.ours_first publisher }
 {
-    let service: Service<S, H, J> = Service::new(publisher, domain);
+    let service: Service<S, J> = service_over(&rt, publisher, domain)?;
     let mut looker = service.looker(&rt)?;
     match submit_beside(&rt, &service, &mut looker, output) {
         Err(Refusal::StoreFailed(_) | Refusal::NotPublished) => {
@@ -155,12 +172,13 @@ fn serve<J: Naming, S: Alter + Drop, H: Wait + Copy + Drop, W: Write>(
 }
 
 /// Runs a service over the database of a connection.
-pub(crate) fn run<S: Alter + Drop, H: Wait + Copy + Drop, W: Write>(
+pub(crate) fn run<S: Alter + Drop, H: Wait + Clock + Copy + Drop, W: Write>(
     rt: H,
     alloc: Global,
     connection: Connection<S>,
     output: &mut W,
 ) -> Result<(), Refusal> {
-    let (publisher, domain) = adopted(rt, alloc, connection)?;
-    serve::<Brand, S, H, W>(rt, publisher, domain, output)
+    let rt = Hasty { rt };
+    let (publisher, domain) = adopted(alloc, connection)?;
+    serve::<Brand, S, Hasty<H>, W>(rt, publisher, domain, output)
 }

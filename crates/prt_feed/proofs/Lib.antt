@@ -4,3 +4,4 @@ pub mod Lines
 pub mod Texts
 pub mod Taking
 pub mod Sent
+pub mod Spaces

@@ -110,7 +110,7 @@ short_state_line number fits =
     omega (arith, l, d)
 
 -- a line that was read with its newline
-taken_one : (reader0 reader : Option (List ℕ)) (line : List ℕ) → IsTaken reader0 reader line → length line ≤ 1024 → AreTaken reader0 reader (line ∷ [])
+pub taken_one : (reader0 reader : Option (List ℕ)) (line : List ℕ) → IsTaken reader0 reader line → length line ≤ 1024 → AreTaken reader0 reader (line ∷ [])
 taken_one reader0 reader line taken short = record {
   read = subst (λ newline. Consumes reader0 reader (line ++ newline)) (taken.ended short) taken.read;
   whole = (taken.bare, tt);

@@ -1,3 +1,4 @@
+pub mod Changes
 pub mod Feed
 pub mod Following
 pub mod Numbered

@@ -17,7 +17,7 @@ use std::alloc::Global;
 use std::io::Read;
 
 /// The bytes of the longest line, and one more, by which a line that is too long is known.
-const ROOM: usize = LONGEST_LINE + 1;
+pub(crate) const ROOM: usize = LONGEST_LINE + 1;
 
 /// Reads one byte. `None` where the reader fails or has ended.
 fn next_byte<R: Read>(reader: &mut R) -> Option<u8>
@@ -33,7 +33,7 @@ fn next_byte<R: Read>(reader: &mut R) -> Option<u8>
 
 /// Reads a line, and keeps it without its newline; of a line that is too long it reads what there is room for. Tells
 /// whether it did: it didn't where the reader fails or ends before that.
-fn next_line<R: Read>(reader: &mut R, line: &mut ArrayVec<u8, ROOM>) -> bool
+pub(crate) fn next_line<R: Read>(reader: &mut R, line: &mut ArrayVec<u8, ROOM>) -> bool
     ensures { IsTrue result → IsTaken (R.remaining reader.old) (R.remaining reader.new) line.new.items }
 {
     line.clear();
@@ -57,7 +57,7 @@ fn is_written(number: u64, digits: &[u8]) -> bool
 }
 
 /// Reads a number as it is written, with no sign and no zeros before it.
-fn number_of(digits: &[u8]) -> Option<u64>
+pub(crate) fn number_of(digits: &[u8]) -> Option<u64>
     ensures { MatchOption result ((number : ℕ) → number < 2 ^ 64 → digits.now ≢ decimal number) (λ number. digits.now ≡ decimal number) }
 {
     let Ok(text) = str::from_utf8(digits) else {

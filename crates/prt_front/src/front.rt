@@ -15,19 +15,22 @@ use prt_store::Stamp;
 use prt_version::{Command, Refusal, Version};
 use std::alloc::Global;
 use std::marker::Model;
+use std::mem::ManuallyDrop;
 use std::sync::{Arc, Wait};
 
 /// The writer of a front. Contracts see it as the published list.
 ///
-/// It keeps a runtime handle, since its drop waits for readers that are inside.
-pub struct Front<R: Wait + Drop> {
+/// End it by `end`, which waits for readers that are inside. Its drop waits for nobody: readers go on with the version that
+/// is published, and the memory of the two copies is never given back.
+pub struct Front {
     writer: CopyWriter,
     word: Length,
     known: Known,
-    rt: R,
+    /// Whether the log of the copies has its memory.
+    has_room: bool,
 }
 
-impl<R: Wait + Drop> Model for Front<R> {
+impl Model for Front {
     ghost use Rattle.std.specs.Prelude.{◌≡◌};
     ghost use Rattle.prt_front.specs.History.{length_of};
     ghost use Rattle.prt_front.specs.Line.{Line};
@@ -39,42 +42,68 @@ impl<R: Wait + Drop> Model for Front<R> {
     ghost invariant = { λ f. (f.writer.desk.shown.value ≡ f.known) × (f.word ≡ length_of f.known.book) };
 }
 
-impl<R: Wait + Drop> Front<R> {
-    /// Publishes a loaded version, and makes the readers. Err(NoMemory) where memory is refused.
-    ///
-    /// The version is shown twice, so that the log of the copies has its memory: a publication asks for none.
-    pub fn new(
-        rt: R,
-        alloc: Global,
-        version: Arc<Version>,
-    ) -> Result<(Front<R>, Vec<FrontReader>), Refusal>
-        ensures front { IfOk result (λ r. (r.0.base ≡ arc_value version) × (r.0.list ≡ []) × (length r.1.items ≡ 64) × All (λ reader. reader ≡ r.0) r.1.items) }
+impl Front {
+    /// Publishes a loaded version. Err(NoMemory) where memory is refused.
+    pub fn new(alloc: Global, version: Arc<Version>) -> Result<Front, Refusal>
+        ensures front { IfOk result (λ front. (front.base ≡ arc_value version) × (front.list ≡ [])) }
         ensures reason { IfErr result (λ reason. reason ≡ Refusal.NoMemory) }
     {
         let (known, word) = Known::open(&version);
         let first = Shown::new(version, known.again());
-        let (Ok(second), Ok(third)) = (first.again(), first.again()) else {
+        let Ok(second) = first.again() else {
             return Err(Refusal::NoMemory);
         };
-        let Ok(writer) = CopyWriter::new(alloc, first, second, READERS) else {
+        match CopyWriter::new(alloc, first, second, READERS) {
+            Ok(writer) => Ok(Front {
+                writer,
+                word,
+                known,
+                has_room: false,
+            }),
+            Err(_) => Err(Refusal::NoMemory),
+        }
+    }
+
+    /// Makes all readers, which know the published list: once. Err(NoMemory) where memory is refused.
+    ///
+    /// What is published is shown once more, by which the writer learns which front it is of, to tell each reader. It waits
+    /// for readers that are inside the other copy; at first there are none.
+    pub fn readers<W: Wait>(&mut self, rt: &W, alloc: Global) -> Result<Vec<FrontReader>, Refusal>
+        ensures same { self.new ≡ self.old }
+        ensures readers { IfOk result (λ readers. (length readers.items ≡ 64) × All (λ reader. reader ≡ self.old) readers.items) }
+        ensures reason { IfErr result (λ reason. reason ≡ Refusal.NoMemory) }
+    {
+        let Ok(again) = self.writer.published().again() else {
             return Err(Refusal::NoMemory);
         };
-        let (mut writer, is_shown) = show(&rt, writer, third);
+        let is_shown = replace_with(&mut self.writer, (rt, again), |writer, (rt, again)| {
+            show(rt, writer, again)
+        });
         if !is_shown {
-            writer.take(&rt);
             return Err(Refusal::NoMemory);
         }
-        let Some(readers) = readers_of(alloc, &mut writer, &known) else {
-            writer.take(&rt);
-            return Err(Refusal::NoMemory);
-        };
-        let front = Front {
-            writer,
-            word,
-            known,
-            rt,
-        };
-        Ok((front, readers))
+        match readers_of(alloc, &mut self.writer, &self.known) {
+            Some(readers) => Ok(readers),
+            None => Err(Refusal::NoMemory),
+        }
+    }
+
+    /// Sees that the log of the copies has its memory: what is published is put there once more. From then on a publication
+    /// asks for none. Err(NoMemory) where memory is refused.
+    pub fn make_room(&mut self) -> Result<(), Refusal>
+        ensures same { self.new ≡ self.old }
+        ensures reason { IfErr result (λ reason. reason ≡ Refusal.NoMemory) }
+    {
+        if !self.has_room {
+            let Ok(again) = self.writer.published().again() else {
+                return Err(Refusal::NoMemory);
+            };
+            if self.writer.append(again).is_err() {
+                return Err(Refusal::NoMemory);
+            }
+            self.has_room = true;
+        }
+        Ok(())
     }
 
     /// Gives the published list.
@@ -88,8 +117,9 @@ impl<R: Wait + Drop> Front<R> {
     /// It waits for readers that are inside the other copy. The list that is published then, to be told to readers.
     ///
     /// Err(NotPublished) where the swap is refused; then readers go on with the version that they had.
-    pub fn publish_all(
+    pub fn publish_all<W: Wait>(
         &mut self,
+        rt: &W,
         stamp: Stamp,
         commands: &Vec<Command>,
         version: Arc<Version>,
@@ -107,7 +137,7 @@ impl<R: Wait + Drop> Front<R> {
             return Err(Refusal::NotPublished);
         };
         let shown = Shown::new(version, next.again());
-        let is_shown = replace_with(&mut self.writer, (&self.rt, shown), |writer, (rt, shown)| {
+        let is_shown = replace_with(&mut self.writer, (rt, shown), |writer, (rt, shown)| {
             show(rt, writer, shown)
         });
         if !is_shown {
@@ -117,16 +147,27 @@ impl<R: Wait + Drop> Front<R> {
         self.known = next;
         Ok(told)
     }
+
+    /// Ends the front: it waits for readers that are inside, and none can fetch from then on.
+    pub fn end<W: Wait>(self, rt: &W) {
+        let Self {
+            writer,
+            word: _,
+            known: _,
+            has_room: _,
+        } = self;
+        drop(writer.take(rt));
+    }
 }
 
-impl<R: Wait + Drop> Drop for Front<R> {
+impl Drop for Front {
     fn drop(self) {
         let Self {
             writer,
             word: _,
             known: _,
-            rt,
+            has_room: _,
         } = self;
-        drop(writer.take(&rt));
+        let _leaked = unsafe { ManuallyDrop::new_unchecked(writer) };
     }
 }

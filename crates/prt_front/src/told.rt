@@ -50,7 +50,7 @@ impl Told {
     }
 
     /// Gives the list that is known, which begins with it.
-    pub(crate) fn known(&self) -> &Known
+    pub fn known(&self) -> &Known
         ensures { Begins self.now result.now }
     {
         &self.known

@@ -2,6 +2,7 @@
 use Rattle.std.proofs.Common.{◌≡◌, ◌⊎◌, ◌∙◌, arith, eqb-true, inl, inr, ℕ, true, List, [], ◌∷◌, ◌++◌, length, Option, Some, ap, append-nil, refl, sym}
 use Rattle.std.specs.Prelude.{◌==◌, false}
 use Rattle.std.specs.Io.KnownBytes.{Appends}
+use Rattle.std.specs.declared.net.socket_addr.SocketAddrV4.{SocketAddrV4}
 use Rattle.sqlite.specs.Held.{Held}
 use Rattle.sqlite.specs.Store.{Ghosts}
 use Rattle.prt_import.specs.Accepted.{IsExecuted}
@@ -10,7 +11,9 @@ use Rattle.prt_replies.specs.Written.{Written}
 use Rattle.prt_version.specs.State.{State}
 use Rattle.prt_words.specs.declared.asking.Source.{Source}
 use Rattle.prt_words.specs.declared.asking.Source.TheVariants.{Database, Server, Script}
-use Rattle.prt_host.specs.Asking.{IsAnswered, IsAnsweredAtMost, IsAskedOf, IsCutOff, IsNotAsked}
+use Rattle.prt_host.specs.Asking.{IsAnswered, IsAnsweredAtMost, IsAskedOf, IsCutOff, IsNotAsked, IsReplied, IsRepliedAtMost, IsTold, called, said}
+use Rattle.prt_host.specs.declared.inquiry.Inquiry.{Inquiry}
+use Rattle.prt_import.specs.TableNames.{names_of}
 
 module _ {M S : Type 0} (g : Ghosts S) (opens : M → M → List ℕ → Held S → Type 0) (refuses : M → M → List ℕ → Type 0) (closes : M → M → Held S → Type 0) (old new : M) where
   -- what holds of the state that was asked, and what follows from it
@@ -57,3 +60,18 @@ pub of_script : {M : Type 0} (machine : M) (writer0 writer : Option (List ℕ)) 
     → ((machine ≡ machine) × (writer ≡ writer0)) ⊎ ((machine ≡ machine) × (made : Accepted) × (text : List ℕ) × IsExecuted made text × IsCutOff (says made.version) writer0 writer)
 of_script machine writer0 writer says (inl same) = inl (refl, same)
 of_script machine writer0 writer says (inr made) = inr (refl, made.0, made.1, made.2, made.3)
+
+-- what a server said and was written, of its tables or by a session
+module _ {M S : Type 0} (g : Ghosts S) (opens : M → M → List ℕ → Held S → Type 0) (refuses : M → M → List ℕ → Type 0) (closes : M → M → Held S → Type 0) (machine : M) (writer0 writer : Option (List ℕ)) where
+  pub told_whole : (place : SocketAddrV4) (inquiry : Inquiry) (text : List ℕ) → IsTold inquiry text → Appends writer0 writer text
+      → IsAnswered g opens refuses closes machine machine writer0 writer (Server place) (said inquiry)
+      ⊎ IsReplied g opens refuses closes machine machine writer0 writer (Server place) (called inquiry.labels inquiry.form (names_of inquiry.names.now))
+  told_whole place inquiry text (inl (told, is)) appended = inl (refl, told, rw (sym is) appended)
+  told_whole place inquiry text (inr (reply, is)) appended = inr (refl, reply, rw (sym is) appended)
+
+  pub told_at_most : (place : SocketAddrV4) (inquiry : Inquiry) → (writer ≡ writer0) ⊎ ((text : List ℕ) × IsTold inquiry text × IsCutOff text writer0 writer)
+      → IsAnsweredAtMost g opens refuses closes machine machine writer0 writer (Server place) (said inquiry)
+      ⊎ IsRepliedAtMost g opens refuses closes machine machine writer0 writer (Server place) (called inquiry.labels inquiry.form (names_of inquiry.names.now))
+  told_at_most place inquiry (inl same) = inl (inl (refl, same))
+  told_at_most place inquiry (inr (text, inl (told, is), cut)) = inl (inr (refl, told, rw (sym is) cut))
+  told_at_most place inquiry (inr (text, inr (reply, is), cut)) = inr (refl, reply, rw (sym is) cut)

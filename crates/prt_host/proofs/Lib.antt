@@ -1,3 +1,4 @@
 mod Asked
+mod Followed
 mod Runs
 mod Served

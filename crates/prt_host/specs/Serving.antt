@@ -1,5 +1,5 @@
 -- Why a server ends with a fault.
-use Rattle.std.specs.Prelude.{◌≡◌, ◌⊎◌, ℕ, List, Option, Some, None}
+use Rattle.std.specs.Prelude.{◌≡◌, ◌⊎◌, ◌||◌, ℕ, Bool, true, false, if◌then◌else◌, List, Option, Some, None}
 use Rattle.sqlite.specs.Held.{Held}
 use Rattle.sqlite.specs.Store.{Ghosts}
 use Rattle.prt_refusals.specs.declared.refusal.Refusal.{Refusal}
@@ -7,22 +7,37 @@ use Rattle.prt_publisher.specs.Openings.{OpensOne}
 use Rattle.prt_publisher.specs.Standing.{Standing}
 use Rattle.prt_host.specs.Closing.{IsClosedAgain, LeavesNoneOpen}
 use Rattle.prt_serve.specs.declared.listen.Accepting.{Accepting}
-use Rattle.prt_serve.specs.declared.listen.Accepting.TheVariants.{Ended, Failed, NoWorkers}
+use Rattle.prt_serve.specs.declared.listen.Accepting.TheVariants.{Failed, NoWorkers}
 use Rattle.prt_serve.specs.declared.listen.ServeEnd.{ServeEnd}
 use Rattle.prt_service.specs.Named.{IsReleased}
 use Rattle.prt_words.specs.declared.fault.Fault.{Fault}
 use Rattle.prt_words.specs.declared.fault.Fault.TheVariants.{Listener, Opening}
 
--- The listener failed, or a worker was refused its looker. Where no worker is left and none was refused, the listener is blamed.
-abbrev pub fault_by : Accepting → Option Refusal → Option Fault
-fault_by Failed refused = Some Listener
-fault_by NoWorkers None = Some Listener
-fault_by NoWorkers (Some reason) = Some (Opening reason)
-fault_by Ended (Some reason) = Some (Opening reason)
-fault_by Ended None = None
+abbrev pub is_failed : Accepting → Bool
+is_failed Failed = true
+is_failed accepting = false
 
+-- no worker is left, and none was refused its looker
+abbrev pub lacks_workers : Accepting → Option Refusal → Bool
+lacks_workers NoWorkers None = true
+lacks_workers accepting refused = false
+
+-- a listener is to blame: that of the sessions or of the feed
+abbrev pub is_listeners : ServeEnd → Bool
+is_listeners end = is_failed end.accepting || (is_failed end.feeding || lacks_workers end.accepting end.refused)
+
+-- the fault of a worker that was refused its looker
+abbrev pub looker_fault : Option Refusal → Option Fault
+looker_fault None = None
+looker_fault (Some reason) = Some (Opening reason)
+
+-- why not all was served: a listener failed, or a worker was refused its looker
 abbrev pub fault_of : ServeEnd → Option Fault
-fault_of end = fault_by end.accepting end.refused
+fault_of end = if is_listeners end then Some Listener else looker_fault end.refused
+
+-- and what failed besides
+abbrev pub further_of : ServeEnd → Option Fault
+further_of end = if is_listeners end then looker_fault end.refused else None
 
 -- the database was refused for the reason that is the fault, and is not open
 abbrev pub IsNotOpened : {M S : Type 0} → (M → M → List ℕ → Held S → Type 0) → (M → M → List ℕ → Type 0) → (M → M → Held S → Type 0) → Ghosts S → M → M → List ℕ → Fault → Type 0

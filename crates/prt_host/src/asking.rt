@@ -1,76 +1,37 @@
 //! Questions to a database, to the server that has it, or to what a script makes.
-ghost use Rattle.std.specs.Prelude.{◌≡◌, ◌⊎◌, IfErr, IfOk, List, false, ℕ};
+ghost use Rattle.std.specs.Prelude.{◌≡◌, ◌⊎◌, IfErr, IfOk, IfSome, List, false, ℕ};
 ghost use Rattle.std.specs.Io.KnownBytes.{Appends};
-ghost use Rattle.prt_host.specs.Asking.{HasAnswered, HasAnsweredAtMost, IsAnswered, IsAnsweredAtMost, IsAskedAt, IsCutOff, IsNotOpened, said};
+ghost use Rattle.prt_host.specs.Asking.{HasAnswered, HasAnsweredAtMost, IsAnswered, IsAnsweredAtMost, IsAskedAt, IsCutOff, IsNotOpened, IsReplied, IsRepliedAtMost, IsTold, called, said};
 ghost use Rattle.prt_import.specs.Accepted.{IsExecuted};
+ghost use Rattle.prt_import.specs.TableNames.{names_of};
 ghost use Rattle.prt_replies.specs.Written.{Written};
 ghost use Rattle.prt_version.specs.State.{State};
+ghost use Rattle.prt_words.specs.declared.asking.Source.TheVariants.{Server};
 
 use crate::databases::DatabaseFiles;
-use crate::inquiry::{Inquiry, said};
+use crate::inquiry::{Inquiry, called, said};
 use crate::left::tell_left;
 use crate::machine::{Machine, Wanted};
 use crate::opening::open_desk;
 use crate::reading::{names_for, read_whole, report_no_memory};
+use crate::remote::{Told, ask_line, read_tables};
 use crate::telling::tell;
-use prt_ask::{NotAnswered, question_of};
-use prt_feed::{NotRead, read_opening};
+use prt_ask::{Answered, NotAnswered, Question, question_of};
 use prt_import::{Accepted, accept};
-use prt_program::{Refusal, cause_message, log_message, question_message};
+use prt_program::{cause_message, log_message, question_message};
 use prt_replies::{Reply, Text, write_reply};
-use prt_version::Version;
-use prt_words::{Asking, DONE, FAULT, Fault, STANDARD_INPUT, Source, report};
+use prt_words::{Asking, DONE, FAULT, Fault, Form, STANDARD_INPUT, Source, report};
 use sqlite::{Alter, Connection};
 use std::alloc::{Alloc, AllocError, Global};
 use std::fmt::Display;
 use std::fs::Files;
-use std::io::{self, BufReader, Read, Write};
-use std::net::{Net, OpenStream, SocketAddr, SocketAddrV4, TcpStream};
+use std::io::{Read, Write};
+use std::net::{Net, SocketAddrV4};
 use std::sync::Wait;
-use std::time::Duration;
-use thiserror::Error;
 
 /// The exit status where the words ask nothing, where a rule or a route has no line, where a line is refused or can't be
 /// kept, and where anything differs.
 pub(crate) const REFUSED: u8 = 1;
-
-/// How many seconds a server may take to answer, and to send more of its tables.
-const PATIENCE: u64 = 10;
-
-/// Why a server doesn't tell its tables.
-#[derive(Debug, Drop, Error)]
-enum NotTold {
-    #[error("{0}")]
-    System(io::Error),
-    #[error("{0}")]
-    Feed(NotRead),
-    #[error("{0}")]
-    Tables(Refusal),
-}
-
-impl From<io::Error> for NotTold {
-    fn from(error: io::Error) -> NotTold {
-        NotTold::System(error)
-    }
-}
-
-impl From<NotRead> for NotTold {
-    fn from(reason: NotRead) -> NotTold {
-        NotTold::Feed(reason)
-    }
-}
-
-impl From<Refusal> for NotTold {
-    fn from(refusal: Refusal) -> NotTold {
-        NotTold::Tables(refusal)
-    }
-}
-
-impl From<AllocError> for NotTold {
-    fn from(_: AllocError) -> NotTold {
-        NotTold::Tables(Refusal::NoMemory)
-    }
-}
 
 /// Makes the message of a row of listings that no line can spell.
 fn row_message<P: Display>(
@@ -84,7 +45,7 @@ fn row_message<P: Display>(
 }
 
 /// Makes the message of why there is no answer, but for want of memory.
-fn none_message<P: Display>(
+pub(crate) fn none_message<P: Display>(
     alloc: Global,
     place: &P,
     reason: NotAnswered,
@@ -92,6 +53,10 @@ fn none_message<P: Display>(
     match reason {
         NotAnswered::Rule(row) => row_message(alloc, place, "rule show", row),
         NotAnswered::Route(row) => row_message(alloc, place, "route show table all", row),
+        NotAnswered::Refused(refusal) => {
+            format!(in alloc; "prt: {place}: a change is refused over the listing: {refusal}\n")
+        }
+        NotAnswered::Gap => format!(in alloc; "prt: {place}: the feed left a change out\n"),
         NotAnswered::Change | NotAnswered::NoMemory => {
             format!(in alloc; "prt: {place}: a change has a name that no command can give\n")
         }
@@ -99,7 +64,7 @@ fn none_message<P: Display>(
 }
 
 /// Tells why there is no answer, and gives the exit status for it.
-fn report_none<P: Display, W: Write, E: Write>(
+pub(crate) fn report_none<P: Display, W: Write, E: Write>(
     alloc: Global,
     place: &P,
     reason: NotAnswered,
@@ -129,20 +94,38 @@ pub(crate) fn write_text<W: Write>(text: Vec<u8>, output: &mut W) -> u8
     }
 }
 
+/// Writes an answer, tells what is to be told of it, and gives the exit status: `REFUSED` where all of it was written, and a
+/// rule has to be left that should go.
+pub(crate) fn write_made<W: Write, E: Write>(made: Answered, output: &mut W, errors: &mut E) -> u8
+    ensures status { (result ≡ DONE) ⊎ ((result ≡ REFUSED) ⊎ (result ≡ FAULT)) }
+    ensures whole { (result ≡ DONE) ⊎ (result ≡ REFUSED) → Appends (W.contents output.old) (W.contents output.new) made.text.items }
+    ensures part { Written false (W.contents output.old) (W.contents output.new) made.text.items }
+{
+    let Answered { text, notes } = made;
+    // Of lines that change nothing it isn't news what they leave alone.
+    let with_outside = !text.is_empty();
+    tell(notes.messages(with_outside), errors);
+    let written = write_text(text, output);
+    if written == DONE && !notes.left.is_empty() {
+        return REFUSED;
+    }
+    written
+}
+
 /// Writes an answer of the tables at a place, or tells why there is none, and gives the exit status.
 fn write_answer<P: Display, W: Write, E: Write>(
     alloc: Global,
     place: &P,
-    answered: Result<Vec<u8>, NotAnswered>,
+    answered: Result<Answered, NotAnswered>,
     output: &mut W,
     errors: &mut E,
 ) -> u8
     ensures status { (result ≡ DONE) ⊎ ((result ≡ REFUSED) ⊎ (result ≡ FAULT)) }
-    ensures whole { (text : List ℕ) → IfOk answered (λ made. made.items ≡ text) → result ≡ DONE → Appends (W.contents output.old) (W.contents output.new) text }
-    ensures part { (text : List ℕ) → IfOk answered (λ made. made.items ≡ text) → IsCutOff text (W.contents output.old) (W.contents output.new) }
+    ensures whole { (text : List ℕ) → IfOk answered (λ made. made.text.items ≡ text) → result ≡ DONE → Appends (W.contents output.old) (W.contents output.new) text }
+    ensures part { (text : List ℕ) → IfOk answered (λ made. made.text.items ≡ text) → IsCutOff text (W.contents output.old) (W.contents output.new) }
 {
     match answered {
-        Ok(text) => write_text(text, output),
+        Ok(made) => write_made(made, output, errors),
         Err(reason) => report_none(alloc, place, reason, output, errors),
     }
 }
@@ -181,21 +164,10 @@ fn ask_database<
         }
     };
     let answered = said(alloc, desk.version(), inquiry);
-    if let Err(reason) = databases.machine.close(desk.release()) {
+    if let Err(reason) = databases.machine.close(desk.end()) {
         tell(log_message(alloc, path, &reason), errors);
     }
     write_answer(alloc, &path, answered, output, errors)
-}
-
-/// Connects to the feed of a server, and reads the tables as they are now.
-fn read_tables<N: Net>(rt: &N, alloc: Global, place: SocketAddrV4) -> Result<Version, NotTold> {
-    let patience = Duration::from_secs(PATIENCE);
-    let stream = TcpStream::connect_timeout(rt, &SocketAddr::V4(place), patience)?;
-    // A server that hangs would keep whoever asks it without end.
-    stream.set_read_timeout(Some(patience))?;
-    let mut reader = BufReader::new(alloc, stream)?;
-    let opening = read_opening(alloc, &mut reader)?;
-    Ok(opening.into_version(alloc)?)
 }
 
 /// Asks the server whose feed is at a place, and gives the exit status.
@@ -220,6 +192,57 @@ fn ask_server<N: Net, W: Write, E: Write>(
             tell(cause_message(alloc, &place, &reason), errors);
             FAULT
         }
+    }
+}
+
+/// Gives what a server said to an inquiry, with tables called as it asks.
+fn said_by(alloc: Global, told: Told, inquiry: &Inquiry<'_>) -> Result<Vec<u8>, NotAnswered>
+    ensures { IfOk result (λ text. IsTold inquiry.now text.items) }
+{
+    match told {
+        Told::Tables(version) => match said(alloc, &version, inquiry) {
+            Ok(made) => Ok(made.text),
+            Err(reason) => Err(reason),
+        },
+        Told::Reply(reply) => called(alloc, inquiry, reply),
+    }
+}
+
+/// Sends a server the line of an inquiry, and gives the exit status. A session replies to it; a feed tells its tables,
+/// and they are asked.
+fn ask_session<N: Net, W: Write, E: Write>(
+    rt: &N,
+    alloc: Global,
+    place: SocketAddrV4,
+    line: &[u8],
+    inquiry: &Inquiry<'_>,
+    output: &mut W,
+    errors: &mut E,
+) -> u8
+    ensures status { (result ≡ DONE) ⊎ ((result ≡ REFUSED) ⊎ (result ≡ FAULT)) }
+    ensures whole { result ≡ DONE → (text : List ℕ) × IsTold inquiry.now text × Appends (W.contents output.old) (W.contents output.new) text }
+    ensures part { (W.contents output.new ≡ W.contents output.old) ⊎ ((text : List ℕ) × IsTold inquiry.now text × IsCutOff text (W.contents output.old) (W.contents output.new)) }
+{
+    let told = match ask_line(rt, alloc, place, line) {
+        Ok(told) => told,
+        Err(reason) => {
+            tell(cause_message(alloc, &place, &reason), errors);
+            return FAULT;
+        }
+    };
+    match said_by(alloc, told, inquiry) {
+        Ok(text) => write_text(text, output),
+        Err(reason) => report_none(alloc, &place, reason, output, errors),
+    }
+}
+
+/// Gives the server that is asked by a line: of its session or of its feed.
+fn session_of(source: &Source<'_>, question: &Question<'_>) -> Option<SocketAddrV4>
+    ensures { IfSome result (λ place. source.now ≡ Server place) }
+{
+    match (source, question) {
+        (Source::Server(place), Question::Query(_, Form::Lines)) => Some(*place),
+        _ => None,
     }
 }
 
@@ -313,6 +336,37 @@ pub(crate) fn ask_source<
     }
 }
 
+/// Asks the tables at a source, or a server by the line of the question, and gives the exit status.
+fn ask_tables<
+    S: Alter + Drop,
+    M: Machine<Connection<S>> + Drop,
+    F: Files,
+    N: Net + Wait + Copy + Drop,
+    R: Read,
+    W: Write,
+    E: Write,
+>(
+    databases: &mut DatabaseFiles<'_, S, M, F, N>,
+    alloc: Global,
+    asking: &Asking<'_>,
+    inquiry: &Inquiry<'_>,
+    input: &mut R,
+    output: &mut W,
+    errors: &mut E,
+) -> u8
+    ensures status { (result ≡ DONE) ⊎ ((result ≡ REFUSED) ⊎ (result ≡ FAULT)) }
+    ensures whole { result ≡ DONE → IsAnswered S.Store M.opens M.refuses M.closes databases.old.machine databases.new.machine (W.contents output.old) (W.contents output.new) asking.now.source (said inquiry.now)
+        ⊎ IsReplied S.Store M.opens M.refuses M.closes databases.old.machine databases.new.machine (W.contents output.old) (W.contents output.new) asking.now.source (called inquiry.now.labels inquiry.now.form (names_of inquiry.now.names.now)) }
+    ensures at_most { IsAnsweredAtMost S.Store M.opens M.refuses M.closes databases.old.machine databases.new.machine (W.contents output.old) (W.contents output.new) asking.now.source (said inquiry.now)
+        ⊎ IsRepliedAtMost S.Store M.opens M.refuses M.closes databases.old.machine databases.new.machine (W.contents output.old) (W.contents output.new) asking.now.source (called inquiry.now.labels inquiry.now.form (names_of inquiry.now.names.now)) }
+{
+    let (source, rt) = (&asking.source, databases.rt);
+    match session_of(source, &inquiry.question) {
+        Some(place) => ask_session(&rt, alloc, place, &asking.line, inquiry, output, errors),
+        None => ask_source(databases, alloc, source, inquiry, input, output, errors),
+    }
+}
+
 /// Asks a question, and gives the exit status.
 ///
 /// The status is 0 where all of the answer was written. It is 1 where the words ask nothing, as of a line with a fault,
@@ -320,7 +374,8 @@ pub(crate) fn ask_source<
 /// spell. It is 3 for a fault of opening, of the server, of reading, of memory or of the writer.
 ///
 /// A database is opened and closed. There has to be one at its path, and no rule or route of it changes; its tables may be
-/// made those of the newest format. Of a server or of a script no database is touched.
+/// made those of the newest format. Of a server or of a script no database is touched. A server is asked `get` and `show`
+/// by their line, unless JSON is wanted; its feed and its sessions both answer that.
 pub(crate) fn ask<
     S: Alter + Drop,
     M: Machine<Connection<S>> + Drop,
@@ -357,13 +412,5 @@ pub(crate) fn ask<
         labels: asking.labels,
         names: &names,
     };
-    ask_source(
-        databases,
-        alloc,
-        &asking.source,
-        &inquiry,
-        input,
-        output,
-        errors,
-    )
+    ask_tables(databases, alloc, asking, &inquiry, input, output, errors)
 }

@@ -96,7 +96,7 @@ impl<
     }
 
     fn close(&mut self, desk: StoreDesk<S, H>) -> Result<(), Cause> {
-        match self.machine.close(desk.release()) {
+        match self.machine.close(desk.end()) {
             Ok(()) => Ok(()),
             Err(error) => Err(Cause::Library(error)),
         }

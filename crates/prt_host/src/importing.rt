@@ -2,17 +2,18 @@
 ghost use Rattle.std.specs.Prelude.{◌≡◌, ◌⊎◌, IfErr, IfOk, [], option_map};
 ghost use Rattle.prt_host.specs.Asking.{HasCompared, HasImported, HasComparedAtMost, HasImportedAtMost, IsAskedOf, IsImported, IsImportedInPart, IsListing, IsNotAsked, IsWholeListing, said};
 ghost use Rattle.prt_import.specs.Imported.{IsImportOf};
-ghost use Rattle.prt_import.specs.TableNames.{TableNames};
+ghost use Rattle.prt_import.specs.TableNames.{KnownNames};
 ghost use Rattle.prt_words.specs.declared.asking.Shown.TheVariants as shows;
 
 use crate::asking::{REFUSED, ask_source, write_text};
 use crate::databases::DatabaseFiles;
+use crate::fencing::fence_beside;
 use crate::inquiry::Inquiry;
 use crate::left::tell_left;
 use crate::machine::Machine;
-use crate::reading::{read_whole, report_no_memory, report_unread, table_names};
-use prt_ask::Question;
-use prt_import::{Accepted, Imported, Names, accept, import};
+use crate::reading::{host_names, read_whole, report_no_memory, report_unread};
+use prt_ask::{Comparison, Question};
+use prt_import::{Accepted, Imported, Left, Names, accept, check_listing, import};
 use prt_ip_json::{NotListed, is_json, listing_of};
 use prt_program::{Refusal, run_text};
 use prt_words::{DONE, Diffing, FAULT, Form, Importing, Labels, Shown, Source};
@@ -33,20 +34,20 @@ fn lines_of(alloc: Global, text: Vec<u8>) -> Result<Vec<u8>, NotListed> {
     }
 }
 
-/// Makes a script of lines, by the names of tables that iproute2 has.
+/// Makes a script of lines, by the names that iproute2 has.
 fn script_of<F: Files + Alloc + Clone + Drop>(
     files: &F,
     alloc: Global,
     lines: &[u8],
 ) -> Result<Imported, Refusal>
-    ensures { IfOk result (λ imported. (names : TableNames) × IsImportOf imported names lines.now) }
+    ensures { IfOk result (λ imported. (names : KnownNames) × IsImportOf imported names lines.now) }
 {
-    let names = table_names(files, alloc)?;
+    let names = host_names(files, alloc)?;
     import(alloc, &names, lines)
 }
 
 /// Makes what a new database accepts of lines that `ip` prints, and tells what can't be kept of them. Gives the exit status
-/// for what was told, too.
+/// for what was told, too, and the lines that can't be kept.
 ///
 /// # Errors
 ///
@@ -56,7 +57,7 @@ fn keep_lines<F: Files + Alloc + Clone + Drop, E: Write>(
     alloc: Global,
     lines: &[u8],
     errors: &mut E,
-) -> Result<(Accepted, u8), Refusal>
+) -> Result<(Accepted, u8, Vec<Left>), Refusal>
     ensures made { IfOk result (λ read. IsListing read.0) }
     ensures status { IfOk result (λ read. (read.1 ≡ DONE) ⊎ (read.1 ≡ REFUSED)) }
     ensures kept { IfOk result (λ read. read.1 ≡ DONE → IsWholeListing read.0) }
@@ -72,22 +73,23 @@ fn keep_lines<F: Files + Alloc + Clone + Drop, E: Write>(
     let _kept = tell_left(alloc, &imported.notes, errors);
     let left = tell_left(alloc, &imported.left, errors);
     let refused = tell_left(alloc, &accepted.left, errors);
-    Ok((accepted, if left == DONE { refused } else { left }))
+    let status = if left == DONE { refused } else { left };
+    Ok((accepted, status, imported.left))
 }
 
 /// Reads what `ip` printed, of a file or of the input, as `keep_lines` does.
 ///
 /// # Errors
 ///
-/// The exit status, where it can't be read or memory is refused.
-fn read_listing<F: Files + Alloc + Clone + Drop, R: Read, W: Write, E: Write>(
+/// The exit status, where it can't be read, isn't a whole listing of IPv4, or memory is refused.
+pub(crate) fn read_listing<F: Files + Alloc + Clone + Drop, R: Read, W: Write, E: Write>(
     files: &F,
     alloc: Global,
     file: Option<&str>,
     input: &mut R,
     output: &mut W,
     errors: &mut E,
-) -> Result<(Accepted, u8), u8>
+) -> Result<(Accepted, u8, Vec<Left>), u8>
     ensures made { IfOk result (λ read. IsListing read.0) }
     ensures status { IfOk result (λ read. (read.1 ≡ DONE) ⊎ (read.1 ≡ REFUSED)) }
     ensures kept { IfOk result (λ read. read.1 ≡ DONE → IsWholeListing read.0) }
@@ -100,6 +102,9 @@ fn read_listing<F: Files + Alloc + Clone + Drop, R: Read, W: Write, E: Write>(
         Err(NotListed::NoMemory) => return Err(report_no_memory(output, errors)),
         Err(reason) => return Err(report_unread(alloc, file, &reason, output, errors)),
     };
+    if let Err(reason) = check_listing(&lines) {
+        return Err(report_unread(alloc, file, &reason, output, errors));
+    }
     match keep_lines(files, alloc, &lines, errors) {
         Ok(read) => Ok(read),
         Err(_) => Err(report_no_memory(output, errors)),
@@ -176,7 +181,7 @@ pub(crate) fn import_listing<
         output,
         errors,
     );
-    let (accepted, left) = match read {
+    let (accepted, left, _) = match read {
         Ok(read) => read,
         Err(status) => return status,
     };
@@ -225,11 +230,12 @@ fn compare<
     }
 }
 
-/// Prints the lines that bring what `ip` printed to the tables at a source, and gives the exit status; or, where that alone
-/// is to be shown, whether anything differs.
+/// Prints the lines that bring what `ip` printed to the tables at a source, within a fence, and gives the exit status; or, if
+/// that alone is to be shown, whether anything differs.
 ///
-/// The status is 1 where anything differs of which the status alone is shown, and where a line can't be kept, as of
-/// `import_listing`. It is 3 as of `ask` and `import_listing`.
+/// What stands in the place of a line that can't be kept is left alone. The status is 1 if anything differs of which the
+/// status alone is shown, if a line can't be kept, as of `import_listing`, and if a rule is left that should go. It is 3 as of
+/// `ask` and `import_listing`.
 pub(crate) fn diff<
     S: Alter + Drop,
     M: Machine<Connection<S>> + Drop,
@@ -247,16 +253,23 @@ pub(crate) fn diff<
     errors: &mut E,
 ) -> u8
     ensures status { (result ≡ DONE) ⊎ ((result ≡ REFUSED) ⊎ (result ≡ FAULT)) }
-    ensures whole { result ≡ DONE → HasCompared S.Store M.opens M.refuses M.closes databases.old.machine databases.new.machine (W.contents output.old) (W.contents output.new) diffing.now.shown diffing.now.source }
-    ensures at_most { HasComparedAtMost S.Store M.opens M.refuses M.closes databases.old.machine databases.new.machine (W.contents output.old) (W.contents output.new) diffing.now.shown diffing.now.source }
+    ensures whole { result ≡ DONE → HasCompared S.Store M.opens M.refuses M.closes databases.old.machine databases.new.machine (W.contents output.old) (W.contents output.new) diffing.now.reach diffing.now.shown diffing.now.source }
+    ensures at_most { HasComparedAtMost S.Store M.opens M.refuses M.closes databases.old.machine databases.new.machine (W.contents output.old) (W.contents output.new) diffing.now.reach diffing.now.shown diffing.now.source }
 {
     let read = read_listing(databases.files, alloc, diffing.file, input, output, errors);
-    let (accepted, left) = match read {
+    let (accepted, left, unread) = match read {
         Ok(read) => read,
         Err(status) => return status,
     };
+    let made = fence_beside(databases.files, alloc, &diffing.reach, &unread);
+    let Ok(fence) = made else {
+        return report_no_memory(output, errors);
+    };
     let inquiry = Inquiry {
-        question: Question::Diff(&accepted.version),
+        question: Question::Diff(Comparison {
+            fence: &fence,
+            found: &accepted.version,
+        }),
         form: Form::Lines,
         labels: Labels::Numbers,
         names: &Names::new(alloc),

@@ -3,7 +3,7 @@ ghost use Rattle.std.specs.Prelude.{◌≡◌, IfOk};
 ghost use Rattle.prt_host.specs.Asking.{called, said, text_form};
 ghost use Rattle.prt_import.specs.TableNames.{names_of};
 
-use prt_ask::{NotAnswered, Question, answer};
+use prt_ask::{Answered, NotAnswered, Question, answer};
 use prt_import::{Names, Text, with_names};
 use prt_version::Version;
 use prt_words::{Form, Labels};
@@ -30,7 +30,11 @@ fn text_form(form: Form) -> Text
 }
 
 /// Gives a text with tables called as these labels do.
-fn called(alloc: Global, inquiry: &Inquiry<'_>, text: Vec<u8>) -> Result<Vec<u8>, NotAnswered>
+pub(crate) fn called(
+    alloc: Global,
+    inquiry: &Inquiry<'_>,
+    text: Vec<u8>,
+) -> Result<Vec<u8>, NotAnswered>
     ensures { IfOk result (λ made. made.items ≡ called inquiry.now.labels inquiry.now.form (names_of inquiry.now.names.now) text.items) }
 {
     let Labels::Names = inquiry.labels else {
@@ -42,20 +46,24 @@ fn called(alloc: Global, inquiry: &Inquiry<'_>, text: Vec<u8>) -> Result<Vec<u8>
     }
 }
 
-/// Gives what a version answers.
+/// Gives what a version answers, and what a person is told of it.
 ///
 /// # Errors
 ///
-/// As of `answer`.
+/// As of `answer`, and `NoMemory`.
 pub(crate) fn said(
     alloc: Global,
     version: &Version,
     inquiry: &Inquiry<'_>,
-) -> Result<Vec<u8>, NotAnswered>
-    ensures { IfOk result (λ text. text.items ≡ said inquiry.now version.now) }
+) -> Result<Answered, NotAnswered>
+    ensures { IfOk result (λ made. made.text.items ≡ said inquiry.now version.now) }
 {
-    match answer(alloc, version, &inquiry.question) {
-        Ok(text) => called(alloc, inquiry, text),
+    let Answered { text, notes } = match answer(alloc, version, &inquiry.question) {
+        Ok(made) => made,
+        Err(reason) => return Err(reason),
+    };
+    match called(alloc, inquiry, text) {
+        Ok(text) => Ok(Answered { text, notes }),
         Err(reason) => Err(reason),
     }
 }

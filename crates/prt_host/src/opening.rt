@@ -26,14 +26,13 @@ use std::sync::Wait;
 ///
 /// As of `publisher_over`, with the cause where it is known. No database is open then: one that was refused was closed
 /// again, and after the refusal only read.
-pub(crate) fn open_publisher<S: Alter + Drop, M: Machine<Connection<S>>, F: Files, H: Wait + Drop>(
+pub(crate) fn open_publisher<S: Alter + Drop, M: Machine<Connection<S>>, F: Files>(
     machine: &mut M,
     files: &F,
-    rt: H,
     alloc: Global,
     path: &str,
     wanted: Wanted,
-) -> Result<(Publisher<S, H>, Domain), (Refusal, Option<Cause>)>
+) -> Result<(Publisher<S>, Domain), (Refusal, Option<Cause>)>
     ensures ready { IfOk result (λ made. made.0.phase ≡ Phase.Ready) }
     ensures quiet { IfOk result (λ made. IsQuiet made.0.phase) }
     ensures sound { IfOk result (λ made. IsSound (line_state made.0.line)) }
@@ -41,7 +40,7 @@ pub(crate) fn open_publisher<S: Alter + Drop, M: Machine<Connection<S>>, F: File
     ensures reason { IfErr result (λ refused. IsOpenRefusal refused.0) }
     ensures closed { IfErr result (λ refused. LeavesNoneOpen M.opens M.refuses M.closes S.Store refused.0 machine.old machine.new path.now) }
 {
-    match publisher_over(rt, alloc, machine.open(path, wanted)) {
+    match publisher_over(alloc, machine.open(path, wanted)) {
         Ok(made) => Ok(made),
         Err((refusal, Ok(conn))) => {
             let reason = close_refused(machine, conn, refusal);
@@ -76,7 +75,7 @@ pub(crate) fn open_desk<
     ensures reason { IfErr result (λ refused. IsOpenRefusal refused.0) }
     ensures closed { IfErr result (λ refused. LeavesNoneOpen M.opens M.refuses M.closes S.Store refused.0 machine.old machine.new path.now) }
 {
-    match open_publisher(machine, files, rt, alloc, path, wanted) {
+    match open_publisher(machine, files, alloc, path, wanted) {
         Ok((publisher, domain)) => Ok(StoreDesk::new(rt, publisher, domain)),
         Err(refused) => Err(refused),
     }

@@ -4,6 +4,7 @@ ghost use Rattle.prt_host.specs.Asking.{IsDone, IsDoneAtMost};
 
 use crate::asking::{REFUSED, ask};
 use crate::databases::DatabaseFiles;
+use crate::following::{follow_server, wait_for};
 use crate::importing::{diff, import_listing};
 use crate::machine::Machine;
 use prt_words::{Asked, DONE, FAULT};
@@ -15,12 +16,12 @@ use std::net::Net;
 use std::rt::Clock;
 use std::sync::Wait;
 
-/// Answers what is asked, and gives the exit status: that of `ask`, `diff` or `import_listing`.
+/// Answers what is asked, and gives the exit status: that of `ask`, `diff`, `follow_server`, `wait_for` or `import_listing`.
 pub(crate) fn answer_question<
     S: Alter + Drop,
     M: Machine<Connection<S>> + Drop,
     F: Files + Alloc + Clone + Clock + Drop,
-    N: Net + Wait + Copy + Drop,
+    N: Net + Wait + Clock + Copy + Drop,
     R: Read,
     W: Write + IsTerminal,
     E: Write,
@@ -39,6 +40,11 @@ pub(crate) fn answer_question<
     match asked {
         Asked::Tables(asking) => ask(databases, alloc, asking, input, output, errors),
         Asked::Diff(diffing) => diff(databases, alloc, diffing, input, output, errors),
+        Asked::Follow(following) => {
+            let (files, rt) = (databases.files, databases.rt);
+            follow_server(files, &rt, alloc, following, input, output, errors)
+        }
+        Asked::Wait(waiting) => wait_for(&databases.rt, alloc, waiting, errors),
         Asked::Import(importing) => {
             import_listing(databases, alloc, importing, input, output, errors)
         }

@@ -2,7 +2,7 @@
 ghost use Rattle.std.specs.Prelude.{◌≡◌, IfErr};
 
 use crate::telling::tell;
-use prt_import::Names;
+use prt_import::{HostNames, Names};
 use prt_program::{Refusal, cause_message};
 use prt_words::{FAULT, Fault, Labels, STANDARD_INPUT, report};
 use std::alloc::{Alloc, AllocError, Global};
@@ -10,14 +10,31 @@ use std::fmt::Display;
 use std::fs::{self, Files};
 use std::io::{self, Read, Write};
 
-/// Where iproute2 has the names of tables: in the first of these that there is.
-const NAMES: [&str; 2] = ["/etc/iproute2/rt_tables", "/usr/share/iproute2/rt_tables"];
+/// Where iproute2 has names of one kind. Of two names of one number it shows the last one.
+struct Places {
+    /// The first of these that there is counts.
+    files: [&'static str; 2],
+    /// Each file of these whose name ends with `.conf` counts.
+    folders: [&'static str; 2],
+}
 
-/// Where iproute2 has further files with names of tables. Of two names of one table the last one counts.
-const MORE_NAMES: [&str; 2] = [
-    "/usr/share/iproute2/rt_tables.d",
-    "/etc/iproute2/rt_tables.d",
-];
+/// Names of tables.
+const TABLES: Places = Places {
+    files: ["/etc/iproute2/rt_tables", "/usr/share/iproute2/rt_tables"],
+    folders: [
+        "/usr/share/iproute2/rt_tables.d",
+        "/etc/iproute2/rt_tables.d",
+    ],
+};
+
+/// Names of routing protocols.
+const PROTOCOLS: Places = Places {
+    files: ["/etc/iproute2/rt_protos", "/usr/share/iproute2/rt_protos"],
+    folders: [
+        "/usr/share/iproute2/rt_protos.d",
+        "/etc/iproute2/rt_protos.d",
+    ],
+};
 
 /// Reads a file whole.
 fn read_file<F: Files>(files: &F, alloc: Global, path: &str) -> io::Result<Vec<u8>> {
@@ -88,7 +105,7 @@ pub(crate) fn report_no_memory<W: Write, E: Write>(output: &mut W, errors: &mut 
     report(&Fault::Opening(Refusal::NoMemory), output, errors)
 }
 
-/// Adds the names of tables in the files of a folder whose names end with `.conf`. A folder that can't be read has none.
+/// Adds the names in the files of a folder whose names end with `.conf`. A folder that can't be read has none.
 fn add_names_in<F: Files + Alloc + Clone + Drop>(
     files: &F,
     alloc: Global,
@@ -112,13 +129,14 @@ fn add_names_in<F: Files + Alloc + Clone + Drop>(
     Ok(())
 }
 
-/// Adds the names of tables in the first of the files that can be read.
+/// Adds the names in the first of these files that can be read.
 fn add_first_names<F: Files>(
     files: &F,
     alloc: Global,
+    paths: &[&'static str],
     names: &mut Names,
 ) -> Result<(), AllocError> {
-    for path in NAMES {
+    for path in paths {
         if let Ok(text) = read_file(files, alloc, path) {
             return names.read(&text);
         }
@@ -126,17 +144,29 @@ fn add_first_names<F: Files>(
     Ok(())
 }
 
-/// Reads the names of tables that iproute2 has. A file that can't be read gives none.
-pub(crate) fn table_names<F: Files + Alloc + Clone + Drop>(
+/// Reads the names that iproute2 has in these places. A file that can't be read gives none.
+fn read_names<F: Files + Alloc + Clone + Drop>(
     files: &F,
     alloc: Global,
+    places: &Places,
 ) -> Result<Names, AllocError> {
     let mut names = Names::new(alloc);
-    add_first_names(files, alloc, &mut names)?;
-    for folder in MORE_NAMES {
+    add_first_names(files, alloc, &places.files, &mut names)?;
+    for folder in places.folders {
         add_names_in(files, alloc, folder, &mut names)?;
     }
     Ok(names)
+}
+
+/// Reads the names of tables and of routing protocols that iproute2 has. A file that can't be read gives none.
+pub(crate) fn host_names<F: Files + Alloc + Clone + Drop>(
+    files: &F,
+    alloc: Global,
+) -> Result<HostNames, AllocError> {
+    Ok(HostNames {
+        tables: read_names(files, alloc, &TABLES)?,
+        protocols: read_names(files, alloc, &PROTOCOLS)?,
+    })
 }
 
 /// Gives the names of tables that an answer with these labels needs.
@@ -147,6 +177,6 @@ pub(crate) fn names_for<F: Files + Alloc + Clone + Drop>(
 ) -> Result<Names, AllocError> {
     match labels {
         Labels::Numbers => Ok(Names::new(alloc)),
-        Labels::Names => table_names(files, alloc),
+        Labels::Names => read_names(files, alloc, &TABLES),
     }
 }

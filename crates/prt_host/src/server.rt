@@ -8,7 +8,7 @@ ghost use Rattle.prt_service.specs.Named.{IsReleased};
 use crate::databases::DatabaseFiles;
 use crate::machine::{Machine, Wanted};
 use crate::opening::open_publisher;
-use crate::serving::{NotListened, fault_of, listen, serve_named};
+use crate::serving::{NotListened, faults_of, listen, serve_named};
 use crate::telling::tell_shared;
 use prt_grace::Domain;
 use prt_program::{cause_message, log_message};
@@ -18,7 +18,7 @@ use sqlite::{Alter, Connection};
 use std::alloc::Global;
 use std::fmt::Display;
 use std::fs::Files;
-use std::io::Write;
+use std::io::{self, Write};
 use std::marker::Brand;
 use std::net::Net;
 use std::rt::Clock;
@@ -29,6 +29,8 @@ use std::thread::Threads;
 #[derive(Drop)]
 struct NotServed {
     fault: Fault,
+    /// What failed besides.
+    further: Option<Fault>,
     /// What a person is told of the cause, if one is known.
     message: Option<String>,
 }
@@ -47,7 +49,11 @@ impl NotServed {
             Some(cause) => cause_message(alloc, place, cause).ok(),
             None => None,
         };
-        NotServed { fault, message }
+        NotServed {
+            fault,
+            further: None,
+            message,
+        }
     }
 }
 
@@ -55,13 +61,12 @@ impl NotServed {
 fn serve_over<
     S: Alter + Drop + Send,
     N: Net + Threads + Wait + Clock + Drop + Send + Sync,
-    R: Wait + Drop + Send,
     W: Write,
     E: Write + Drop + Send,
 >(
     rt: &N,
     alloc: Global,
-    publisher: Publisher<S, R>,
+    mut publisher: Publisher<S>,
     domain: Domain,
     asked: &Serving<'_>,
     output: &mut W,
@@ -78,16 +83,26 @@ where
         Ok(listeners) => listeners,
         Err(NotListened { place, error }) => {
             let failure = NotServed::new(alloc, Fault::Listener, &place, Some(&error));
-            return (Some(failure), publisher.release());
+            return (Some(failure), publisher.end(rt));
         }
     };
-    let (end, conn) = serve_named::<Brand, _, _, _, _, _, _>(
-        rt, alloc, publisher, domain, &listeners, asked, errors,
+    let seats = match publisher.seats(rt, alloc) {
+        Ok(seats) => seats,
+        Err(refusal) => {
+            let opening = Fault::Opening(refusal);
+            let failure = NotServed::new(alloc, opening, &asked.database, None::<&io::Error>);
+            return (Some(failure), publisher.end(rt));
+        }
+    };
+    let (end, conn) = serve_named::<Brand, _, _, _, _, _>(
+        rt, alloc, publisher, seats, domain, &listeners, asked, errors,
     );
-    match fault_of(end) {
+    let (fault, further) = faults_of(end);
+    match fault {
         Some(fault) => (
             Some(NotServed {
                 fault,
+                further,
                 message: None,
             }),
             conn,
@@ -125,7 +140,6 @@ where
     let opened = open_publisher(
         &mut databases.machine,
         databases.files,
-        rt,
         alloc,
         path,
         Wanted::Any,
@@ -179,6 +193,9 @@ where
         Ok(()) => DONE,
         Err(failure) => {
             let status = report(&failure.fault, output, &mut errors);
+            if let Some(further) = &failure.further {
+                let _ = report(further, output, &mut errors);
+            }
             if let Some(message) = &failure.message {
                 let _ = errors.write_all(message.as_bytes());
             }

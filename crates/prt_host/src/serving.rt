@@ -1,12 +1,13 @@
 //! Serving what a listener accepts, over a publisher.
 ghost use Rattle.std.specs.Prelude.{◌≡◌};
-ghost use Rattle.prt_host.specs.Serving.{fault_of};
+ghost use Rattle.prt_host.specs.Serving.{fault_of, further_of, is_failed, is_listeners, lacks_workers, looker_fault};
 ghost use Rattle.prt_publisher.specs.Standing.{IsQuiet};
 ghost use Rattle.prt_service.specs.Named.{IsNamed, IsReleased};
 
 use crate::telling::Telling;
 use prt_grace::Domain;
-use prt_publisher::Publisher;
+use prt_program::Refusal;
+use prt_publisher::{Publisher, Seats};
 use prt_serve::{Accepting, Limits, ServeEnd, serve_all, serve_and_feed};
 use prt_service::{Naming, Service};
 use prt_words::{Fault, Serving};
@@ -15,6 +16,7 @@ use std::alloc::Global;
 use std::io::{self, Read, Write};
 use std::net::{Net, OpenListener, OpenStream, SocketAddr, SocketAddrV4};
 use std::rt::Clock;
+use std::sync::atomic::AtomicBool;
 use std::sync::{Mutex, Wait};
 use std::thread::Threads;
 use std::time::Duration;
@@ -76,7 +78,7 @@ pub(crate) fn listen<N: Net, W: Write>(
     Ok(Listeners { sessions, feed })
 }
 
-/// Gives how long a session may send nothing; 0 seconds are without end.
+/// Gives how long a client may send nothing or take nothing; 0 seconds are without end.
 fn idle_of(seconds: u64) -> Option<Duration> {
     if seconds == 0 {
         None
@@ -94,20 +96,53 @@ fn limits_of(asked: &Serving<'_>) -> Limits {
     }
 }
 
-/// Serves what listeners accept, by a service that is named here, and tells on `errors` why a commit failed. Gives how that
-/// ended, and the connection.
+/// Serves what listeners accept by a service, and tells on `errors` why a commit failed, and why nothing is accepted.
+fn serve_telling<
+    'a,
+    J: Naming + Send,
+    S: Alter + Drop + Send,
+    H: Threads + Wait + Clock + Sync,
+    T: Read + Write + OpenStream + Drop + Send,
+    L: OpenListener<Stream = T> + Drop + Sync,
+    E: Write + Drop + Send,
+>(
+    rt: &'a H,
+    alloc: Global,
+    service: &'a Service<S, J>,
+    path: &'a str,
+    errors: &'a Mutex<E>,
+    listeners: &Listeners<L>,
+    limits: Limits,
+) -> ServeEnd {
+    let telling = Telling {
+        rt,
+        alloc,
+        service,
+        path,
+        errors,
+        is_failure_told: AtomicBool::new(false),
+        accept_told: Mutex::new(None),
+    };
+    let sessions = &listeners.sessions;
+    match &listeners.feed {
+        Some(feed) => serve_and_feed(rt, alloc, service, &telling, sessions, limits, feed),
+        None => serve_all(rt, alloc, service, &telling, sessions, limits),
+    }
+}
+
+/// Serves what listeners accept, by a service that is named here. Gives how that ended, and the connection.
 pub(crate) fn serve_named<
     J: Naming + Send,
     S: Alter + Drop + Send,
     H: Threads + Wait + Clock + Sync,
-    R: Wait + Drop + Send,
     T: Read + Write + OpenStream + Drop + Send,
     L: OpenListener<Stream = T> + Drop + Sync,
     E: Write + Drop + Send,
 >(
     rt: &H,
     alloc: Global,
-    publisher: Publisher<S, R>,
+    publisher: Publisher<S>,
+    seats: Seats,
     domain: Domain,
     listeners: &Listeners<L>,
     asked: &Serving<'_>,
@@ -115,33 +150,69 @@ pub(crate) fn serve_named<
 ) -> (ServeEnd, Connection<S>)
     requires quiet { IsQuiet publisher.phase }
     requires of { IsNamed J.book J.base J.ours_first publisher }
+    requires seats { (seats.book ≡ J.book) × (seats.base ≡ J.base) }
     ensures { IsReleased S.Store J.book J.base J.ours_first result.1 }
 {
-    let service: Service<S, R, J> = Service::new(publisher, domain);
-    let telling = Telling {
+    let service: Service<S, J> = Service::new(publisher, seats, domain);
+    let limits = limits_of(asked);
+    let end = serve_telling(
         rt,
         alloc,
-        service: &service,
-        path: asked.database,
+        &service,
+        asked.database,
         errors,
-    };
-    let (sessions, limits) = (&listeners.sessions, limits_of(asked));
-    let end = match &listeners.feed {
-        Some(feed) => serve_and_feed(rt, alloc, &service, &telling, sessions, limits, feed),
-        None => serve_all(rt, alloc, &service, &telling, sessions, limits),
-    };
-    (end, service.release())
+        listeners,
+        limits,
+    );
+    (end, service.end(rt))
 }
 
-/// Gives why not all that was asked for was served.
-pub(crate) fn fault_of(end: ServeEnd) -> Option<Fault>
-    ensures { result ≡ fault_of end }
+/// Tells whether accepting failed.
+fn is_failed(accepting: Accepting) -> bool
+    ensures { result ≡ is_failed accepting }
+{
+    match accepting {
+        Accepting::Failed => true,
+        Accepting::Ended | Accepting::NoWorkers => false,
+    }
+}
+
+/// Tells whether no worker is left, though none was refused its looker.
+fn lacks_workers(end: ServeEnd) -> bool
+    ensures { result ≡ lacks_workers end.accepting end.refused }
 {
     match (end.accepting, end.refused) {
-        (Accepting::Failed, _) => Some(Fault::Listener),
-        (Accepting::NoWorkers, Some(reason)) => Some(Fault::Opening(reason)),
-        (Accepting::NoWorkers, None) => Some(Fault::Listener),
-        (Accepting::Ended, Some(reason)) => Some(Fault::Opening(reason)),
-        (Accepting::Ended, None) => None,
+        (Accepting::NoWorkers, None) => true,
+        _ => false,
+    }
+}
+
+/// Tells whether a listener is to blame: that of the sessions, or that of the feed.
+fn is_listeners(end: ServeEnd) -> bool
+    ensures { result ≡ is_listeners end }
+{
+    is_failed(end.accepting) || is_failed(end.feeding) || lacks_workers(end)
+}
+
+/// Gives the fault of a worker that was refused its looker.
+fn looker_fault(refused: Option<Refusal>) -> Option<Fault>
+    ensures { result ≡ looker_fault refused }
+{
+    match refused {
+        Some(reason) => Some(Fault::Opening(reason)),
+        None => None,
+    }
+}
+
+/// Gives why not all that was asked for was served, and what failed besides.
+pub(crate) fn faults_of(end: ServeEnd) -> (Option<Fault>, Option<Fault>)
+    ensures first { result.0 ≡ fault_of end }
+    ensures further { result.1 ≡ further_of end }
+{
+    let refused = looker_fault(end.refused);
+    if is_listeners(end) {
+        (Some(Fault::Listener), refused)
+    } else {
+        (refused, None)
     }
 }

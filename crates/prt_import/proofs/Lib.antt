@@ -4,3 +4,5 @@ pub mod Parts
 pub mod ScriptLines
 pub mod Executing
 pub mod NamedPieces
+pub mod Counting
+pub mod Options

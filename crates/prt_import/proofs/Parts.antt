@@ -8,7 +8,7 @@ use Rattle.prt_import.specs.Imported.{IsImported}
 use Rattle.prt_import.specs.Lines.{lines_of}
 use Rattle.prt_import.specs.NewLines.{continuation}
 use Rattle.prt_import.specs.Script.{Parts, ◌and◌, has_rules, is_route, is_rule, line_part, no_parts, parts_of}
-use Rattle.prt_import.specs.TableNames.{TableNames}
+use Rattle.prt_import.specs.TableNames.{KnownNames}
 use Rattle.prt_import.specs.Told.{Remark}
 use Rattle.prt_import.specs.declared.draft.Draft.{Draft}
 use Rattle.prt_import.specs.declared.imported.Imported.{Imported}
@@ -38,12 +38,12 @@ or_false true = refl
 or_false false = refl
 
 -- The lines of a text up to this number were taken, and these are left.
-pub record SoFar (draft : Draft) (names : TableNames) (number : ℕ) (text rest : List ℕ) : Type 0 where
+pub record SoFar (draft : Draft) (names : KnownNames) (number : ℕ) (text rest : List ℕ) : Type 0 where
   pub count : number + length rest ≤ length text
   pub same : parts_of names false 1 (lines_of text) ≡ parts_in draft and parts_of names draft.is_in_route (number + 1) (lines_of rest)
   pub any : has_rules (lines_of text) ≡ draft.has_rules || has_rules (lines_of rest)
 
-pub begins : (draft : Draft) (names : TableNames) (text : List ℕ) → parts_in draft ≡ no_parts → draft.has_rules ≡ false → draft.is_in_route ≡ false → SoFar draft names 0 text text
+pub begins : (draft : Draft) (names : KnownNames) (text : List ℕ) → parts_in draft ≡ no_parts → draft.has_rules ≡ false → draft.is_in_route ≡ false → SoFar draft names 0 text text
 begins draft names text parts any in_route = record {
   count = omega arith;
   same = sym (ap (λ p. p and parts_of names draft.is_in_route 1 (lines_of text)) parts ∙ ap (λ b. parts_of names b 1 (lines_of text)) in_route);
@@ -51,7 +51,7 @@ begins draft names text parts any in_route = record {
 }
 
 -- one line more
-pub goes_on : (old new : Draft) (names : TableNames) (number : ℕ) (text rest line after : List ℕ) → SoFar old names number text rest → (lines_of rest ≡ line ∷ lines_of after) → length after < length rest → Takes old new names (record { number = number + 1; content = line }) (words line) (continuation (lines_of after)) → SoFar new names (number + 1) text after
+pub goes_on : (old new : Draft) (names : KnownNames) (number : ℕ) (text rest line after : List ℕ) → SoFar old names number text rest → (lines_of rest ≡ line ∷ lines_of after) → length after < length rest → Takes old new names (record { number = number + 1; content = line }) (words line) (continuation (lines_of after)) → SoFar new names (number + 1) text after
 goes_on old new names number text rest line after so_far cut shorter takes = record {
   count = (let within = so_far.count in omega (arith, within, shorter));
   same =
@@ -68,7 +68,7 @@ goes_on old new names number text rest line after so_far cut shorter takes = rec
 }
 
 -- no line is left
-pub ends : (draft : Draft) (names : TableNames) (number : ℕ) (text rest : List ℕ) (imported : Imported) → SoFar draft names number text rest → rest ≡ [] → IsImported imported draft.has_rules (parts_in draft) → IsImported imported (has_rules (lines_of text)) (parts_of names false 1 (lines_of text))
+pub ends : (draft : Draft) (names : KnownNames) (number : ℕ) (text rest : List ℕ) (imported : Imported) → SoFar draft names number text rest → rest ≡ [] → IsImported imported draft.has_rules (parts_in draft) → IsImported imported (has_rules (lines_of text)) (parts_of names false 1 (lines_of text))
 ends draft names number text rest imported so_far none made =
     let parts : parts_of names false 1 (lines_of text) ≡ parts_in draft = so_far.same ∙ ap (λ t. parts_in draft and parts_of names draft.is_in_route (number + 1) (lines_of t)) none ∙ and_none (parts_in draft) in
     let any : has_rules (lines_of text) ≡ draft.has_rules = so_far.any ∙ ap (λ t. draft.has_rules || has_rules (lines_of t)) none ∙ or_false draft.has_rules in

@@ -5,7 +5,7 @@ use Rattle.std.specs.Prelude.{◌||◌}
 use Rattle.prt_addr.specs.Word.{Word}
 use Rattle.prt_import.specs.NewLines.{scope_text}
 use Rattle.prt_import.specs.Steps.{step_of}
-use Rattle.prt_import.specs.TableNames.{TableNames}
+use Rattle.prt_import.specs.TableNames.{KnownNames}
 use Rattle.prt_import.specs.Then.{◌>>=◌, map_ok}
 use Rattle.prt_import.specs.Translation.{IsTranslated, Translated, translated, with_front, written_text}
 use Rattle.prt_import.specs.declared.known.Object.{Object}
@@ -40,7 +40,7 @@ two_fronts front more a b (Ok t) =
     ap (λ text. Ok (record { text = text; is_scope_settled = a || (b || t.is_scope_settled) })) (sym (append_assoc front more t.text))
     ∙ ap (λ s. Ok (record { text = (front ++ more) ++ t.text; is_scope_settled = s })) (or_assoc a b t.is_scope_settled)
 
-module _ (names : TableNames) (object : Object) (place : Place) (w : Word) (ws : List Word) where
+module _ (names : KnownNames) (object : Object) (place : Place) (w : Word) (ws : List Word) where
   pub one_word : (step : Step) → step_of names object place w ≡ Ok step → translated names object place (w ∷ ws) ≡ map_ok (with_front (written_text step.written w) step.settles_scope) (translated names object step.next ws)
   one_word step is = ap (λ r. r >>= (λ (step : Step). map_ok (with_front (written_text step.written w) step.settles_scope) (translated names object step.next ws))) is
 
@@ -48,7 +48,7 @@ module _ (names : TableNames) (object : Object) (place : Place) (w : Word) (ws :
   no_word reason is = ap (λ r. r >>= (λ (step : Step). map_ok (with_front (written_text step.written w) step.settles_scope) (translated names object step.next ws))) is
 
 -- a word more
-pub goes_on : (names : TableNames) (object : Object) (place : Place) (here ws : List Word) (w : Word) (step : Step) (all : Result Translated Reason) (old mid new : List ℕ) (is_settled : Bool) → SoFar all (translated names object place here) old mid is_settled → here ≡ w ∷ ws → Ok step ≡ step_of names object place w → new ≡ mid ++ written_text step.written w → SoFar all (translated names object step.next ws) old new (is_settled || step.settles_scope)
+pub goes_on : (names : KnownNames) (object : Object) (place : Place) (here ws : List Word) (w : Word) (step : Step) (all : Result Translated Reason) (old mid new : List ℕ) (is_settled : Bool) → SoFar all (translated names object place here) old mid is_settled → here ≡ w ∷ ws → Ok step ≡ step_of names object place w → new ≡ mid ++ written_text step.written w → SoFar all (translated names object step.next ws) old new (is_settled || step.settles_scope)
 goes_on names object place here ws w step all old mid new is_settled so_far is stepped more =
     let text : List ℕ = written_text step.written w in record {
       front = so_far.front ++ text;
@@ -61,7 +61,7 @@ goes_on names object place here ws w step all old mid new is_settled so_far is s
     }
 
 -- no word is left
-pub ends : (names : TableNames) (object : Object) (place : Place) (here : List Word) (all : Result Translated Reason) (old new : List ℕ) (is_settled : Bool) → SoFar all (translated names object place here) old new is_settled → here ≡ [] → IsTranslated old new is_settled all
+pub ends : (names : KnownNames) (object : Object) (place : Place) (here : List Word) (all : Result Translated Reason) (old new : List ℕ) (is_settled : Bool) → SoFar all (translated names object place here) old new is_settled → here ≡ [] → IsTranslated old new is_settled all
 ends names object place here all old new is_settled so_far none = (
   so_far.front,
   so_far.pushed,
@@ -72,7 +72,7 @@ ends names object place here all old new is_settled so_far none = (
 )
 
 -- a word for which the line is left out
-pub fails : (names : TableNames) (object : Object) (place : Place) (here ws : List Word) (w : Word) (reason : Reason) (all : Result Translated Reason) (old new : List ℕ) (is_settled : Bool) → SoFar all (translated names object place here) old new is_settled → here ≡ w ∷ ws → Err reason ≡ step_of names object place w → all ≡ Err reason
+pub fails : (names : KnownNames) (object : Object) (place : Place) (here ws : List Word) (w : Word) (reason : Reason) (all : Result Translated Reason) (old new : List ℕ) (is_settled : Bool) → SoFar all (translated names object place here) old new is_settled → here ≡ w ∷ ws → Err reason ≡ step_of names object place w → all ≡ Err reason
 fails names object place here ws w reason all old new is_settled so_far is stepped =
     so_far.same
     ∙ ap (λ ws. map_ok (with_front so_far.front is_settled) (translated names object place ws)) is

@@ -2,7 +2,7 @@
 use Rattle.std.specs.Prelude.{◌≡◌, ◌||◌, List, map, Option}
 use Rattle.prt_addr.specs.Word.{Word}
 use Rattle.prt_import.specs.Script.{Parts, ◌and◌, is_route, is_rule, line_part}
-use Rattle.prt_import.specs.TableNames.{TableNames}
+use Rattle.prt_import.specs.TableNames.{KnownNames}
 use Rattle.prt_import.specs.Told.{Numbered, remark_of}
 use Rattle.prt_import.specs.declared.draft.Draft.{Draft}
 use Rattle.prt_import.specs.declared.reason.Reason.{Reason}
@@ -18,7 +18,7 @@ pub record Adds (old new : Draft) (parts : Parts) : Type 0 where
   pub in_route : new.is_in_route ≡ old.is_in_route
 
 -- a line with these words was taken, after which the next one goes on with a route so
-pub record Takes (old new : Draft) (names : TableNames) (line : Numbered) (ws : List Word) (more : Option Reason) : Type 0 where
+pub record Takes (old new : Draft) (names : KnownNames) (line : Numbered) (ws : List Word) (more : Option Reason) : Type 0 where
   pub added : parts_in new ≡ parts_in old and line_part names old.is_in_route line ws more
   pub any : new.has_rules ≡ old.has_rules || is_rule ws
   pub in_route : new.is_in_route ≡ is_route ws

@@ -2,7 +2,7 @@
 use Rattle.std.specs.Prelude.{◌≡◌, Bool, false, List, map, ℕ}
 use Rattle.prt_import.specs.Lines.{lines_of}
 use Rattle.prt_import.specs.Script.{Parts, has_rules, parts_of, script_of}
-use Rattle.prt_import.specs.TableNames.{TableNames}
+use Rattle.prt_import.specs.TableNames.{KnownNames}
 use Rattle.prt_import.specs.Told.{remark_of}
 use Rattle.prt_import.specs.declared.imported.Imported.{Imported}
 
@@ -13,5 +13,5 @@ pub record IsImported (imported : Imported) (any : Bool) (parts : Parts) : Type 
   pub notes : map remark_of imported.notes.items ≡ parts.notes
 
 -- what is made of a text: of its lines, counted from 1
-abbrev pub IsImportOf : Imported → TableNames → List ℕ → Type 0
+abbrev pub IsImportOf : Imported → KnownNames → List ℕ → Type 0
 IsImportOf imported names text = IsImported imported (has_rules (lines_of text)) (parts_of names false 1 (lines_of text))

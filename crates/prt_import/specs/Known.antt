@@ -3,7 +3,7 @@ use Rattle.std.specs.Prelude.{List, [], ◌∷◌, ◌++◌, map, Option, Some, 
 use Rattle.prt_addr.specs.Word.{Word}
 use Rattle.prt_import.specs.declared.known.Object.{Object}
 use Rattle.prt_import.specs.declared.known.Object.TheVariants.{Rule, Route}
-use Rattle.prt_import.specs.declared.known.Role.TheVariants.{Same, Address, Gateway, Table, Protocol, Scope, LeftOff, Metric}
+use Rattle.prt_import.specs.declared.known.Role.TheVariants.{Same, Mark, Address, Gateway, Table, Protocol, Scope, RuleProtocol, Metric}
 use Rattle.prt_import.specs.declared.known.Meaning.{Meaning}
 use Rattle.prt_import.specs.declared.known.Meaning.TheVariants.{Alone, Before, State, Told, Out}
 use Rattle.prt_import.specs.declared.reason.Reason.TheVariants as reasons
@@ -24,8 +24,10 @@ route_words =
     ∷ (codes "scope", Before Scope)
     ∷ (codes "src", Before Address)
     ∷ (codes "metric", Before Same)
-    ∷ (codes "onlink", Told reasons.OnLink)
-    ∷ each State (codes "dead" ∷ codes "linkdown" ∷ codes "pervasive" ∷ codes "offload" ∷ codes "trap" ∷ codes "notify" ∷ codes "unresolved" ∷ codes "rt_offload" ∷ codes "rt_trap" ∷ codes "rt_offload_failed" ∷ [])
+    ∷ (codes "onlink", Out reasons.OnLink)
+    ∷ (codes "dead", Out reasons.Dead)
+    ∷ (codes "linkdown", Told reasons.LinkDown)
+    ∷ each State (codes "pervasive" ∷ codes "offload" ∷ codes "trap" ∷ codes "notify" ∷ codes "unresolved" ∷ codes "rt_offload" ∷ codes "rt_trap" ∷ codes "rt_offload_failed" ∷ [])
     ++ each (Before Metric) (codes "mtu" ∷ codes "advmss" ∷ codes "window" ∷ codes "rtt" ∷ codes "rttvar" ∷ codes "rto_min" ∷ codes "ssthresh" ∷ codes "cwnd" ∷ codes "initcwnd" ∷ codes "initrwnd" ∷ codes "reordering" ∷ codes "hoplimit" ∷ codes "features" ∷ codes "quickack" ∷ codes "congctl" ∷ codes "fastopen_no_cookie" ∷ codes "realm" ∷ codes "realms" ∷ codes "expires" ∷ codes "ttl-propagate" ∷ [])
     ++ (codes "tcp_usec_ts", Told reasons.Metric)
     ∷ (codes "nexthop", Out reasons.SeveralNextHops)
@@ -41,12 +43,12 @@ rule_words =
     (codes "not", Alone)
     ∷ (codes "from", Before Address)
     ∷ (codes "to", Before Address)
-    ∷ (codes "fwmark", Before Same)
+    ∷ (codes "fwmark", Before Mark)
     ∷ (codes "iif", Before Same)
     ∷ (codes "lookup", Before Table)
     ∷ (codes "suppress_prefixlength", Before Same)
     ∷ each Alone (codes "blackhole" ∷ codes "unreachable" ∷ codes "prohibit" ∷ [])
-    ++ (codes "proto", Before LeftOff)
+    ++ (codes "proto", Before RuleProtocol)
     ∷ (codes "[detached]", State)
     ∷ each (Out reasons.Selector) (codes "tos" ∷ codes "dsfield" ∷ codes "dscp" ∷ codes "flowlabel" ∷ codes "oif" ∷ codes "ipproto" ∷ codes "sport" ∷ codes "dport" ∷ codes "tun_id" ∷ codes "uidrange" ∷ codes "l3mdev" ∷ codes "realms" ∷ codes "suppress_ifgroup" ∷ [])
     ++ each (Out reasons.Action) (codes "goto" ∷ codes "nop" ∷ codes "throw" ∷ codes "nat" ∷ codes "map-to" ∷ codes "masquerade" ∷ codes "[unresolved]" ∷ [])

@@ -8,8 +8,11 @@ pub mod Steps
 pub mod Translation
 pub mod NewLines
 pub mod Told
+pub mod Comments
 pub mod Script
 pub mod Draft
 pub mod Imported
 pub mod ScriptLines
 pub mod Accepted
+pub mod Listed
+pub mod Keys

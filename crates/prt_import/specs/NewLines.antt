@@ -11,7 +11,7 @@ use Rattle.prt_command.specs.declared.request.Command.TheVariants as commands
 use Rattle.prt_command.specs.declared.request.NewRule.{NewRule}
 use Rattle.prt_command.specs.declared.request.Request.{Request}
 use Rattle.prt_command.specs.declared.request.Request.TheVariants.{Command}
-use Rattle.prt_import.specs.TableNames.{TableNames}
+use Rattle.prt_import.specs.TableNames.{KnownNames}
 use Rattle.prt_import.specs.Then.{◌>>=◌, map_ok}
 use Rattle.prt_import.specs.Translation.{translated}
 use Rattle.prt_import.specs.declared.known.Object.TheVariants as objects
@@ -32,7 +32,7 @@ abbrev pub or_reason : {X : Type 0} → Result X Refusal → Result X Reason
 or_reason (Ok x) = Ok x
 or_reason (Err refusal) = Err (reasons.Refused refusal)
 
-abbrev pub rule_text : TableNames → Word → List Word → Result (List ℕ) Reason
+abbrev pub rule_text : KnownNames → Word → List Word → Result (List ℕ) Reason
 rule_text names priority items = map_ok (λ t. codes "rule add priority " ++ priority ++ t.text) (translated names objects.Rule places.Item items)
 
 -- what a line adds, if it has no comment and is read as such a line
@@ -40,7 +40,7 @@ abbrev pub checked : {X : Type 0} → (Result (Option Request) Refusal → Resul
 checked added line = if list_any (λ b. b == 35) line then Err reasons.Comment else or_reason (added (reading line))
 
 -- the line that adds a rule with this priority and these items, which is read as such
-abbrev pub rule_line : TableNames → Word → List Word → Result (List ℕ) Reason
+abbrev pub rule_line : KnownNames → Word → List Word → Result (List ℕ) Reason
 rule_line names priority items = rule_text names priority items >>= λ line. map_ok (λ rule. line) (checked added_rule line)
 
 -- ---- routes
@@ -55,7 +55,7 @@ abbrev pub scope_text : Bool → List ℕ
 scope_text true = []
 scope_text false = codes " scope global"
 
-abbrev pub route_text : TableNames → List Word → Result (List ℕ) Reason
+abbrev pub route_text : KnownNames → List Word → Result (List ℕ) Reason
 route_text names ws = map_ok (λ t. codes "route add" ++ t.text ++ scope_text t.is_scope_settled) (translated names objects.Route places.Destination ws)
 
 -- A line that adds a route, and whether that has a gateway.
@@ -64,7 +64,7 @@ pub record RouteText : Type 0 where
   pub has_gateway : Bool
 
 -- the line that adds a route with these words, which is read as such
-abbrev pub route_line : TableNames → List Word → Result RouteText Reason
+abbrev pub route_line : KnownNames → List Word → Result RouteText Reason
 route_line names ws = route_text names ws >>= λ line. map_ok (λ route. record { line = line; has_gateway = is_some route.via }) (checked added_route line)
 
 -- ---- which line is what

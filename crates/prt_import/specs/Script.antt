@@ -3,8 +3,9 @@ use Rattle.std.specs.Prelude.{ℕ, ◌+◌, Bool, true, false, is_some, if◌the
 use Rattle.std.specs.List.{list_any}
 use Rattle.prt_addr.specs.Word.{Word}
 use Rattle.prt_command.specs.Reading.{words}
+use Rattle.prt_import.specs.Comments.{comments}
 use Rattle.prt_import.specs.NewLines.{RouteText, continuation, continuation_of, priority_of, route_line, rule_line}
-use Rattle.prt_import.specs.TableNames.{TableNames}
+use Rattle.prt_import.specs.TableNames.{KnownNames}
 use Rattle.prt_import.specs.Told.{Numbered, Remark, fault_word, is_kernels, notes_of, remark}
 use Rattle.prt_import.specs.declared.known.Object.TheVariants.{Rule, Route}
 use Rattle.prt_import.specs.declared.reason.Reason.{Reason}
@@ -33,11 +34,11 @@ left_out line w reason = record no_parts { left = remark line w reason ∷ [] }
 -- ---- rules
 
 -- the rule is added, or its line is left out
-abbrev pub rule_by : TableNames → Numbered → List Word → Result (List ℕ) Reason → Parts
-rule_by names line items (Ok text) = record no_parts { rules = text ++ codes "\n" }
+abbrev pub rule_by : KnownNames → Numbered → List Word → Result (List ℕ) Reason → Parts
+rule_by names line items (Ok text) = record no_parts { rules = text ++ codes "\n"; notes = notes_of names Rule line Item items }
 rule_by names line items (Err reason) = left_out line (fault_word names Rule Item items) reason
 
-abbrev pub rule_part : TableNames → Numbered → Word → List Word → Parts
+abbrev pub rule_part : KnownNames → Numbered → Word → List Word → Parts
 rule_part names line priority items = rule_by names line items (rule_line names priority items)
 
 -- ---- routes
@@ -45,21 +46,21 @@ rule_part names line priority items = rule_by names line items (rule_line names 
 abbrev pub added_part : RouteText → Parts
 added_part route = if route.has_gateway then record no_parts { through = route.line ++ codes "\n" } else record no_parts { direct = route.line ++ codes "\n" }
 
-abbrev pub left_route : TableNames → Numbered → List Word → Reason → Parts
+abbrev pub left_route : KnownNames → Numbered → List Word → Reason → Parts
 left_route names line ws reasons.Type = if is_kernels ws then left_out line [] reasons.Kernel else left_out line (fault_word names Route Destination ws) reasons.Type
 left_route names line ws reasons.Json = left_out line [] reasons.Json
 left_route names line ws reason = left_out line (fault_word names Route Destination ws) reason
 
 -- the route is added, or its line is left out
-abbrev pub route_by : TableNames → Numbered → List Word → Result RouteText Reason → Parts
-route_by names line ws (Ok route) = record (added_part route) { notes = notes_of names line Destination ws }
+abbrev pub route_by : KnownNames → Numbered → List Word → Result RouteText Reason → Parts
+route_by names line ws (Ok route) = record (added_part route) { notes = notes_of names Route line Destination ws }
 route_by names line ws (Err reason) = left_route names line ws reason
 
-abbrev pub route_part : TableNames → Numbered → List Word → Parts
+abbrev pub route_part : KnownNames → Numbered → List Word → Parts
 route_part names line ws = route_by names line ws (route_line names ws)
 
 -- by what the first word says of the route before, and the next line of this one. A line that goes on with a route was told with it.
-abbrev pub route_or_more : TableNames → Bool → Numbered → Word → List Word → Option Reason → Option Reason → Parts
+abbrev pub route_or_more : KnownNames → Bool → Numbered → Word → List Word → Option Reason → Option Reason → Parts
 route_or_more names in_route line w ws None None = route_part names line (w ∷ ws)
 route_or_more names in_route line w ws None (Some reason) = left_out line [] reason
 route_or_more names true line w ws (Some reason) more = no_parts
@@ -67,12 +68,12 @@ route_or_more names false line w ws (Some reason) more = left_out line w reason
 
 -- ---- lines
 
-abbrev pub part_by : TableNames → Bool → Numbered → Word → List Word → Option Word → Option Reason → Parts
+abbrev pub part_by : KnownNames → Bool → Numbered → Word → List Word → Option Word → Option Reason → Parts
 part_by names in_route line w ws (Some priority) more = rule_part names line priority ws
 part_by names in_route line w ws None more = route_or_more names in_route line w ws (continuation_of w) more
 
 -- what a line with these words adds, after a route or one of its further lines, or not so
-abbrev pub line_part : TableNames → Bool → Numbered → List Word → Option Reason → Parts
+abbrev pub line_part : KnownNames → Bool → Numbered → List Word → Option Reason → Parts
 line_part names in_route line [] more = no_parts
 line_part names in_route line (w ∷ ws) more = part_by names in_route line w ws (priority_of w) more
 
@@ -86,7 +87,7 @@ is_route [] = false
 is_route (w ∷ ws) = if is_some (priority_of w) then false else true
 
 -- what the lines add, from this number on
-abbrev pub parts_of : TableNames → Bool → ℕ → List (List ℕ) → Parts
+abbrev pub parts_of : KnownNames → Bool → ℕ → List (List ℕ) → Parts
 parts_of names in_route number [] = no_parts
 parts_of names in_route number (line ∷ lines) =
     line_part names in_route (record { number = number; content = line }) (words line) (continuation lines)
@@ -101,5 +102,9 @@ head true = codes "rule flush\nrule del priority 0\n"
 head false = []
 
 -- rules, then routes without a gateway, then those with one, each in order
+abbrev pub commands_of : Bool → Parts → List ℕ
+commands_of any parts = head any ++ parts.rules ++ parts.direct ++ parts.through
+
+-- comments that say what is left out stand before them
 abbrev pub script_of : Bool → Parts → List ℕ
-script_of any parts = head any ++ parts.rules ++ parts.direct ++ parts.through
+script_of any parts = comments parts.left ++ head any ++ parts.rules ++ parts.direct ++ parts.through

@@ -1,15 +1,14 @@
 -- What is told of lines.
-use Rattle.std.specs.Prelude.{ℕ, Bool, false, ◌||◌, ◌&&◌, List, [], ◌∷◌, ◌++◌, take, Option, Some, None, Result, Ok, Err, bytes_eq, codes}
+use Rattle.std.specs.Prelude.{ℕ, Bool, true, false, ◌||◌, ◌&&◌, List, [], ◌∷◌, ◌++◌, take, Option, Some, None, Result, Ok, Err, bytes_eq, codes}
 use Rattle.prt_addr.specs.Word.{Word}
 use Rattle.prt_command.specs.Lines.{longest_line}
 use Rattle.prt_import.specs.Known.{meaning_of}
 use Rattle.prt_import.specs.Steps.{step_of}
-use Rattle.prt_import.specs.TableNames.{TableNames}
+use Rattle.prt_import.specs.TableNames.{KnownNames}
 use Rattle.prt_import.specs.declared.known.Meaning.{Meaning}
 use Rattle.prt_import.specs.declared.known.Meaning.TheVariants.{Before, Told}
 use Rattle.prt_import.specs.declared.known.Object.{Object}
 use Rattle.prt_import.specs.declared.known.Role.TheVariants as roles
-use Rattle.prt_import.specs.declared.known.Object.TheVariants.{Route}
 use Rattle.prt_import.specs.declared.left.Left.{Left}
 use Rattle.prt_import.specs.declared.left.Source.{Source}
 use Rattle.prt_import.specs.declared.reason.Reason.{Reason}
@@ -43,6 +42,11 @@ remark line w reason = record { line = line.number; word = first_bytes w; reason
 abbrev pub remark_of : Left → Remark
 remark_of left = record { line = left.line; word = left.word.items; reason = left.reason; text = left.text.items }
 
+-- the route is one that the kernel makes itself
+abbrev pub is_kernel_made : Reason → Bool
+is_kernel_made reasons.Kernel = true
+is_kernel_made reason = false
+
 -- ---- the word for which a line is left out
 
 abbrev pub or_this : Word → Result Step Reason → (Step → Word) → Word
@@ -50,20 +54,21 @@ or_this w (Err reason) next = w
 or_this w (Ok step) next = next step
 
 -- the first one that has no place in a line, if there is one
-abbrev pub fault_word : TableNames → Object → Place → List Word → Word
+abbrev pub fault_word : KnownNames → Object → Place → List Word → Word
 fault_word names object place [] = []
 fault_word names object place (w ∷ ws) = or_this w (step_of names object place w) (λ step. fault_word names object step.next ws)
 
 -- ---- what is left out of a line that is kept
 
 abbrev pub note_by : Place → Option Meaning → Option Reason
+note_by Item (Some (Before roles.RuleProtocol)) = Some reasons.RuleProtocol
 note_by Item (Some (Told reason)) = Some reason
 note_by Item (Some (Before roles.Metric)) = Some reasons.Metric
 note_by place meaning = None
 
--- why a word of a route's line is left off, where that is told
-abbrev pub note_of : Place → Word → Option Reason
-note_of place w = note_by place (meaning_of Route w)
+-- why a word is left off, where that is told
+abbrev pub note_of : Object → Place → Word → Option Reason
+note_of object place w = note_by place (meaning_of object w)
 
 abbrev pub noted : Numbered → Word → Option Reason → List Remark
 noted line w None = []
@@ -73,10 +78,10 @@ abbrev pub then_notes : List Remark → Result Step Reason → (Step → List Re
 then_notes first (Err reason) next = []
 then_notes first (Ok step) next = first ++ next step
 
--- what is told of the words from this place of a route's line on
-abbrev pub notes_of : TableNames → Numbered → Place → List Word → List Remark
-notes_of names line place [] = []
-notes_of names line place (w ∷ ws) = then_notes (noted line w (note_of place w)) (step_of names Route place w) (λ step. notes_of names line step.next ws)
+-- what is told of the words from this place of a line on
+abbrev pub notes_of : KnownNames → Object → Numbered → Place → List Word → List Remark
+notes_of names object line place [] = []
+notes_of names object line place (w ∷ ws) = then_notes (noted line w (note_of object place w)) (step_of names object place w) (λ step. notes_of names object line step.next ws)
 
 -- ---- routes that the kernel makes: with its protocol
 

@@ -2,13 +2,13 @@
 use Rattle.std.specs.Prelude.{◌≡◌, ℕ, Bool, false, ◌||◌, List, [], ◌∷◌, ◌++◌, Result, Ok, codes, decimal}
 use Rattle.prt_addr.specs.Word.{Word}
 use Rattle.prt_import.specs.Steps.{step_of}
-use Rattle.prt_import.specs.TableNames.{TableNames}
+use Rattle.prt_import.specs.TableNames.{KnownNames}
 use Rattle.prt_import.specs.Then.{◌>>=◌, map_ok}
 use Rattle.prt_import.specs.declared.known.Object.{Object}
 use Rattle.prt_import.specs.declared.reason.Reason.{Reason}
 use Rattle.prt_import.specs.declared.step.Place.{Place}
 use Rattle.prt_import.specs.declared.step.Written.{Written}
-use Rattle.prt_import.specs.declared.step.Written.TheVariants.{Nothing, Same, Number}
+use Rattle.prt_import.specs.declared.step.Written.TheVariants.{Nothing, Same, WithMask, Number}
 
 -- What is written for words, and whether the scope of a route goes without saying after them.
 pub record Translated : Type 0 where
@@ -22,6 +22,7 @@ nothing = record { text = []; is_scope_settled = false }
 abbrev pub written_text : Written → Word → List ℕ
 written_text Nothing w = []
 written_text Same w = codes " " ++ w
+written_text WithMask w = codes " " ++ w ++ codes "/0xffffffff"
 written_text (Number n) w = codes " " ++ decimal n
 
 -- more that is written after this
@@ -29,7 +30,7 @@ abbrev pub with_front : List ℕ → Bool → Translated → Translated
 with_front text is_settled more = record { text = text ++ more.text; is_scope_settled = is_settled || more.is_scope_settled }
 
 -- what is written for the words from this place of a line on, or why the line is left out
-abbrev pub translated : TableNames → Object → Place → List Word → Result Translated Reason
+abbrev pub translated : KnownNames → Object → Place → List Word → Result Translated Reason
 translated names object place [] = Ok nothing
 translated names object place (w ∷ ws) =
     step_of names object place w >>= λ step.

@@ -4,18 +4,19 @@ ghost use Rattle.prt_addr.specs.Word.{Word};
 ghost use Rattle.prt_command.specs.Reading.{words};
 ghost use Rattle.prt_import.specs.Lines.{lines_of};
 ghost use Rattle.prt_import.specs.NewLines.{continuation, continuation_of};
-ghost use Rattle.prt_import.specs.Script.{added_part, head, left_out, left_route, no_parts, route_by, route_or_more, route_part, rule_part};
+ghost use Rattle.prt_import.specs.Script.{added_part, head, left_out, left_route, no_parts, route_by, route_or_more, route_part, rule_by, rule_part};
 ghost use Rattle.prt_import.specs.Draft.{Adds, Takes, parts_in};
 ghost use Rattle.prt_import.specs.Imported.{IsImported};
-ghost use Rattle.prt_import.specs.TableNames.{names_of};
+ghost use Rattle.prt_import.specs.TableNames.{known_names};
 ghost use Rattle.prt_import.specs.Told.{numbered};
 
+use crate::comments::push_comments;
 use crate::fault::Fault;
 use crate::imported::Imported;
 use crate::known::Object;
 use crate::left::{Left, Source};
 use crate::lines::next_line;
-use crate::names::Names;
+use crate::names::HostNames;
 use crate::reason::Reason;
 use crate::route::{RouteLine, continuation_of, route_line};
 use crate::rule::{priority_of, rule_line};
@@ -99,18 +100,41 @@ impl Draft {
         Ok(())
     }
 
+    /// Adds a rule by its line, and tells what is left out of these items.
+    fn add_rule(
+        &mut self,
+        names: &HostNames,
+        source: Source<'_>,
+        items: &[u8],
+        added: &[u8],
+    ) -> Result<(), AllocError>
+        ensures { OnOk result (Adds self.old self.new (rule_by (known_names names.now) (numbered source.entry) (words items.now) (Ok added.now))) }
+    {
+        push_line(&mut self.rules, added)?;
+        let notes = &mut self.notes;
+        push_notes(
+            self.alloc,
+            notes,
+            source,
+            names,
+            Object::Rule,
+            Place::Item,
+            items,
+        )
+    }
+
     /// Takes a rule's line: its priority and its items.
     fn take_rule(
         &mut self,
-        names: &Names,
+        names: &HostNames,
         source: Source<'_>,
         priority: &[u8],
         items: &[u8],
     ) -> Result<(), AllocError>
-        ensures { OnOk result (Adds self.old self.new (rule_part (names_of names.now) (numbered source.entry) priority.now (words items.now))) }
+        ensures { OnOk result (Adds self.old self.new (rule_part (known_names names.now) (numbered source.entry) priority.now (words items.now))) }
     {
         match rule_line(self.alloc, names, priority, items) {
-            Ok(added) => push_line(&mut self.rules, &added),
+            Ok(added) => self.add_rule(names, source, items, &added),
             Err(Fault::Left(reason)) => {
                 let word = word_at_fault(names, Object::Rule, Place::Item, items);
                 self.leave(source, word, reason)
@@ -133,11 +157,11 @@ impl Draft {
     /// Tells of a route's line that is left out for this reason, or since the kernel makes the route.
     fn leave_route(
         &mut self,
-        names: &Names,
+        names: &HostNames,
         source: Source<'_>,
         reason: Reason,
     ) -> Result<(), AllocError>
-        ensures { OnOk result (Adds self.old self.new (left_route (names_of names.now) (numbered source.entry) (words source.entry.line.now) reason)) }
+        ensures { OnOk result (Adds self.old self.new (left_route (known_names names.now) (numbered source.entry) (words source.entry.line.now) reason)) }
     {
         match reason {
             Reason::Type if is_kernels(source.line) => self.leave(source, b"", Reason::Kernel),
@@ -153,19 +177,29 @@ impl Draft {
     /// Adds a route, and tells what is left out of its line.
     fn add_route(
         &mut self,
-        names: &Names,
+        names: &HostNames,
         source: Source<'_>,
         added: &RouteLine,
     ) -> Result<(), AllocError>
-        ensures { OnOk result (Adds self.old self.new (route_by (names_of names.now) (numbered source.entry) (words source.entry.line.now) (Ok (record { line = added.now.line.items; has_gateway = added.now.has_gateway })))) }
+        ensures { OnOk result (Adds self.old self.new (route_by (known_names names.now) (numbered source.entry) (words source.entry.line.now) (Ok (record { line = added.now.line.items; has_gateway = added.now.has_gateway })))) }
     {
         self.push_route(added)?;
-        push_notes(self.alloc, &mut self.notes, source, names)
+        let notes = &mut self.notes;
+        let text = source.line;
+        push_notes(
+            self.alloc,
+            notes,
+            source,
+            names,
+            Object::Route,
+            Place::Destination,
+            text,
+        )
     }
 
     /// Takes a route's line, with which no other goes on.
-    fn take_route(&mut self, names: &Names, source: Source<'_>) -> Result<(), AllocError>
-        ensures { OnOk result (Adds self.old self.new (route_part (names_of names.now) (numbered source.entry) (words source.entry.line.now))) }
+    fn take_route(&mut self, names: &HostNames, source: Source<'_>) -> Result<(), AllocError>
+        ensures { OnOk result (Adds self.old self.new (route_part (known_names names.now) (numbered source.entry) (words source.entry.line.now))) }
     {
         match route_line(self.alloc, names, source.line) {
             Ok(added) => self.add_route(names, source, &added),
@@ -178,13 +212,13 @@ impl Draft {
     /// that goes on with the route before it.
     fn take_route_or_more(
         &mut self,
-        names: &Names,
+        names: &HostNames,
         source: Source<'_>,
         word: &[u8],
         after: &[u8],
     ) -> Result<(), AllocError>
         ensures { (items : List Word) → words source.entry.line.now ≡ word.now ∷ items →
-            OnOk result (Adds self.old self.new (route_or_more (names_of names.now) self.old.is_in_route (numbered source.entry) word.now items (continuation_of word.now) (continuation (lines_of after.now)))) }
+            OnOk result (Adds self.old self.new (route_or_more (known_names names.now) self.old.is_in_route (numbered source.entry) word.now items (continuation_of word.now) (continuation (lines_of after.now)))) }
     {
         match (continuation_of(word), continuation(after)) {
             (None, None) => self.take_route(names, source),
@@ -201,11 +235,11 @@ impl Draft {
     /// Memory is refused.
     pub(crate) fn take(
         &mut self,
-        names: &Names,
+        names: &HostNames,
         source: Source<'_>,
         after: &[u8],
     ) -> Result<(), AllocError>
-        ensures { OnOk result (Takes self.old self.new (names_of names.now) (numbered source.entry) (words source.entry.line.now) (continuation (lines_of after.now))) }
+        ensures { OnOk result (Takes self.old self.new (known_names names.now) (numbered source.entry) (words source.entry.line.now) (continuation (lines_of after.now))) }
     {
         let Some((word, items)) = next_word(source.line) else {
             self.is_in_route = false;
@@ -230,6 +264,7 @@ impl Draft {
         ensures { IfOk result (λ imported. IsImported imported self.has_rules (parts_in self)) }
     {
         let mut script = Vec::new(self.alloc);
+        push_comments(&mut script, self.alloc, &self.left)?;
         push_head(&mut script, self.has_rules)?;
         script.extend_from_slice(&self.rules)?;
         script.extend_from_slice(&self.direct)?;

@@ -19,6 +19,8 @@ pub enum Object {
 pub enum Role {
     /// What means the same here.
     Same,
+    /// A mark, with or without its mask.
+    Mark,
     /// An address or a prefix.
     Address,
     /// The address of a gateway.
@@ -29,8 +31,8 @@ pub enum Role {
     Protocol,
     /// A scope.
     Scope,
-    /// What is left off with its word.
-    LeftOff,
+    /// A routing protocol of a rule, which is left off with its word.
+    RuleProtocol,
     /// What is left off with its word; `lock` may stand before it.
     Metric,
 }
@@ -42,7 +44,7 @@ pub enum Meaning {
     Alone,
     /// That a value follows.
     Before(Role),
-    /// A state of an interface or of a device, which is left off.
+    /// A state of a device, which is left off.
     State,
     /// Something that is left off, and is told.
     Told(Reason),
@@ -62,9 +64,9 @@ const ROUTE_WORDS: [Known; 45] = [
     ("scope", Meaning::Before(Role::Scope)),
     ("src", Meaning::Before(Role::Address)),
     ("metric", Meaning::Before(Role::Same)),
-    ("onlink", Meaning::Told(Reason::OnLink)),
-    ("dead", Meaning::State),
-    ("linkdown", Meaning::State),
+    ("onlink", Meaning::Out(Reason::OnLink)),
+    ("dead", Meaning::Out(Reason::Dead)),
+    ("linkdown", Meaning::Told(Reason::LinkDown)),
     ("pervasive", Meaning::State),
     ("offload", Meaning::State),
     ("trap", Meaning::State),
@@ -107,14 +109,14 @@ const RULE_WORDS: [Known; 32] = [
     ("not", Meaning::Alone),
     ("from", Meaning::Before(Role::Address)),
     ("to", Meaning::Before(Role::Address)),
-    ("fwmark", Meaning::Before(Role::Same)),
+    ("fwmark", Meaning::Before(Role::Mark)),
     ("iif", Meaning::Before(Role::Same)),
     ("lookup", Meaning::Before(Role::Table)),
     ("suppress_prefixlength", Meaning::Before(Role::Same)),
     ("blackhole", Meaning::Alone),
     ("unreachable", Meaning::Alone),
     ("prohibit", Meaning::Alone),
-    ("proto", Meaning::Before(Role::LeftOff)),
+    ("proto", Meaning::Before(Role::RuleProtocol)),
     ("[detached]", Meaning::State),
     ("tos", Meaning::Out(Reason::Selector)),
     ("dsfield", Meaning::Out(Reason::Selector)),

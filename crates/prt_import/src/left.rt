@@ -1,6 +1,6 @@
 //! What is told of a line.
 ghost use Rattle.std.specs.Prelude.{◌≡◌, IfOk};
-ghost use Rattle.prt_import.specs.Told.{first_bytes, numbered, remark, remark_of};
+ghost use Rattle.prt_import.specs.Told.{first_bytes, is_kernel_made, numbered, remark, remark_of};
 
 use crate::reason::Reason;
 use prt_command::LONGEST_LINE;
@@ -32,6 +32,13 @@ pub(crate) struct Source<'a> {
 }
 
 impl Left {
+    /// Tells whether it is about a route that the kernel makes itself.
+    pub(crate) fn is_kernel_made(&self) -> bool
+        ensures { result ≡ is_kernel_made self.now.reason }
+    {
+        matches!(self.reason, Reason::Kernel)
+    }
+
     /// Copies what is told of a line.
     pub(crate) fn new(
         alloc: Global,

@@ -1,23 +1,24 @@
-//! Names of tables.
+//! Names of tables and of routing protocols.
 ghost use Rattle.std.specs.Prelude.{◌≡◌, [], ◌∷◌, ◌++◌, MatchOption, OnOk, option_map};
 ghost use Rattle.prt_command.specs.Reading.{line_words};
 ghost use Rattle.prt_route.specs.Names.{number_in};
 ghost use Rattle.prt_import.specs.Naming.{last_name};
-ghost use Rattle.prt_import.specs.TableNames.{entry_of, file_names, names_of};
+ghost use Rattle.prt_import.specs.TableNames.{entry_of, file_names, known_names, names_of};
 
 use crate::lines::next_line;
 use prt_addr::read_number;
 use prt_command::{is, line_text, next_word};
 use std::alloc::{AllocError, Global};
 
-/// A name and the number of its table.
+/// A name and its number.
 #[derive(Drop)]
 struct Named {
     name: Vec<u8>,
     number: u32,
 }
 
-/// Names of tables, as `/etc/iproute2/rt_tables` and the files of `rt_tables.d` give them.
+/// Names of tables, or of routing protocols, as files of iproute2 give them: `rt_tables` and `rt_protos`, and those of
+/// `rt_tables.d` and `rt_protos.d`.
 #[derive(Drop)]
 pub struct Names {
     entries: Vec<Named>,
@@ -80,7 +81,7 @@ impl Names {
         Ok(())
     }
 
-    /// Finds the number of the table with this name, the first of them if there are several.
+    /// Finds the number with this name, the first of them if there are several.
     pub fn find(&self, name: &[u8]) -> Option<u32>
         ensures { result ≡ number_in (names_of self.now) name.now }
     {
@@ -92,7 +93,7 @@ impl Names {
         None
     }
 
-    /// Finds the name of the table with this number, the last of them if there are several.
+    /// Finds the name of this number, the last of them if there are several.
     pub(crate) fn last(&self, number: u32) -> Option<&[u8]>
         ensures { option_map (λ name. name.now) result ≡ last_name (names_of self.now) number }
     {
@@ -103,5 +104,26 @@ impl Names {
             }
         }
         last
+    }
+}
+
+/// The names that a host has.
+#[derive(Drop)]
+pub struct HostNames {
+    /// Those of tables.
+    pub tables: Names,
+    /// Those of routing protocols. What is named here counts before the names that every host has.
+    pub protocols: Names,
+}
+
+impl HostNames {
+    /// Begins with no names.
+    pub fn new(alloc: Global) -> HostNames
+        ensures { known_names result ≡ record { tables = []; protocols = [] } }
+    {
+        HostNames {
+            tables: Names::new(alloc),
+            protocols: Names::new(alloc),
+        }
     }
 }

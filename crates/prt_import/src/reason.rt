@@ -1,4 +1,7 @@
 //! Why a line of a listing is left out, or something of it.
+ghost use Rattle.std.specs.Prelude.{◌≡◌};
+ghost use Rattle.prt_import.specs.Comments.{reason_words};
+
 use prt_command::Refusal;
 use std::fmt;
 
@@ -37,15 +40,23 @@ pub enum Reason {
     Json,
     /// The line of the script would be refused so.
     Refused(Refusal),
-    /// Kept without it: whether the gateway is on the link is not asked here.
+    /// The gateway need not be on the link, which no line here can say: the kernel would refuse the route without it.
     OnLink,
+    /// The interface is down, or has no carrier and its routes are to be ignored: the kernel passes over the route.
+    Dead,
+    /// Kept without it: the interface has no carrier, and the kernel takes the route all the same.
+    LinkDown,
+    /// Kept without it: rules have no protocol here.
+    RuleProtocol,
     /// Kept without it: it does not change which route a packet gets.
     Metric,
 }
 
 impl Reason {
     /// Says it in a few words.
-    fn words(&self) -> &'static str {
+    pub(crate) fn words(&self) -> &'static str
+        ensures { result.now ≡ reason_words self.now }
+    {
         match self {
             Reason::Kernel => "the kernel makes it itself",
             Reason::Type => "no such type of routes",
@@ -63,7 +74,9 @@ impl Reason {
             Reason::Comment => "'#' would begin a comment",
             Reason::Json => "JSON is not read",
             Reason::Refused(refusal) => refusal.name(),
-            Reason::OnLink | Reason::Metric => "kept without it",
+            Reason::OnLink => "a gateway that need not be on the link",
+            Reason::Dead => "the kernel passes over it",
+            Reason::LinkDown | Reason::RuleProtocol | Reason::Metric => "kept without it",
         }
     }
 }

@@ -3,11 +3,11 @@ ghost use Rattle.std.specs.Prelude.{◌≡◌, ◌++◌, IfErr, IfOk, Ok, OnOk};
 ghost use Rattle.prt_command.specs.Reading.{reading, words};
 ghost use Rattle.prt_import.specs.Fault.{IsWhy};
 ghost use Rattle.prt_import.specs.NewLines.{added_route, checked, continuation_of, route_line, route_text, scope_text};
-ghost use Rattle.prt_import.specs.TableNames.{names_of};
+ghost use Rattle.prt_import.specs.TableNames.{known_names};
 
 use crate::fault::Fault;
 use crate::known::Object;
-use crate::names::Names;
+use crate::names::HostNames;
 use crate::reason::Reason;
 use crate::step::Place;
 use crate::translate::push_words;
@@ -66,9 +66,9 @@ fn push_scope(out: &mut Vec<u8>, is_settled: bool) -> Result<(), AllocError>
 }
 
 /// Puts together the line that adds a route with the words of this text.
-fn route_text(alloc: Global, names: &Names, text: &[u8]) -> Result<Vec<u8>, Fault>
-    ensures ok { IfOk result (λ line. route_text (names_of names.now) (words text.now) ≡ Ok line.items) }
-    ensures err { IfErr result (λ fault. IsWhy (route_text (names_of names.now) (words text.now)) fault) }
+fn route_text(alloc: Global, names: &HostNames, text: &[u8]) -> Result<Vec<u8>, Fault>
+    ensures ok { IfOk result (λ line. route_text (known_names names.now) (words text.now) ≡ Ok line.items) }
+    ensures err { IfErr result (λ fault. IsWhy (route_text (known_names names.now) (words text.now)) fault) }
 {
     let mut line = Vec::new(alloc);
     push_text(&mut line, "route add")?;
@@ -89,9 +89,9 @@ pub(crate) struct RouteLine {
 /// # Errors
 ///
 /// `Left` where there is no such line, `NoMemory` where memory is refused.
-pub(crate) fn route_line(alloc: Global, names: &Names, text: &[u8]) -> Result<RouteLine, Fault>
-    ensures ok { IfOk result (λ made. route_line (names_of names.now) (words text.now) ≡ Ok (record { line = made.line.items; has_gateway = made.has_gateway })) }
-    ensures err { IfErr result (λ fault. IsWhy (route_line (names_of names.now) (words text.now)) fault) }
+pub(crate) fn route_line(alloc: Global, names: &HostNames, text: &[u8]) -> Result<RouteLine, Fault>
+    ensures ok { IfOk result (λ made. route_line (known_names names.now) (words text.now) ≡ Ok (record { line = made.line.items; has_gateway = made.has_gateway })) }
+    ensures err { IfErr result (λ fault. IsWhy (route_line (known_names names.now) (words text.now)) fault) }
 {
     let line = route_text(alloc, names, text)?;
     let route = checked_route(&line)?;

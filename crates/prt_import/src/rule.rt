@@ -5,11 +5,11 @@ ghost use Rattle.std.specs.List.{list_all};
 ghost use Rattle.prt_command.specs.Reading.{reading, words};
 ghost use Rattle.prt_import.specs.Fault.{IsWhy};
 ghost use Rattle.prt_import.specs.NewLines.{added_rule, checked, priority_of, rule_line, rule_text};
-ghost use Rattle.prt_import.specs.TableNames.{names_of};
+ghost use Rattle.prt_import.specs.TableNames.{known_names};
 
 use crate::fault::Fault;
 use crate::known::Object;
-use crate::names::Names;
+use crate::names::HostNames;
 use crate::reason::Reason;
 use crate::step::Place;
 use crate::translate::push_words;
@@ -25,7 +25,7 @@ fn first_colon(word: &[u8]) -> Option<usize>
 }
 
 /// Tells whether each byte is a digit.
-fn are_digits(word: &[u8]) -> bool
+pub(crate) fn are_digits(word: &[u8]) -> bool
     ensures { result ≡ list_all is_ascii_digit word.now }
 {
     word.iter().all(|byte| byte.is_ascii_digit())
@@ -69,9 +69,14 @@ fn checked_rule(line: &[u8]) -> Result<NewRule, Reason>
 }
 
 /// Puts together the line that adds a rule of this priority with these items.
-fn rule_text(alloc: Global, names: &Names, priority: &[u8], items: &[u8]) -> Result<Vec<u8>, Fault>
-    ensures ok { IfOk result (λ line. rule_text (names_of names.now) priority.now (words items.now) ≡ Ok line.items) }
-    ensures err { IfErr result (λ fault. IsWhy (rule_text (names_of names.now) priority.now (words items.now)) fault) }
+fn rule_text(
+    alloc: Global,
+    names: &HostNames,
+    priority: &[u8],
+    items: &[u8],
+) -> Result<Vec<u8>, Fault>
+    ensures ok { IfOk result (λ line. rule_text (known_names names.now) priority.now (words items.now) ≡ Ok line.items) }
+    ensures err { IfErr result (λ fault. IsWhy (rule_text (known_names names.now) priority.now (words items.now)) fault) }
 {
     let mut line = Vec::new(alloc);
     push_text(&mut line, "rule add priority ")?;
@@ -87,12 +92,12 @@ fn rule_text(alloc: Global, names: &Names, priority: &[u8], items: &[u8]) -> Res
 /// `Left` where there is no such line, `NoMemory` where memory is refused.
 pub(crate) fn rule_line(
     alloc: Global,
-    names: &Names,
+    names: &HostNames,
     priority: &[u8],
     items: &[u8],
 ) -> Result<Vec<u8>, Fault>
-    ensures ok { IfOk result (λ line. rule_line (names_of names.now) priority.now (words items.now) ≡ Ok line.items) }
-    ensures err { IfErr result (λ fault. IsWhy (rule_line (names_of names.now) priority.now (words items.now)) fault) }
+    ensures ok { IfOk result (λ line. rule_line (known_names names.now) priority.now (words items.now) ≡ Ok line.items) }
+    ensures err { IfErr result (λ fault. IsWhy (rule_line (known_names names.now) priority.now (words items.now)) fault) }
 {
     let line = rule_text(alloc, names, priority, items)?;
     match checked_rule(&line) {

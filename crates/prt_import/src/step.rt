@@ -2,12 +2,13 @@
 ghost use Rattle.std.specs.Prelude.{◌≡◌, map};
 ghost use Rattle.prt_addr.specs.Word.{is_one_of};
 ghost use Rattle.prt_route.specs.Names.{number_in};
-ghost use Rattle.prt_import.specs.Steps.{address_value, before, destination_step, dropping_types, ends_item, is_json, is_kept, is_other_family, item_step, other_protocols, other_types, protocol_value, settles_scope, step_of, table_value, value_step};
-ghost use Rattle.prt_import.specs.TableNames.{names_of};
+ghost use Rattle.prt_import.specs.Steps.{address_value, before, destination_step, dropping_types, ends_item, is_json, is_kept, is_other_family, item_step, mark_value, other_protocols, other_types, protocol_value, settles_scope, step_of, table_value, value_step};
+ghost use Rattle.prt_import.specs.TableNames.{known_names};
 
 use crate::known::{Meaning, Object, Role, meaning_of};
-use crate::names::Names;
+use crate::names::HostNames;
 use crate::reason::Reason;
+use prt_addr::read_number;
 use prt_command::is;
 use prt_route::{read_protocol, read_table};
 
@@ -28,6 +29,8 @@ pub enum Written {
     Nothing,
     /// The word itself.
     Same,
+    /// The word, and the mask of all bits.
+    WithMask,
     /// This number in its place.
     Number(u32),
 }
@@ -62,7 +65,7 @@ impl Role {
     fn is_kept(self) -> bool
         ensures { result ≡ is_kept self }
     {
-        !matches!(self, Role::LeftOff | Role::Metric)
+        !matches!(self, Role::RuleProtocol | Role::Metric)
     }
 }
 
@@ -117,10 +120,10 @@ fn other_protocol(word: &[u8]) -> Option<u32>
 }
 
 /// Takes a table: by the names of the host, and else as a line would say it.
-fn table_value(names: &Names, word: &[u8]) -> Result<Written, Reason>
-    ensures { result ≡ table_value (names_of names.now) word.now }
+fn table_value(names: &HostNames, word: &[u8]) -> Result<Written, Reason>
+    ensures { result ≡ table_value (known_names names.now) word.now }
 {
-    match (names.find(word), read_table(word)) {
+    match (names.tables.find(word), read_table(word)) {
         (Some(number), Ok(same)) if same == number => Ok(Written::Same),
         (Some(number), _) => Ok(Written::Number(number)),
         (None, Ok(_)) => Ok(Written::Same),
@@ -129,14 +132,28 @@ fn table_value(names: &Names, word: &[u8]) -> Result<Written, Reason>
     }
 }
 
-/// Takes a routing protocol.
-fn protocol_value(word: &[u8]) -> Result<Written, Reason>
-    ensures { result ≡ protocol_value word.now }
+/// Takes a routing protocol: by the names of the host, and else as a line would say it.
+fn protocol_value(names: &HostNames, word: &[u8]) -> Result<Written, Reason>
+    ensures { result ≡ protocol_value (known_names names.now) word.now }
 {
-    match (read_protocol(word), other_protocol(word)) {
-        (Ok(_), _) => Ok(Written::Same),
-        (Err(_), Some(number)) => Ok(Written::Number(number)),
-        (Err(_), None) => Err(Reason::UnknownProtocol),
+    match (names.protocols.find(word), read_protocol(word)) {
+        (Some(number), Ok(same)) if u32::from(same) == number => Ok(Written::Same),
+        (Some(number), _) => Ok(Written::Number(number)),
+        (None, Ok(_)) => Ok(Written::Same),
+        (None, Err(_)) => match other_protocol(word) {
+            Some(number) => Ok(Written::Number(number)),
+            None => Err(Reason::UnknownProtocol),
+        },
+    }
+}
+
+/// Takes a mark. Where `ip` prints 0 alone, each bit of a mark has to be 0; read again, it would say nothing of marks.
+fn mark_value(word: &[u8]) -> Written
+    ensures { result ≡ mark_value word.now }
+{
+    match read_number(word) {
+        Ok(0) => Written::WithMask,
+        _ => Written::Same,
     }
 }
 
@@ -158,17 +175,18 @@ fn address_value(word: &[u8]) -> Result<Written, Reason>
 }
 
 /// Takes the value of an item.
-fn value_step(names: &Names, role: Role, word: &[u8]) -> Result<Step, Reason>
-    ensures { result ≡ value_step (names_of names.now) role word.now }
+fn value_step(names: &HostNames, role: Role, word: &[u8]) -> Result<Step, Reason>
+    ensures { result ≡ value_step (known_names names.now) role word.now }
 {
     match role {
         Role::Same => Ok(Written::Same.ends_item()),
+        Role::Mark => Ok(mark_value(word).ends_item()),
         Role::Address => Ok(address_value(word)?.ends_item()),
         Role::Gateway => Ok(address_value(word)?.settles_scope(Place::Item)),
         Role::Table => Ok(table_value(names, word)?.ends_item()),
-        Role::Protocol => Ok(protocol_value(word)?.ends_item()),
+        Role::Protocol => Ok(protocol_value(names, word)?.ends_item()),
         Role::Scope => Ok(Written::Same.settles_scope(Place::Item)),
-        Role::LeftOff => Ok(Written::Nothing.ends_item()),
+        Role::RuleProtocol => Ok(Written::Nothing.ends_item()),
         Role::Metric if is(word, b"lock") => {
             Ok(Written::Nothing.before(Place::Value(Role::Metric)))
         }
@@ -193,7 +211,7 @@ fn item_step(object: Object, word: &[u8]) -> Result<Step, Reason>
 }
 
 /// Tells whether the word is a type of routes that drop their packets.
-fn is_dropping_type(word: &[u8]) -> bool
+pub(crate) fn is_dropping_type(word: &[u8]) -> bool
     ensures { result ≡ is_one_of word.now dropping_types }
 {
     is(word, b"blackhole")
@@ -203,7 +221,7 @@ fn is_dropping_type(word: &[u8]) -> bool
 }
 
 /// Tells whether the word is a type of routes that there is not here.
-fn is_other_type(word: &[u8]) -> bool
+pub(crate) fn is_other_type(word: &[u8]) -> bool
     ensures { result ≡ is_one_of word.now other_types }
 {
     is(word, b"local")
@@ -243,12 +261,12 @@ fn destination_step(word: &[u8]) -> Result<Step, Reason>
 
 /// Tells what becomes of a word at this place of a line, or why the line has to be left out.
 pub(crate) fn step_of(
-    names: &Names,
+    names: &HostNames,
     object: Object,
     place: Place,
     word: &[u8],
 ) -> Result<Step, Reason>
-    ensures { result ≡ step_of (names_of names.now) object place word.now }
+    ensures { result ≡ step_of (known_names names.now) object place word.now }
 {
     match place {
         Place::Destination => destination_step(word),

@@ -1,13 +1,12 @@
 //! What is told of the words of a line.
 ghost use Rattle.std.specs.Prelude.{◌≡◌, ◌++◌, OnOk, map};
 ghost use Rattle.prt_command.specs.Reading.{words};
-ghost use Rattle.prt_import.specs.TableNames.{names_of};
-ghost use Rattle.prt_import.specs.declared.step.Place.TheVariants.{Destination};
+ghost use Rattle.prt_import.specs.TableNames.{known_names};
 ghost use Rattle.prt_import.specs.Told.{fault_word, is_kernels, is_kernels_value, note_of, noted, notes_of, numbered, remark_of};
 
 use crate::known::{Meaning, Object, Role, meaning_of};
 use crate::left::{Left, Source};
-use crate::names::Names;
+use crate::names::HostNames;
 use crate::reason::Reason;
 use crate::step::{Place, step_of};
 use prt_command::{is, next_word};
@@ -16,12 +15,12 @@ use std::alloc::{AllocError, Global};
 /// Finds the word for which a line has to be left out, in a text that begins at this place of the line; an empty word where
 /// there is none.
 pub(crate) fn word_at_fault<'a>(
-    names: &Names,
+    names: &HostNames,
     object: Object,
     place: Place,
     text: &'a [u8],
 ) -> &'a [u8]
-    ensures { result.now ≡ fault_word (names_of names.now) object place (words text.now) }
+    ensures { result.now ≡ fault_word (known_names names.now) object place (words text.now) }
 {
     let mut place = place;
     let mut rest = text;
@@ -35,28 +34,30 @@ pub(crate) fn word_at_fault<'a>(
     &text[..0]
 }
 
-/// Tells why a word of a route's line is left off, where that is told.
-fn note_of(place: Place, word: &[u8]) -> Option<Reason>
-    ensures { result ≡ note_of place word.now }
+/// Tells why a word is left off, where that is told.
+fn note_of(object: Object, place: Place, word: &[u8]) -> Option<Reason>
+    ensures { result ≡ note_of object place word.now }
 {
-    match (place, meaning_of(Object::Route, word)) {
+    match (place, meaning_of(object, word)) {
         (Place::Item, Some(Meaning::Told(reason))) => Some(reason),
+        (Place::Item, Some(Meaning::Before(Role::RuleProtocol))) => Some(Reason::RuleProtocol),
         (Place::Item, Some(Meaning::Before(Role::Metric))) => Some(Reason::Metric),
         _ => None,
     }
 }
 
-/// Tells of a word of a route's line, if it is one that is told.
+/// Tells of a word of a line, if it is one that is told.
 fn push_note(
     alloc: Global,
     notes: &mut Vec<Left>,
     source: Source<'_>,
+    object: Object,
     place: Place,
     word: &[u8],
 ) -> Result<(), AllocError>
-    ensures { OnOk result (map remark_of notes.new.items ≡ map remark_of notes.old.items ++ noted (numbered source.entry) word.now (note_of place word.now)) }
+    ensures { OnOk result (map remark_of notes.new.items ≡ map remark_of notes.old.items ++ noted (numbered source.entry) word.now (note_of object place word.now)) }
 {
-    match note_of(place, word) {
+    match note_of(object, place, word) {
         Some(reason) => {
             notes.push(Left::new(alloc, source, word, reason)?)?;
             Ok(())
@@ -65,22 +66,25 @@ fn push_note(
     }
 }
 
-/// Tells of each word of a route's line that is left off.
+/// Tells of each word that is left off, in a text that begins at this place of a line.
 pub(crate) fn push_notes(
     alloc: Global,
     notes: &mut Vec<Left>,
     source: Source<'_>,
-    names: &Names,
+    names: &HostNames,
+    object: Object,
+    place: Place,
+    text: &[u8],
 ) -> Result<(), AllocError>
-    ensures { OnOk result (map remark_of notes.new.items ≡ map remark_of notes.old.items ++ notes_of (names_of names.now) (numbered source.entry) Destination (words source.entry.line.now)) }
+    ensures { OnOk result (map remark_of notes.new.items ≡ map remark_of notes.old.items ++ notes_of (known_names names.now) object (numbered source.entry) place (words text.now)) }
 {
-    let mut place = Place::Destination;
-    let mut rest = source.line;
+    let mut place = place;
+    let mut rest = text;
     while let Some((word, after)) = next_word(rest) {
-        let Ok(step) = step_of(names, Object::Route, place, word) else {
+        let Ok(step) = step_of(names, object, place, word) else {
             return Ok(());
         };
-        push_note(alloc, notes, source, place, word)?;
+        push_note(alloc, notes, source, object, place, word)?;
         place = step.next;
         rest = after;
     }

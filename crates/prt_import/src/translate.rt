@@ -3,11 +3,11 @@ ghost use Rattle.std.specs.Prelude.{◌≡◌, ◌++◌, IfErr, IfOk, OnOk};
 ghost use Rattle.prt_command.specs.Reading.{words};
 ghost use Rattle.prt_import.specs.Fault.{IsWhy};
 ghost use Rattle.prt_import.specs.Translation.{IsTranslated, translated, written_text};
-ghost use Rattle.prt_import.specs.TableNames.{names_of};
+ghost use Rattle.prt_import.specs.TableNames.{known_names};
 
 use crate::fault::Fault;
 use crate::known::Object;
-use crate::names::Names;
+use crate::names::HostNames;
 use crate::step::{Place, Written, step_of};
 use prt_command::next_word;
 use prt_listing::{Part, Value, push_part, push_text};
@@ -22,6 +22,11 @@ fn push_written(out: &mut Vec<u8>, written: Written, word: &[u8]) -> Result<(), 
         Written::Same => {
             push_text(out, " ")?;
             out.extend_from_slice(word)
+        }
+        Written::WithMask => {
+            push_text(out, " ")?;
+            out.extend_from_slice(word)?;
+            push_text(out, "/0xffffffff")
         }
         Written::Number(number) => {
             push_text(out, " ")?;
@@ -39,13 +44,13 @@ fn push_written(out: &mut Vec<u8>, written: Written, word: &[u8]) -> Result<(), 
 /// `out` had.
 pub(crate) fn push_words(
     out: &mut Vec<u8>,
-    names: &Names,
+    names: &HostNames,
     object: Object,
     place: Place,
     text: &[u8],
 ) -> Result<bool, Fault>
-    ensures ok { IfOk result (λ is_settled. IsTranslated out.old.items out.new.items is_settled (translated (names_of names.now) object place (words text.now))) }
-    ensures err { IfErr result (λ fault. IsWhy (translated (names_of names.now) object place (words text.now)) fault) }
+    ensures ok { IfOk result (λ is_settled. IsTranslated out.old.items out.new.items is_settled (translated (known_names names.now) object place (words text.now))) }
+    ensures err { IfErr result (λ fault. IsWhy (translated (known_names names.now) object place (words text.now)) fault) }
 {
     let mut place = place;
     let mut is_scope_settled = false;

@@ -1,5 +1,5 @@
 //! What `ip` of iproute2 6.1 printed in a network namespace, and the scripts that it becomes.
-use prt_import::{Imported, Names, import};
+use prt_import::{HostNames, Imported, Names, import};
 use std::alloc::Global;
 use std::test::Fail;
 
@@ -18,6 +18,14 @@ const TABLES: &str = "#
 0xc8 uplink # the second one
 ";
 
+/// Lines of the file that FRR puts into `/etc/iproute2/rt_protos.d`.
+const PROTOCOLS: &str = "# NOTE: This should be kept in sync with zebra/rt_netlink.h
+186     bgp
+191     nhrp
+195     pbr
+196     static
+";
+
 /// What `ip -4 rule` printed; the rule of priority 26 looked up table 200.
 const RULES: &str = "0:\tfrom all lookup local
 10:\tnot from 10.0.0.0/8 fwmark 0x7 lookup 100
@@ -27,7 +35,8 @@ const RULES: &str = "0:\tfrom all lookup local
 14:\tfrom all prohibit
 15:\tfrom all unreachable
 26:\tfrom all iif nosuch [detached] lookup uplink
-28:\tfrom all lookup 7 proto zebra
+28:\tfrom all lookup 7
+41:\tfrom all fwmark 0 lookup 7
 42:\tfrom all fwmark 0x5/0 lookup 7
 44:\tnot from 10.0.0.1 to 10.0.0.2 fwmark 0x10/0x10 iif lo lookup 4000000000 suppress_prefixlength 32
 32766:\tfrom all lookup main
@@ -46,6 +55,7 @@ rule add priority 14 from all prohibit
 rule add priority 15 from all unreachable
 rule add priority 26 from all iif nosuch lookup 200
 rule add priority 28 from all lookup 7
+rule add priority 41 from all fwmark 0/0xffffffff lookup 7
 rule add priority 42 from all fwmark 0x5/0 lookup 7
 rule add priority 44 not from 10.0.0.1 to 10.0.0.2 fwmark 0x10/0x10 iif lo lookup 4000000000 suppress_prefixlength 32
 rule add priority 32766 from all lookup main
@@ -69,7 +79,10 @@ unreachable 10.4.0.0/16 metric 5
 10.15.0.0/16 dev eth0 proto 250 scope link 
 10.16.0.0/16 dev eth0 proto zebra scope link 
 10.16.1.0/24 dev eth0 proto babel scope link 
-10.21.0.0/16 dev eth1 proto ra scope link linkdown 
+10.21.0.0/16 dev eth1 proto ra scope link 
+10.22.0.0/16 via 192.0.2.7 dev eth0 proto nhrp 
+10.23.0.0/16 via 192.0.2.7 dev eth0 proto static 
+10.25.0.0/16 via 192.0.2.7 dev eth0 proto bgp 
 10.24.0.0/16 dev eth0 
 10.77.0.2 dev eth0 proto kernel scope link src 10.77.0.1 
 default dev eth0 table uplink scope link 
@@ -94,6 +107,9 @@ route add 10.77.0.2 dev eth0 proto kernel scope link src 10.77.0.1
 route add default dev eth0 table 200 scope link
 route add default via 192.0.2.1 dev eth0 proto dhcp src 192.0.2.5 metric 100
 route add 10.6.0.0/16 via 192.0.2.7 dev eth0 scope site
+route add 10.22.0.0/16 via 192.0.2.7 dev eth0 proto 191
+route add 10.23.0.0/16 via 192.0.2.7 dev eth0 proto 196
+route add 10.25.0.0/16 via 192.0.2.7 dev eth0 proto bgp
 ";
 
 /// What `ip -d` printed of a rule and of routes.
@@ -114,8 +130,9 @@ route add unicast default via 192.0.2.1 dev eth0 table main proto dhcp scope glo
 
 /// What is made of a text, with the names of a host.
 fn imported(alloc: Global, text: &[u8]) -> Result<Imported, Fail> {
-    let mut names = Names::new(alloc);
-    names.read(TABLES.as_bytes())?;
+    let mut names = HostNames::new(alloc);
+    names.tables.read(TABLES.as_bytes())?;
+    names.protocols.read(PROTOCOLS.as_bytes())?;
     Ok(import(alloc, &names, text)?)
 }
 

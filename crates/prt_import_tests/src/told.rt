@@ -1,5 +1,5 @@
 //! What is told of lines: each thing that `ip` prints and no line here can say.
-use prt_import::{Left, Names, accept, import};
+use prt_import::{HostNames, Left, accept, import};
 use std::alloc::Global;
 use std::test::Fail;
 
@@ -45,6 +45,8 @@ fe80::/64 dev eth0 proto kernel metric 256 pref medium
 [{\"dst\":\"default\",\"gateway\":\"192.0.2.1\",\"dev\":\"eth0\",\"flags\":[]}]
 7:\tfrom all lookup 7
 \tnexthop via 192.0.2.7 dev eth0 weight 1 
+10.26.0.0/16 via 203.0.113.1 dev wg0 onlink 
+10.1.0.0/24 dev d1 proto kernel scope link src 10.1.0.5 dead linkdown 
 ";
 
 const LEFT: &str = "line 1: oif: no such selector of rules: 16:\tfrom all oif eth0 lookup 7
@@ -84,12 +86,14 @@ line 36: fe80::/64: another family of addresses: fe80::/64 dev eth0 proto kernel
 line 37: a cached route: 10.20.0.2 via 192.0.2.7 dev eth0
 line 39: JSON is not read: [{\"dst\":\"default\",\"gateway\":\"192.0.2.1\",\"dev\":\"eth0\",\"flags\":[]}]
 line 41: nexthop: several next hops: nexthop via 192.0.2.7 dev eth0 weight 1
+line 42: onlink: a gateway that need not be on the link: 10.26.0.0/16 via 203.0.113.1 dev wg0 onlink
+line 43: dead: the kernel passes over it: 10.1.0.0/24 dev d1 proto kernel scope link src 10.1.0.5 dead linkdown
 ";
 
 /// What `ip -4 route show table all` printed of routes with metrics and flags.
 const METRICS: &str =
     "10.0.0.0/8 via 192.0.2.7 dev eth0 proto static mtu 1400 rtt 100ms advmss 1300 initcwnd 10 initrwnd 20 quickack 1 congctl cubic 
-10.8.0.0/16 via 203.0.113.1 dev wg0 onlink 
+10.8.0.0/16 via 203.0.113.1 dev wg0 linkdown 
 10.11.0.0/16 via 192.0.2.7 dev eth0 proto bgp metric 20 realms 3/4 
 10.19.0.0/16 dev eth0 scope link features ecn 
 10.20.0.0/16 dev eth0 scope link mtu lock 1400 window 6000 rttvar 3ms ssthresh 5 cwnd 5 reordering 4 hoplimit 5 rto_min lock 5ms fastopen_no_cookie 1 
@@ -111,7 +115,7 @@ const NOTES: [(u64, &str); 19] = [
     (1, "initrwnd"),
     (1, "quickack"),
     (1, "congctl"),
-    (2, "onlink"),
+    (2, "linkdown"),
     (3, "realms"),
     (4, "features"),
     (5, "mtu"),
@@ -137,10 +141,12 @@ fn shown(alloc: Global, left: &[Left]) -> Result<String, Fail> {
 #[test]
 fn tells_what_is_left_out(rt: HostRuntime) -> Result<(), Fail> {
     let alloc = rt.alloc();
-    let read = import(alloc, &Names::new(alloc), LISTING.as_bytes())?;
+    let read = import(alloc, &HostNames::new(alloc), LISTING.as_bytes())?;
     assert_eq!(rt; shown(alloc, &read.left)?.as_str(), LEFT);
     let script = "rule flush\nrule del priority 0\nrule add priority 7 from all lookup 7\n";
-    assert_eq!(rt; read.script.as_slice(), script.as_bytes());
+    let first = "# left out: 16: from all oif eth0 lookup 7: no such selector of rules\n";
+    assert!(rt; read.script.starts_with(first.as_bytes()));
+    assert!(rt; read.script.ends_with(script.as_bytes()));
     assert!(rt; read.notes.is_empty());
     Ok(())
 }
@@ -148,7 +154,7 @@ fn tells_what_is_left_out(rt: HostRuntime) -> Result<(), Fail> {
 #[test]
 fn tells_metrics(rt: HostRuntime) -> Result<(), Fail> {
     let alloc = rt.alloc();
-    let read = import(alloc, &Names::new(alloc), METRICS.as_bytes())?;
+    let read = import(alloc, &HostNames::new(alloc), METRICS.as_bytes())?;
     assert_eq!(rt; read.script.as_slice(), METRIC_SCRIPT.as_bytes());
     assert!(rt; read.left.is_empty());
     assert_eq!(rt; read.notes.len(), NOTES.len());
@@ -162,9 +168,11 @@ fn tells_metrics(rt: HostRuntime) -> Result<(), Fail> {
 #[test]
 fn shows_notes(rt: HostRuntime) -> Result<(), Fail> {
     let alloc = rt.alloc();
-    let text = b"10.8.0.0/16 via 203.0.113.1 dev wg0 onlink \n";
-    let read = import(alloc, &Names::new(alloc), text)?;
-    let wanted = "line 1: onlink: kept without it: 10.8.0.0/16 via 203.0.113.1 dev wg0 onlink\n";
+    let text =
+        b"10.8.0.0/16 via 203.0.113.1 dev wg0 linkdown \n28:\tfrom all lookup 7 proto zebra\n";
+    let read = import(alloc, &HostNames::new(alloc), text)?;
+    let wanted = "line 1: linkdown: kept without it: 10.8.0.0/16 via 203.0.113.1 dev wg0 linkdown
+line 2: proto: kept without it: 28:\tfrom all lookup 7 proto zebra\n";
     assert_eq!(rt; shown(alloc, &read.notes)?.as_str(), wanted);
     Ok(())
 }
@@ -192,7 +200,7 @@ line 7: Exists: route add 10.5.0.0/16 via 192.0.2.8 dev eth0 table 5
 #[test]
 fn accepts_each_once(rt: HostRuntime) -> Result<(), Fail> {
     let alloc = rt.alloc();
-    let read = import(alloc, &Names::new(alloc), TWICE.as_bytes())?;
+    let read = import(alloc, &HostNames::new(alloc), TWICE.as_bytes())?;
     assert!(rt; read.left.is_empty());
     let made = accept(alloc, &read.script)?;
     assert_eq!(rt; made.script.as_slice(), ONCE.as_bytes());

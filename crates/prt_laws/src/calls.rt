@@ -29,8 +29,8 @@ use std::sync::Wait;
 /// # Errors
 ///
 /// Those of `Publisher::check_all`. The world refuses the commands for the same reason; of `NoMemory` it has no event.
-pub fn check_all<S: Alter + Drop, R: Wait + Drop>(
-    publisher: &Publisher<S, R>,
+pub fn check_all<S: Alter + Drop>(
+    publisher: &Publisher<S>,
     commands: &[Command],
 ) -> Result<Checked, Refusal>
     requires quiet { IsQuiet publisher.now.phase }
@@ -51,8 +51,8 @@ pub fn check_all<S: Alter + Drop, R: Wait + Drop>(
 /// # Errors
 ///
 /// `Busy`: the world refuses the commands for want of room, after a reclaim.
-pub fn admit<S: Alter + Drop, R: Wait + Drop>(
-    publisher: &mut Publisher<S, R>,
+pub fn admit<S: Alter + Drop>(
+    publisher: &mut Publisher<S>,
     registry: &mut Registry,
     checked: Checked,
 ) -> Result<(), Refusal>
@@ -73,7 +73,7 @@ pub fn admit<S: Alter + Drop, R: Wait + Drop>(
 /// # Errors
 ///
 /// `NoMemory`, of which the world has no event.
-pub fn plan<S: Alter + Drop, R: Wait + Drop>(publisher: &mut Publisher<S, R>) -> Result<(), Refusal>
+pub fn plan<S: Alter + Drop>(publisher: &mut Publisher<S>) -> Result<(), Refusal>
     requires { publisher.old.phase ≡ Phase.Admitted }
     ensures ok { OnOk result (Plans S.Store publisher.old publisher.new) }
     ensures then { OnOk result ((publisher.new.phase ≡ Phase.Prepared) × (publisher.new.commands ≡ publisher.old.commands)) }
@@ -91,9 +91,7 @@ pub fn plan<S: Alter + Drop, R: Wait + Drop>(publisher: &mut Publisher<S, R>) ->
 ///
 /// `StoreFailed`: the calls before the named one succeed, and that one fails. For each state that a crash may leave it
 /// has the fate that leaves this state.
-pub fn commit<S: Alter + Drop, R: Wait + Drop>(
-    publisher: &mut Publisher<S, R>,
-) -> Result<(), Refusal>
+pub fn commit<S: Alter + Drop>(publisher: &mut Publisher<S>) -> Result<(), Refusal>
     requires { publisher.old.phase ≡ Phase.Prepared }
     ensures ok { OnOk result (Commits S.Store publisher.old publisher.new) }
     ensures then { OnOk result ((publisher.new.phase ≡ Phase.Committed) × (publisher.new.commands ≡ publisher.old.commands)) }
@@ -110,23 +108,20 @@ pub fn commit<S: Alter + Drop, R: Wait + Drop>(
 /// # Errors
 ///
 /// `NotPublished`: the publication fails.
-pub fn show<S: Alter + Drop, R: Wait + Drop>(publisher: &mut Publisher<S, R>) -> Result<(), Refusal>
+pub fn show<S: Alter + Drop, W: Wait>(publisher: &mut Publisher<S>, rt: &W) -> Result<(), Refusal>
     requires { publisher.old.phase ≡ Phase.Committed }
     ensures ok { OnOk result (Shows S.Store publisher.old publisher.new) }
     ensures then { OnOk result ((publisher.new.phase ≡ Phase.Published) × (publisher.new.commands ≡ publisher.old.commands)) }
     ensures err { IfErr result (λ why. PublishesNot S.Store publisher.old publisher.new why) }
 {
-    match publisher.show() {
+    match publisher.show(rt) {
         Ok(()) => Ok(()),
         Err(reason) => Err(reason),
     }
 }
 
 /// Notes the published version, and acknowledges its commands.
-pub fn note<S: Alter + Drop, R: Wait + Drop>(
-    publisher: &mut Publisher<S, R>,
-    registry: &mut Registry,
-) -> Receipt
+pub fn note<S: Alter + Drop>(publisher: &mut Publisher<S>, registry: &mut Registry) -> Receipt
     requires { publisher.old.phase ≡ Phase.Published }
     ensures { Notes S.Store publisher.old publisher.new registry.old registry.new result }
 {
@@ -139,8 +134,9 @@ pub fn note<S: Alter + Drop, R: Wait + Drop>(
 /// # Errors
 ///
 /// Those of the steps.
-pub fn submit_by_steps<S: Alter + Drop, R: Wait + Drop>(
-    publisher: &mut Publisher<S, R>,
+pub fn submit_by_steps<S: Alter + Drop, W: Wait>(
+    publisher: &mut Publisher<S>,
+    rt: &W,
     registry: &mut Registry,
     commands: &[Command],
 ) -> Result<Receipt, Refusal>
@@ -163,7 +159,7 @@ pub fn submit_by_steps<S: Alter + Drop, R: Wait + Drop>(
     if let Err(reason) = commit(publisher) {
         return Err(reason);
     }
-    if let Err(reason) = show(publisher) {
+    if let Err(reason) = show(publisher, rt) {
         return Err(reason);
     }
     let receipt = note(publisher, registry);
@@ -176,8 +172,9 @@ pub fn submit_by_steps<S: Alter + Drop, R: Wait + Drop>(
 /// # Errors
 ///
 /// Those of the steps.
-pub fn first_commands<S: Alter + Drop, R: Wait + Drop>(
-    publisher: &mut Publisher<S, R>,
+pub fn first_commands<S: Alter + Drop, W: Wait>(
+    publisher: &mut Publisher<S>,
+    rt: &W,
     registry: &mut Registry,
     commands: &[Command],
 ) -> Result<Receipt, Refusal>
@@ -188,7 +185,7 @@ pub fn first_commands<S: Alter + Drop, R: Wait + Drop>(
     ensures { IfOk result (λ told. (event : Event) → commands.now ≡ asked event → BeginsAt S.Store publisher.old start → IsKnown S.Store publisher.new.ours_first publisher.new.tables → (left : State) → MayLeave S.Store publisher.new.tables left →
         HoldsAll (run_from start (events_of (step_acts event told))) (receipts_of (step_acts event told)) [] left) }
 {
-    match submit_by_steps(publisher, registry, commands) {
+    match submit_by_steps(publisher, rt, registry, commands) {
         Ok(receipt) => Ok(receipt),
         Err(reason) => Err(reason),
     }
@@ -200,8 +197,8 @@ pub fn first_commands<S: Alter + Drop, R: Wait + Drop>(
 ///
 /// Those of `Publisher::prepare`. The world refuses the command for the same reason, for want of room where it has none;
 /// of `NoMemory` it has no event.
-pub fn prepare<S: Alter + Drop, R: Wait + Drop, W: Wait>(
-    publisher: &mut Publisher<S, R>,
+pub fn prepare<S: Alter + Drop, W: Wait>(
+    publisher: &mut Publisher<S>,
     rt: &W,
     domain: &Domain,
     command: &Command,
@@ -223,8 +220,8 @@ pub fn prepare<S: Alter + Drop, R: Wait + Drop, W: Wait>(
 ///
 /// Those of `Publisher::prepare_all`. The world refuses the commands for the same reason, for want of room where it has
 /// none; of `NoMemory` it has no event.
-pub fn prepare_all<S: Alter + Drop, R: Wait + Drop, W: Wait>(
-    publisher: &mut Publisher<S, R>,
+pub fn prepare_all<S: Alter + Drop, W: Wait>(
+    publisher: &mut Publisher<S>,
     rt: &W,
     domain: &Domain,
     commands: &[Command],
@@ -246,8 +243,8 @@ pub fn prepare_all<S: Alter + Drop, R: Wait + Drop, W: Wait>(
 /// # Errors
 ///
 /// `NotPublished`: the publication fails.
-pub fn publish<S: Alter + Drop, R: Wait + Drop, W: Wait>(
-    publisher: &mut Publisher<S, R>,
+pub fn publish<S: Alter + Drop, W: Wait>(
+    publisher: &mut Publisher<S>,
     rt: &W,
     domain: &Domain,
 ) -> Result<Receipt, Refusal>
@@ -266,8 +263,8 @@ pub fn publish<S: Alter + Drop, R: Wait + Drop, W: Wait>(
 /// # Errors
 ///
 /// Those of `Publisher::submit`, each with its events.
-pub fn submit<S: Alter + Drop, R: Wait + Drop, W: Wait>(
-    publisher: &mut Publisher<S, R>,
+pub fn submit<S: Alter + Drop, W: Wait>(
+    publisher: &mut Publisher<S>,
     rt: &W,
     domain: &Domain,
     command: &Command,
@@ -288,8 +285,8 @@ pub fn submit<S: Alter + Drop, R: Wait + Drop, W: Wait>(
 /// # Errors
 ///
 /// Those of `Publisher::submit_all`, each with its events: all of the commands are stored, or none.
-pub fn submit_all<S: Alter + Drop, R: Wait + Drop, W: Wait>(
-    publisher: &mut Publisher<S, R>,
+pub fn submit_all<S: Alter + Drop, W: Wait>(
+    publisher: &mut Publisher<S>,
     rt: &W,
     domain: &Domain,
     commands: &[Command],
@@ -312,16 +309,15 @@ pub fn submit_all<S: Alter + Drop, R: Wait + Drop, W: Wait>(
 /// # Errors
 ///
 /// As `Publisher::adopt`.
-pub fn adopt<S: Alter + Drop, R: Wait + Drop>(
-    rt: R,
+pub fn adopt<S: Alter + Drop>(
     alloc: Global,
     conn: Connection<S>,
-) -> Result<(Publisher<S, R>, Domain), (Refusal, Connection<S>)>
+) -> Result<(Publisher<S>, Domain), (Refusal, Connection<S>)>
     ensures fresh { IfOk result (λ made. AreEmpty (state S.Store conn).now → IsKnown S.Store made.0.ours_first made.0.tables → BeginsAt S.Store made.0 start) }
     ensures again { IfOk result (λ made. HasCleanDisk (state S.Store made.0.tables) → IsTrue (state S.Store conn).is_open → AdoptsAgain S.Store (state S.Store conn).now.trees made.0) }
     ensures stopped { IfOk result (λ made. HasCleanDisk (state S.Store made.0.tables) → IsTrue (state S.Store conn).is_open → AdoptsStopped S.Store (state S.Store conn).now.trees made.0) }
 {
-    match Publisher::adopt(rt, alloc, conn) {
+    match Publisher::adopt(alloc, conn) {
         Ok((publisher, domain)) => Ok((publisher, domain)),
         Err(refused) => Err(refused),
     }

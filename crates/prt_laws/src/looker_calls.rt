@@ -13,9 +13,9 @@ use std::sync::Wait;
 /// # Errors
 ///
 /// `Full`.
-pub fn looker<S: Alter + Drop, R: Wait + Drop, J: Naming, W: Wait>(
+pub fn looker<S: Alter + Drop, J: Naming, W: Wait>(
     rt: &W,
-    service: &Service<S, R, J>,
+    service: &Service<S, J>,
 ) -> Result<Looker, Refusal>
     ensures { IfOk result IsMade }
 {
@@ -38,10 +38,10 @@ pub fn learn(looker: &mut Looker, receipt: Receipt)
 /// # Errors
 ///
 /// `NotFetched`: the looker is as it was.
-pub fn refresh<S: Alter + Drop, R: Wait + Drop, J: Naming, W: Wait>(
+pub fn refresh<S: Alter + Drop, J: Naming, W: Wait>(
     looker: &mut Looker,
     rt: &W,
-    service: &Service<S, R, J>,
+    service: &Service<S, J>,
 ) -> Result<(), Refusal>
     ensures ok { OnOk result (Refreshes looker.old looker.new) }
     ensures err { OnErr result (RefreshesNot looker.old looker.new) }
@@ -53,10 +53,10 @@ pub fn refresh<S: Alter + Drop, R: Wait + Drop, J: Naming, W: Wait>(
 }
 
 /// Gives its version back, and takes the looker offline.
-pub fn rest<S: Alter + Drop, R: Wait + Drop, J: Naming, W: Wait>(
+pub fn rest<S: Alter + Drop, J: Naming, W: Wait>(
     looker: &mut Looker,
     rt: &W,
-    service: &Service<S, R, J>,
+    service: &Service<S, J>,
 )
     ensures { Rests looker.old looker.new }
 {

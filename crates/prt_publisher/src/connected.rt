@@ -12,18 +12,16 @@ use prt_command::Refusal;
 use prt_grace::Domain;
 use sqlite::{Alter, Connection, Error};
 use std::alloc::Global;
-use std::sync::Wait;
 
 /// Opens a publisher over the database of the connection that an open gave.
 ///
 /// # Errors
 ///
 /// `OpenFailed` with the library's error where it gave none, and else, with the connection, as `Publisher::adopt`.
-pub fn publisher_over<S: Alter + Drop, R: Wait + Drop>(
-    rt: R,
+pub fn publisher_over<S: Alter + Drop>(
     alloc: Global,
     conn: Result<Connection<S>, Error>,
-) -> Result<(Publisher<S, R>, Domain), (Refusal, Result<Connection<S>, Error>)>
+) -> Result<(Publisher<S>, Domain), (Refusal, Result<Connection<S>, Error>)>
     ensures ready { IfOk result (λ made. made.0.phase ≡ Phase.Ready) }
     ensures quiet { IfOk result (λ made. IsQuiet made.0.phase) }
     ensures sound { IfOk result (λ made. IsSound (line_state made.0.line)) }
@@ -33,7 +31,7 @@ pub fn publisher_over<S: Alter + Drop, R: Wait + Drop>(
     ensures unopened { IfErr result (λ refused. IfErr refused.1 (λ error. (conn ≡ Err error) × (refused.0 ≡ OpenFailed))) }
 {
     match conn {
-        Ok(conn) => match Publisher::adopt(rt, alloc, conn) {
+        Ok(conn) => match Publisher::adopt(alloc, conn) {
             Ok(made) => Ok(made),
             Err((refusal, conn)) => Err((refusal, Ok(conn))),
         },

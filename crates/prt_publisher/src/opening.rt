@@ -8,7 +8,6 @@ ghost use Rattle.prt_front.specs.Line.{line_state};
 ghost use Rattle.prt_rows.specs.Format.{BeginsFormat2};
 ghost use Rattle.prt_version.specs.Accepted.{IsAccepted};
 
-use crate::Seats;
 use crate::plan::owners;
 use prt_command::Refusal;
 use prt_front::Front;
@@ -18,7 +17,7 @@ use prt_store::Store;
 use prt_version::Version;
 use sqlite::{Alter, Connection};
 use std::alloc::Global;
-use std::sync::{Arc, Wait};
+use std::sync::Arc;
 
 /// A store, whether its tables are the first of their file, and the version that they spell.
 #[derive(Drop)]
@@ -30,20 +29,19 @@ struct Loaded<S: Alter + Drop> {
 
 /// A version that is noted in a domain and published by a front.
 #[derive(Drop)]
-pub(crate) struct Begun<R: Wait + Drop> {
+pub(crate) struct Begun {
     pub(crate) version: Arc<Version>,
     pub(crate) domain: Domain,
     pub(crate) keeper: Keeper,
-    pub(crate) front: Front<R>,
-    pub(crate) seats: Seats,
+    pub(crate) front: Front,
 }
 
 /// A store whose state is published.
 #[derive(Drop)]
-pub(crate) struct Opened<S: Alter + Drop, R: Wait + Drop> {
+pub(crate) struct Opened<S: Alter + Drop> {
     pub(crate) store: Store<S>,
     pub(crate) ours_first: bool,
-    pub(crate) begun: Begun<R>,
+    pub(crate) begun: Begun,
 }
 
 /// Adopts the tables of a connection, and loads the version that they spell.
@@ -83,21 +81,18 @@ fn adopt_and_load<S: Alter + Drop>(
 /// # Errors
 ///
 /// `NoMemory`.
-fn begin<R: Wait + Drop>(rt: R, alloc: Global, version: Version) -> Result<Begun<R>, Refusal>
+fn begin(alloc: Global, version: Version) -> Result<Begun, Refusal>
     ensures begun { IfOk result (λ begun. (arc_value begun.version ≡ version) × (begun.front.base ≡ version) × (begun.front.list ≡ []) × (begun.keeper.noted ≡ version.count)) }
-    ensures seats { IfOk result (λ begun. begun.seats ≡ begun.front) }
     ensures reason { IfErr result (λ reason. reason ≡ NoMemory) }
 {
     let (kept, noted, shown) = owners(alloc, version)?;
     let (domain, keeper) = Domain::new(noted);
-    let (front, readers) = Front::new(rt, alloc, shown)?;
-    let seats = Seats::new(front.known(), readers);
+    let front = Front::new(alloc, shown)?;
     Ok(Begun {
         version: kept,
         domain,
         keeper,
         front,
-        seats,
     })
 }
 
@@ -106,14 +101,12 @@ fn begin<R: Wait + Drop>(rt: R, alloc: Global, version: Version) -> Result<Begun
 /// # Errors
 ///
 /// With the connection: `OpenFailed`, `Damaged`, `NoMemory`.
-pub(crate) fn open<S: Alter + Drop, R: Wait + Drop>(
-    rt: R,
+pub(crate) fn open<S: Alter + Drop>(
     alloc: Global,
     conn: Connection<S>,
-) -> Result<Opened<S, R>, (Refusal, Connection<S>)>
+) -> Result<Opened<S>, (Refusal, Connection<S>)>
     ensures begun { IfOk result (λ opened. (opened.begun.front.list ≡ []) × IsAccepted opened.begun.front.base opened.begun.front.list
         × (arc_value opened.begun.version ≡ line_state opened.begun.front) × (opened.begun.keeper.noted ≡ (arc_value opened.begun.version).count)) }
-    ensures seats { IfOk result (λ opened. opened.begun.seats ≡ opened.begun.front) }
     ensures format { IfOk result (λ opened. (opened.ours_first ≡ true) ↔ BeginsFormat2 (state S.Store conn).now.schema) }
     ensures opened { IfOk result (λ opened. HasOpened S.Store conn opened.store.conn (line_state opened.begun.front)) }
     ensures refused { IfErr result (λ refused. HasRefused S.Store conn refused.1 refused.0) }
@@ -122,7 +115,7 @@ pub(crate) fn open<S: Alter + Drop, R: Wait + Drop>(
         Ok(loaded) => loaded,
         Err(refused) => return Err(refused),
     };
-    match begin(rt, alloc, loaded.version) {
+    match begin(alloc, loaded.version) {
         Ok(begun) => Ok(Opened {
             store: loaded.store,
             ours_first: loaded.ours_first,

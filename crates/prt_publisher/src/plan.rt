@@ -7,6 +7,7 @@ ghost use Rattle.prt_publisher.specs.Step.{AreChecked, IsPlan, commands_checked}
 use crate::Checked;
 use crate::checked::Earlier;
 use prt_command::{Command, Refusal};
+use prt_front::Front;
 use prt_version::{Change, Version};
 use std::alloc::{AllocError, Global};
 use std::sync::Arc;
@@ -40,7 +41,7 @@ pub(crate) fn owners(
 /// # Errors
 ///
 /// `NoMemory`.
-pub(crate) fn make_plan(published: &Version, checked: Checked) -> Result<Plan, Refusal>
+fn make_plan(published: &Version, checked: Checked) -> Result<Plan, Refusal>
     requires { AreChecked published.now checked }
     ensures plan { IfOk result (IsPlan published.now) }
     ensures commands { IfOk result (λ plan. plan.commands.items ≡ commands_checked checked) }
@@ -68,4 +69,26 @@ pub(crate) fn make_plan(published: &Version, checked: Checked) -> Result<Plan, R
         shown,
         noted,
     })
+}
+
+/// Makes what checked commands need to be published as `make_plan`, and sees that the front has the memory to show it.
+///
+/// # Errors
+///
+/// `NoMemory`.
+pub(crate) fn plan_shown(
+    front: &mut Front,
+    published: &Version,
+    checked: Checked,
+) -> Result<Plan, Refusal>
+    requires { AreChecked published.now checked }
+    ensures front { front.new ≡ front.old }
+    ensures plan { IfOk result (IsPlan published.now) }
+    ensures commands { IfOk result (λ plan. plan.commands.items ≡ commands_checked checked) }
+    ensures reason { IfErr result (λ reason. reason ≡ NoMemory) }
+{
+    if let Err(reason) = front.make_room() {
+        return Err(reason);
+    }
+    make_plan(published, checked)
 }

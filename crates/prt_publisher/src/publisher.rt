@@ -1,5 +1,6 @@
 //! The publisher of one database.
 ghost use Rattle.std.specs.Prelude.{◌≡◌, ◌⊎◌, ◌+◌, ◌<◌, ◌≤◌, ◌↔◌, [], ◌∷◌, All, length, IfErr, IfOk, IsErrAnd, IsTrue, OnErr, OnOk, true};
+ghost use Rattle.std.specs.Arc.{arc_value};
 ghost use Rattle.sqlite.specs.Held.{Held, state};
 ghost use Rattle.sqlite.specs.State.{HasCleanDisk, IsUnchanged, Survives};
 ghost use Rattle.prt_refusals.specs.Opening.{IsOpenRefusal};
@@ -26,10 +27,10 @@ ghost use Rattle.prt_version.specs.State.{State};
 
 use crate::checked::check_all;
 use crate::opening::open;
-use crate::plan::{Plan, make_plan};
+use crate::plan::{Plan, plan_shown};
 use crate::{Checked, Phase, Receipt, Seats};
 use prt_command::{Command, Refusal};
-use prt_front::{Front, Told};
+use prt_front::{Front, Known, Told};
 use prt_grace::{Domain, Keeper, Registry};
 use prt_store::{Stamp, Store};
 use prt_version::Version;
@@ -58,20 +59,20 @@ enum Step {
 /// admit them and to plan them. The steps `admit` and `note` take the registry of the domain, which the caller has
 /// locked; `prepare_all` and `publish` lock it for that one step each. The domain's lock is held while no version is made,
 /// across no store call, and while no reader is waited for.
+///
+/// End it by `end`: the drop of its front gives no memory back.
 #[derive(Drop)]
-pub struct Publisher<S: Alter + Drop, R: Wait + Drop> {
+pub struct Publisher<S: Alter + Drop> {
     store: Store<S>,
     /// Whether our tables are the first of their file: of other files nothing is known.
     ours_first: bool,
     version: Arc<Version>,
-    front: Front<R>,
-    /// Readers of the front, until a service takes them.
-    seats: Seats,
+    front: Front,
     keeper: Keeper,
     step: Step,
 }
 
-impl<S: Alter + Drop, R: Wait + Drop> Model for Publisher<S, R> {
+impl<S: Alter + Drop> Model for Publisher<S> {
     ghost use Rattle.std.specs.Prelude.{◌≡◌, ◌+◌};
     ghost use Rattle.std.specs.Arc.{arc_value};
     ghost use Rattle.sqlite.specs.Held.{Held, held_code};
@@ -89,15 +90,14 @@ impl<S: Alter + Drop, R: Wait + Drop> Model for Publisher<S, R> {
 
     ghost invariant = { λ p. (arc_value p.version ≡ line_state p.front) × (p.keeper.noted + unnoted (phase_of p.step) (commands_of p.step) ≡ (arc_value p.version).count) × IsAccepted p.front.base p.front.list
         × IsStep (line_state p.front) p.step
-        × (IsKnown S.Store p.ours_first p.store.conn → Agrees S.Store (phase_of p.step) (commands_of p.step) (line_state p.front) p.store.conn)
-        × (p.seats.book ≡ p.front.book) × (p.seats.base ≡ p.front.base) };
+        × (IsKnown S.Store p.ours_first p.store.conn → Agrees S.Store (phase_of p.step) (commands_of p.step) (line_state p.front) p.store.conn) };
 }
 
-impl<S: Alter + Drop, R: Wait + Drop> Publisher<S, R> {
+impl<S: Alter + Drop> Publisher<S> {
     /// Opens the database of a connection on which nothing is pending, and publishes the state that is stored there. Its
     /// tables are made where they are missing; four empty tables become those of a new database.
     ///
-    /// Gives the domain too, in which that state is noted. The front takes the handle, and nobody is waited for.
+    /// Gives the domain too, in which that state is noted.
     ///
     /// # Errors
     ///
@@ -105,10 +105,9 @@ impl<S: Alter + Drop, R: Wait + Drop> Publisher<S, R> {
     /// where a store call fails. `Damaged`: never of a file that is new, or whose first tables spell a state. `NoMemory`.
     /// The rows are then as `Store::adopt` leaves them. The connection is to be closed and opened again before it is used.
     pub fn adopt(
-        rt: R,
         alloc: Global,
         conn: Connection<S>,
-    ) -> Result<(Publisher<S, R>, Domain), (Refusal, Connection<S>)>
+    ) -> Result<(Publisher<S>, Domain), (Refusal, Connection<S>)>
         ensures ready { IfOk result (λ made. (made.0.phase ≡ Phase.Ready) × (made.0.commands ≡ []) × (made.0.line.list ≡ [])) }
         ensures sound { IfOk result (λ made. IsSound (line_state made.0.line)) }
         ensures does { IfOk result (λ made. HasCleanDisk (state S.Store made.0.tables) → (adopted : Held S) × MakesAndFills S.Store conn adopted × IsUnchanged (state S.Store adopted) (state S.Store made.0.tables)) }
@@ -131,7 +130,7 @@ impl<S: Alter + Drop, R: Wait + Drop> Publisher<S, R> {
         ensures crash_err { IfErr result (λ refused. (HasCleanDisk (state S.Store conn) → BeginsFormat2 (state S.Store conn).now.schema) →
             Survives (state S.Store conn) (state S.Store refused.1) (LeavesPart (state S.Store conn).now)) }
     {
-        let opened = match open(rt, alloc, conn) {
+        let opened = match open(alloc, conn) {
             Ok(opened) => opened,
             Err(refused) => return Err(refused),
         };
@@ -141,7 +140,6 @@ impl<S: Alter + Drop, R: Wait + Drop> Publisher<S, R> {
                 ours_first: opened.ours_first,
                 version: opened.begun.version,
                 front: opened.begun.front,
-                seats: opened.begun.seats,
                 keeper: opened.begun.keeper,
                 step: Step::Ready,
             },
@@ -171,6 +169,23 @@ impl<S: Alter + Drop, R: Wait + Drop> Publisher<S, R> {
         &self.version
     }
 
+    /// Shares the version that was published last, and its list.
+    ///
+    /// # Errors
+    ///
+    /// `NotFetched` where the version has as many owners as can be counted.
+    pub fn share(&self) -> Result<(Arc<Version>, Known), Refusal>
+        ensures version { IfOk result (λ shared. arc_value shared.0 ≡ line_state self.now.line) }
+        ensures list { IfOk result (λ shared. shared.1 ≡ self.now.line) }
+        ensures accepted { IfOk result (λ shared. IsAccepted shared.1.base shared.1.list) }
+        ensures reason { IfErr result (λ reason. reason ≡ Refusal.NotFetched) }
+    {
+        match Arc::try_clone(&self.version) {
+            Ok(version) => Ok((version, self.front.known())),
+            Err(_) => Err(Refusal::NotFetched),
+        }
+    }
+
     /// Gives the number of the version that was noted last: the published one but for the moment before it is noted.
     pub fn noted(&self) -> u64
         ensures { result + unnoted self.now.phase self.now.commands ≡ (line_state self.now.line).count }
@@ -178,12 +193,20 @@ impl<S: Alter + Drop, R: Wait + Drop> Publisher<S, R> {
         self.keeper.noted()
     }
 
-    /// Hands over the readers of its front that no service has taken.
-    pub fn seats(&mut self, alloc: Global) -> Seats
-        ensures seats { (result.book ≡ self.old.line.book) × (result.base ≡ self.old.line.base) }
+    /// Makes the readers of its front: once. It waits as a publication does.
+    ///
+    /// # Errors
+    ///
+    /// `NoMemory`.
+    pub fn seats<W: Wait>(&mut self, rt: &W, alloc: Global) -> Result<Seats, Refusal>
+        ensures seats { IfOk result (λ seats. (seats.book ≡ self.old.line.book) × (seats.base ≡ self.old.line.base)) }
         ensures same { self.new ≡ self.old }
+        ensures reason { IfErr result (λ reason. reason ≡ NoMemory) }
     {
-        self.seats.all(alloc)
+        match self.front.readers(rt, alloc) {
+            Ok(readers) => Ok(Seats::new(self.front.known(), readers)),
+            Err(reason) => Err(reason),
+        }
     }
 
     /// Gives the library's error of the commit that closed it, if one did.
@@ -191,11 +214,21 @@ impl<S: Alter + Drop, R: Wait + Drop> Publisher<S, R> {
         self.store.failure()
     }
 
-    /// Gives the connection back, with its tables as they are.
+    /// Gives the connection back, with its tables as they are. It waits for nobody: the front's readers go on, and its
+    /// memory is never given back.
     pub fn release(self) -> Connection<S>
         ensures tables { result ≡ self.tables }
         ensures stands { Stands S.Store self }
     {
+        self.store.release()
+    }
+
+    /// Ends its front, which waits for readers that are inside, and gives the connection back, with its tables as they are.
+    pub fn end<W: Wait>(self, rt: &W) -> Connection<S>
+        ensures tables { result ≡ self.tables }
+        ensures stands { Stands S.Store self }
+    {
+        self.front.end(rt);
         self.store.release()
     }
 
@@ -262,7 +295,7 @@ impl<S: Alter + Drop, R: Wait + Drop> Publisher<S, R> {
         ensures stands { Stands S.Store self.new }
     {
         match mem::replace(&mut self.step, Step::Ready) {
-            Step::Admitted(checked) => match make_plan(&self.version, checked) {
+            Step::Admitted(checked) => match plan_shown(&mut self.front, &self.version, checked) {
                 Ok(plan) => {
                     self.step = Step::Prepared(plan);
                     Ok(())
@@ -314,7 +347,7 @@ impl<S: Alter + Drop, R: Wait + Drop> Publisher<S, R> {
     /// # Errors
     ///
     /// `NotPublished`, where the front refuses it: it is closed, with the old version published and the commands stored.
-    pub fn show(&mut self) -> Result<(), Refusal>
+    pub fn show<W: Wait>(&mut self, rt: &W) -> Result<(), Refusal>
         requires { self.old.phase ≡ Phase.Committed }
         ensures ok { OnOk result ((self.new ≡ record self.old { phase = Phase.Published; line = self.new.line }) × (self.new.line ≡ grown_by self.old.line self.old.commands)) }
         ensures err { OnErr result (self.new ≡ record self.old { phase = Phase.Closed }) }
@@ -324,7 +357,7 @@ impl<S: Alter + Drop, R: Wait + Drop> Publisher<S, R> {
         match mem::replace(&mut self.step, Step::Closed(None)) {
             Step::Committed(plan, stamp) => {
                 let shown = plan.shown;
-                match self.front.publish_all(stamp, &plan.commands, shown) {
+                match self.front.publish_all(rt, stamp, &plan.commands, shown) {
                     Ok(_told) => {
                         self.version = plan.next;
                         self.step = Step::Published(plan.commands, plan.noted);
@@ -428,7 +461,7 @@ impl<S: Alter + Drop, R: Wait + Drop> Publisher<S, R> {
         ensures reason { IfErr result (λ reason. reason ≡ NotPublished) }
         ensures stands { Stands S.Store self.new }
     {
-        if let Err(reason) = self.show() {
+        if let Err(reason) = self.show(rt) {
             return Err(reason);
         }
         let receipt = self.note(&mut domain.lock(rt));

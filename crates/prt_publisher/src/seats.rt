@@ -2,9 +2,7 @@
 ghost use Rattle.std.specs.Prelude.{◌≡◌, All, IfSome};
 
 use prt_front::{FrontReader, Known};
-use std::alloc::Global;
 use std::marker::Model;
-use std::mem;
 
 /// Readers of one front that no looker has. Contracts see them as a beginning of its list.
 #[derive(Drop)]
@@ -31,18 +29,6 @@ impl Seats {
         ensures { result ≡ first }
     {
         Seats { first, readers }
-    }
-
-    /// Hands over all of them; none is left here.
-    pub(crate) fn all(&mut self, alloc: Global) -> Seats
-        ensures same { self.new ≡ self.old }
-        ensures all { result ≡ self.old }
-    {
-        let readers = mem::replace(&mut self.readers, Vec::new(alloc));
-        Seats {
-            first: self.first.again(),
-            readers,
-        }
     }
 
     /// Lends one of them. `None` where none is left.

@@ -1,21 +1,60 @@
--- What a feed sends: the tables as they are at one number, and each command that is published after it.
-use Rattle.std.specs.Prelude.{◌≡◌, ℕ, Bool, List, Option}
+-- What a feed sends: the tables as they are at one number, each command that is published after it, and heartbeats.
+use Rattle.std.specs.Prelude.{◌≡◌, ℕ, ◌+◌, ◌==◌, ◌⊎◌, Bool, true, false, not, List, [], ◌∷◌, ◌++◌, Option, Some, None, codes, filter}
 use Rattle.prt_command.specs.declared.request.Command.{Command}
-use Rattle.prt_feed.specs.Feed.{change_lines, feed_text}
+use Rattle.prt_feed.specs.Feed.{change_line, opening_text}
 use Rattle.prt_front.specs.Line.{Line, grown_by, line_state}
 use Rattle.prt_listing.specs.QueryText.{lines_text}
 use Rattle.prt_serve.specs.Requests.{number_of}
 use Rattle.prt_replies.specs.Written.{Written}
+use Rattle.prt_version.specs.State.{State}
 
--- The lines of the commands that were learned were written; where not all of it went well, a part of them.
+-- ---- lines after the tables
+
+-- a comment, which asks for nothing
+abbrev pub heartbeat : List ℕ
+heartbeat = codes "#"
+
+-- the lines of commands that come one after another, the first of them after this number, and a heartbeat at each `None`
+abbrev pub told_lines : ℕ → List (Option Command) → List (List ℕ)
+told_lines number [] = []
+told_lines number (None ∷ pieces) = heartbeat ∷ told_lines number pieces
+told_lines number (Some command ∷ pieces) = change_line (number + 1) command ∷ told_lines (number + 1) pieces
+
+-- the commands among them
+abbrev pub commands_in : List (Option Command) → List Command
+commands_in [] = []
+commands_in (None ∷ pieces) = commands_in pieces
+commands_in (Some command ∷ pieces) = command ∷ commands_in pieces
+
+-- the tables of a state that was published, and those lines
+abbrev pub told_text : State → List (Option Command) → List ℕ
+told_text state pieces = opening_text state ++ lines_text (told_lines state.count pieces)
+
+-- ---- heartbeats that are left out
+
+abbrev pub is_comment : List ℕ → Bool
+is_comment [] = false
+is_comment (b ∷ line) = b == 35
+
+-- the lines that are no comments
+abbrev pub without_comments : List (List ℕ) → List (List ℕ)
+without_comments lines = filter (λ line. not (is_comment line)) lines
+
+-- ---- what was written
+
+-- a heartbeat or nothing was written; where not all of it went well, a part of that
+abbrev pub Beats : Bool → Option (List ℕ) → Option (List ℕ) → Type 0
+Beats whole writer0 writer = Written whole writer0 writer [] ⊎ Written whole writer0 writer (heartbeat ++ codes "\n")
+
+-- The lines of the commands that were learned were written, with heartbeats between them; where not all of it went well, a part of them.
 pub record Tells (known0 known : Line) (whole : Bool) (writer0 writer : Option (List ℕ)) : Type 0 where
-  pub commands : List Command
-  pub grows : known ≡ grown_by known0 commands
-  pub written : Written whole writer0 writer (lines_text (change_lines (number_of known0) commands))
+  pub pieces : List (Option Command)
+  pub grows : known ≡ grown_by known0 (commands_in pieces)
+  pub written : Written whole writer0 writer (lines_text (told_lines (number_of known0) pieces))
 
--- The text of a feed was written: the tables after a published list, and each command that was published after it and learned; where not all of it went well, a part of that.
+-- The text of a feed was written: the tables after a published list, and each command that was published after it and learned, with heartbeats between them; where not all of it went well, a part of that.
 pub record Feeds (opening known : Line) (whole : Bool) (writer0 writer : Option (List ℕ)) : Type 0 where
-  pub commands : List Command
-  pub grows : known ≡ grown_by opening commands
+  pub pieces : List (Option Command)
+  pub grows : known ≡ grown_by opening (commands_in pieces)
   pub numbered : (line_state opening).count ≡ number_of opening
-  pub written : Written whole writer0 writer (feed_text (line_state opening) commands)
+  pub written : Written whole writer0 writer (told_text (line_state opening) pieces)

@@ -5,3 +5,4 @@ pub mod Growing
 pub mod Serving
 pub mod Jobs
 pub mod Feed
+pub mod Idle

@@ -4,7 +4,7 @@ ghost use Rattle.std.specs.Io.Buffered.{reader_remaining, writer_contents};
 ghost use Rattle.prt_serve.specs.Blocks.{BeginsWithLine};
 
 use std::alloc::Global;
-use std::io::{self, BufReader, BufWriter, Read, Write};
+use std::io::{self, BufReader, BufWriter, ErrorKind, Read, Write};
 use std::sync::Arc;
 use std::sync::atomic::{AtomicBool, Ordering};
 
@@ -19,12 +19,42 @@ fn begins_with_line(block: &[u8]) -> bool
     }
 }
 
+/// What one end of a connection tells the other of the line that comes next.
+#[derive(Drop)]
+struct NextLine {
+    /// Whether all that was read are whole lines, and the next one lies whole in the block and gets a reply.
+    is_at_hand: AtomicBool,
+}
+
+impl NextLine {
+    fn new() -> NextLine {
+        NextLine {
+            is_at_hand: AtomicBool::new(false),
+        }
+    }
+
+    /// Notes whether the line with which this block begins comes next.
+    fn note(&self, is_at_hand: bool, block: &[u8])
+        requires { is_at_hand ≡ true → BeginsWithLine block.now }
+    {
+        // Writes only what changes: the reader is asked for each byte.
+        if is_at_hand != self.is_at_hand.load(Ordering::SeqCst) {
+            self.is_at_hand.store(is_at_hand, Ordering::SeqCst);
+        }
+    }
+
+    fn is_at_hand(&self) -> bool {
+        self.is_at_hand.load(Ordering::SeqCst)
+    }
+}
+
 /// The end that lines are read from, in blocks.
 #[derive(Drop)]
 pub struct Lines<T: Read + Drop> {
     blocks: BufReader<T>,
-    /// Whether all that was read are whole lines, and the next one lies whole in the block and gets a reply.
-    is_followed: Arc<AtomicBool>,
+    next: Arc<NextLine>,
+    /// How the last read failed, if it did.
+    fault: Option<ErrorKind>,
 }
 
 /// The end that replies go to, in blocks. A flush waits while a further line is at hand that gets a reply: that one is
@@ -33,7 +63,7 @@ pub struct Lines<T: Read + Drop> {
 pub struct Replies<T: Write + Drop> {
     blocks: BufWriter<T>,
     /// What `Lines` tells of the line after the one that is replied to.
-    is_followed: Arc<AtomicBool>,
+    next: Arc<NextLine>,
 }
 
 /// Makes the ends of a connection of its two streams.
@@ -45,14 +75,15 @@ pub(crate) fn ends_over<T: Read + Write + Drop>(
     ensures from { IfOk result (λ ends. reader_remaining T.remaining ends.0.blocks ≡ T.remaining from) }
     ensures to { IfOk result (λ ends. writer_contents T.contents ends.1.blocks ≡ T.contents to) }
 {
-    let is_followed = Arc::new(alloc, AtomicBool::new(false))?;
+    let next = Arc::new(alloc, NextLine::new())?;
     let replies = Replies {
         blocks: BufWriter::new(alloc, to)?,
-        is_followed: Arc::try_clone(&is_followed)?,
+        next: Arc::try_clone(&next)?,
     };
     let lines = Lines {
         blocks: BufReader::new(alloc, from)?,
-        is_followed,
+        next,
+        fault: None,
     };
     Ok((lines, replies))
 }
@@ -60,11 +91,17 @@ pub(crate) fn ends_over<T: Read + Write + Drop>(
 impl<T: Read + Drop> Lines<T> {
     /// Notes what comes after these bytes, which were read.
     fn note(&self, bytes: &[u8]) {
-        let is_followed = bytes.last() == Some(&b'\n') && begins_with_line(self.blocks.buffer());
-        // Writes only what changes: the reader is asked for each byte.
-        if is_followed != self.is_followed.load(Ordering::SeqCst) {
-            self.is_followed.store(is_followed, Ordering::SeqCst);
-        }
+        let block = self.blocks.buffer();
+        let is_at_hand = bytes.last() == Some(&b'\n') && begins_with_line(block);
+        self.next.note(is_at_hand, block);
+    }
+
+    /// Tells whether the last read failed since nothing came in time.
+    pub(crate) fn is_timed_out(&self) -> bool {
+        matches!(
+            self.fault,
+            Some(ErrorKind::WouldBlock) | Some(ErrorKind::TimedOut)
+        )
     }
 }
 
@@ -72,9 +109,16 @@ impl<T: Read + Drop> Read for Lines<T> {
     ghost remaining = { λ lines. reader_remaining T.remaining lines.blocks };
 
     fn read(&mut self, bytes: &mut [u8]) -> io::Result<usize> {
-        let count = self.blocks.read(bytes)?;
-        self.note(&bytes[..count]);
-        Ok(count)
+        match self.blocks.read(bytes) {
+            Ok(count) => {
+                self.note(&bytes[..count]);
+                Ok(count)
+            }
+            Err(error) => {
+                self.fault = Some(error.kind());
+                Err(error)
+            }
+        }
     }
 }
 
@@ -86,7 +130,7 @@ impl<T: Write + Drop> Write for Replies<T> {
     }
 
     fn flush(&mut self) -> io::Result<()> {
-        if self.is_followed.load(Ordering::SeqCst) {
+        if self.next.is_at_hand() {
             return Ok(());
         }
         self.blocks.flush()

@@ -3,20 +3,39 @@ ghost use Rattle.std.specs.Prelude.{◌≡◌, ◌++◌, IfOk, IfErr, OnErr, cod
 ghost use Rattle.std.specs.Arc.{arc_value};
 ghost use Rattle.prt_feed.specs.Feed.{change_line, opening_text};
 ghost use Rattle.prt_front.specs.Line.{Line, line_state};
-ghost use Rattle.prt_serve.specs.Feed.{Feeds, Tells};
+ghost use Rattle.prt_serve.specs.Feed.{Beats, Feeds, Tells, heartbeat};
 ghost use Rattle.prt_service.specs.Service.{IsFollowRefusal};
 ghost use Rattle.prt_replies.specs.Written.{Written};
 
+use crate::places::{Place, Places};
+use crate::watch::{Due, Peer, Watch, look};
 use prt_command::Command;
 use prt_feed::{change_line, opening_text};
 use prt_replies::write_bytes;
-use prt_service::{Follower, Naming, Service};
+use prt_service::{Follower, Naming, News, Service, Unfollowed};
 use prt_session::Refusal;
 use prt_version::Version;
 use sqlite::Alter;
 use std::alloc::Global;
-use std::io::Write;
+use std::io::{Read, Write};
 use std::sync::{Arc, Wait};
+use std::thread;
+use std::time::{Clock, Duration};
+
+/// How often a connection asks for a place, and looks at its peer meanwhile.
+const TRIES: u64 = 100;
+
+/// How many milliseconds lie between two of these.
+const PAUSE: u64 = 10;
+
+/// A feed that has ended.
+#[derive(Drop)]
+pub struct Fed {
+    /// Whether all of it went well.
+    pub is_whole: bool,
+    /// That its follower left.
+    pub left: Unfollowed,
+}
 
 /// Writes the tables of a version; tells whether all of it went well.
 fn write_opening<W: Write>(writer: &mut W, alloc: Global, version: &Version) -> bool
@@ -38,33 +57,85 @@ fn write_change<W: Write>(writer: &mut W, alloc: Global, number: u64, command: &
     }
 }
 
-/// Writes each command that the follower learns, until it learns none; tells whether all of it went well.
-fn tell_on<H: Wait, J: Naming, W: Write>(
+/// Writes a line that says nothing, by which a peer that has gone is found; tells whether all of it went well.
+fn write_heartbeat<W: Write>(writer: &mut W) -> bool
+    ensures { Written result (W.contents writer.old) (W.contents writer.new) (heartbeat ++ codes "\n") }
+{
+    write_bytes(writer, b"#\n")
+}
+
+/// Looks at the peer while nothing is published, and writes a heartbeat where one is due; tells whether all of it went
+/// well. It didn't where the peer has gone.
+fn write_quiet<R: Read, W: Write>(watch: &mut Watch<'_, R>, writer: &mut W) -> bool
+    ensures { Beats result (W.contents writer.old) (W.contents writer.new) }
+{
+    match watch.look() {
+        Due::Nothing => true,
+        Due::Heartbeat => {
+            watch.wrote();
+            write_heartbeat(writer)
+        }
+        Due::Closing => false,
+    }
+}
+
+/// Writes each command that the follower learns, until it learns none, and heartbeats; tells whether all of it went well.
+fn tell_on<H: Wait + Clock, J: Naming, R: Read, W: Write>(
     rt: &H,
     alloc: Global,
     follower: &mut Follower<J>,
+    watch: &mut Watch<'_, R>,
     writer: &mut W,
 ) -> bool
     ensures { Tells follower.old follower.new result (W.contents writer.old) (W.contents writer.new) }
 {
     for _ in rt.forever() {
-        let Some(command) = follower.next(rt) else {
-            return true;
-        };
-        if !write_change(writer, alloc, follower.number(), &command) {
-            return false;
+        match follower.next_within(rt, watch.pause()) {
+            News::Command(command) => {
+                watch.wrote();
+                if !write_change(writer, alloc, follower.number(), &command) {
+                    return false;
+                }
+            }
+            News::Quiet => {
+                if !write_quiet(watch, writer) {
+                    return false;
+                }
+            }
+            News::Ended => return true,
         }
     }
     true
 }
 
-/// Writes what is published: the tables of a version, and each command that the follower learns after it; tells whether all
-/// of it went well.
-fn feed<H: Wait, J: Naming, W: Write>(
+/// Takes a place, for which it waits up to a second. `None` where none gets free, or the peer sends nothing more: it then
+/// has most likely gone.
+fn place_for<'a, H: Wait + Clock, R: Read>(
+    rt: &H,
+    places: &'a Places,
+    reader: &mut R,
+) -> Option<Place<'a>> {
+    for _ in 0..TRIES {
+        if let Some(place) = places.take(rt) {
+            return Some(place);
+        }
+        thread::sleep(rt, Duration::from_millis(PAUSE));
+        if !matches!(look(reader), Peer::There) {
+            return None;
+        }
+    }
+    None
+}
+
+/// Writes what is published: the tables of a version, and, with a place, each command that the follower learns after it;
+/// tells whether all of it went well.
+fn feed<H: Wait + Clock, J: Naming, R: Read, W: Write>(
     rt: &H,
     alloc: Global,
+    places: &Places,
     follower: &mut Follower<J>,
     version: Arc<Version>,
+    reader: &mut R,
     writer: &mut W,
 ) -> bool
     requires { arc_value version ≡ line_state follower.old }
@@ -74,26 +145,40 @@ fn feed<H: Wait, J: Naming, W: Write>(
     let is_written = write_opening(writer, alloc, &version);
     // Gives the version back before it waits.
     drop(version);
-    is_written && tell_on(rt, alloc, follower, writer)
+    if !is_written {
+        return false;
+    }
+    let Some(place) = place_for(rt, places, reader) else {
+        return true;
+    };
+    let is_whole = tell_on(rt, alloc, follower, &mut Watch::new(reader), writer);
+    place.leave(rt);
+    is_whole
 }
 
 /// Feeds a writer: the tables of the published version, with its number, as the lines of a dump; and then each command that
 /// is published after it, with its number, as it is acknowledged. `Feeds` defines the text.
 ///
-/// It goes on until following ends, or the writer falls behind by more than 1,000 commands; nobody waits for the writer.
+/// After the tables it needs a place, and ends where none gets free within a second. With one it goes on until following
+/// ends, the writer falls behind by more than 1,000 commands, or the peer has gone; nobody waits for the writer. The
+/// reader, whose reads hardly wait, shows whether the peer is there; while nothing is published it is looked at once a
+/// second, and a line `#` is written after each 15 seconds.
+///
 /// Tells whether all of it was written. It was not where the writer fails, where no line can spell a rule, a route or a
 /// command, and where memory is refused: then a part of it was written.
 ///
 /// # Errors
 ///
 /// Those of `Service::follow`; nothing is written then.
-pub fn serve_feed<H: Wait, S: Alter + Drop, B: Wait + Drop, J: Naming, W: Write>(
+pub fn serve_feed<H: Wait + Clock, S: Alter + Drop, J: Naming, R: Read, W: Write>(
     rt: &H,
     alloc: Global,
-    service: &Service<S, B, J>,
+    service: &Service<S, J>,
+    places: &Places,
+    reader: &mut R,
     writer: &mut W,
-) -> Result<bool, Refusal>
-    ensures fed { IfOk result (λ whole. (opening known : Line) × (opening.book ≡ J.book) × (opening.base ≡ J.base) × Feeds opening known whole (W.contents writer.old) (W.contents writer.new)) }
+) -> Result<Fed, Refusal>
+    ensures fed { IfOk result (λ fed. (opening : Line) × (opening.book ≡ J.book) × (opening.base ≡ J.base) × Feeds opening fed.left fed.is_whole (W.contents writer.old) (W.contents writer.new)) }
     ensures reason { IfErr result IsFollowRefusal }
     ensures nothing { OnErr result (writer.new ≡ writer.old) }
 {
@@ -101,7 +186,9 @@ pub fn serve_feed<H: Wait, S: Alter + Drop, B: Wait + Drop, J: Naming, W: Write>
         Ok(made) => made,
         Err(reason) => return Err(reason),
     };
-    let is_whole = feed(rt, alloc, &mut follower, version, writer);
-    follower.leave(rt, service);
-    Ok(is_whole)
+    let is_whole = feed(rt, alloc, places, &mut follower, version, reader, writer);
+    Ok(Fed {
+        is_whole,
+        left: follower.leave(rt, service),
+    })
 }

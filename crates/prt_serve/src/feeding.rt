@@ -1,107 +1,110 @@
 //! The loop that accepts connections of a feed, and the threads that feed them.
 
+use crate::accepting::{Accepted, accept_one};
 use crate::feed::serve_feed;
 use crate::gate::Gate;
-use crate::listen::{Limits, ServeEnd, serve_all};
-use crossbeam_channel::{Receiver, Sender};
+use crate::listen::{Accepting, Limits, ServeEnd, serve_all};
+use crate::places::Places;
+use crossbeam_channel::{Receiver, Sender, bounded};
 use prt_service::{Naming, Service};
 use sqlite::Alter;
 use std::alloc::Global;
-use std::io::{Read, Write};
+use std::io::{self, Read, Write};
 use std::net::{OpenListener, OpenStream};
 use std::sync::Wait;
 use std::sync::atomic::{AtomicBool, Ordering};
 use std::thread::{self, Threads};
 use std::time::{Clock, Duration};
 
-/// How many connections are fed at once.
-const FEEDERS: usize = 16;
+/// How many connections follow at once.
+const FOLLOWERS: u64 = 16;
 
-/// How many seconds a connection may take nothing of what is written to it. It is closed then.
-const PATIENCE: u64 = 10;
+/// How many connections are fed at once: beside those that follow, 64 that read the tables.
+const FEEDERS: usize = 80;
+
+/// How many seconds one write to a connection may wait. The first of two that wait may have put a part of its bytes into
+/// the system's buffer, so a connection that takes nothing is closed after 10 seconds at most.
+const PATIENCE: u64 = 5;
 
 /// How many milliseconds the loop pauses where no connection waits.
 const PAUSE: u64 = 50;
 
-/// How many milliseconds a connection waits for a feeder that is free, as one is soon after the start.
-const FOR_FEEDER: u64 = 1000;
+/// How many seconds a connection waits for a feeder that is free.
+const FOR_FEEDER: u64 = 10;
 
-/// Readies a connection for what is written to it, and tells whether it did.
-fn make_ready<T: OpenStream>(stream: &T) -> bool {
+/// The two ends of a connection that is fed.
+#[derive(Drop)]
+struct FeedEnds<T: Drop> {
+    /// The end at which is looked whether the peer is there. A read hardly waits.
+    reader: T,
+    writer: T,
+}
+
+/// Makes the ends of a connection, with the time limits of both.
+fn feed_ends<T: OpenStream + Drop>(stream: T) -> io::Result<FeedEnds<T>> {
     // Sends all the same where this is refused: a change then may come late.
     let _at_once = stream.set_nodelay(true).is_ok();
+    stream.set_read_timeout(Some(Duration::from_millis(1)))?;
     // A thread that waited for its client without end would never end.
-    stream
-        .set_write_timeout(Some(Duration::from_secs(PATIENCE)))
-        .is_ok()
+    stream.set_write_timeout(Some(Duration::from_secs(PATIENCE)))?;
+    Ok(FeedEnds {
+        reader: stream.try_clone()?,
+        writer: stream,
+    })
 }
 
 /// Feeds one connection after another, until no more come. A fault ends its own feed alone, and closes its connection.
-fn feed_streams<H: Wait, S: Alter + Drop, B: Wait + Drop, J: Naming, T: Write + OpenStream + Drop>(
+fn feed_streams<H: Wait + Clock, S: Alter + Drop, J: Naming, T: Read + Write + OpenStream + Drop>(
     rt: &H,
     alloc: Global,
-    service: &Service<S, B, J>,
+    service: &Service<S, J>,
+    places: &Places,
     streams: &Receiver<T>,
 ) {
-    for mut stream in streams.iter(rt) {
-        if make_ready(&stream) {
-            let _fed = serve_feed(rt, alloc, service, &mut stream).is_ok();
+    for stream in streams.iter(rt) {
+        if let Ok(
+            FeedEnds {
+                mut reader,
+                mut writer,
+            },
+        ) = feed_ends(stream)
+        {
+            let _fed = serve_feed(rt, alloc, service, places, &mut reader, &mut writer).is_ok();
         }
     }
 }
 
 /// Accepts connections, and hands each to a feeder that is free or soon is, until it is told to end. One for which no feeder
 /// is free is closed. Closes the channel behind it.
-fn accept_feeds<H: Wait + Clock, T: Drop, L: OpenListener<Stream = T>>(
+fn accept_feeds<H: Wait + Clock, G: Gate, T: Drop, L: OpenListener<Stream = T>>(
     rt: &H,
+    gate: &G,
     listener: &L,
     streams: Sender<T>,
     is_ended: &AtomicBool,
-) {
+) -> Accepting {
     // Waits for no client, so that it sees when it is to end.
     if listener.set_nonblocking(true).is_err() {
-        return;
+        return Accepting::Failed;
     }
-    let patience = Duration::from_millis(FOR_FEEDER);
+    let patience = Duration::from_secs(FOR_FEEDER);
     for _ in rt.forever() {
         if is_ended.load(Ordering::SeqCst) {
-            return;
+            return Accepting::Ended;
         }
-        match listener.accept() {
-            Ok((stream, _)) => drop(streams.send_timeout(rt, stream, patience)),
-            Err(_) => thread::sleep(rt, Duration::from_millis(PAUSE)),
+        match accept_one(rt, gate, listener) {
+            Accepted::Stream(stream) => drop(streams.send_timeout(rt, stream, patience)),
+            Accepted::Nobody => thread::sleep(rt, Duration::from_millis(PAUSE)),
+            Accepted::Never => return Accepting::Failed,
         }
     }
+    unreachable!()
 }
 
 /// Feeds the connections of a listener until it is told to end, and following has ended.
 fn feed_all<
     H: Threads + Wait + Clock + Sync,
     S: Alter + Drop + Send,
-    B: Wait + Drop + Send,
-    J: Naming + Send,
-    T: Write + OpenStream + Drop + Send,
-    L: OpenListener<Stream = T> + Sync,
->(rt: &H, alloc: Global, service: &Service<S, B, J>, listener: &L, is_ended: &AtomicBool) {
-    let Ok((sender, streams)) = crossbeam_channel::bounded(alloc, 0) else {
-        return;
-    };
-    thread::join(
-        rt,
-        move || accept_feeds(rt, listener, sender, is_ended),
-        || {
-            let feeder = |_| feed_streams(rt, alloc, service, &streams);
-            let _all = thread::map_indices(rt, alloc, FEEDERS, &feeder).is_ok();
-        },
-    );
-}
-
-/// Serves the connections of a listener as `serve_all` does, and beside it feeds those of another, up to 16 at once: further
-/// ones are closed. A feed has a thread of its own, and its faults end it alone. All threads have ended when it returns.
-pub fn serve_and_feed<
-    H: Threads + Wait + Clock + Sync,
-    S: Alter + Drop + Send,
-    B: Wait + Drop + Send,
     J: Naming + Send,
     G: Gate + Sync,
     T: Read + Write + OpenStream + Drop + Send,
@@ -109,16 +112,53 @@ pub fn serve_and_feed<
 >(
     rt: &H,
     alloc: Global,
-    service: &Service<S, B, J>,
+    service: &Service<S, J>,
+    gate: &G,
+    listener: &L,
+    is_ended: &AtomicBool,
+) -> Accepting {
+    let Ok((sender, streams)) = bounded(alloc, 0) else {
+        return Accepting::Failed;
+    };
+    let places = Places::new(FOLLOWERS);
+    let (has_fed, accepting) = thread::join(
+        rt,
+        || {
+            let feeder = |_| feed_streams(rt, alloc, service, &places, &streams);
+            thread::map_indices(rt, alloc, FEEDERS, &feeder).is_ok()
+        },
+        move || accept_feeds(rt, gate, listener, sender, is_ended),
+    );
+    if has_fed {
+        accepting
+    } else {
+        Accepting::Failed
+    }
+}
+
+/// Serves the connections of a listener as `serve_all` does, and beside it feeds those of another: up to 80 at once, of
+/// which 16 follow once they have read the tables. A further one waits up to 10 seconds for a thread, and is closed then.
+/// A feed has a thread of its own, and its faults end it alone. All threads have ended when it returns.
+pub fn serve_and_feed<
+    H: Threads + Wait + Clock + Sync,
+    S: Alter + Drop + Send,
+    J: Naming + Send,
+    G: Gate + Sync,
+    T: Read + Write + OpenStream + Drop + Send,
+    L: OpenListener<Stream = T> + Sync,
+>(
+    rt: &H,
+    alloc: Global,
+    service: &Service<S, J>,
     gate: &G,
     listener: &L,
     limits: Limits,
     feed_listener: &L,
 ) -> ServeEnd {
     let is_ended = AtomicBool::new(false);
-    let (_, end) = thread::join(
+    let (feeding, end) = thread::join(
         rt,
-        || feed_all(rt, alloc, service, feed_listener, &is_ended),
+        || feed_all(rt, alloc, service, gate, feed_listener, &is_ended),
         || {
             let end = serve_all(rt, alloc, service, gate, listener, limits);
             is_ended.store(true, Ordering::SeqCst);
@@ -126,5 +166,5 @@ pub fn serve_and_feed<
             end
         },
     );
-    end
+    ServeEnd { feeding, ..end }
 }

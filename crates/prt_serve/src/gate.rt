@@ -1,6 +1,7 @@
 //! What is called round each line of a session.
 
 use prt_session::{Observer, Reply};
+use std::io;
 
 /// Is called round each line's execution and reply, by the thread that serves the session. Sessions and their lines are
 /// numbered from 1.
@@ -10,6 +11,9 @@ pub trait Gate {
 
     /// Comes once the writer took this reply to the line, or failed.
     fn after(&self, session: u64, line: u64, reply: &Reply);
+
+    /// Comes where a connection wasn't accepted and the next one may be, before accepting is tried again.
+    fn not_accepted(&self, _error: &io::Error) {}
 }
 
 /// Lets every line pass.

@@ -13,6 +13,7 @@ use sqlite::Alter;
 use std::alloc::Global;
 use std::io::{Read, Write};
 use std::sync::Wait;
+use std::time::Clock;
 
 /// A session that waits for a worker.
 #[derive(Drop)]
@@ -32,18 +33,10 @@ pub struct Served<R: Read + Drop, W: Write + Drop> {
 
 /// Serves the session of a job, as `serve_session` does: its lines are read from the job's own reader, and its replies go
 /// to the job's own writer.
-fn serve_job<
-    H: Wait,
-    S: Alter + Drop,
-    B: Wait + Drop,
-    J: Naming,
-    G: Gate,
-    R: Read + Drop,
-    W: Write + Drop,
->(
+fn serve_job<H: Wait + Clock, S: Alter + Drop, J: Naming, G: Gate, R: Read + Drop, W: Write + Drop>(
     rt: &H,
     alloc: Global,
-    service: &Service<S, B, J>,
+    service: &Service<S, J>,
     looker: &mut Looker,
     job: &mut Job<R, W>,
     gate: &G,
@@ -70,9 +63,8 @@ fn serve_job<
 /// Serves jobs until no more come, each with all that the looker learned from those before. A fault ends its own session
 /// alone. Gives each job to `after` once its session has ended.
 fn serve_jobs<
-    H: Wait,
+    H: Wait + Clock,
     S: Alter + Drop,
-    B: Wait + Drop,
     J: Naming,
     G: Gate,
     R: Read + Drop,
@@ -82,7 +74,7 @@ fn serve_jobs<
 >(
     rt: &H,
     alloc: Global,
-    service: &Service<S, B, J>,
+    service: &Service<S, J>,
     looker: &mut Looker,
     jobs: I,
     gate: &G,
@@ -104,9 +96,8 @@ fn serve_jobs<
 
 /// Serves jobs until no more come, with a looker that then leaves. The departure has the list that it knew at the end.
 fn work_with<
-    H: Wait,
+    H: Wait + Clock,
     S: Alter + Drop,
-    B: Wait + Drop,
     J: Naming,
     G: Gate,
     R: Read + Drop,
@@ -116,7 +107,7 @@ fn work_with<
 >(
     rt: &H,
     alloc: Global,
-    service: &Service<S, B, J>,
+    service: &Service<S, J>,
     mut looker: Looker,
     jobs: I,
     gate: &G,
@@ -139,9 +130,8 @@ fn work_with<
 ///
 /// `Full`, where the service has no looker left; no job is taken then.
 pub fn work<
-    H: Wait,
+    H: Wait + Clock,
     S: Alter + Drop,
-    B: Wait + Drop,
     J: Naming,
     G: Gate,
     R: Read + Drop,
@@ -151,7 +141,7 @@ pub fn work<
 >(
     rt: &H,
     alloc: Global,
-    service: &Service<S, B, J>,
+    service: &Service<S, J>,
     jobs: I,
     gate: &G,
     after: F,

@@ -1,17 +1,18 @@
 -- What a follower learns.
-use Rattle.std.proofs.Common.{◌≡◌, ℕ, ◌+◌, ◌-◌, List, [], ◌∷◌, ◌++◌, ap, arith, length, length-append, refl, subst, sym, ◌∙◌}
+use Rattle.std.proofs.Common.{◌≡◌, ℕ, ◌+◌, ◌-◌, Bool, true, false, List, [], ◌∷◌, ◌++◌, ap, arith, length, length-append, refl, subst, sym, ◌∙◌}
+use Rattle.std.specs.Prelude.{MatchBool}
 use mathlib.Core.List.{IsPrefix}
 use Rattle.prt_command.specs.declared.request.Command.{Command}
 use Rattle.logbook.specs.Pages.{Book}
 use Rattle.prt_front.proofs.Numbers.{number_is}
-use Rattle.prt_front.proofs.Prefixes.{begins_self, begins_trans, begins_whole, shorter_begins}
+use Rattle.prt_front.proofs.Prefixes.{begins_trans, begins_whole, shorter_begins}
 use Rattle.prt_front.specs.Line.{Begins, Line, grown, line_state}
 use Rattle.prt_service.specs.Service.{EndsWith}
 use Rattle.prt_version.specs.Accepted.{IsAccepted}
 use Rattle.prt_version.specs.State.{State}
 
 -- of two beginnings of one list the one that has one command more, and ends with this one, is the other and this command
-pub one_more : (known told whole : Line) (command : Command) → Begins known whole → Begins told whole → EndsWith told.list command → length told.list ≡ length known.list + 1 → told ≡ grown known command
+one_more : (known told whole : Line) (command : Command) → Begins known whole → Begins told whole → EndsWith told.list command → length told.list ≡ length known.list + 1 → told ≡ grown known command
 one_more known told whole command p q ends long =
     let before : List Command = ends.0 in
     let its : told.list ≡ before ++ command ∷ [] = ends.1 in
@@ -25,18 +26,23 @@ one_more known told whole command p q ends long =
     let list : told.list ≡ known.list ++ command ∷ [] = its ∙ ap (λ (list : List Command). list ++ command ∷ []) same in
     λ i. record { book = book i; base = base i; list = list i }
 
--- A follower knows a beginning of what its reader knew, and the reader knows more now: also a list with the next number.
-pub learned : (known reader told whole : Line) (command : Command) (count number : ℕ) → Begins known reader → Begins reader whole → Begins told whole → EndsWith told.list command → told.base ≡ known.base → count ≡ known.base.count + length known.list → number ≡ told.base.count + length told.list → number - 1 ≡ count → told ≡ grown known command
-learned known reader told whole command count number mine more its ends base counted numbered next =
+-- Two lists are told of, each with a list that it begins; of these one begins the other. So both begin the longer of these.
+one_more_of : (b : Bool) (known told mine theirs : Line) (command : Command) → MatchBool b (Begins mine theirs) (Begins theirs mine) → Begins known mine → Begins told theirs → EndsWith told.list command → length told.list ≡ length known.list + 1 → told ≡ grown known command
+one_more_of true known told mine theirs command before p q ends long = one_more known told theirs command (begins_trans known mine theirs p before) q ends long
+one_more_of false known told mine theirs command before p q ends long = one_more known told mine command p (begins_trans told theirs mine q before) ends long
+
+-- what a follower is told, with the number after its own, is what it knows with one command more
+pub learned : (b : Bool) (known told mine theirs : Line) (command : Command) (count number : ℕ) → MatchBool b (Begins mine theirs) (Begins theirs mine) → Begins known mine → Begins told theirs → EndsWith told.list command → told.base ≡ known.base → count ≡ known.base.count + length known.list → number ≡ told.base.count + length told.list → number - 1 ≡ count → told ≡ grown known command
+learned b known told mine theirs command count number before p q ends base counted numbered next =
     let long : length told.list ≡ length ends.0 + 1 = omega (arith, ap length ends.1, length-append ends.0 (command ∷ [])) in
     let bases : told.base.count ≡ known.base.count = ap (λ (state : State). state.count) base in
-    one_more known told whole command (begins_trans known reader whole mine more) its ends (omega (arith, long, bases, counted, numbered, next))
+    one_more_of b known told mine theirs command before p q ends (omega (arith, long, bases, counted, numbered, next))
 
--- what a follower knows, its reader knows, and it has the number of its last command
-abbrev pub IsKnownTo : Book → State → ℕ → Line → Line → Type 0
-IsKnownTo book base number told reader = (told.book ≡ book) × (told.base ≡ base) × Begins told reader × (number ≡ told.base.count + length told.list) × (number ≡ (line_state told).count)
+-- it is of the named front, and has the number of its last command
+abbrev pub IsNumbered : Book → State → ℕ → Line → Type 0
+IsNumbered book base number told = (told.book ≡ book) × (told.base ≡ base) × (number ≡ told.base.count + length told.list) × (number ≡ (line_state told).count)
 
--- at first it knows all that its reader knows
-pub knows_all : (book : Book) (base : State) (number : ℕ) (told reader : Line) → told ≡ reader → (reader.book ≡ book) × (reader.base ≡ base) → IsAccepted reader.base reader.list → number ≡ (line_state reader).count → IsKnownTo book base number told reader
-knows_all book base number told reader is of accepted counted =
-    subst (λ (line : Line). IsKnownTo book base number line reader) (sym is) (of.0, of.1, begins_self reader, counted ∙ number_is reader accepted, counted)
+-- so is a known list, with the number of its version
+pub begins_numbered : (book : Book) (base : State) (number : ℕ) (told known : Line) → told ≡ known → (known.book ≡ book) × (known.base ≡ base) → IsAccepted known.base known.list → number ≡ (line_state known).count → IsNumbered book base number told
+begins_numbered book base number told known is of accepted counted =
+    subst (λ (line : Line). IsNumbered book base number line) (sym is) (of.0, of.1, counted ∙ number_is known accepted, counted)

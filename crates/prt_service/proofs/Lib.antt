@@ -1,4 +1,5 @@
 mod Following
+mod Follows
 mod Receipts
 mod Refusals
 mod SameCommand

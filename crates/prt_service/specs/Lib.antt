@@ -1,3 +1,5 @@
+pub mod Follow
+pub mod Lobby
 pub mod Look
 pub mod Named
 pub mod Service

@@ -30,7 +30,6 @@ IsServiceRefusal _ = ⊥
 
 -- what a follower can be refused for
 abbrev pub IsFollowRefusal : Refusal → Type 0
-IsFollowRefusal Full = Unit {0}
 IsFollowRefusal NotFetched = Unit {0}
 IsFollowRefusal NoMemory = Unit {0}
 IsFollowRefusal Closed = Unit {0}

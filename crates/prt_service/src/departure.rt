@@ -1,7 +1,7 @@
 //! That a looker left.
 ghost use Rattle.std.specs.Prelude.{◌≡◌};
 
-use prt_front::Known;
+use crate::spare::Returned;
 use std::marker::Model;
 
 /// Says that a looker gave its version, its reader and its place back. [`Looker::leave`] alone makes one. Contracts see it
@@ -10,7 +10,7 @@ use std::marker::Model;
 /// [`Looker::leave`]: crate::Looker::leave
 #[derive(Drop)]
 pub struct Departure {
-    known: Known,
+    returned: Returned,
 }
 
 impl Model for Departure {
@@ -18,14 +18,14 @@ impl Model for Departure {
 
     ghost Value = { Line };
 
-    ghost view = { λ departure. departure.known };
+    ghost view = { λ departure. departure.returned };
 }
 
 impl Departure {
-    /// Says it of a looker that knew this list.
-    pub(crate) fn new(known: Known) -> Departure
-        ensures { result ≡ known }
+    /// Says it of a looker whose reader was given back.
+    pub(crate) fn new(returned: Returned) -> Departure
+        ensures { result ≡ returned }
     {
-        Departure { known }
+        Departure { returned }
     }
 }

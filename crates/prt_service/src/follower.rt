@@ -1,58 +1,61 @@
 //! Followers of what is published.
-ghost use Rattle.std.specs.Prelude.{◌≡◌, ◌+◌, MatchOption, length};
-ghost use Rattle.prt_front.specs.Line.{grown, line_state};
+ghost use Rattle.std.specs.Prelude.{◌≡◌, ◌+◌, length};
+ghost use Rattle.prt_front.specs.Line.{line_state};
+ghost use Rattle.prt_service.specs.Follow.{IsNews};
 ghost use Rattle.prt_version.specs.Accepted.{IsAccepted};
 
 use crate::change::Change;
-use crate::{Naming, Service};
-use crossbeam_channel::Receiver;
-use prt_command::Command;
-use prt_front::{FrontReader, Told};
+use crate::followers::FollowerNumber;
+use crate::{Naming, News, Service, Unfollowed};
+use crossbeam_channel::{Receiver, RecvTimeoutError};
+use prt_front::{Known, Told};
 use sqlite::Alter;
 use std::alloc::Global;
 use std::marker::Model;
 use std::sync::Wait;
+use std::time::{Clock, Duration};
+
+/// The end of a channel to which each command comes that is published from now on.
+#[derive(Drop)]
+pub(crate) struct Changes<J: Naming> {
+    pub(crate) receiver: Receiver<Change<J>, Global>,
+    pub(crate) follower: FollowerNumber,
+}
 
 /// Follows what a service publishes: it knows a beginning of the published list, and learns one command after the other.
 /// One thread has it. Contracts see it as the list that it knows.
 ///
-/// Nobody waits for it. One that is let go without `leave` keeps its reader.
+/// Nobody waits for it, and it has no reader. One that is let go without `leave` keeps its channel until a command is
+/// published.
 #[derive(Drop)]
 pub struct Follower<J: Naming> {
-    reader: FrontReader,
     told: Told,
     number: u64,
-    changes: Receiver<Change<J>, Global>,
+    changes: Changes<J>,
 }
 
 impl<J: Naming> Model for Follower<J> {
     ghost use Rattle.std.specs.Prelude.{◌≡◌, ◌+◌, length};
-    ghost use Rattle.prt_front.specs.Line.{Begins, Line, line_state};
+    ghost use Rattle.prt_front.specs.Line.{Line, line_state};
 
     ghost Value = { Line };
 
     ghost view = { λ follower. follower.told };
 
-    ghost invariant = { λ follower. (follower.told.book ≡ J.book) × (follower.told.base ≡ J.base) × Begins follower.told follower.reader
+    ghost invariant = { λ follower. (follower.told.book ≡ J.book) × (follower.told.base ≡ J.base)
         × (follower.number ≡ follower.told.base.count + length follower.told.list) × (follower.number ≡ (line_state follower.told).count) };
 }
 
 impl<J: Naming> Follower<J> {
-    /// Makes one that knows what its reader knows, which has this number.
-    pub(crate) fn new(
-        reader: FrontReader,
-        number: u64,
-        changes: Receiver<Change<J>, Global>,
-    ) -> Follower<J>
-        requires of { (reader.book ≡ J.book) × (reader.base ≡ J.base) }
-        requires accepted { IsAccepted reader.base reader.list }
-        requires number { number ≡ (line_state reader).count }
-        ensures { result ≡ reader }
+    /// Makes one that knows this list, which has this number.
+    pub(crate) fn new(known: &Known, number: u64, changes: Changes<J>) -> Follower<J>
+        requires of { (known.now.book ≡ J.book) × (known.now.base ≡ J.base) }
+        requires accepted { IsAccepted known.now.base known.now.list }
+        requires number { number ≡ (line_state known.now).count }
+        ensures { result ≡ known.now }
     {
-        let told = Told::whole(&reader.known());
         Follower {
-            reader,
-            told,
+            told: Told::whole(known),
             number,
             changes,
         }
@@ -66,34 +69,43 @@ impl<J: Naming> Follower<J> {
         self.number
     }
 
-    /// Waits for the command that is published after those that it knows, and knows it from then on.
+    /// Waits, at most for this time, for the command that is published after those that it knows, and knows it from then on.
     ///
-    /// `None` where it has ended: 1,000 commands waited for it and there was one more, or following has ended. It knows then
-    /// what it knew.
-    pub fn next<W: Wait>(&mut self, rt: &W) -> Option<Command>
-        ensures { MatchOption result (self.new ≡ self.old) (λ command. self.new ≡ grown self.old command) }
+    /// `Ended` where 1,000 commands waited for it and there was one more, or following has ended, once it has learned those
+    /// that waited. `Quiet` and `Ended` leave it with what it knew. A clock that can't be read ends the wait.
+    pub fn next_within<W: Wait + Clock>(&mut self, rt: &W, patience: Duration) -> News
+        ensures { IsNews self.old result self.new }
     {
         let Change {
             number,
             command,
             told,
             of: _,
-        } = self.changes.recv(rt).ok()?;
+        } = match self.changes.receiver.recv_timeout(rt, patience) {
+            Ok(change) => change,
+            Err(RecvTimeoutError::Timeout) => return News::Quiet,
+            Err(RecvTimeoutError::Disconnected) => return News::Ended,
+        };
         if number - 1 != self.number {
-            return None;
+            return News::Ended;
         }
-        self.reader.learn(&told);
+        // Recalls that of two lists of one front the shorter begins the longer.
+        let _is_before = self.told.known().is_before(told.known());
         self.number = number;
         self.told = told;
-        Some(command)
+        News::Command(command)
     }
 
-    /// Gives its reader back to the service that it is of.
-    pub fn leave<S: Alter + Drop, R: Wait + Drop, W: Wait>(
-        self,
-        rt: &W,
-        service: &Service<S, R, J>,
-    ) {
-        service.take_back(rt, self.reader);
+    /// Ends its channel: the service that it is of tells it nothing more. That it left says the result, with the list that it
+    /// knew.
+    pub fn leave<S: Alter + Drop, W: Wait>(self, rt: &W, service: &Service<S, J>) -> Unfollowed
+        ensures { result ≡ self }
+    {
+        let Follower {
+            told,
+            number: _,
+            changes,
+        } = self;
+        service.unfollow(rt, changes.follower, told)
     }
 }

@@ -1,46 +1,132 @@
 //! Who is told of each command that is published.
-ghost use Rattle.std.specs.Prelude.{◌≡◌, ◌-◌, ◌<◌, length, take};
+ghost use Rattle.std.specs.Prelude.{◌≡◌, ◌-◌, ◌<◌, [], ◌∷◌, ◌++◌, Contains, MatchOption, length, take};
+ghost use Rattle.prt_service.specs.Follow.{others};
 ghost use Rattle.prt_service.specs.Service.{EndsWith, EndsWithAll};
 
 use crate::Naming;
 use crate::change::Change;
 use crossbeam_channel::Sender;
 use prt_command::Command;
+use prt_front::Told;
 use prt_publisher::Receipt;
 use std::alloc::Global;
+use std::marker::Model;
 use std::sync::Wait;
 
-/// Where the followers of a service are told of commands. Each has a channel of its own, and nobody waits for it.
+/// The number of a follower of a service, which no other has. Its follower alone has it, so nobody else ends its channel.
+/// Contracts see it as the number.
+#[derive(Drop)]
+pub(crate) struct FollowerNumber {
+    value: u64,
+}
+
+impl Model for FollowerNumber {
+    ghost use Rattle.std.specs.Prelude.{ℕ};
+
+    ghost Value = { ℕ };
+
+    ghost view = { λ number. number.value };
+}
+
+/// Says that a follower left: no command is sent to its channel any more, and the channel is gone. [`Follower::leave`] alone
+/// makes one. Contracts see it as the list that the follower knew.
+///
+/// [`Follower::leave`]: crate::Follower::leave
+#[derive(Drop)]
+pub struct Unfollowed {
+    told: Told,
+}
+
+impl Model for Unfollowed {
+    ghost use Rattle.prt_front.specs.Line.{Line};
+
+    ghost Value = { Line };
+
+    ghost view = { λ unfollowed. unfollowed.told };
+}
+
+/// Where one follower is told of commands. Contracts see it as the follower's number.
+#[derive(Drop)]
+struct Recipient<J: Naming> {
+    number: u64,
+    sender: Sender<Change<J>, Global>,
+}
+
+impl<J: Naming> Model for Recipient<J> {
+    ghost use Rattle.std.specs.Prelude.{ℕ};
+
+    ghost Value = { ℕ };
+
+    ghost view = { λ recipient. recipient.number };
+}
+
+/// Where the followers of a service are told of commands. Each has a channel of its own, and nobody waits for it. Contracts
+/// see it as their numbers.
 #[derive(Drop)]
 pub(crate) struct Followers<J: Naming> {
-    senders: Vec<Sender<Change<J>, Global>>,
+    recipients: Vec<Recipient<J>>,
+    /// The number of the next one: the others have smaller ones.
+    next: u64,
     /// Whether there are to be none from now on.
     is_ended: bool,
 }
 
+impl<J: Naming> Model for Followers<J> {
+    ghost use Rattle.std.specs.Prelude.{ℕ, ◌<◌, All, List};
+
+    ghost Value = { List ℕ };
+
+    ghost view = { λ followers. followers.recipients.items };
+
+    ghost invariant = { λ followers. All (λ number. number < followers.next) followers.recipients.items };
+}
+
 impl<J: Naming> Followers<J> {
-    pub(crate) fn new(alloc: Global) -> Followers<J> {
+    pub(crate) fn new(alloc: Global) -> Followers<J>
+        ensures { result ≡ [] }
+    {
         Followers {
-            senders: Vec::new(alloc),
+            recipients: Vec::new(alloc),
+            next: 0,
             is_ended: false,
         }
     }
 
-    /// Adds one, and tells whether it did: it didn't where following has ended, or where there is no memory for it.
-    pub(crate) fn add(&mut self, sender: Sender<Change<J>, Global>) -> bool {
-        !self.is_ended && self.senders.push(sender).is_ok()
+    /// Adds one, and gives its number. `None` where following has ended, or where there is no memory for it.
+    pub(crate) fn add(&mut self, sender: Sender<Change<J>, Global>) -> Option<FollowerNumber>
+        ensures { MatchOption result (self.new ≡ self.old) (λ number. (self.new ≡ self.old ++ number ∷ []) × (Contains self.old number → ⊥)) }
+    {
+        if self.is_ended {
+            return None;
+        }
+        let number = self.next;
+        let next = number.checked_add(1)?;
+        self.recipients.push(Recipient { number, sender }).ok()?;
+        self.next = next;
+        Some(FollowerNumber { value: number })
+    }
+
+    /// Lets one go that has left, and that knew this list. It may have been let go before.
+    pub(crate) fn remove(&mut self, number: FollowerNumber, told: Told) -> Unfollowed
+        ensures left { self.new ≡ others number self.old }
+        ensures known { result ≡ told }
+    {
+        self.recipients.retain(|one| one.number != number.value);
+        Unfollowed { told }
     }
 
     /// Lets all of them go, and takes none from now on.
-    pub(crate) fn end(&mut self) {
-        self.senders.clear();
+    pub(crate) fn end(&mut self)
+        ensures { self.new ≡ [] }
+    {
+        self.recipients.clear();
         self.is_ended = true;
     }
 
     /// Tells each of a command, and lets those go that have no room for it, or have left.
     fn tell<W: Wait>(&mut self, rt: &W, change: &Change<J>) {
-        self.senders
-            .retain(|sender| sender.try_send(rt, change.again()).is_ok());
+        self.recipients
+            .retain(|one| one.sender.try_send(rt, change.again()).is_ok());
     }
 
     /// Tells each of the commands of a receipt, one after the other.
@@ -50,7 +136,7 @@ impl<J: Naming> Followers<J> {
     {
         let mut later = commands.len();
         for command in commands {
-            if self.senders.is_empty() {
+            if self.recipients.is_empty() {
                 return;
             }
             later -= 1;

@@ -69,9 +69,9 @@ impl<J: Naming> Group<J> {
     }
 
     /// Submits its commands together. `None` where they were let go, and nothing has changed.
-    fn submit<S: Alter + Drop, R: Wait + Drop, W: Wait>(
+    fn submit<S: Alter + Drop, W: Wait>(
         self,
-        publisher: &mut QuietPublisher<S, R, J>,
+        publisher: &mut QuietPublisher<S, J>,
         rt: &W,
         domain: &Domain,
     ) -> Option<Submitted<J>> {
@@ -104,8 +104,8 @@ fn version_after(version: &Version, command: &Command) -> Result<Version, Refusa
 
 /// Submits the commands that wait, in one transaction those that are accepted one after the other. The others are let go, as
 /// are all where the publisher has no room or no memory for them together: who waits for one submits it by itself.
-pub(crate) fn submit_waiting<S: Alter + Drop, R: Wait + Drop, J: Naming, W: Wait>(
-    publisher: &mut QuietPublisher<S, R, J>,
+pub(crate) fn submit_waiting<S: Alter + Drop, J: Naming, W: Wait>(
+    publisher: &mut QuietPublisher<S, J>,
     rt: &W,
     alloc: Global,
     domain: &Domain,

@@ -41,4 +41,11 @@ impl HeldVersion {
     {
         &self.version
     }
+
+    /// Gives the version, and lets the list go.
+    pub(crate) fn into_version(self) -> Arc<Version>
+        ensures { arc_value result ≡ line_state self }
+    {
+        self.version
+    }
 }

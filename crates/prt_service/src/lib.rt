@@ -15,6 +15,7 @@ mod held;
 mod lobby;
 mod looker;
 mod naming;
+mod news;
 mod quiet;
 mod service;
 mod spare;
@@ -23,6 +24,8 @@ mod waiting;
 
 pub use departure::Departure;
 pub use follower::Follower;
+pub use followers::Unfollowed;
 pub use looker::Looker;
 pub use naming::Naming;
+pub use news::News;
 pub use service::Service;

@@ -1,5 +1,6 @@
 //! Readers of one version at a time.
 ghost use Rattle.std.specs.Prelude.{◌≡◌, ◌↔◌, None, Some, IfErr, IfSome, IsSome, IsTrue, MatchResult};
+ghost use Rattle.std.specs.Arc.{arc_value};
 ghost use Rattle.prt_front.specs.Line.{Begins, line_state};
 ghost use Rattle.prt_service.specs.Look.{Look};
 ghost use Rattle.prt_version.specs.Select.{select};
@@ -12,7 +13,7 @@ use prt_publisher::Receipt;
 use prt_version::{Answer, Packet, Refusal, Version};
 use sqlite::Alter;
 use std::marker::Model;
-use std::sync::Wait;
+use std::sync::{Arc, Wait};
 
 /// Reads one published version at a time, while others are published. One thread has it.
 ///
@@ -92,10 +93,10 @@ impl Looker {
     ///
     /// `NotFetched`, where the front can't be entered, its version has as many owners as can be counted, or the version
     /// is older than what the looker has announced. It then holds and has announced what it had, and may know more.
-    pub fn refresh<S: Alter + Drop, R: Wait + Drop, J: Naming, W: Wait>(
+    pub fn refresh<S: Alter + Drop, J: Naming, W: Wait>(
         &mut self,
         rt: &W,
-        service: &Service<S, R, J>,
+        service: &Service<S, J>,
     ) -> Result<(), Refusal>
         ensures known { Begins self.old.known self.new.known }
         ensures held { MatchResult result (λ _. (self.new.held ≡ Some self.new.known) × (self.new.announced ≡ Some (line_state self.new.known).count))
@@ -121,23 +122,38 @@ impl Looker {
     }
 
     /// Gives its version back, and goes offline. What it knows stays.
-    pub fn rest<S: Alter + Drop, R: Wait + Drop, J: Naming, W: Wait>(
-        &mut self,
-        rt: &W,
-        service: &Service<S, R, J>,
-    )
+    pub fn rest<S: Alter + Drop, J: Naming, W: Wait>(&mut self, rt: &W, service: &Service<S, J>)
         ensures { self.new ≡ record self.old { held = None; announced = None } }
     {
         self.held = None;
         service.domain().offline(rt, &mut self.place);
     }
 
+    /// Gives the version that it holds to the caller, and goes offline: however long the caller keeps the version, no
+    /// publication waits for it. What it knows stays. It is online.
+    pub fn keep<S: Alter + Drop, J: Naming, W: Wait>(
+        &mut self,
+        rt: &W,
+        service: &Service<S, J>,
+    ) -> Arc<Version>
+        requires { IsSome self.old.held }
+        ensures version { IfSome self.old.held (λ line. arc_value result ≡ line_state line) }
+        ensures looker { self.new ≡ record self.old { held = None; announced = None } }
+    {
+        let Some(held) = self.held.take() else {
+            unreachable!();
+        };
+        let place = &mut self.place;
+        service.domain().offline(rt, place);
+        held.into_version()
+    }
+
     /// Gives its version, then its reader, and then its place back, to the service that it is of: a looker that gets the
     /// place finds a reader. The departure says so, with the list that it knew.
-    pub fn leave<S: Alter + Drop, R: Wait + Drop, J: Naming, W: Wait>(
+    pub fn leave<S: Alter + Drop, J: Naming, W: Wait>(
         self,
         rt: &W,
-        service: &Service<S, R, J>,
+        service: &Service<S, J>,
     ) -> Departure
         requires { (self.known.book ≡ J.book) × (self.known.base ≡ J.base) }
         ensures { result ≡ self.known }
@@ -147,10 +163,9 @@ impl Looker {
             place,
             held,
         } = self;
-        let known = reader.known();
         drop(held);
-        service.take_back(rt, reader);
+        let returned = service.take_back(rt, reader);
         service.domain().part(rt, place);
-        Departure::new(known)
+        Departure::new(returned)
     }
 }

@@ -1,5 +1,6 @@
 //! What lies under the lock of a service.
 ghost use Rattle.std.specs.Prelude.{◌≡◌, ◌≤◌, [], All, IfErr, IfOk, OnOk, length};
+ghost use Rattle.std.specs.Arc.{arc_value};
 ghost use Rattle.sqlite.specs.Held.{state};
 ghost use Rattle.sqlite.specs.State.{HasCleanDisk};
 ghost use Rattle.prt_command.specs.Storable.{IsStorable};
@@ -8,13 +9,15 @@ ghost use Rattle.prt_publisher.specs.Exits.{AreNotAcknowledged, HasCommitted, Ha
 ghost use Rattle.prt_publisher.specs.Standing.{IsQuiet, Stands};
 ghost use Rattle.prt_publisher.specs.declared.phase.Phase.TheVariants.{Ready};
 ghost use Rattle.prt_service.specs.Named.{IsNamed};
-ghost use Rattle.prt_service.specs.Service.{EndsWith, EndsWithAll, IsServiceRefusal};
+ghost use Rattle.prt_service.specs.Service.{EndsWith, EndsWithAll, IsFollowRefusal, IsServiceRefusal};
+ghost use Rattle.prt_version.specs.Accepted.{IsAccepted};
 
-use crate::Naming;
 use crate::change::Change;
-use crate::followers::Followers;
+use crate::followers::{FollowerNumber, Followers};
+use crate::{Naming, Unfollowed};
 use crossbeam_channel::Sender;
 use prt_command::{Command, Refusal};
+use prt_front::{Known, Told};
 use prt_grace::Domain;
 use prt_publisher::{Publisher, Receipt};
 use prt_version::Version;
@@ -22,17 +25,17 @@ use sqlite::{Alter, Connection, Error};
 use std::alloc::Global;
 use std::marker::{Model, PhantomData};
 use std::slice;
-use std::sync::Wait;
+use std::sync::{Arc, Wait};
 
 /// A publisher of the named front with no command under way, and who follows it.
 #[derive(Drop)]
-pub(crate) struct QuietPublisher<S: Alter + Drop, R: Wait + Drop, J: Naming> {
-    publisher: Publisher<S, R>,
+pub(crate) struct QuietPublisher<S: Alter + Drop, J: Naming> {
+    publisher: Publisher<S>,
     followers: Followers<J>,
     of: PhantomData<J>,
 }
 
-impl<S: Alter + Drop, R: Wait + Drop, J: Naming> Model for QuietPublisher<S, R, J> {
+impl<S: Alter + Drop, J: Naming> Model for QuietPublisher<S, J> {
     ghost use Rattle.sqlite.specs.Held.{Held, held_code};
     ghost use Rattle.prt_publisher.specs.Standing.{IsQuiet, Standing, standing_code};
     ghost use Rattle.prt_service.specs.Named.{IsNamed};
@@ -46,8 +49,8 @@ impl<S: Alter + Drop, R: Wait + Drop, J: Naming> Model for QuietPublisher<S, R, 
     ghost invariant = { λ q. IsQuiet q.publisher.phase × IsNamed J.book J.base J.ours_first q.publisher };
 }
 
-impl<S: Alter + Drop, R: Wait + Drop, J: Naming> QuietPublisher<S, R, J> {
-    pub(crate) fn new(alloc: Global, publisher: Publisher<S, R>) -> QuietPublisher<S, R, J>
+impl<S: Alter + Drop, J: Naming> QuietPublisher<S, J> {
+    pub(crate) fn new(alloc: Global, publisher: Publisher<S>) -> QuietPublisher<S, J>
         requires quiet { IsQuiet publisher.phase }
         requires of { IsNamed J.book J.base J.ours_first publisher }
         ensures { result ≡ publisher }
@@ -134,11 +137,37 @@ impl<S: Alter + Drop, R: Wait + Drop, J: Naming> QuietPublisher<S, R, J> {
         self.publisher.published()
     }
 
-    /// Adds a follower, and tells whether it did: it didn't where following has ended, or where there is no memory for it.
-    pub(crate) fn add_follower(&mut self, sender: Sender<Change<J>, Global>) -> bool
+    /// Shares the version that was published last, and its list.
+    ///
+    /// # Errors
+    ///
+    /// `NotFetched` where the version has as many owners as can be counted.
+    pub(crate) fn share(&self) -> Result<(Arc<Version>, Known), Refusal>
+        ensures version { IfOk result (λ shared. arc_value shared.0 ≡ line_state self.now.line) }
+        ensures list { IfOk result (λ shared. shared.1 ≡ self.now.line) }
+        ensures of { IfOk result (λ shared. (shared.1.book ≡ J.book) × (shared.1.base ≡ J.base)) }
+        ensures accepted { IfOk result (λ shared. IsAccepted shared.1.base shared.1.list) }
+        ensures reason { IfErr result IsFollowRefusal }
+    {
+        self.publisher.share()
+    }
+
+    /// Adds a follower, and gives its number. `None` where following has ended, or where there is no memory for it.
+    pub(crate) fn add_follower(
+        &mut self,
+        sender: Sender<Change<J>, Global>,
+    ) -> Option<FollowerNumber>
         ensures { self.new ≡ self.old }
     {
         self.followers.add(sender)
+    }
+
+    /// Lets a follower go that has left, and that knew this list.
+    pub(crate) fn remove_follower(&mut self, number: FollowerNumber, told: Told) -> Unfollowed
+        ensures same { self.new ≡ self.old }
+        ensures known { result ≡ told }
+    {
+        self.followers.remove(number, told)
     }
 
     /// Lets all followers go, and takes none from now on.
@@ -153,7 +182,7 @@ impl<S: Alter + Drop, R: Wait + Drop, J: Naming> QuietPublisher<S, R, J> {
         self.publisher.failure()
     }
 
-    /// Gives the connection back, with its tables as they are.
+    /// Gives the connection back, with its tables as they are. It waits for nobody, as `Publisher::release`.
     pub(crate) fn release(self) -> Connection<S>
         ensures tables { result ≡ self.tables }
         ensures quiet { IsQuiet self.phase }
@@ -161,5 +190,15 @@ impl<S: Alter + Drop, R: Wait + Drop, J: Naming> QuietPublisher<S, R, J> {
         ensures stands { Stands S.Store self }
     {
         self.publisher.release()
+    }
+
+    /// Ends its front, as `Publisher::end`, and gives the connection back, with its tables as they are.
+    pub(crate) fn end<W: Wait>(self, rt: &W) -> Connection<S>
+        ensures tables { result ≡ self.tables }
+        ensures quiet { IsQuiet self.phase }
+        ensures of { IsNamed J.book J.base J.ours_first self }
+        ensures stands { Stands S.Store self }
+    {
+        self.publisher.end(rt)
     }
 }

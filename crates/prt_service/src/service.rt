@@ -1,32 +1,40 @@
 //! A publisher for many threads.
-ghost use Rattle.std.specs.Prelude.{◌≡◌, ◌≤◌, All, None, IfErr, IfOk, IfSome, OnOk, length};
+ghost use Rattle.std.specs.Prelude.{◌≡◌, ◌≤◌, All, None, IfErr, IfOk, IfSome, length};
 ghost use Rattle.std.specs.Arc.{arc_value};
 ghost use Rattle.prt_command.specs.Storable.{IsStorable};
 ghost use Rattle.prt_front.specs.Line.{line_state};
 ghost use Rattle.prt_publisher.specs.Standing.{IsQuiet};
 ghost use Rattle.prt_service.specs.Named.{IsNamed, IsReleased};
 ghost use Rattle.prt_service.specs.Service.{EndsWith, EndsWithAll, IsAnswer, IsFollowRefusal, IsServiceRefusal};
-ghost use Rattle.prt_version.specs.Accepted.{IsAccepted};
 
-use crate::change::Change;
+use crate::follower::Changes;
+use crate::followers::FollowerNumber;
 use crate::group::submit_waiting;
 use crate::lobby::{Entered, Lobby};
 use crate::quiet::QuietPublisher;
-use crate::spare::SpareReaders;
+use crate::spare::{Returned, SpareReaders};
 use crate::waiting::Waiting;
-use crate::{Follower, Looker, Naming};
-use crossbeam_channel::{Receiver, bounded};
+use crate::{Follower, Looker, Naming, Unfollowed};
+use crossbeam_channel::bounded;
 use prt_command::{Command, Refusal};
-use prt_front::FrontReader;
+use prt_front::{FrontReader, Told};
 use prt_grace::Domain;
-use prt_publisher::{Publisher, Receipt};
+use prt_publisher::{Publisher, Receipt, Seats};
 use prt_version::Version;
 use sqlite::{Alter, Connection, Error};
 use std::alloc::Global;
 use std::sync::{Arc, Mutex, Wait};
+use std::thread;
+use std::time::{Clock, Duration};
 
 /// How many commands may wait for a follower.
 const MOST_UNTOLD: usize = 1000;
+
+/// For how many milliseconds a command waits for room until it is tried again.
+const PAUSE: u64 = 5;
+
+/// How often a command waits for room: for a second in all.
+const MOST_PAUSES: u32 = 200;
 
 /// A publisher, its domain and the readers that no looker has, for any number of threads.
 ///
@@ -37,24 +45,25 @@ const MOST_UNTOLD: usize = 1000;
 /// While the publisher is held, up to 64 commands wait in a lobby, under a lock of its own. Who came first submits those in
 /// one transaction that are accepted one after the other, and each thread gets the receipt of its own command. A thread
 /// whose command was left out submits it by itself.
+///
+/// End it by `end`: the drop of its front gives no memory back.
 #[derive(Drop)]
-pub struct Service<S: Alter + Drop, R: Wait + Drop, J: Naming> {
-    publisher: Mutex<QuietPublisher<S, R, J>>,
+pub struct Service<S: Alter + Drop, J: Naming> {
+    publisher: Mutex<QuietPublisher<S, J>>,
     lobby: Mutex<Lobby<J>>,
     domain: Domain,
     spare: Mutex<SpareReaders<J>>,
     alloc: Global,
 }
 
-impl<S: Alter + Drop, R: Wait + Drop, J: Naming> Service<S, R, J> {
-    /// Shares a publisher of the named front, which is ready or closed, and its domain. The readers that it has are taken
-    /// out of it. Takes no memory.
-    pub fn new(mut publisher: Publisher<S, R>, domain: Domain) -> Service<S, R, J>
+impl<S: Alter + Drop, J: Naming> Service<S, J> {
+    /// Shares a publisher of the named front, which is ready or closed, its readers, and its domain. Takes no memory.
+    pub fn new(publisher: Publisher<S>, seats: Seats, domain: Domain) -> Service<S, J>
         requires quiet { IsQuiet publisher.phase }
         requires of { IsNamed J.book J.base J.ours_first publisher }
+        requires seats { (seats.book ≡ J.book) × (seats.base ≡ J.base) }
     {
         let alloc = *publisher.published().shared_rules().allocator();
-        let seats = publisher.seats(alloc);
         Service {
             publisher: Mutex::new(QuietPublisher::new(alloc, publisher)),
             lobby: Mutex::new(Lobby::new(alloc)),
@@ -67,12 +76,32 @@ impl<S: Alter + Drop, R: Wait + Drop, J: Naming> Service<S, R, J> {
     /// Has a command stored, published and noted, together with those of other threads that wait, or by itself. The
     /// receipt's list ends with the command.
     ///
+    /// While lookers may hold 64 retired versions, it tries again each 5 ms, for a second at most. In between it holds
+    /// nothing, and the commands of others may come first: what the last try finds is what counts.
+    ///
     /// # Errors
     ///
-    /// `Exists`, `NoSuch`, `Full` or `CountFull`, as the command is refused; `Busy` (64 versions that lookers may hold)
-    /// and `NoMemory`: nothing has changed. `StoreFailed` and `NotPublished`, with what `Publisher::submit` leaves: from
-    /// then on each command is refused with `Closed`, and lookers go on.
-    pub fn submit<W: Wait>(&self, rt: &W, command: &Command) -> Result<Receipt, Refusal>
+    /// `Exists`, `NoSuch`, `Full` or `CountFull`, as the command is refused; `Busy` (lookers may hold 64 retired versions
+    /// after a second still) and `NoMemory`: nothing has changed. `StoreFailed` and `NotPublished`, with what
+    /// `Publisher::submit` leaves: from then on each command is refused with `Closed`, and lookers go on.
+    pub fn submit<W: Wait + Clock>(&self, rt: &W, command: &Command) -> Result<Receipt, Refusal>
+        requires { IsStorable command.now }
+        ensures of { IfOk result (λ receipt. (receipt.book ≡ J.book) × (receipt.base ≡ J.base)) }
+        ensures last { IfOk result (λ receipt. EndsWith receipt.list command.now) }
+        ensures reason { IfErr result IsServiceRefusal }
+    {
+        for _ in 0..MOST_PAUSES {
+            let became = self.try_submit(rt, command);
+            if !is_busy(&became) {
+                return became;
+            }
+            thread::sleep(rt, Duration::from_millis(PAUSE));
+        }
+        self.try_submit(rt, command)
+    }
+
+    /// The same without a pause: `Busy` comes at once.
+    fn try_submit<W: Wait>(&self, rt: &W, command: &Command) -> Result<Receipt, Refusal>
         requires { IsStorable command.now }
         ensures of { IfOk result (λ receipt. (receipt.book ≡ J.book) × (receipt.base ≡ J.base)) }
         ensures last { IfOk result (λ receipt. EndsWith receipt.list command.now) }
@@ -116,13 +145,35 @@ impl<S: Alter + Drop, R: Wait + Drop, J: Naming> Service<S, R, J> {
     }
 
     /// Has commands stored, published and noted together: all of them or none. The receipt's list ends with them, and its
-    /// number is that of the last.
+    /// number is that of the last. It waits for room as `submit` does.
     ///
     /// # Errors
     ///
     /// As of `submit`: the first command is refused that is refused in the state after those before it. `NoMemory` may
     /// come at any command up to that.
-    pub fn submit_all<W: Wait>(&self, rt: &W, commands: &[Command]) -> Result<Receipt, Refusal>
+    pub fn submit_all<W: Wait + Clock>(
+        &self,
+        rt: &W,
+        commands: &[Command],
+    ) -> Result<Receipt, Refusal>
+        requires some { 1 ≤ length commands.now }
+        requires storable { All IsStorable commands.now }
+        ensures of { IfOk result (λ receipt. (receipt.book ≡ J.book) × (receipt.base ≡ J.base)) }
+        ensures last { IfOk result (λ receipt. EndsWithAll receipt.list commands.now) }
+        ensures reason { IfErr result IsServiceRefusal }
+    {
+        for _ in 0..MOST_PAUSES {
+            let became = self.try_submit_all(rt, commands);
+            if !is_busy(&became) {
+                return became;
+            }
+            thread::sleep(rt, Duration::from_millis(PAUSE));
+        }
+        self.try_submit_all(rt, commands)
+    }
+
+    /// The same without a pause: `Busy` comes at once.
+    fn try_submit_all<W: Wait>(&self, rt: &W, commands: &[Command]) -> Result<Receipt, Refusal>
         requires some { 1 ≤ length commands.now }
         requires storable { All IsStorable commands.now }
         ensures of { IfOk result (λ receipt. (receipt.book ≡ J.book) × (receipt.base ≡ J.base)) }
@@ -159,60 +210,44 @@ impl<S: Alter + Drop, R: Wait + Drop, J: Naming> Service<S, R, J> {
     }
 
     /// Makes a follower, which knows the published list, and gives the published version. Each command that is published
-    /// from then on comes to the follower, in order. It takes one of the spare readers.
+    /// from then on comes to the follower, in order. It needs no reader and no place.
     ///
     /// # Errors
     ///
-    /// `Full` where no reader is left, `NotFetched` where the front can't be entered or its version has as many owners as
-    /// can be counted, `NoMemory`, and `Closed` where following has ended or there is no memory for one more. The service
-    /// is then as it was.
+    /// `NotFetched` where the version has as many owners as can be counted, `NoMemory`, and `Closed` where following has
+    /// ended or there is no memory for one more. The service is then as it was.
     pub fn follow<W: Wait>(&self, rt: &W) -> Result<(Follower<J>, Arc<Version>), Refusal>
         ensures of { IfOk result (λ made. (made.0.book ≡ J.book) × (made.0.base ≡ J.base)) }
         ensures version { IfOk result (λ made. arc_value made.1 ≡ line_state made.0) }
         ensures reason { IfErr result IsFollowRefusal }
     {
-        // Lets the lock go before the publisher's is taken.
-        let lent = self.spare.lock(rt).lend();
-        let Some(mut reader) = lent else {
-            return Err(Refusal::Full);
-        };
-        match self.begin_following(rt, &mut reader) {
-            Ok((version, changes)) => {
-                let number = version.number();
-                Ok((Follower::new(reader, number, changes), version))
-            }
-            Err(reason) => {
-                self.take_back(rt, reader);
-                Err(reason)
-            }
-        }
-    }
-
-    /// Fetches the published version, and makes a channel to which each command comes that is published after it.
-    fn begin_following<W: Wait>(
-        &self,
-        rt: &W,
-        reader: &mut FrontReader,
-    ) -> Result<(Arc<Version>, Receiver<Change<J>, Global>), Refusal>
-        ensures of { (reader.new.book ≡ reader.old.book) × (reader.new.base ≡ reader.old.base) }
-        ensures version { IfOk result (λ begun. arc_value begun.0 ≡ line_state reader.new) }
-        ensures accepted { OnOk result (IsAccepted reader.new.base reader.new.list) }
-        ensures reason { IfErr result IsFollowRefusal }
-    {
-        let Ok((sender, changes)) = bounded(self.alloc, MOST_UNTOLD) else {
+        let Ok((sender, receiver)) = bounded(self.alloc, MOST_UNTOLD) else {
             return Err(Refusal::NoMemory);
         };
         // Nothing is published while the lock is held.
         let mut publisher = self.publisher.lock(rt);
-        let version = match reader.fetch() {
-            Ok(version) => version,
+        let (version, known) = match publisher.share() {
+            Ok(shared) => shared,
             Err(reason) => return Err(reason),
         };
-        if publisher.add_follower(sender) {
-            Ok((version, changes))
-        } else {
-            Err(Refusal::Closed)
-        }
+        let Some(follower) = publisher.add_follower(sender) else {
+            return Err(Refusal::Closed);
+        };
+        let number = version.number();
+        let changes = Changes { receiver, follower };
+        Ok((Follower::new(&known, number, changes), version))
+    }
+
+    /// Lets a follower go that has left, and that knew this list.
+    pub(crate) fn unfollow<W: Wait>(
+        &self,
+        rt: &W,
+        follower: FollowerNumber,
+        told: Told,
+    ) -> Unfollowed
+        ensures { result ≡ told }
+    {
+        self.publisher.lock(rt).remove_follower(follower, told)
     }
 
     /// Ends following: each follower gets the commands that wait for it, and then none. None is made from then on.
@@ -225,11 +260,12 @@ impl<S: Alter + Drop, R: Wait + Drop, J: Naming> Service<S, R, J> {
         &self.domain
     }
 
-    /// Takes the reader of a looker back, for the next one.
-    pub(crate) fn take_back<W: Wait>(&self, rt: &W, reader: FrontReader)
+    /// Takes a reader back, for the next looker.
+    pub(crate) fn take_back<W: Wait>(&self, rt: &W, reader: FrontReader) -> Returned
         requires { (reader.book ≡ J.book) × (reader.base ≡ J.base) }
+        ensures { result ≡ reader }
     {
-        self.spare.lock(rt).take_back(reader);
+        self.spare.lock(rt).take_back(reader)
     }
 
     /// Gives the library's error of the commit that closed the publisher, if one did.
@@ -239,10 +275,23 @@ impl<S: Alter + Drop, R: Wait + Drop, J: Naming> Service<S, R, J> {
 
     /// Ends the service, and gives the connection back, with its tables as the lock keeps them. Of a file that is known,
     /// a ready publisher's tables hold the published state, and those of a closed one that or the state after one
-    /// submission more, the same one whatever a crash leaves; a crash leaves no other.
+    /// submission more, the same one whatever a crash leaves; a crash leaves no other. It waits for nobody: the front's
+    /// readers go on, and its memory is never given back.
     pub fn release(self) -> Connection<S>
         ensures { IsReleased S.Store J.book J.base J.ours_first result }
     {
         self.publisher.into_inner().release()
     }
+
+    /// Ends the service and its front, which waits for readers that are inside, and gives the connection back, as `release`.
+    pub fn end<W: Wait>(self, rt: &W) -> Connection<S>
+        ensures { IsReleased S.Store J.book J.base J.ours_first result }
+    {
+        self.publisher.into_inner().end(rt)
+    }
+}
+
+/// Tells whether there was no room for one more retired version.
+fn is_busy(became: &Result<Receipt, Refusal>) -> bool {
+    matches!(became, Err(Refusal::Busy))
 }

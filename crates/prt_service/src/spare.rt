@@ -1,10 +1,26 @@
 //! Readers that no looker has.
 ghost use Rattle.std.specs.Prelude.{◌≡◌, IfSome};
+ghost use Rattle.prt_version.specs.Accepted.{IsAccepted};
 
 use crate::Naming;
-use prt_front::FrontReader;
+use prt_front::{FrontReader, Known};
 use prt_publisher::Seats;
 use std::marker::{Model, PhantomData};
+
+/// Says that a reader was given back. [`SpareReaders::take_back`] alone makes one. Contracts see it as the list that the
+/// reader knew.
+#[derive(Drop)]
+pub(crate) struct Returned {
+    known: Known,
+}
+
+impl Model for Returned {
+    ghost use Rattle.prt_front.specs.Line.{Line};
+
+    ghost Value = { Line };
+
+    ghost view = { λ returned. returned.known };
+}
 
 /// Readers of the named front that no looker has.
 #[derive(Drop)]
@@ -44,10 +60,13 @@ impl<J: Naming> SpareReaders<J> {
     }
 
     /// Takes one of them back.
-    pub(crate) fn take_back(&mut self, reader: FrontReader)
+    pub(crate) fn take_back(&mut self, reader: FrontReader) -> Returned
         requires { (reader.book ≡ J.book) × (reader.base ≡ J.base) }
-        ensures { self.new ≡ self.old }
+        ensures same { self.new ≡ self.old }
+        ensures known { result ≡ reader }
     {
+        let known = reader.known();
         self.seats.give(reader);
+        Returned { known }
     }
 }

@@ -2,6 +2,7 @@
 ghost use Rattle.std.specs.Prelude.{◌≡◌, IfOk, OnOk};
 ghost use Rattle.prt_command.specs.Storable.{IsStorable};
 ghost use Rattle.prt_publisher.specs.Standing.{IsQuiet};
+ghost use Rattle.prt_service.specs.Named.{IsNamed};
 
 use prt_addr::addr_text;
 use prt_command::{Addr, Command, Dev, Packet, Refusal, Request, read_line};
@@ -11,28 +12,48 @@ use prt_service::{Naming, Service};
 use sqlite::{Alter, Connection};
 use std::alloc::Global;
 use std::sync::Wait;
+use std::time::Clock;
 
 /// Makes a publisher over the database of a connection, and its domain.
-pub fn adopted<S: Alter + Drop, H: Wait + Drop>(
-    rt: H,
+pub fn adopted<S: Alter + Drop>(
     alloc: Global,
     connection: Connection<S>,
-) -> Result<(Publisher<S, H>, Domain), Refusal>
+) -> Result<(Publisher<S>, Domain), Refusal>
     ensures { IfOk result (λ made. made.0.phase ≡ Phase.Ready) }
 {
-    match Publisher::adopt(rt, alloc, connection) {
+    match Publisher::adopt(alloc, connection) {
         Ok(made) => Ok(made),
         Err((reason, _)) => Err(reason),
     }
 }
 
+/// Makes a service of the named front over a publisher.
+///
+/// # Errors
+///
+/// `NoMemory`.
+pub fn service_over<J: Naming, S: Alter + Drop, H: Wait>(
+    rt: &H,
+    mut publisher: Publisher<S>,
+    domain: Domain,
+) -> Result<Service<S, J>, Refusal>
+    requires quiet { IsQuiet publisher.phase }
+    requires of { IsNamed J.book J.base J.ours_first publisher }
+{
+    let alloc = *publisher.published().shared_rules().allocator();
+    let seats = match publisher.seats(rt, alloc) {
+        Ok(seats) => seats,
+        Err(reason) => return Err(reason),
+    };
+    Ok(Service::new(publisher, seats, domain))
+}
+
 /// Gives the number of the state that is stored in the database of a connection, and the connection.
-pub fn stored_number<S: Alter + Drop, H: Wait + Drop>(
-    rt: H,
+pub fn stored_number<S: Alter + Drop>(
     alloc: Global,
     connection: Connection<S>,
 ) -> Result<(u64, Connection<S>), Refusal> {
-    let (publisher, _domain) = adopted(rt, alloc, connection)?;
+    let (publisher, _domain) = adopted(alloc, connection)?;
     Ok((publisher.published().number(), publisher.release()))
 }
 
@@ -51,9 +72,9 @@ pub fn host_route(alloc: Global, host: u8) -> Result<Command, Refusal>
 }
 
 /// Submits a flush of the rules to a publisher, which is always accepted, and gives the number of its receipt.
-pub fn submit_to_publisher<S: Alter + Drop, R: Wait + Drop, H: Wait>(
+pub fn submit_to_publisher<S: Alter + Drop, H: Wait>(
     rt: &H,
-    publisher: &mut Publisher<S, R>,
+    publisher: &mut Publisher<S>,
     domain: &Domain,
 ) -> Result<u64, Refusal>
     requires { IsQuiet publisher.old.phase }
@@ -67,10 +88,10 @@ pub fn submit_to_publisher<S: Alter + Drop, R: Wait + Drop, H: Wait>(
 }
 
 /// Submits two flushes of the rules together to a publisher, and gives the number of their receipt.
-pub fn submit_two_together<S: Alter + Drop, R: Wait + Drop, H: Wait>(
+pub fn submit_two_together<S: Alter + Drop, H: Wait>(
     rt: &H,
     alloc: Global,
-    publisher: &mut Publisher<S, R>,
+    publisher: &mut Publisher<S>,
     domain: &Domain,
 ) -> Result<u64, Refusal>
     requires { IsQuiet publisher.old.phase }
@@ -83,9 +104,9 @@ pub fn submit_two_together<S: Alter + Drop, R: Wait + Drop, H: Wait>(
 }
 
 /// Prepares a flush of the rules.
-pub fn prepare_one<S: Alter + Drop, R: Wait + Drop, H: Wait>(
+pub fn prepare_one<S: Alter + Drop, H: Wait>(
     rt: &H,
-    publisher: &mut Publisher<S, R>,
+    publisher: &mut Publisher<S>,
     domain: &Domain,
 ) -> Result<(), Refusal>
     requires { IsQuiet publisher.old.phase }
@@ -95,9 +116,9 @@ pub fn prepare_one<S: Alter + Drop, R: Wait + Drop, H: Wait>(
 }
 
 /// Submits a flush of the rules to a service, which is always accepted, and gives the number of its receipt.
-pub fn submit_to_service<S: Alter + Drop, R: Wait + Drop, J: Naming, H: Wait>(
+pub fn submit_to_service<S: Alter + Drop, J: Naming, H: Wait + Clock>(
     rt: &H,
-    service: &Service<S, R, J>,
+    service: &Service<S, J>,
 ) -> Result<u64, Refusal> {
     match service.submit(rt, &Command::RuleFlush) {
         Ok(receipt) => Ok(receipt.number()),

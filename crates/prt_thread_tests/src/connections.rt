@@ -2,7 +2,7 @@
 ghost use Rattle.prt_publisher.specs.Standing.{IsQuiet};
 ghost use Rattle.prt_service.specs.Named.{IsNamed};
 
-use crate::caller::adopted;
+use crate::caller::{adopted, service_over};
 use crossbeam_channel::bounded;
 use prt_command::Refusal;
 use prt_grace::Domain;
@@ -18,6 +18,7 @@ use std::sync::Wait;
 use std::sync::atomic::{AtomicU64, Ordering};
 use std::test::Fail;
 use std::thread::Threads;
+use std::time::Clock;
 
 /// A connection whose client has nothing to say. Small packets can't be hurried.
 #[derive(Drop)]
@@ -95,7 +96,7 @@ fn limited_to(sessions: u64) -> Limits {
 }
 
 /// Tells which sessions are handed over, and whether accepting ended by itself.
-fn handed_over<H: Wait>(
+fn handed_over<H: Wait + Clock>(
     rt: &H,
     alloc: Global,
     listener: &Queue,
@@ -103,12 +104,12 @@ fn handed_over<H: Wait>(
 ) -> Result<(Vec<u64>, bool), AllocError> {
     let (to, from) = bounded(alloc, 64)?;
     let is_ended = matches!(
-        accept(rt, alloc, listener, to, limited_to(sessions)),
+        accept(rt, &OpenGate, listener, to, sessions),
         Accepting::Ended
     );
     let mut numbers = Vec::new(alloc);
-    for job in from.iter(rt) {
-        numbers.push(job.session)?;
+    for arrival in from.iter(rt) {
+        numbers.push(arrival.session)?;
     }
     Ok((numbers, is_ended))
 }
@@ -116,9 +117,8 @@ fn handed_over<H: Wait>(
 #[test]
 fn connections_are_numbered(rt: HostRuntime) -> Result<(), Fail> {
     let alloc = rt.alloc();
-    // The second has no second end: it keeps its number, and counts.
-    let (numbers, is_ended) = handed_over(&rt, alloc, &Queue::new(5, 1), 3)?;
-    assert_eq!(rt; numbers.as_slice(), [1, 3].as_slice());
+    let (numbers, is_ended) = handed_over(&rt, alloc, &Queue::new(5, 9), 3)?;
+    assert_eq!(rt; numbers.as_slice(), [1, 2, 3].as_slice());
     assert!(rt; is_ended);
     // Without an end, until the listener fails.
     let (numbers, is_ended) = handed_over(&rt, alloc, &Queue::new(4, 9), 0)?;
@@ -133,29 +133,24 @@ fn nobody_takes_a_connection(rt: HostRuntime) -> Result<(), Fail> {
     let listener = Queue::new(5, 9);
     let (to, from) = bounded(alloc, 64)?;
     drop(from);
-    let end = accept(&rt, alloc, &listener, to, limited_to(5));
+    let end = accept(&rt, &OpenGate, &listener, to, 5);
     assert!(rt; matches!(end, Accepting::NoWorkers));
     assert_eq!(rt; listener.accepted.load(Ordering::SeqCst), 1);
     Ok(())
 }
 
 /// Serves, by one worker, over a service all of whose lookers are taken.
-fn serve_without_looker<
-    H: Threads + Wait + Sync,
-    S: Alter + Drop + Send,
-    B: Wait + Drop + Send,
-    J: Naming + Send,
->(
+fn serve_without_looker<H: Threads + Wait + Clock + Sync, S: Alter + Drop + Send, J: Naming + Send>(
     rt: &H,
     alloc: Global,
-    publisher: Publisher<S, B>,
+    publisher: Publisher<S>,
     domain: Domain,
     listener: &Queue,
 ) -> Result<Option<Refusal>, Refusal>
     requires quiet { IsQuiet publisher.phase }
     requires of { IsNamed J.book J.base J.ours_first publisher }
 {
-    let service: Service<S, B, J> = Service::new(publisher, domain);
+    let service: Service<S, J> = service_over(rt, publisher, domain)?;
     let mut lookers = Vec::new(alloc);
     for _ in 0..64 {
         let looker = service.looker(rt)?;
@@ -170,15 +165,19 @@ fn serve_without_looker<
     }
 }
 
+/// How many connections are accepted at most where no worker takes any: one in hand, 64 before the waiting room, 1,024 in
+/// it, one on its way out, and 64 behind it.
+const UNSERVED: u64 = 1154;
+
 #[test]
 fn worker_without_looker(rt: HostRuntime) -> Result<(), Fail> {
     let alloc = rt.alloc();
     let connection = Connection::open_in_memory(alloc)?;
-    let (publisher, domain) = adopted(rt, alloc, connection)?;
+    let (publisher, domain) = adopted(alloc, connection)?;
     // More connections than may wait: a send fails once the worker is gone.
-    let listener = Queue::new(1000, 1000);
-    let refused = serve_without_looker::<_, _, _, Brand>(&rt, alloc, publisher, domain, &listener)?;
+    let listener = Queue::new(10_000, 10_000);
+    let refused = serve_without_looker::<_, _, Brand>(&rt, alloc, publisher, domain, &listener)?;
     assert_eq!(rt; refused, Some(Refusal::Full));
-    assert!(rt; listener.accepted.load(Ordering::SeqCst) <= 65);
+    assert!(rt; listener.accepted.load(Ordering::SeqCst) <= UNSERVED);
     Ok(())
 }

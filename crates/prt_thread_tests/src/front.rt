@@ -45,34 +45,37 @@ fn commit_next<S: Alter + Drop>(
 }
 
 /// Publishes the version after a flush of the rules, which is always accepted, in a front of its own.
-fn look_around<S: Alter + Drop, H: Wait + Drop>(
-    rt: H,
+fn look_around<S: Alter + Drop, H: Wait>(
+    rt: &H,
     alloc: Global,
     store: &mut Store<S>,
 ) -> Result<Option<Found>, Refusal> {
     let loaded = store.load(alloc)?;
     let command = Command::RuleFlush;
     let (stamp, next) = commit_next(store, &loaded, &command)?;
-    let (mut front, mut readers) = Front::new(rt, alloc, first_owner(alloc, loaded)?)?;
+    let mut front = Front::new(alloc, first_owner(alloc, loaded)?)?;
+    let mut readers = front.readers(rt, alloc)?;
     let (Some(mut first), Some(mut second)) = (readers.pop(), readers.pop()) else {
         return Ok(None);
     };
     let before = first.fetch()?.number();
     let commands = Vec::from_slice(alloc, &[command])?;
-    let told = front.publish_all(stamp, &commands, first_owner(alloc, next)?)?;
+    let told = front.publish_all(rt, stamp, &commands, first_owner(alloc, next)?)?;
     second.learn(&told);
-    Ok(Some(Found {
+    let found = Found {
         before,
         told: second.known().count(),
         fetched: second.fetch()?.number(),
         after: first.fetch()?.number(),
         known: first.known().count(),
-    }))
+    };
+    front.end(rt);
+    Ok(Some(found))
 }
 
 /// Gives the store that adopts a connection, in which a version is published.
-fn look_over<S: Alter + Drop, H: Wait + Drop>(
-    rt: H,
+fn look_over<S: Alter + Drop, H: Wait>(
+    rt: &H,
     alloc: Global,
     connection: Connection<S>,
 ) -> Result<Option<Found>, Refusal> {
@@ -85,7 +88,7 @@ fn look_over<S: Alter + Drop, H: Wait + Drop>(
 #[test]
 fn readers_find_a_publication(rt: HostRuntime) -> Result<(), Fail> {
     let alloc = rt.alloc();
-    let found = look_over(rt, alloc, Connection::open_in_memory(alloc)?)?;
+    let found = look_over(&rt, alloc, Connection::open_in_memory(alloc)?)?;
     assert!(rt;
         found
             == Some(Found {

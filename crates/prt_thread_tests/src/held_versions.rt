@@ -28,10 +28,10 @@ struct Retained {
 }
 
 /// Adds the route of a host, and gives the number of its receipt.
-fn add_host<S: Alter + Drop, R: Wait + Drop, H: Wait>(
+fn add_host<S: Alter + Drop, H: Wait>(
     rt: &H,
     alloc: Global,
-    publisher: &mut Publisher<S, R>,
+    publisher: &mut Publisher<S>,
     domain: &Domain,
     host: u8,
 ) -> Result<u64, Refusal>
@@ -46,10 +46,10 @@ fn add_host<S: Alter + Drop, R: Wait + Drop, H: Wait>(
 }
 
 /// Adds the routes of hosts until one is refused, at most 100. The number of the last receipt, and why the next was refused.
-fn add_until_refused<S: Alter + Drop, R: Wait + Drop, H: Wait>(
+fn add_until_refused<S: Alter + Drop, H: Wait>(
     rt: &H,
     alloc: Global,
-    publisher: &mut Publisher<S, R>,
+    publisher: &mut Publisher<S>,
     domain: &Domain,
 ) -> (u64, Option<Refusal>)
     requires { IsQuiet publisher.old.phase }
@@ -71,7 +71,7 @@ fn retain<S: Alter + Drop, H: Wait + Copy + Drop>(
     alloc: Global,
     connection: Connection<S>,
 ) -> Result<Option<Retained>, Refusal> {
-    let (mut publisher, domain) = adopted(rt, alloc, connection)?;
+    let (mut publisher, domain) = adopted(alloc, connection)?;
     let Some(mut place) = domain.join(&rt) else {
         return Ok(None);
     };

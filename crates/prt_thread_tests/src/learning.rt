@@ -2,7 +2,7 @@
 ghost use Rattle.prt_publisher.specs.Standing.{IsQuiet};
 ghost use Rattle.prt_service.specs.Named.{IsNamed};
 
-use crate::caller::{adopted, packet, submit_to_service};
+use crate::caller::{adopted, packet, service_over, submit_to_service};
 use prt_command::{Addr, Refusal, Request, read_line};
 use prt_grace::Domain;
 use prt_publisher::Publisher;
@@ -13,6 +13,7 @@ use std::alloc::Global;
 use std::marker::Brand;
 use std::sync::Wait;
 use std::test::Fail;
+use std::time::Clock;
 
 /// The number of a version, and over which next hop a packet to 10.1.0.0 goes by it.
 type Seen = (u64, Option<Addr>);
@@ -32,9 +33,9 @@ fn next_hop(verdict: &Verdict) -> Option<Addr> {
 
 /// Runs a service of the named front: a looker learns the receipt of a route, refreshes and looks; then the rules are
 /// flushed, and it looks, refreshes and looks.
-fn serve<J: Naming, S: Alter + Drop, H: Wait + Copy + Drop>(
+fn serve<J: Naming, S: Alter + Drop, H: Wait + Clock + Copy + Drop>(
     rt: H,
-    publisher: Publisher<S, H>,
+    publisher: Publisher<S>,
     domain: Domain,
 ) -> Result<Option<[Seen; 3]>, Refusal>
     requires quiet { IsQuiet publisher.phase }
@@ -43,7 +44,7 @@ fn serve<J: Naming, S: Alter + Drop, H: Wait + Copy + Drop>(
     let Some(Request::Command(command)) = read_line(b"route add 10/8 via 192.0.2.1")? else {
         return Ok(None);
     };
-    let service: Service<S, H, J> = Service::new(publisher, domain);
+    let service: Service<S, J> = service_over(&rt, publisher, domain)?;
     let mut looker = service.looker(&rt)?;
     looker.learn(service.submit(&rt, &command)?);
     looker.refresh(&rt, &service)?;
@@ -57,12 +58,12 @@ fn serve<J: Naming, S: Alter + Drop, H: Wait + Copy + Drop>(
 }
 
 /// Runs a service over the database of a connection.
-fn serve_connection<S: Alter + Drop, H: Wait + Copy + Drop>(
+fn serve_connection<S: Alter + Drop, H: Wait + Clock + Copy + Drop>(
     rt: H,
     alloc: Global,
     connection: Connection<S>,
 ) -> Result<Option<[Seen; 3]>, Refusal> {
-    let (publisher, domain) = adopted(rt, alloc, connection)?;
+    let (publisher, domain) = adopted(alloc, connection)?;
     serve::<Brand, S, H>(rt, publisher, domain)
 }
 

@@ -7,9 +7,13 @@ mod caller;
 #[cfg(test)]
 mod connections;
 #[cfg(test)]
+mod followers;
+#[cfg(test)]
 mod front;
 #[cfg(test)]
 mod held_versions;
+#[cfg(test)]
+mod kept_version;
 #[cfg(test)]
 mod learning;
 #[cfg(test)]

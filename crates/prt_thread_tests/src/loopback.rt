@@ -2,30 +2,31 @@
 ghost use Rattle.prt_publisher.specs.Standing.{IsQuiet};
 ghost use Rattle.prt_service.specs.Named.{IsNamed};
 
-use crate::caller::adopted;
+use crate::caller::{adopted, service_over};
+use prt_command::Refusal;
 use prt_grace::Domain;
 use prt_publisher::Publisher;
 use prt_serve::{Accepting, Limits, OpenGate, serve_all};
 use prt_service::{Naming, Service};
 use sqlite::{Alter, Connection};
 use std::alloc::Global;
-use std::io::{self, Read, Write};
+use std::io::{self, ErrorKind, Read, Write};
 use std::marker::Brand;
 use std::net::{Ipv4Addr, Net, Shutdown, SocketAddr, TcpListener, TcpStream};
 use std::sync::Wait;
 use std::test::Fail;
 use std::thread::Threads;
+use std::time::Clock;
 
 /// Tells what a client reads that sends these lines and then waits for the end, and whether the listener ended with it.
 ///
 /// The lines and the replies fit into what the system keeps for a connection, so client and server take turns in one
 /// thread, with one worker beside it.
 fn converse<
-    H: Net<Listener = TcpListener, Stream = TcpStream> + Threads + Wait + Sync,
+    H: Net<Listener = TcpListener, Stream = TcpStream> + Threads + Wait + Clock + Sync,
     S: Alter + Drop + Send,
-    B: Wait + Drop + Send,
     J: Naming + Send,
->(rt: &H, alloc: Global, service: &Service<S, B, J>, lines: &[u8]) -> io::Result<(Vec<u8>, bool)> {
+>(rt: &H, alloc: Global, service: &Service<S, J>, lines: &[u8]) -> io::Result<(Vec<u8>, bool)> {
     let listener = TcpListener::bind(rt, SocketAddr::from((Ipv4Addr::LOCALHOST, 0)))?;
     let mut client = TcpStream::connect(rt, listener.local_addr()?)?;
     client.write_all(lines)?;
@@ -44,21 +45,23 @@ fn converse<
 
 /// Has that talk with a service of the publisher.
 fn converse_with<
-    H: Net<Listener = TcpListener, Stream = TcpStream> + Threads + Wait + Sync,
+    H: Net<Listener = TcpListener, Stream = TcpStream> + Threads + Wait + Clock + Sync,
     S: Alter + Drop + Send,
-    B: Wait + Drop + Send,
     J: Naming + Send,
 >(
     rt: &H,
     alloc: Global,
-    publisher: Publisher<S, B>,
+    publisher: Publisher<S>,
     domain: Domain,
     lines: &[u8],
 ) -> io::Result<(Vec<u8>, bool)>
     requires quiet { IsQuiet publisher.phase }
     requires of { IsNamed J.book J.base J.ours_first publisher }
 {
-    let service: Service<S, B, J> = Service::new(publisher, domain);
+    let made: Result<Service<S, J>, Refusal> = service_over(rt, publisher, domain);
+    let Ok(service) = made else {
+        return Err(io::Error::from(ErrorKind::OutOfMemory));
+    };
     converse(rt, alloc, &service, lines)
 }
 
@@ -66,10 +69,10 @@ fn converse_with<
 fn loopback(rt: HostRuntime) -> Result<(), Fail> {
     let alloc = rt.alloc();
     let connection = Connection::open_in_memory(alloc)?;
-    let (publisher, domain) = adopted(rt, alloc, connection)?;
+    let (publisher, domain) = adopted(alloc, connection)?;
     let lines =
         b"route add default via 192.0.2.1 dev eth0\nroute get 198.51.100.7\nrule flush\nrule flush\n";
-    let (text, is_ended) = converse_with::<_, _, _, Brand>(&rt, alloc, publisher, domain, lines)?;
+    let (text, is_ended) = converse_with::<_, _, Brand>(&rt, alloc, publisher, domain, lines)?;
     assert_eq!(rt;
         text.as_slice(),
         b"ok 1\nanswer 1 rule 32766 table main default via 192.0.2.1 dev eth0\nok 2\nok 3\n".as_slice()

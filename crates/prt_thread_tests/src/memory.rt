@@ -50,9 +50,9 @@ impl Ending {
 }
 
 /// Submits two commands, and one once more where memory is refused before its commit. Why one was refused.
-fn submit_two<S: Alter + Drop, R: Wait + Drop, H: Wait>(
+fn submit_two<S: Alter + Drop, H: Wait>(
     rt: &H,
-    publisher: &mut Publisher<S, R>,
+    publisher: &mut Publisher<S>,
     domain: &Domain,
 ) -> Option<Refusal>
     requires { IsQuiet publisher.old.phase }
@@ -79,11 +79,11 @@ fn submit_and_adopt<S: Alter + Drop, H: Wait + Copy + Drop>(
     alloc: Global,
     connection: Connection<S>,
 ) -> Result<Ending, Refusal> {
-    let (mut publisher, domain) = adopted(rt, alloc, connection)?;
+    let (mut publisher, domain) = adopted(alloc, connection)?;
     let refused = submit_two(&rt, &mut publisher, &domain);
     let phase = publisher.phase();
     let published = publisher.published().number();
-    let stored = match stored_number(rt, alloc, publisher.release()) {
+    let stored = match stored_number(alloc, publisher.end(&rt)) {
         Ok((number, _)) => Some(number),
         Err(_) => None,
     };

@@ -2,7 +2,8 @@
 ghost use Rattle.prt_publisher.specs.Standing.{IsQuiet};
 ghost use Rattle.prt_service.specs.Named.{IsNamed};
 
-use crate::caller::adopted;
+use crate::caller::{adopted, service_over};
+use prt_command::Refusal;
 use prt_grace::Domain;
 use prt_publisher::Publisher;
 use prt_serve::{Accepting, Gate, Limits, serve_all};
@@ -17,6 +18,7 @@ use std::sync::atomic::{AtomicU64, Ordering};
 use std::sync::{Arc, Mutex, Wait};
 use std::test::Fail;
 use std::thread::{self, Threads};
+use std::time::Clock;
 
 const MOST_TURNS: u64 = 1_000_000;
 
@@ -136,14 +138,13 @@ impl<H: Wait + Copy + Drop> OpenListener for Two<H> {
 
 /// Serves both over a service of the publisher, by two workers. Tells whether accepting ended with the second.
 fn meet<
-    H: Threads + Wait + Copy + Drop + Send + Sync + 'static,
+    H: Threads + Wait + Clock + Copy + Drop + Send + Sync + 'static,
     S: Alter + Drop + Send,
-    B: Wait + Drop + Send,
     J: Naming + Send,
 >(
     rt: &H,
     alloc: Global,
-    publisher: Publisher<S, B>,
+    publisher: Publisher<S>,
     domain: Domain,
     gate: &Meeting,
     listener: &Two<H>,
@@ -151,7 +152,10 @@ fn meet<
     requires quiet { IsQuiet publisher.phase }
     requires of { IsNamed J.book J.base J.ours_first publisher }
 {
-    let service: Service<S, B, J> = Service::new(publisher, domain);
+    let made: Result<Service<S, J>, Refusal> = service_over(rt, publisher, domain);
+    let Ok(service) = made else {
+        return false;
+    };
     let limits = Limits {
         workers: 2,
         sessions: 2,
@@ -165,7 +169,7 @@ fn meet<
 fn overlapping_sessions(rt: HostRuntime) -> Result<(), Fail> {
     let alloc = rt.alloc();
     let connection = Connection::open_in_memory(alloc)?;
-    let (publisher, domain) = adopted(rt, alloc, connection)?;
+    let (publisher, domain) = adopted(alloc, connection)?;
     let gate = Meeting::new();
     let listener = Two {
         rt,
@@ -173,7 +177,7 @@ fn overlapping_sessions(rt: HostRuntime) -> Result<(), Fail> {
         first: Arc::new(alloc, Mutex::new(Vec::new(alloc)))?,
         second: Arc::new(alloc, Mutex::new(Vec::new(alloc)))?,
     };
-    assert!(rt; meet::<_, _, _, Brand>(&rt, alloc, publisher, domain, &gate, &listener));
+    assert!(rt; meet::<_, _, Brand>(&rt, alloc, publisher, domain, &gate, &listener));
     assert_eq!(rt;
         listener.first.lock(&rt).as_slice(),
         b"answer 0 none\n".as_slice()

@@ -18,7 +18,7 @@ fn release_at<S: Alter + Drop, H: Wait + Copy + Drop>(
     connection: Connection<S>,
     phase: Phase,
 ) -> Result<(u64, Connection<S>), Refusal> {
-    let (mut publisher, domain) = adopted(rt, alloc, connection)?;
+    let (mut publisher, domain) = adopted(alloc, connection)?;
     if phase == Phase::Ready {
         return Ok((publisher.published().number(), publisher.release()));
     }
@@ -35,7 +35,7 @@ fn release_at<S: Alter + Drop, H: Wait + Copy + Drop>(
     if phase == Phase::Committed {
         return Ok((publisher.published().number(), publisher.release()));
     }
-    publisher.show()?;
+    publisher.show(&rt)?;
     Ok((publisher.published().number(), publisher.release()))
 }
 
@@ -51,7 +51,7 @@ fn releases_in_each_phase(rt: HostRuntime) -> Result<(), Fail> {
     ] {
         let connection = Connection::open_in_memory(alloc)?;
         let (shown, connection) = release_at(rt, alloc, connection, phase)?;
-        let (kept, _) = stored_number(rt, alloc, connection)?;
+        let (kept, _) = stored_number(alloc, connection)?;
         assert_eq!(rt; (shown, kept), (published, stored));
     }
     Ok(())
@@ -63,12 +63,12 @@ fn publish_two<S: Alter + Drop, H: Wait + Copy + Drop>(
     alloc: Global,
     connection: Connection<S>,
 ) -> Result<(u64, u64, usize), Refusal> {
-    let (mut publisher, domain) = adopted(rt, alloc, connection)?;
+    let (mut publisher, domain) = adopted(alloc, connection)?;
     prepare_one(&rt, &mut publisher, &domain)?;
     publisher.commit()?;
     let first = publisher.publish(&rt, &domain)?.number();
     let second = submit_to_publisher(&rt, &mut publisher, &domain)?;
-    let mut seats = publisher.seats(alloc);
+    let mut seats = publisher.seats(&rt, alloc)?;
     let mut readers = 0usize;
     for _ in 0..100 {
         match seats.take() {
@@ -98,7 +98,7 @@ fn publish_together<S: Alter + Drop, H: Wait + Copy + Drop>(
     alloc: Global,
     connection: Connection<S>,
 ) -> Result<(u64, u64, u64, usize), Refusal> {
-    let (mut publisher, domain) = adopted(rt, alloc, connection)?;
+    let (mut publisher, domain) = adopted(alloc, connection)?;
     let before = publisher.published().number();
     let receipt = submit_two_together(&rt, alloc, &mut publisher, &domain)?;
     let after = publisher.published().number();

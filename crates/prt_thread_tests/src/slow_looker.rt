@@ -2,7 +2,7 @@
 ghost use Rattle.prt_publisher.specs.Standing.{IsQuiet};
 ghost use Rattle.prt_service.specs.Named.{IsNamed};
 
-use crate::caller::{adopted, host_route, packet, stored_number};
+use crate::caller::{adopted, host_route, packet, service_over, stored_number};
 use prt_command::Refusal;
 use prt_grace::Domain;
 use prt_publisher::Publisher;
@@ -12,19 +12,20 @@ use std::alloc::Global;
 use std::marker::Brand;
 use std::sync::Wait;
 use std::test::Fail;
+use std::time::{Clock, Duration};
 
 /// The number of the last of some receipts, and why the command after it was refused.
 #[derive(Debug, Drop, PartialEq)]
-struct Submitted {
-    last: u64,
-    refused: Option<Refusal>,
+pub(crate) struct Submitted {
+    pub(crate) last: u64,
+    pub(crate) refused: Option<Refusal>,
 }
 
 /// How many lookers were there at once, and why one more was refused.
 #[derive(Debug, Drop, PartialEq)]
-struct Crowd {
-    lookers: u64,
-    refused: Option<Refusal>,
+pub(crate) struct Crowd {
+    pub(crate) lookers: u64,
+    pub(crate) refused: Option<Refusal>,
 }
 
 /// What came of the commands beside the looker.
@@ -33,6 +34,8 @@ struct Beside {
     /// The number that it looked with at first, and again after the commands that it missed.
     first: u64,
     missed: Submitted,
+    /// Whether the refused one was tried for a second, in which the looker might have refreshed.
+    has_waited: bool,
     still: u64,
     /// The number that it looked with when it had refreshed, and that of the next receipt.
     refreshed: u64,
@@ -45,10 +48,10 @@ struct Beside {
 }
 
 /// Adds the routes of the hosts from one to another, until one is refused.
-fn add_hosts<S: Alter + Drop, R: Wait + Drop, J: Naming, H: Wait>(
+pub(crate) fn add_hosts<S: Alter + Drop, J: Naming, H: Wait + Clock>(
     rt: &H,
     alloc: Global,
-    service: &Service<S, R, J>,
+    service: &Service<S, J>,
     first: u8,
     most: u8,
 ) -> Result<Submitted, Refusal> {
@@ -71,10 +74,15 @@ fn add_hosts<S: Alter + Drop, R: Wait + Drop, J: Naming, H: Wait>(
     })
 }
 
+/// Reads the clock that never goes back; 0 where it can't be read.
+fn time<H: Clock>(rt: &H) -> Duration {
+    rt.monotonic().unwrap_or(Duration::ZERO)
+}
+
 /// Makes lookers until one is refused, or so many are there. Then all of them leave.
-fn gather<S: Alter + Drop, R: Wait + Drop, J: Naming, H: Wait>(
+pub(crate) fn gather<S: Alter + Drop, J: Naming, H: Wait>(
     rt: &H,
-    service: &Service<S, R, J>,
+    service: &Service<S, J>,
     most: u64,
 ) -> Crowd {
     if most == 0 {
@@ -101,15 +109,17 @@ fn gather<S: Alter + Drop, R: Wait + Drop, J: Naming, H: Wait>(
 
 /// Adds hosts beside a looker that refreshes at first, and then when one was refused; rests it, and adds as many as it held
 /// up, and one more.
-fn submit_beside<S: Alter + Drop, R: Wait + Drop, J: Naming, H: Wait>(
+fn submit_beside<S: Alter + Drop, J: Naming, H: Wait + Clock>(
     rt: &H,
     alloc: Global,
-    service: &Service<S, R, J>,
+    service: &Service<S, J>,
 ) -> Result<Beside, Refusal> {
     let mut looker = service.looker(rt)?;
     looker.refresh(rt, service)?;
     let first = looker.look(&packet()).number;
+    let begun = time(rt);
     let missed = add_hosts(rt, alloc, service, 1, 100)?;
+    let has_waited = time(rt).saturating_sub(begun) >= Duration::from_secs(1);
     let still = looker.look(&packet()).number;
     looker.refresh(rt, service)?;
     let refreshed = looker.look(&packet()).number;
@@ -122,6 +132,7 @@ fn submit_beside<S: Alter + Drop, R: Wait + Drop, J: Naming, H: Wait>(
     Ok(Beside {
         first,
         missed,
+        has_waited,
         still,
         refreshed,
         next,
@@ -141,22 +152,22 @@ struct Outcome {
 }
 
 /// Runs a service of the named front.
-fn serve<J: Naming, S: Alter + Drop, H: Wait + Copy + Drop>(
+fn serve<J: Naming, S: Alter + Drop, H: Wait + Clock + Copy + Drop>(
     rt: H,
     alloc: Global,
-    publisher: Publisher<S, H>,
+    publisher: Publisher<S>,
     domain: Domain,
 ) -> Result<Outcome, Refusal>
     requires quiet { IsQuiet publisher.phase }
     requires of { IsNamed J.book J.base J.ours_first publisher }
 {
-    let service: Service<S, H, J> = Service::new(publisher, domain);
+    let service: Service<S, J> = service_over(&rt, publisher, domain)?;
     let beside = submit_beside(&rt, alloc, &service)?;
     let first = gather(&rt, &service, 100);
     let again = gather(&rt, &service, 100);
     drop(service.looker(&rt)?);
     let beside_one = gather(&rt, &service, 100);
-    let (stored, _connection) = stored_number(rt, alloc, service.release())?;
+    let (stored, _connection) = stored_number(alloc, service.end(&rt))?;
     Ok(Outcome {
         beside,
         crowds: [first, again, beside_one],
@@ -165,12 +176,12 @@ fn serve<J: Naming, S: Alter + Drop, H: Wait + Copy + Drop>(
 }
 
 /// Runs a service over the database of a connection.
-fn serve_connection<S: Alter + Drop, H: Wait + Copy + Drop>(
+fn serve_connection<S: Alter + Drop, H: Wait + Clock + Copy + Drop>(
     rt: H,
     alloc: Global,
     connection: Connection<S>,
 ) -> Result<Outcome, Refusal> {
-    let (publisher, domain) = adopted(rt, alloc, connection)?;
+    let (publisher, domain) = adopted(alloc, connection)?;
     serve::<Brand, S, H>(rt, alloc, publisher, domain)
 }
 
@@ -191,6 +202,7 @@ fn slow_looker(rt: HostRuntime) -> Result<(), Fail> {
                         last: 64,
                         refused: Some(Refusal::Busy),
                     },
+                    has_waited: true,
                     still: 0,
                     refreshed: 64,
                     next: 65,

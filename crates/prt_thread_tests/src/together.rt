@@ -2,7 +2,7 @@
 ghost use Rattle.prt_publisher.specs.Standing.{IsQuiet};
 ghost use Rattle.prt_service.specs.Named.{IsNamed};
 
-use crate::caller::{adopted, packet};
+use crate::caller::{adopted, packet, service_over};
 use prt_command::{Refusal, Request, read_line};
 use prt_grace::Domain;
 use prt_publisher::Publisher;
@@ -13,14 +13,15 @@ use std::alloc::Global;
 use std::marker::Brand;
 use std::sync::Wait;
 use std::test::Fail;
+use std::time::Clock;
 
 /// The number of a version, how many rules it has, and whether a packet to 10.1.0.0 goes by a route of it.
 type Seen = (u64, usize, bool);
 
 /// Tells what a looker sees, which takes the published version first.
-fn seen<S: Alter + Drop, R: Wait + Drop, J: Naming, H: Wait>(
+fn seen<S: Alter + Drop, J: Naming, H: Wait>(
     rt: &H,
-    service: &Service<S, R, J>,
+    service: &Service<S, J>,
     looker: &mut Looker,
 ) -> Result<Seen, Refusal> {
     looker.refresh(rt, service)?;
@@ -31,10 +32,10 @@ fn seen<S: Alter + Drop, R: Wait + Drop, J: Naming, H: Wait>(
 
 /// Runs a service of the named front. Gives the number of the receipt of two commands, and what a looker sees before them
 /// and after.
-fn serve<J: Naming, S: Alter + Drop, H: Wait + Copy + Drop>(
+fn serve<J: Naming, S: Alter + Drop, H: Wait + Clock + Copy + Drop>(
     rt: H,
     alloc: Global,
-    publisher: Publisher<S, H>,
+    publisher: Publisher<S>,
     domain: Domain,
 ) -> Result<Option<(Seen, u64, Seen)>, Refusal>
     requires quiet { IsQuiet publisher.phase }
@@ -47,7 +48,7 @@ fn serve<J: Naming, S: Alter + Drop, H: Wait + Copy + Drop>(
         return Ok(None);
     };
     let commands = Vec::from_slice(alloc, &[route, rule])?;
-    let service: Service<S, H, J> = Service::new(publisher, domain);
+    let service: Service<S, J> = service_over(&rt, publisher, domain)?;
     let mut looker = service.looker(&rt)?;
     let before = seen(&rt, &service, &mut looker)?;
     let number = service.submit_all(&rt, commands.as_slice())?.number();
@@ -56,12 +57,12 @@ fn serve<J: Naming, S: Alter + Drop, H: Wait + Copy + Drop>(
 }
 
 /// Runs a service over the database of a connection.
-fn serve_connection<S: Alter + Drop, H: Wait + Copy + Drop>(
+fn serve_connection<S: Alter + Drop, H: Wait + Clock + Copy + Drop>(
     rt: H,
     alloc: Global,
     connection: Connection<S>,
 ) -> Result<Option<(Seen, u64, Seen)>, Refusal> {
-    let (publisher, domain) = adopted(rt, alloc, connection)?;
+    let (publisher, domain) = adopted(alloc, connection)?;
     serve::<Brand, S, H>(rt, alloc, publisher, domain)
 }
 

@@ -3,6 +3,7 @@ pub mod Arguments
 pub mod CommandWords
 pub mod LostWords
 pub mod ParsedWords
+pub mod Readings
 pub mod Walks
 pub mod WordClasses
 pub mod WordsRead

@@ -47,6 +47,8 @@ record IsOther (word : Text) : Type 0 where
   no_explain : bytes_eq (codes "explain") word ≡ false
   no_dump : bytes_eq (codes "dump") word ≡ false
   no_diff : bytes_eq (codes "diff") word ≡ false
+  no_follow : bytes_eq (codes "follow") word ≡ false
+  no_wait : bytes_eq (codes "wait") word ≡ false
   no_import : bytes_eq (codes "import") word ≡ false
   no_help : bytes_eq (codes "help") word ≡ false
 
@@ -60,7 +62,7 @@ first_hyphen = mistake refl refl refl
 
 first_plain : (byte : ℕ) (rest : Text) → (byte == 45) ≡ false → IsOther (byte ∷ rest) → First (byte ∷ rest)
 unfolding clap_on_literals
-first_plain byte rest plain other = mistake (rw plain refl) (rw plain refl) (rw (other.no_batch, other.no_check, other.no_replay, other.no_serve, other.no_get, other.no_show, other.no_explain, other.no_dump, other.no_diff, other.no_import, other.no_help, plain, plain) refl)
+first_plain byte rest plain other = mistake (rw plain refl) (rw plain refl) (rw (other.no_batch, other.no_check, other.no_replay, other.no_serve, other.no_get, other.no_show, other.no_explain, other.no_dump, other.no_diff, other.no_follow, other.no_wait, other.no_import, other.no_help, plain, plain) refl)
 
 first_short : (byte : ℕ) (rest : Text) (letter : Option ℕ) → (byte == 45) ≡ false → slice_get (chars (byte ∷ rest)) 0 ≡ letter → First (45 ∷ byte ∷ rest)
 unfolding walked bundle_met flags_fault
@@ -82,16 +84,16 @@ first_long_other byte rest no_help no_version turn =
 
 no_long : (word name : Text) (value : Option Text) → bytes_eq word (codes "--") ≡ false → IsOther word
     → long_of word ≡ Some (name, value) → bytes_eq (codes "help") name ≡ false → bytes_eq (codes "version") name ≡ false → IsMistake (first_turn word)
-no_long word name value plain other long no_help no_version = rw (other.no_batch, other.no_check, other.no_replay, other.no_serve, other.no_get, other.no_show, other.no_explain, other.no_dump, other.no_diff, other.no_import, other.no_help, plain, long, no_help, no_version) refl
+no_long word name value plain other long no_help no_version = rw (other.no_batch, other.no_check, other.no_replay, other.no_serve, other.no_get, other.no_show, other.no_explain, other.no_dump, other.no_diff, other.no_follow, other.no_wait, other.no_import, other.no_help, plain, long, no_help, no_version) refl
 
 help_valued : (word value : Text) → bytes_eq word (codes "--") ≡ false → IsOther word → long_of word ≡ Some (codes "help", Some value) → IsMistake (first_turn word)
-help_valued word value plain other long = rw (other.no_batch, other.no_check, other.no_replay, other.no_serve, other.no_get, other.no_show, other.no_explain, other.no_dump, other.no_diff, other.no_import, other.no_help, plain, long) refl
+help_valued word value plain other long = rw (other.no_batch, other.no_check, other.no_replay, other.no_serve, other.no_get, other.no_show, other.no_explain, other.no_dump, other.no_diff, other.no_follow, other.no_wait, other.no_import, other.no_help, plain, long) refl
 
 version_valued : (word value : Text) → bytes_eq word (codes "--") ≡ false → IsOther word → long_of word ≡ Some (codes "version", Some value) → IsMistake (first_turn word)
-version_valued word value plain other long = rw (other.no_batch, other.no_check, other.no_replay, other.no_serve, other.no_get, other.no_show, other.no_explain, other.no_dump, other.no_diff, other.no_import, other.no_help, plain, long) refl
+version_valued word value plain other long = rw (other.no_batch, other.no_check, other.no_replay, other.no_serve, other.no_get, other.no_show, other.no_explain, other.no_dump, other.no_diff, other.no_follow, other.no_wait, other.no_import, other.no_help, plain, long) refl
 
 long_other : (rest : Text) → IsOther (45 ∷ 45 ∷ rest)
-long_other rest = record { no_batch = refl; no_check = refl; no_replay = refl; no_serve = refl; no_get = refl; no_show = refl; no_explain = refl; no_dump = refl; no_diff = refl; no_import = refl; no_help = refl }
+long_other rest = record { no_batch = refl; no_check = refl; no_replay = refl; no_serve = refl; no_get = refl; no_show = refl; no_explain = refl; no_dump = refl; no_diff = refl; no_follow = refl; no_wait = refl; no_import = refl; no_help = refl }
 
 -- one with a value
 first_valued : (byte : ℕ) (rest name : Text) → name ≡ long_name (byte ∷ rest) → has_byte 61 (byte ∷ rest) ≡ true
@@ -219,6 +221,14 @@ diff_named : (program : Text) (words : List Text) → named_is (codes "diff") pr
 unfolding walked
 diff_named program words = ap (λ (at : Walk). subcommand_name (entered (built command_line) at.stopped)) (stays (codes "diff") [] words)
 
+follow_named : (program : Text) (words : List Text) → named_is (codes "follow") program words
+unfolding walked
+follow_named program words = ap (λ (at : Walk). subcommand_name (entered (built command_line) at.stopped)) (stays (codes "follow") [] words)
+
+wait_named : (program : Text) (words : List Text) → named_is (codes "wait") program words
+unfolding walked
+wait_named program words = ap (λ (at : Walk). subcommand_name (entered (built command_line) at.stopped)) (stays (codes "wait") [] words)
+
 import_named : (program : Text) (words : List Text) → named_is (codes "import") program words
 unfolding walked
 import_named program words = ap (λ (at : Walk). subcommand_name (entered (built command_line) at.stopped)) (stays (codes "import") [] words)
@@ -235,7 +245,9 @@ question_named program word words is =
     (λ is. either_word _ _ is (λ e. by (codes "explain") e refl (explain_named program words))
     (λ is. either_word _ _ is (λ e. by (codes "dump") e refl (dump_named program words))
     (λ is. either_word _ _ is (λ e. by (codes "diff") e refl (diff_named program words))
-    (λ e. by (codes "import") e refl (import_named program words))))))
+    (λ is. either_word _ _ is (λ e. by (codes "follow") e refl (follow_named program words))
+    (λ is. either_word _ _ is (λ e. by (codes "wait") e refl (wait_named program words))
+    (λ e. by (codes "import") e refl (import_named program words))))))))
   where
     by : (name : Text) → bytes_eq word name ≡ true → asks_question (Some name) ≡ true → named_is name program words → asks_question (subcommand_name (subcommand_of command_line (program ∷ word ∷ words))) ≡ true
     by name same one named = subst (λ w. asks_question (subcommand_name (subcommand_of command_line (program ∷ w ∷ words))) ≡ true) (sym (same_bytes word name same)) (ap asks_question named ∙ one)
@@ -270,7 +282,7 @@ after_delimiter program [] = refl
 after_delimiter program (word ∷ words) = refl
 
 no_question : (word : Word) → IsOther word → is_question word ≡ false
-no_question word other = rw (flipped (codes "get") word other.no_get, flipped (codes "show") word other.no_show, flipped (codes "explain") word other.no_explain, flipped (codes "dump") word other.no_dump, flipped (codes "diff") word other.no_diff, flipped (codes "import") word other.no_import) refl
+no_question word other = rw (flipped (codes "get") word other.no_get, flipped (codes "show") word other.no_show, flipped (codes "explain") word other.no_explain, flipped (codes "dump") word other.no_dump, flipped (codes "diff") word other.no_diff, flipped (codes "follow") word other.no_follow, flipped (codes "wait") word other.no_wait, flipped (codes "import") word other.no_import) refl
 
 asks_help : (word : Word) (words : List Word) → IsOther word → is_help word ≡ true → invocation (word ∷ words) ≡ help
 asks_help word words other h = rw (flipped (codes "batch") word other.no_batch, flipped (codes "check") word other.no_check, flipped (codes "replay") word other.no_replay, flipped (codes "serve") word other.no_serve, no_question word other, flipped (codes "help") word other.no_help, h) refl
@@ -308,7 +320,9 @@ other_word word b c r s q h =
     let after_show = neither (bytes_eq word (codes "show")) _ after_get.1 in
     let after_explain = neither (bytes_eq word (codes "explain")) _ after_show.1 in
     let after_dump = neither (bytes_eq word (codes "dump")) _ after_explain.1 in
-    let last = neither (bytes_eq word (codes "diff")) (bytes_eq word (codes "import")) after_dump.1 in
+    let after_diff = neither (bytes_eq word (codes "diff")) _ after_dump.1 in
+    let after_follow = neither (bytes_eq word (codes "follow")) _ after_diff.1 in
+    let last = neither (bytes_eq word (codes "wait")) (bytes_eq word (codes "import")) after_follow.1 in
     record {
       no_batch = flipped word (codes "batch") b;
       no_check = flipped word (codes "check") c;
@@ -318,7 +332,9 @@ other_word word b c r s q h =
       no_show = flipped word (codes "show") after_show.0;
       no_explain = flipped word (codes "explain") after_explain.0;
       no_dump = flipped word (codes "dump") after_dump.0;
-      no_diff = flipped word (codes "diff") last.0;
+      no_diff = flipped word (codes "diff") after_diff.0;
+      no_follow = flipped word (codes "follow") after_follow.0;
+      no_wait = flipped word (codes "wait") last.0;
       no_import = flipped word (codes "import") last.1;
       no_help = flipped word (codes "help") h;
     }

@@ -7,6 +7,7 @@ use Rattle.clap.specs.declared.builder.action.ArgAction.TheVariants.{Append, Set
 use Rattle.clap.specs.declared.builder.command.Command.{Command}
 use Rattle.clap.specs.declared.builder.command.Command.TheViews.{out-Command}
 use Rattle.prt_words.specs.Invocation.{Invocation, ask, batch, check, file_of, is_question, mode_of, replay, serve}
+use Rattle.prt_words.specs.Reaching.{IsAsked}
 use Rattle.prt_words.specs.declared.serving.Serving.{Serving}
 use Rattle.prt_words.specs.declared.task.Task.{Task}
 use Rattle.prt_words.specs.declared.task.Task.TheVariants.{Ask, Batch, Check, Replay, Serve}
@@ -68,10 +69,28 @@ abbrev pub explain_line : App
 explain_line = question_line (codes "explain")
 
 abbrev pub dump_line : App
-dump_line = tables_line (codes "dump")
+dump_line = with_rule (tables_line (codes "dump")) (flag_rule (codes "replace"))
+
+-- an option that may be given often, each time with a value
+abbrev pub repeated_rule : Text → Rule
+repeated_rule name = record (option_rule name) { action = Some Append }
+
+-- with the words that say how far it reaches
+abbrev pub with_reach : App → App
+with_reach app = with_rule (with_rule (with_rule (with_rule app (flag_rule (codes "all"))) (repeated_rule (codes "table"))) (repeated_rule (codes "proto"))) (repeated_rule (codes "priority"))
 
 abbrev pub diff_line : App
-diff_line = with_rule (with_rule (place_line (codes "diff")) (flag_rule (codes "check"))) file_rule
+diff_line = with_rule (with_rule (with_reach (place_line (codes "diff"))) (flag_rule (codes "check"))) file_rule
+
+-- a question of a server
+abbrev pub server_line : Text → App
+server_line name = with_rule (new_app name) (needed_rule (codes "server"))
+
+abbrev pub follow_line : App
+follow_line = with_rule (with_rule (with_reach (server_line (codes "follow"))) (flag_rule (codes "once"))) file_rule
+
+abbrev pub wait_line : App
+wait_line = with_rule (server_line (codes "wait")) (number_rule (codes "seconds") (codes "30"))
 
 abbrev pub import_line : App
 import_line = with_rule (with_rule (new_app (codes "import")) (option_rule (codes "db"))) file_rule
@@ -81,7 +100,7 @@ opening_line = on_top (λ top. record top { subcommand_required = true; arg_requ
 
 -- with the subcommands that ask questions
 abbrev pub with_questions : App → App
-with_questions app = with_subcommand (with_subcommand (with_subcommand (with_subcommand (with_subcommand (with_subcommand app get_line.top) show_line.top) explain_line.top) dump_line.top) diff_line.top) import_line.top
+with_questions app = with_subcommand (with_subcommand (with_subcommand (with_subcommand (with_subcommand (with_subcommand (with_subcommand (with_subcommand app get_line.top) show_line.top) explain_line.top) dump_line.top) diff_line.top) follow_line.top) wait_line.top) import_line.top
 
 abbrev pub command_line : App
 command_line = with_questions (with_subcommand (with_subcommand (with_subcommand (with_subcommand opening_line batch_line.top) check_line.top) replay_line.top) serve_line.top)
@@ -159,7 +178,8 @@ invocation_of (Ask asked) = ask
 abbrev pub IsServing : Serving → Type 0
 IsServing serving = (1 ≤ serving.workers) × (serving.workers ≤ 64) × (serving.sessions ≤ 1000000) × (serving.idle ≤ 1000000)
 
--- what is to be served is within these limits
+-- what is to be served or asked is within these limits
 abbrev pub IsWithinLimits : Task → Type 0
 IsWithinLimits (Serve serving) = IsServing serving
+IsWithinLimits (Ask asked) = IsAsked asked
 IsWithinLimits task = Unit {0}

@@ -1,11 +1,14 @@
-//! What the words of a question ask for: those of `get`, `show`, `explain`, `dump`, `diff` and `import`.
-ghost use Rattle.std.specs.Prelude.{◌≡◌, IfErr, IfOk, Some, is_some, true};
+//! What the words of a question ask for: those of `get`, `show`, `explain`, `dump`, `diff`, `follow`, `wait` and `import`.
+ghost use Rattle.std.specs.Prelude.{◌≡◌, IfErr, IfOk, IfSome, Some, is_some, true};
 ghost use Rattle.clap.specs.Words.{subcommand_name_of};
 ghost use Rattle.prt_words.specs.CommandLine.{asks_question};
 ghost use Rattle.prt_words.specs.Faults.{IsWordsFault};
 ghost use Rattle.prt_words.specs.Invocation.{ask};
+ghost use Rattle.prt_words.specs.Reaching.{IsAsked, IsReach};
 
-use crate::fault::{Fault, asking_fault};
+use crate::fault::{BadQuestion, Fault, asking_fault};
+use crate::following::{BAD_SERVER, Following, Waiting, following_of, waiting_of};
+use crate::reach::{Reach, reach_of};
 use crate::serving::place_of;
 use crate::task::{file_in, file_of};
 use clap::ArgMatches;
@@ -16,16 +19,15 @@ use std::net::SocketAddrV4;
 /// What is wrong where no tables are named, or more than one.
 const NO_TABLES: &str = "one of '--db <PATH>' and '--server <ADDR:PORT>' is required, and not both";
 
-/// What is wrong with a place of a server.
-const BAD_SERVER: &str =
-    "invalid value for '--server <ADDR:PORT>': it is an IPv4 address, `:` and a port of 0 to 65535";
-
 /// What is wrong where no tables and no script are named.
 const NO_SCRIPT: &str =
     "one of '--db <PATH>', '--server <ADDR:PORT>' and a script before the address is required";
 
 /// What is wrong where no packet is named.
 const NO_ADDRESS: &str = "a value is required for '<ADDRESS>...'";
+
+/// What is wrong with a dump whose commands replace, and that is no list of commands or calls tables by names.
+const REPLACE_CONFLICT: &str = "the argument '--replace' cannot be used with '--json' or '--names'";
 
 /// The subcommand that says which route a packet gets.
 const GET: &str = "get";
@@ -41,6 +43,12 @@ const DUMP: &str = "dump";
 
 /// The subcommand that prints what brings the kernel to a database.
 const DIFF: &str = "diff";
+
+/// The subcommand that prints what brings the kernel to the tables of a server, step by step.
+const FOLLOW: &str = "follow";
+
+/// The subcommand that waits for a server.
+const WAIT: &str = "wait";
 
 /// The subcommand that makes a script of what `ip` prints.
 const IMPORT: &str = "import";
@@ -85,6 +93,8 @@ pub enum Verb {
     Explain,
     /// Which commands make the tables anew.
     Dump,
+    /// Which commands put the tables in the place of what is there.
+    Replace,
 }
 
 /// A question to tables, as they are at one moment.
@@ -112,6 +122,8 @@ pub enum Shown {
 #[derive(Drop)]
 pub struct Diffing<'a> {
     pub source: Source<'a>,
+    /// What of the kernel is compared and may be changed.
+    pub reach: Reach,
     /// The path of what `ip` printed; standard input where there is none.
     pub file: Option<&'a str>,
     pub shown: Shown,
@@ -133,6 +145,10 @@ pub enum Asked<'a> {
     Tables(Asking<'a>),
     /// What differs from tables.
     Diff(Diffing<'a>),
+    /// What differs from the tables of a server, now and after each of their changes.
+    Follow(Following<'a>),
+    /// Whether a server answers.
+    Wait(Waiting),
     /// Which script makes what `ip` printed.
     Import(Importing<'a>),
 }
@@ -142,6 +158,8 @@ pub enum Asked<'a> {
 pub(crate) enum QuestionWord {
     Tables(Verb),
     Diff,
+    Follow,
+    Wait,
     Import,
 }
 
@@ -159,6 +177,10 @@ fn question_word(name: &str) -> Option<QuestionWord>
         Some(QuestionWord::Tables(Verb::Dump))
     } else if name == DIFF {
         Some(QuestionWord::Diff)
+    } else if name == FOLLOW {
+        Some(QuestionWord::Follow)
+    } else if name == WAIT {
+        Some(QuestionWord::Wait)
     } else if name == IMPORT {
         Some(QuestionWord::Import)
     } else {
@@ -187,21 +209,6 @@ fn line_of(alloc: Global, verb: Verb, words: &[&str]) -> Result<Vec<u8>, AllocEr
         line.extend_from_slice(word.as_bytes())?;
     }
     Ok(line)
-}
-
-/// Why words ask nothing.
-#[derive(Clone, Copy)]
-enum BadQuestion {
-    /// The text says what is wrong with them.
-    Words(&'static str),
-    /// Memory is refused.
-    NoMemory,
-}
-
-impl From<AllocError> for BadQuestion {
-    fn from(_: AllocError) -> BadQuestion {
-        BadQuestion::NoMemory
-    }
 }
 
 /// Gives where the tables are that the matches name, if they name any.
@@ -257,6 +264,22 @@ fn needs_words(verb: Verb) -> bool {
     matches!(verb, Verb::Get | Verb::Explain)
 }
 
+/// Tells of a dump whether its commands put the tables in the place of what is there. All else stays what it is.
+///
+/// # Errors
+///
+/// They do, and the answer is to be in JSON, or to call tables by names.
+fn verb_in(verb: Verb, matches: &ArgMatches<'_>) -> Result<Verb, BadQuestion> {
+    let is_dump = matches!(verb, Verb::Dump);
+    if !is_dump || !matches.get_flag("replace") {
+        return Ok(verb);
+    }
+    if matches.get_flag("json") || matches.get_flag("names") {
+        return Err(BadQuestion::Words(REPLACE_CONFLICT));
+    }
+    Ok(Verb::Replace)
+}
+
 /// Tells what the matches of a question to tables ask for.
 ///
 /// # Errors
@@ -285,7 +308,7 @@ fn asking_of<'a>(
     let line = line_of(alloc, verb, words)?;
     Ok(Asking {
         source,
-        verb,
+        verb: verb_in(verb, matches)?,
         line,
         form,
         labels,
@@ -296,9 +319,12 @@ fn asking_of<'a>(
 ///
 /// # Errors
 ///
-/// What is wrong with them.
-fn diffing_of<'a>(matches: &ArgMatches<'a>) -> Result<Diffing<'a>, BadQuestion> {
+/// What is wrong with them, or that memory is refused.
+fn diffing_of<'a>(alloc: Global, matches: &ArgMatches<'a>) -> Result<Diffing<'a>, BadQuestion>
+    ensures { IfOk result (λ diffing. IsReach diffing.reach) }
+{
     let source = source_in(matches)?;
+    let reach = reach_of(alloc, matches)?;
     let shown = if matches.get_flag("check") {
         Shown::Status
     } else {
@@ -306,6 +332,7 @@ fn diffing_of<'a>(matches: &ArgMatches<'a>) -> Result<Diffing<'a>, BadQuestion> 
     };
     Ok(Diffing {
         source,
+        reach,
         file: file_in(matches),
         shown,
     })
@@ -320,10 +347,14 @@ fn asked_of<'a>(
     alloc: Global,
     word: QuestionWord,
     matches: &ArgMatches<'a>,
-) -> Result<Asked<'a>, BadQuestion> {
+) -> Result<Asked<'a>, BadQuestion>
+    ensures { IfOk result IsAsked }
+{
     match word {
         QuestionWord::Tables(verb) => Ok(Asked::Tables(asking_of(alloc, verb, matches)?)),
-        QuestionWord::Diff => Ok(Asked::Diff(diffing_of(matches)?)),
+        QuestionWord::Diff => Ok(Asked::Diff(diffing_of(alloc, matches)?)),
+        QuestionWord::Follow => Ok(Asked::Follow(following_of(alloc, matches)?)),
+        QuestionWord::Wait => Ok(Asked::Wait(waiting_of(matches)?)),
         QuestionWord::Import => Ok(Asked::Import(Importing {
             file: file_in(matches),
             database: matches.get_str("db"),
@@ -335,13 +366,14 @@ fn asked_of<'a>(
 ///
 /// # Errors
 ///
-/// `Words` where they name no tables, or two, or have no address where one has to be; `Opening` with `NoMemory` where
-/// memory is refused. They ask a question then.
+/// `Words` where they name no tables, or two, have no address where one has to be, or don't say how far to reach; `Opening`
+/// with `NoMemory` where memory is refused. They ask a question then.
 pub(crate) fn asked_in<'a>(
     alloc: Global,
     matches: &ArgMatches<'a>,
 ) -> Result<Option<Asked<'a>>, Fault>
     ensures asked { IfOk result (λ asked. is_some asked ≡ asks_question (subcommand_name_of matches.now)) }
+    ensures limits { IfOk result (λ asked. IfSome asked IsAsked) }
     ensures fault { IfErr result (λ fault. (asks_question (subcommand_name_of matches.now) ≡ true) × IsWordsFault ask fault) }
 {
     let Some((name, found)) = matches.subcommand() else {

@@ -3,6 +3,7 @@ ghost use Rattle.std.specs.Prelude.{◌≡◌, IfOk, false};
 ghost use Rattle.clap.specs.Words.{app_of, rule_of};
 ghost use Rattle.prt_words.specs.CommandLine.{batch_line, check_line, command_line, database_rule, diff_line, dump_line, explain_line, file_rule, flag_rule, get_line, has_globals, import_line, needed_rule, number_rule, option_rule, place_line, question_line, replay_line, serve_line, show_line, tables_line, with_questions, words_rule};
 
+use crate::reach_lines::{follow_line, wait_line, with_reach};
 use crate::version::VERSION;
 use clap::{Arg, ArgAction, Command};
 use std::alloc::{AllocError, Global};
@@ -16,7 +17,7 @@ fn file_operand<'a>(alloc: Global, help: &'a str) -> Arg<'a>
 }
 
 /// Makes a flag of this name.
-fn flag<'a>(alloc: Global, name: &'a str, help: &'a str) -> Arg<'a>
+pub(crate) fn flag<'a>(alloc: Global, name: &'a str, help: &'a str) -> Arg<'a>
     ensures rule { rule_of result ≡ flag_rule name.entry.now }
     ensures own { result.global ≡ false }
 {
@@ -37,7 +38,7 @@ fn database_option<'a>(alloc: Global) -> Arg<'a>
 }
 
 /// Makes an option that has a value.
-fn option<'a>(alloc: Global, name: &'a str, value: &'a str, help: &'a str) -> Arg<'a>
+pub(crate) fn option<'a>(alloc: Global, name: &'a str, value: &'a str, help: &'a str) -> Arg<'a>
     ensures rule { rule_of result ≡ option_rule name.entry.now }
     ensures own { result.global ≡ false }
 {
@@ -48,7 +49,12 @@ fn option<'a>(alloc: Global, name: &'a str, value: &'a str, help: &'a str) -> Ar
 }
 
 /// Makes an option that has to be given.
-fn needed_option<'a>(alloc: Global, name: &'a str, value: &'a str, help: &'a str) -> Arg<'a>
+pub(crate) fn needed_option<'a>(
+    alloc: Global,
+    name: &'a str,
+    value: &'a str,
+    help: &'a str,
+) -> Arg<'a>
     ensures rule { rule_of result ≡ needed_rule name.entry.now }
     ensures own { result.global ≡ false }
 {
@@ -56,7 +62,7 @@ fn needed_option<'a>(alloc: Global, name: &'a str, value: &'a str, help: &'a str
 }
 
 /// Makes an option whose value is a number, which is `missing` where it isn't given.
-fn number_option<'a>(
+pub(crate) fn number_option<'a>(
     alloc: Global,
     name: &'a str,
     value: &'a str,
@@ -299,15 +305,21 @@ pub(crate) fn dump_line<'a>(alloc: Global) -> Result<Command<'a>, AllocError>
     ensures line { IfOk result (λ command. app_of command ≡ dump_line) }
     ensures own { IfOk result (λ command. has_globals command ≡ false) }
 {
-    tables_line(
+    let replace = flag(
+        alloc,
+        "replace",
+        "Print commands that put them in the place of what is there; not with --json or --names",
+    );
+    let tables = tables_line(
         alloc,
         "dump",
         "Prints commands that make the rules and routes of a database anew",
-    )
+    )?;
+    tables.arg(replace)
 }
 
 /// Makes the operand that names a listing of the kernel's.
-fn listing_operand<'a>(alloc: Global) -> Arg<'a>
+pub(crate) fn listing_operand<'a>(alloc: Global) -> Arg<'a>
     ensures rule { rule_of result ≡ file_rule }
     ensures own { result.global ≡ false }
 {
@@ -331,9 +343,9 @@ pub(crate) fn diff_line<'a>(alloc: Global) -> Result<Command<'a>, AllocError>
     let place = place_line(
         alloc,
         "diff",
-        "Prints the lines for `ip -batch` that bring the kernel to a database",
+        "Prints the lines for `ip -batch` that bring the kernel to a database, as far as they may reach",
     )?;
-    place.arg(check)?.arg(file)
+    with_reach(alloc, place)?.arg(check)?.arg(file)
 }
 
 /// Says which words may follow `import`.
@@ -363,6 +375,8 @@ fn with_questions<'a>(alloc: Global, command: Command<'a>) -> Result<Command<'a>
     let explain = explain_line(alloc)?;
     let dump = dump_line(alloc)?;
     let diff = diff_line(alloc)?;
+    let follow = follow_line(alloc)?;
+    let wait = wait_line(alloc)?;
     let import = import_line(alloc)?;
     command
         .subcommand(get)?
@@ -370,6 +384,8 @@ fn with_questions<'a>(alloc: Global, command: Command<'a>) -> Result<Command<'a>
         .subcommand(explain)?
         .subcommand(dump)?
         .subcommand(diff)?
+        .subcommand(follow)?
+        .subcommand(wait)?
         .subcommand(import)
 }
 

@@ -11,6 +11,7 @@ use crate::command_line::{
     batch_line, command_line, diff_line, dump_line, explain_line, get_line, import_line,
     serve_line, show_line,
 };
+use crate::reach_lines::{follow_line, wait_line};
 use clap::Command;
 use clap::error::ErrorKind;
 use prt_refusals::Refusal;
@@ -132,6 +133,21 @@ pub(crate) fn serving_fault(alloc: Global, text: &str) -> Fault
     }
 }
 
+/// Why words ask nothing.
+#[derive(Clone, Copy)]
+pub(crate) enum BadQuestion {
+    /// The text says what is wrong with them.
+    Words(&'static str),
+    /// Memory is refused.
+    NoMemory,
+}
+
+impl From<AllocError> for BadQuestion {
+    fn from(_: AllocError) -> BadQuestion {
+        BadQuestion::NoMemory
+    }
+}
+
 /// Gives the name of the program with a question's subcommand, and which words may follow it.
 fn asking_line<'a>(
     alloc: Global,
@@ -141,8 +157,10 @@ fn asking_line<'a>(
         QuestionWord::Tables(Verb::Get) => Ok(("prt get", get_line(alloc)?)),
         QuestionWord::Tables(Verb::Show) => Ok(("prt show", show_line(alloc)?)),
         QuestionWord::Tables(Verb::Explain) => Ok(("prt explain", explain_line(alloc)?)),
-        QuestionWord::Tables(Verb::Dump) => Ok(("prt dump", dump_line(alloc)?)),
+        QuestionWord::Tables(Verb::Dump | Verb::Replace) => { Ok(("prt dump", dump_line(alloc)?)) }
         QuestionWord::Diff => Ok(("prt diff", diff_line(alloc)?)),
+        QuestionWord::Follow => Ok(("prt follow", follow_line(alloc)?)),
+        QuestionWord::Wait => Ok(("prt wait", wait_line(alloc)?)),
         QuestionWord::Import => Ok(("prt import", import_line(alloc)?)),
     }
 }

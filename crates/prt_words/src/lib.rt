@@ -4,11 +4,16 @@
 mod asking;
 mod command_line;
 mod fault;
+mod following;
+mod reach;
+mod reach_lines;
 mod serving;
 mod task;
 mod version;
 
 pub use asking::{Asked, Asking, Diffing, Form, Importing, Labels, Shown, Source, Verb};
 pub use fault::{DONE, FAULT, Fault, report, words_fault};
+pub use following::{Following, Waiting};
+pub use reach::{NumberSpan, Reach};
 pub use serving::Serving;
 pub use task::{Batch, Mode, STANDARD_INPUT, Task, read_words};

@@ -72,8 +72,8 @@ pub(crate) fn place_of(word: &str) -> Option<SocketAddrV4> {
     Some(SocketAddrV4::new(Ipv4Addr::from(address), port as u16))
 }
 
-/// Gives the number that the matches of `serve` have for an option, where it is within these limits.
-fn number_in(matches: &ArgMatches<'_>, name: &str, least: u32, most: u32) -> Option<u32>
+/// Gives the number that the matches have for an option, where it is within these limits.
+pub(crate) fn number_in(matches: &ArgMatches<'_>, name: &str, least: u32, most: u32) -> Option<u32>
     ensures { IfSome result (λ number. (least ≤ number) × (number ≤ most)) }
 {
     number_within(matches.get_str(name)?, least, most)

@@ -12,7 +12,7 @@ printf '%s\n' \
   'default dev eth1 table 100 scope link' \
   'local 10.0.0.1 dev eth1 table local proto kernel scope host src 10.0.0.1' >listing
 import --db a.db listing
-"$prt" diff --check --db a.db listing
+"$prt" diff --all --check --db a.db listing
 echo "status $?"
 "$prt" import listing | "$prt" batch --db b.db >/dev/null
 cmp <("$prt" dump --db a.db) <("$prt" dump --db b.db)

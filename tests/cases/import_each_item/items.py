@@ -32,7 +32,7 @@ def run(*words, input=None):
 def said(text):
     """The lines that import makes of a text, and what it tells of it, but for the text itself."""
     told = run(PROGRAM, "import", input=text)
-    lines = [line for line in told.stdout.splitlines() if line not in ("rule flush", "rule del priority 0")]
+    lines = [line for line in told.stdout.splitlines() if line not in ("rule flush", "rule del priority 0") and not line.startswith("#")]
     # `ip` says "realm" of one realm, and its JSON has no word for that.
     return lines + [re.sub(r"line \d+: |: (300:|(\w+ )?10\.9\.0\.0/16).*", "", line).replace("realms:", "realm:") for line in told.stderr.splitlines()]
 

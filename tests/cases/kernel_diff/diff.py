@@ -146,9 +146,9 @@ def one_script(script):
     """Brings the kernel to the tables of a script."""
     without_database()
     prt("batch", "--force", "--db", "routes.db", script)
-    difference = prt("diff", "--db", "routes.db", input=listed())
+    difference = prt("diff", "--all", "--db", "routes.db", input=listed())
     done = ip("-batch", "-", input=difference.stdout)
-    again = prt("diff", "--db", "routes.db", "--check", input=listed())
+    again = prt("diff", "--all", "--db", "routes.db", "--check", input=listed())
     print("%s: %d lines, %s" % (os.path.basename(script), len(difference.stdout.splitlines()), done.stderr or "the same" if again.returncode == 0 else "other"))
 
 
@@ -160,16 +160,16 @@ def one_round(random):
     if imported.returncode:
         print("import:", imported.returncode, imported.stderr)
     prt("batch", "--db", "routes.db", input=imported.stdout)
-    if prt("diff", "--db", "routes.db", "--check", input=found).returncode:
-        print("what was imported differs:", prt("diff", "--db", "routes.db", input=found).stdout)
+    if prt("diff", "--all", "--db", "routes.db", "--check", input=found).returncode:
+        print("what was imported differs:", prt("diff", "--all", "--db", "routes.db", input=found).stdout)
     prt("batch", "--force", "--db", "routes.db", input=changes(random))
-    difference = prt("diff", "--db", "routes.db", input=found)
+    difference = prt("diff", "--all", "--db", "routes.db", input=found)
     done = ip("-batch", "-", input=difference.stdout)
     if difference.returncode or done.returncode:
         print("diff:", difference.returncode, difference.stderr, done.stderr, difference.stdout)
-    again = prt("diff", "--db", "routes.db", "--check", input=listed())
+    again = prt("diff", "--all", "--db", "routes.db", "--check", input=listed())
     if again.returncode:
-        print("it differs still:", again.stderr, prt("diff", "--db", "routes.db", input=listed()).stdout)
+        print("it differs still:", again.stderr, prt("diff", "--all", "--db", "routes.db", input=listed()).stdout)
     return len(difference.stdout.splitlines()), probes(random)
 
 

@@ -39,3 +39,16 @@ offered b
 offered batch --
 offered serve ''
 offered replay root/usr/share/doc/prt/examples/g
+offered follow --server x:1 --
+offered wait ''
+offered dump --r
+offered diff root/usr/share/doc/prt/examples/g
+
+# What systemd finds wrong with the units, where the program stands here.
+if command -v systemd-analyze >/dev/null; then
+  mkdir units
+  for unit in root/usr/lib/systemd/system/*; do
+    sed "s|=/usr/|=$PWD/root/usr/|" "$unit" >"units/$(basename "$unit")"
+  done
+  systemd-analyze verify --man=no units/* 2>&1
+fi

@@ -1,7 +1,8 @@
 """A disk fails under 32 clients, all but the first of whom wait for one commit: none of these is told `ok`.
 
 The first command's sync takes two seconds, during which the others are sent; the next sync fails. So their one commit
-fails, which each of them is told, and then that the service is closed. The file then holds all of them or none.
+fails, which each of them is told, and then that the service is closed. Standard error says it once, and then that the
+log has to stay. The file then holds all of them or none.
 """
 
 import os
@@ -36,7 +37,7 @@ def main():
         print(count, *replies, sep=", ")
     os.remove(variables["SYNC_FAILS"])
     status, told = server.end()
-    print(status, told.splitlines()[0])
+    print(status, told, end="")
     print(len(batch(b"route show\n", "--db", DATABASE).splitlines()) - 1 in (1, CLIENTS))
 
 

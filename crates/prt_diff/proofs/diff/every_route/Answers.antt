@@ -1,5 +1,5 @@
 use Rattle.std.proofs.Common.{◌∙◌}
-use Rattle.prt_dump.proofs.Texts.{every_listed}
+use Rattle.prt_diff.proofs.Listed.{every_listed}
 use Rattle.prt_diff.proofs.diff.every_route.Goals as goal
 
 pub returns : goal.returns

@@ -10,15 +10,15 @@ pub returns : goal.returns
 returns g c =
     let opened = c.in-Ok.ensures.opened in
     let stored = line_state c.in-Ok.desk.line in
-    let kept : HasOpened g.S.Store opened.was c.release.result stored = subst (λ (last : Held _). HasOpened g.S.Store opened.was last stored) (sym c.release.ensures.tables) opened.opened in
+    let kept : HasOpened g.S.Store opened.was c.end.result stored = subst (λ (last : Held _). HasOpened g.S.Store opened.was last stored) (sym c.end.ensures.tables) opened.opened in
     let text : List ℕ = said c.args.inquiry.now stored in
-    let says = subst (λ state. IfOk c.said-answered.result (λ made. made.items ≡ said c.args.inquiry.now state)) c.version.ensures c.said-answered.ensures in
+    let says = subst (λ state. IfOk c.said-answered.result (λ made. made.text.items ≡ said c.args.inquiry.now state)) c.version.ensures c.said-answered.ensures in
     record {
       status = c.write_answer.ensures.status;
       whole = λ done. record {
         between = c.open_desk-opened.new.machine;
         first = opened.was;
-        last = c.release.result;
+        last = c.end.result;
         is_opened = opened.found;
         made = (stored, kept, c.write_answer.ensures.whole text says done);
         is_closed = c.close.ensures;
@@ -26,7 +26,7 @@ returns g c =
       at_most = inr (record {
         between = c.open_desk-opened.new.machine;
         first = opened.was;
-        last = c.release.result;
+        last = c.end.result;
         is_opened = opened.found;
         made = (stored, kept, c.write_answer.ensures.part text says);
         is_closed = c.close.ensures;

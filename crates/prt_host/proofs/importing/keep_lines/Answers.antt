@@ -23,7 +23,7 @@ returns-clause-kept g c = λ done. (
     executed = subst (IsExecuted c.in-Ok-accept.accepted) c.deref.ensures.value c.in-Ok-accept.ensures.ok;
   },
   elim c.if-left-eq-DONE.branch [
-    | then-left-eq-DONE w ↦ (subst AreKernels c.deref-3.ensures.value (c.tell_left-left.ensures.kernels w.if-left-eq-DONE.true), subst AreKernels c.deref-4.ensures.value (c.tell_left-refused.ensures.kernels (sym w.result-is ∙ done)))
-    | else-left-eq-DONE w ↦ absurd (w.if-left-eq-DONE.false (sym w.result-is ∙ done))
+    | then-left-eq-DONE w ↦ (subst AreKernels c.deref-3.ensures.value (c.tell_left-left.ensures.kernels w.if-left-eq-DONE.true), subst AreKernels c.deref-4.ensures.value (c.tell_left-refused.ensures.kernels (sym w.status-is ∙ done)))
+    | else-left-eq-DONE w ↦ absurd (w.if-left-eq-DONE.false (sym w.status-is ∙ done))
   ],
 )

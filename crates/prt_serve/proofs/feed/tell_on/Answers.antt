@@ -1,18 +1,19 @@
-use Rattle.std.proofs.Common.{◌≡◌, true, false, subst, sym}
-use Rattle.prt_front.specs.Line.{Line}
-use Rattle.prt_serve.specs.Feed.{Tells}
-use Rattle.prt_serve.proofs.FeedTexts.{tells_next}
+use Rattle.prt_serve.proofs.FeedTexts.{tells_next, tells_quiet}
 use Rattle.prt_serve.proofs.feed.tell_on.Goals as goal
-
-pub returns-in_default : goal.returns-in_default
-returns-in_default g c =
-    let same : c.next-in-loop.new.self ≡ c.loop.follower = c.in_default.ensures in
-    subst (λ (line : Line). Tells c.args.follower.now line true (g.W.Write.contents c.args.writer.now) (g.W.Write.contents c.loop.writer)) (sym same) c.loop.invariant
+use Rattle.std.proofs.Common.{true, false}
 
 pub returns-then-not-write_change : goal.returns-then-not-write_change
 returns-then-not-write_change g c =
-    tells_next c.args.follower.now c.loop.follower c.next-in-loop.new.self c.in-Some-next.command c.number.result c.write_change.result false _ _ _ c.in-Some-next.ensures c.number.ensures.value c.if-not-write_change.true c.loop.invariant c.write_change.ensures
+    tells_next c.args.follower.now c.loop.follower c.next_within.new.self c.in-Command.command c.number.result c.write_change.result false _ _ _ c.in-Command.ensures c.number.ensures.value c.if-not-write_change.true c.loop.invariant c.write_change.ensures
+
+pub loop-preserved-else-not-write_change : goal.loop-preserved-else-not-write_change
+loop-preserved-else-not-write_change g c =
+    tells_next c.args.follower.now c.loop.follower c.next_within.new.self c.in-Command.command c.number.result c.write_change.result true _ _ _ c.in-Command.ensures c.number.ensures.value c.if-not-write_change.false c.loop.invariant c.write_change.ensures
+
+pub returns-then-not-write_quiet : goal.returns-then-not-write_quiet
+returns-then-not-write_quiet g c =
+    tells_quiet c.args.follower.now c.loop.follower c.next_within.new.self c.write_quiet.result false _ _ _ c.in-Quiet.ensures c.if-not-write_quiet.true c.loop.invariant c.write_quiet.ensures
 
 pub loop-preserved : goal.loop-preserved
 loop-preserved g c =
-    tells_next c.args.follower.now c.loop.follower c.next-in-loop.new.self c.in-Some-next.command c.number.result c.write_change.result true _ _ _ c.in-Some-next.ensures c.number.ensures.value c.if-not-write_change.false c.loop.invariant c.write_change.ensures
+    tells_quiet c.args.follower.now c.loop.follower c.next_within.new.self c.write_quiet.result true _ _ _ c.in-Quiet.ensures c.if-not-write_quiet.false c.loop.invariant c.write_quiet.ensures

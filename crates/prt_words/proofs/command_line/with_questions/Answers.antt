@@ -1,4 +1,4 @@
-use Rattle.std.proofs.Common.{◌∙◌, ap, ap₂, refl}
+use Rattle.std.proofs.Common.{◌∙◌, ap, ap₂}
 use Rattle.std.proofs.lemmas.Result.{IfOk-weaker}
 use Rattle.clap.specs.Words.{App, app_of, with_subcommand}
 use Rattle.clap.specs.Simple.{Shape}
@@ -14,4 +14,6 @@ returns c =
     let with_explain = c.in_ok-subcommand-3.ensures.shape c.in_ok-explain.ensures.own ∙ ap₂ with_subcommand with_show (ap top_of c.in_ok-explain.ensures.line) in
     let with_dump = c.in_ok-subcommand-4.ensures.shape c.in_ok-dump.ensures.own ∙ ap₂ with_subcommand with_explain (ap top_of c.in_ok-dump.ensures.line) in
     let with_diff = c.in_ok-subcommand-5.ensures.shape c.in_ok-diff.ensures.own ∙ ap₂ with_subcommand with_dump (ap top_of c.in_ok-diff.ensures.line) in
-    IfOk-weaker c.subcommand-6.result _ _ (λ command added. added.shape c.in_ok-import.ensures.own ∙ ap₂ with_subcommand with_diff (ap top_of c.in_ok-import.ensures.line)) c.subcommand-6.ensures
+    let with_follow = c.in_ok-subcommand-6.ensures.shape c.in_ok-follow.ensures.own ∙ ap₂ with_subcommand with_diff (ap top_of c.in_ok-follow.ensures.line) in
+    let with_wait = c.in_ok-subcommand-7.ensures.shape c.in_ok-wait.ensures.own ∙ ap₂ with_subcommand with_follow (ap top_of c.in_ok-wait.ensures.line) in
+    IfOk-weaker c.subcommand-8.result _ _ (λ command added. added.shape c.in_ok-import.ensures.own ∙ ap₂ with_subcommand with_wait (ap top_of c.in_ok-import.ensures.line)) c.subcommand-8.ensures

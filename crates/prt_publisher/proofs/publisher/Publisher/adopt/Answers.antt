@@ -1,11 +1,10 @@
-use Rattle.std.proofs.Common.{ap, arith}
-use Rattle.prt_front.specs.Line.{Line}
+use Rattle.std.proofs.Common.{arith}
 use Rattle.prt_publisher.proofs.publisher.Publisher.adopt.Goals as goal
 
 pub invariant_of-result : goal.invariant_of-result
 invariant_of-result g c =
     let begun = c.in-Ok.ensures.begun in
-    (begun.2, omega (arith, begun.3), begun.1, tt, λ known. (c.in-Ok.ensures.opened.adopts known.1 (c.in-Ok.ensures.format.0 known.0)).1, ap (λ (l : Line). l.book) c.in-Ok.ensures.seats, ap (λ (l : Line). l.base) c.in-Ok.ensures.seats)
+    (begun.2, omega (arith, begun.3), begun.1, tt, λ known. (c.in-Ok.ensures.opened.adopts known.1 (c.in-Ok.ensures.format.0 known.0)).1)
 
 pub returns-clause-does : goal.returns-clause-does
 returns-clause-does g c = λ clean. c.in-Ok.ensures.opened.does clean

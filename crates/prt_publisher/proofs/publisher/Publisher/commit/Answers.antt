@@ -45,7 +45,7 @@ pub invariant_of-self : goal.invariant_of-self
 invariant_of-self g c =
     let before = (goal.at.invariant_of-self g c).After-as_slice in
     let can = committing g before in
-    (c.self.invariant.0, noted g before, c.self.invariant.2, (can.planned, c.in-Ok.ensures.stamp ∙ can.counted), λ known. returns-in-Ok-clause-stands g c known, c.self.invariant.5, c.self.invariant.6)
+    (c.self.invariant.0, noted g before, c.self.invariant.2, (can.planned, c.in-Ok.ensures.stamp ∙ can.counted), λ known. returns-in-Ok-clause-stands g c known)
 
 pub returns-in-Ok-clause-others : goal.returns-in-Ok-clause-others
 returns-in-Ok-clause-others g c known open_or =
@@ -88,6 +88,4 @@ invariant_of-self-in-Err-1 g c = (
   c.self.invariant.2,
   rw c.replace.ensures.after tt,
   λ known. returns-in-Err-clause-stands g c known,
-  c.self.invariant.5,
-  c.self.invariant.6,
 )

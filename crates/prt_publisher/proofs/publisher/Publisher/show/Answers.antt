@@ -59,6 +59,4 @@ invariant_of-self g c =
       c.in-Ok.ensures.accepted,
       (kept.0.some, noted ∙ next),
       λ known. returns-in-Ok-clause-stands g c known,
-      c.self.invariant.5 ∙ ap (λ (l : Line). l.book) (sym front),
-      c.self.invariant.6 ∙ ap (λ (l : Line). l.base) (sym front),
     )

@@ -19,18 +19,16 @@ pub returns-in-Err-refresh-clause-turn : goal.returns-in-Err-refresh-clause-turn
 returns-in-Err-refresh-clause-turn g c = λ after is.
     (c.args.self.now.known, refl, (Some (unseen c.refresh.new.self.known), rw c.in-Query.is c.refresh.ensures.known, rw c.in-Query.is (ap Refused c.in-Err-refresh.ensures.reason), is))
 
-pub returns-in-Ok-answered-clause-turn : goal.returns-in-Ok-answered-clause-turn
-returns-in-Ok-answered-clause-turn g c = λ after is.
+pub returns-in-Ok-answer-clause-turn : goal.returns-in-Ok-answer-clause-turn
+returns-in-Ok-answer-clause-turn g c = λ after is.
     let known = c.refresh.new.self.known in
     let query = c.in-Query.query in
-    let same : c.rest.new.self.known ≡ known = ap (λ (l : Look). l.known) c.rest.ensures in
-    let version : c.version.result.now ≡ line_state known = subst (λ (held : Option Line). IfSome held (λ l. c.version.result.now ≡ line_state l)) c.in_default.ensures.held.0 c.version.ensures in
-    let read : c.query_text-answered.new.out.items ≡ text_of c.version.result.now query = rw c.new-text.ensures.items at c.in-Ok-answered.ensures.ok in
-    let text : c.new.result ≡ text_of (line_state known) query = subst (λ (s : State). c.new.result ≡ text_of s query) version (c.new.ensures ∙ read) in
+    let same : c.answer.new.looker.known ≡ known = ap (λ (l : Look). l.known) c.answer.ensures.offline in
+    let text : c.in-Ok-answer.text ≡ text_of (line_state known) query = subst (λ (held : Option Line). IfSome held (λ l. c.in-Ok-answer.text ≡ text_of (line_state l) query)) c.in_default.ensures.held.0 c.in-Ok-answer.ensures.text in
     (c.args.self.now.known, refl, (Some (seen known), rw c.in-Query.is c.refresh.ensures.known, rw c.in-Query.is (ap Answered text), is ∙ same))
 
-pub returns-in-Err-answered-clause-turn : goal.returns-in-Err-answered-clause-turn
-returns-in-Err-answered-clause-turn g c = λ after is.
+pub returns-in-Err-answer-clause-turn : goal.returns-in-Err-answer-clause-turn
+returns-in-Err-answer-clause-turn g c = λ after is.
     let known = c.refresh.new.self.known in
-    let same : c.rest.new.self.known ≡ known = ap (λ (l : Look). l.known) c.rest.ensures in
-    (c.args.self.now.known, refl, (Some (unanswered known), rw c.in-Query.is c.refresh.ensures.known, rw c.in-Query.is (ap Refused c.in-Err-answered.ensures.reason), is ∙ same))
+    let same : c.answer.new.looker.known ≡ known = ap (λ (l : Look). l.known) c.answer.ensures.offline in
+    (c.args.self.now.known, refl, (Some (unanswered known), rw c.in-Query.is c.refresh.ensures.known, rw c.in-Query.is (ap Refused c.in-Err-answer.ensures.reason), is ∙ same))

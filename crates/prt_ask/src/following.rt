@@ -1,0 +1,84 @@
+//! The lines for each change of a feed.
+ghost use Rattle.std.specs.Prelude.{◌≡◌, MatchResult, false, true};
+ghost use Rattle.prt_ask.specs.Mirrors.{Follows};
+ghost use Rattle.prt_ask.specs.Ends.{is_whole};
+
+use crate::mirror::Mirror;
+use crate::notes::Notes;
+use crate::refusal::NotAnswered;
+use prt_feed::{Change, NotRead, read_change};
+use prt_replies::write_bytes;
+use std::alloc::Global;
+use std::io::{Read, Write};
+
+/// Why following ended.
+#[derive(Clone, Copy, Debug, PartialEq, Eq)]
+pub enum FollowEnd {
+    /// The feed ended, or told no change.
+    Feed(NotRead),
+    /// There were no lines for a change.
+    NoLines(NotAnswered),
+    /// Lines could not be written.
+    Unwritten,
+}
+
+/// Writes what a person is told of lines, if anything is; nobody misses it where that fails.
+fn tell<E: Write>(notes: &Notes, errors: &mut E) {
+    if let Ok(text) = notes.messages(false) {
+        let _told = errors.write_all(text.as_bytes()).is_ok();
+    }
+}
+
+/// Writes the lines for a change, and tells what there is to tell of them.
+///
+/// # Errors
+///
+/// `NoLines` where there are none: nothing was written, and the mirror is as it was. `Unwritten` where a part of them was
+/// written.
+fn write_lines<W: Write, E: Write>(
+    alloc: Global,
+    mirror: &mut Mirror,
+    change: &Change,
+    output: &mut W,
+    errors: &mut E,
+) -> Result<(), FollowEnd>
+    ensures { MatchResult result (λ _. Follows mirror.old mirror.new true (W.contents output.old) (W.contents output.new))
+        (λ end. Follows mirror.old mirror.new (is_whole end) (W.contents output.old) (W.contents output.new)) }
+{
+    let answer = match mirror.follow(alloc, change) {
+        Ok(answer) => answer,
+        Err(reason) => return Err(FollowEnd::NoLines(reason)),
+    };
+    tell(&answer.notes, errors);
+    if write_bytes(output, &answer.text) {
+        Ok(())
+    } else {
+        Err(FollowEnd::Unwritten)
+    }
+}
+
+/// Writes the lines that bring a listing to the tables of a feed, after each of its changes, and flushes each. Returns where
+/// the feed ends, where a change isn't the next one or has no lines, and where the lines can't be written.
+///
+/// The reader stands behind the opening of the feed, and should have a buffer.
+pub fn follow<R: Read, W: Write, E: Write>(
+    alloc: Global,
+    mirror: &mut Mirror,
+    reader: &mut R,
+    output: &mut W,
+    errors: &mut E,
+) -> FollowEnd
+    ensures { Follows mirror.old mirror.new (is_whole result) (W.contents output.old) (W.contents output.new) }
+{
+    for _line in 0..u64::MAX {
+        let change = match read_change(reader) {
+            Ok(Some(change)) => change,
+            Ok(None) => continue,
+            Err(reason) => return FollowEnd::Feed(reason),
+        };
+        if let Err(end) = write_lines(alloc, mirror, &change, output, errors) {
+            return end;
+        }
+    }
+    FollowEnd::Feed(NotRead::CutOff)
+}

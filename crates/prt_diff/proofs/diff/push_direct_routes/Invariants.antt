@@ -1,8 +1,0 @@
-use Rattle.std.proofs.Common.{◌≡◌, ◌++◌, map, take}
-use Rattle.std.specs.Prelude.{filter, is_none}
-use Rattle.prt_route.specs.declared.route.Route.{Route}
-use Rattle.prt_diff.specs.Routes.{replace_route}
-use Rattle.prt_diff.proofs.diff.push_direct_routes.Given as goal
-
-abbrev pub invariant-loop-route : goal.invariant-loop-route
-invariant-loop-route l = l.commands.items ≡ l.fn.commands.items ++ map replace_route (filter (λ (route : Route). is_none route.via) (take l.route-index l.routes))

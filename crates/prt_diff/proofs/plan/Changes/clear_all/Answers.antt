@@ -1,0 +1,13 @@
+use Rattle.std.proofs.Common.{ap, arith, ◌∙◌}
+use Rattle.std.proofs.lemmas.List.{take_all}
+use Rattle.prt_diff.specs.Plan.{clear_all, cleared, plan_of}
+use Rattle.prt_diff.proofs.Turns.{clear_more}
+use Rattle.prt_diff.proofs.plan.Changes.clear_all.Goals as goal
+
+pub loop-rule-preserved : goal.loop-rule-preserved
+loop-rule-preserved c =
+    c.in_ok-clear.ensures ∙ ap (cleared c.rule-item.result) c.loop-rule.invariant
+    ∙ clear_more c.args.rules.now c.loop-rule.rule-index c.rule-item.result (plan_of c.args.self.now) c.loop-rule-test.true c.rule-item.is
+
+pub returns : goal.returns
+returns c = c.loop-rule.invariant ∙ ap (λ rules. clear_all rules (plan_of c.args.self.now)) (take_all c.loop-rule.rule-index c.args.rules.now (omega (arith, c.loop-rule-test.false)))

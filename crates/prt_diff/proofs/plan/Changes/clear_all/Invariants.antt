@@ -1,0 +1,6 @@
+use Rattle.std.proofs.Common.{◌≡◌, take}
+use Rattle.prt_diff.specs.Plan.{clear_all, plan_of}
+use Rattle.prt_diff.proofs.plan.Changes.clear_all.Given as goal
+
+abbrev pub invariant-loop-rule : goal.invariant-loop-rule
+invariant-loop-rule l = plan_of l.self ≡ clear_all (take l.rule-index l.rules) (plan_of l.fn.self)

@@ -1,0 +1,42 @@
+-- The lines that put a state back on a host that has made some of its routes already: ip-rule(8), ip-route(8).
+use Rattle.std.specs.Prelude.{ℕ, Bool, false, not, ◌&&◌, is_none, is_some, List, ◌∷◌, ◌++◌, filter, map, Some, None}
+use Rattle.prt_route.specs.declared.route.Route.{Route}
+use Rattle.prt_rule.specs.declared.choice.RuleChoice.{RuleChoice}
+use Rattle.prt_rule.specs.declared.rule.Rule.{Rule}
+use Rattle.prt_command.specs.declared.request.Command.{Command}
+use Rattle.prt_command.specs.declared.request.Command.TheVariants.{RuleDel, RuleFlush}
+use Rattle.prt_version.specs.State.{State}
+use Rattle.prt_diff.specs.Fence.{is_kernels}
+use Rattle.prt_diff.specs.Names.{is_plain_name, is_plain_rule}
+use Rattle.prt_diff.specs.Routes.{replace_route}
+use Rattle.prt_diff.specs.Rules.{add_rule}
+use Rattle.prt_diff.specs.Text.{commands_text}
+
+-- the rule of the lowest priority
+abbrev pub first_rule : RuleChoice
+first_rule = record { priority = Some 0; inverted = false; from = None; to = None; iif = None; mark = None; action = None; suppress = None }
+
+-- the rules that `ip -batch` can read
+abbrev pub plain_rules : List Rule → List Rule
+plain_rules rules = filter is_plain_rule rules
+
+-- `ip -batch` can read the route, and the kernel doesn't make it itself
+abbrev pub is_put_back : Route → Bool
+is_put_back route = not (is_kernels route) && is_plain_name route.dev
+
+abbrev pub direct_routes : List Route → List Route
+direct_routes routes = filter (λ route. is_put_back route && is_none route.via) routes
+
+abbrev pub gateway_routes : List Route → List Route
+gateway_routes routes = filter (λ route. is_put_back route && is_some route.via) routes
+
+-- The kernel's three rules go. Then come the rules in their order, the routes without a gateway, and those that may need them.
+abbrev pub replacing_commands : State → List Command
+replacing_commands state =
+    RuleDel first_rule
+    ∷ RuleFlush
+    ∷ (map add_rule (plain_rules state.rules) ++ (map replace_route (direct_routes state.routes) ++ map replace_route (gateway_routes state.routes)))
+
+-- a line for each
+abbrev pub replacing_text : State → List ℕ
+replacing_text state = commands_text (replacing_commands state)

@@ -1,0 +1,112 @@
+//! The lines that put a version back on a host that has made some of its routes already.
+ghost use Rattle.std.specs.Prelude.{◌≡◌, ◌++◌, All, IfErr, IfOk, OnOk, map};
+ghost use Rattle.prt_diff.specs.Replacing.{direct_routes, first_rule, gateway_routes, is_put_back, plain_rules, replacing_commands, replacing_text};
+ghost use Rattle.prt_diff.specs.Routes.{replace_route};
+ghost use Rattle.prt_diff.specs.Rules.{add_rule};
+ghost use Rattle.prt_diff.specs.Text.{IsAskedFor, IsWhyNotWritten};
+
+use crate::commands::{add_rule, replace_route};
+use crate::diff::every_route;
+use crate::fence::is_kernels;
+use crate::names::{is_plain_name, is_plain_rule};
+use crate::refusal::NotWritten;
+use crate::text::commands_text;
+use prt_command::Command;
+use prt_route::Route;
+use prt_rule::{Rule, RuleChoice};
+use prt_version::Version;
+use std::alloc::{AllocError, Global};
+
+/// Chooses the rule of the lowest priority.
+fn first_rule() -> RuleChoice
+    ensures { result ≡ first_rule }
+{
+    RuleChoice {
+        priority: Some(0),
+        inverted: false,
+        from: None,
+        to: None,
+        iif: None,
+        mark: None,
+        action: None,
+        suppress: None,
+    }
+}
+
+/// Tells whether the route is put back: `ip -batch` can read it, and the kernel doesn't make it itself.
+fn is_put_back(route: &Route) -> bool
+    ensures { result ≡ is_put_back route.now }
+{
+    !is_kernels(route) && is_plain_name(route.dev)
+}
+
+/// Appends the commands that add the rules that `ip -batch` can read.
+fn push_rules(commands: &mut Vec<Command>, rules: &[Rule]) -> Result<(), AllocError>
+    ensures { OnOk result (commands.new.items ≡ commands.old.items ++ map add_rule (plain_rules rules.now)) }
+{
+    for rule in rules {
+        if is_plain_rule(rule) {
+            commands.extend_from_slice(&[add_rule(rule)])?;
+        }
+    }
+    Ok(())
+}
+
+/// Appends the commands that put the routes without a gateway.
+fn push_direct_routes(commands: &mut Vec<Command>, routes: &[Route]) -> Result<(), AllocError>
+    ensures { OnOk result (commands.new.items ≡ commands.old.items ++ map replace_route (direct_routes routes.now)) }
+{
+    for route in routes {
+        if is_put_back(route) && route.via.is_none() {
+            commands.extend_from_slice(&[replace_route(route)])?;
+        }
+    }
+    Ok(())
+}
+
+/// Appends the commands that put the routes by a gateway.
+fn push_gateway_routes(commands: &mut Vec<Command>, routes: &[Route]) -> Result<(), AllocError>
+    ensures { OnOk result (commands.new.items ≡ commands.old.items ++ map replace_route (gateway_routes routes.now)) }
+{
+    for route in routes {
+        if is_put_back(route) && route.via.is_some() {
+            commands.extend_from_slice(&[replace_route(route)])?;
+        }
+    }
+    Ok(())
+}
+
+/// Gives the commands that put the version back.
+fn replacing_commands(alloc: Global, version: &Version) -> Result<Vec<Command>, AllocError>
+    ensures { IfOk result (λ commands. commands.items ≡ replacing_commands version.now) }
+{
+    let routes = every_route(version)?;
+    let mut commands = Vec::new(alloc);
+    commands.extend_from_slice(&[Command::RuleDel(first_rule()), Command::RuleFlush])?;
+    push_rules(&mut commands, version.rules())?;
+    push_direct_routes(&mut commands, &routes)?;
+    push_gateway_routes(&mut commands, &routes)?;
+    Ok(commands)
+}
+
+/// Gives the lines that put the version back on a host whose addresses have made some of its routes already.
+///
+/// First comes `rule del priority 0`, so that `ip -batch` stops before anything has changed if a host has no such rule. With
+/// the `rule flush` after it no rule is left. Then comes each rule with its priority, and each route in the place of one of
+/// its key, those by a gateway last. Left out are routes that the kernel makes itself, and what `ip -batch` can't read: the
+/// name of an interface, or a mark of 0. Each line asks for its command, and ends with a newline.
+///
+/// # Errors
+///
+/// `NoLine` with the first command that no line asks for: of a rule or a route that a table may not hold. `NoMemory` may
+/// come instead.
+pub fn replacing_text(alloc: Global, version: &Version) -> Result<Vec<u8>, NotWritten>
+    ensures text { IfOk result (λ text. text.items ≡ replacing_text version.now) }
+    ensures read { IfOk result (λ text. All IsAskedFor (replacing_commands version.now)) }
+    ensures reason { IfErr result (λ reason. IsWhyNotWritten (replacing_commands version.now) reason) }
+{
+    let Ok(commands) = replacing_commands(alloc, version) else {
+        return Err(NotWritten::NoMemory);
+    };
+    commands_text(alloc, &commands)
+}

@@ -1,0 +1,95 @@
+//! The changes of a feed, as a client reads them.
+ghost use Rattle.std.specs.Prelude.{◌≡◌, ◌==◌, IfOk, IfSome, position};
+ghost use Rattle.prt_feed.specs.Changes.{IsChangeLine, IsCutAt, IsLineOf, IsTold};
+
+use crate::opening::NotRead;
+use crate::reading::{ROOM, next_line, number_of};
+use arrayvec::ArrayVec;
+use prt_command::{Command, LONGEST_LINE, Request, read_line};
+use prt_refusals::Refusal;
+use std::io::Read;
+
+/// A change that a feed tells.
+#[derive(Clone, Copy)]
+pub struct Change {
+    /// How many commands the server has accepted with this one.
+    pub number: u64,
+    /// The command.
+    pub command: Command,
+}
+
+/// Finds the first space.
+fn first_space(line: &[u8]) -> Option<usize>
+    ensures { result ≡ position (λ b. b == 32) line.now }
+{
+    line.iter().position(|byte| *byte == b' ')
+}
+
+/// Gives what stands before the first space of a line, and what stands after it. `None` where it has none.
+fn at_space(line: &[u8]) -> Option<(&[u8], &[u8])>
+    ensures { IfSome result (λ parts. IsCutAt line.now parts.0.now parts.1.now) }
+{
+    match first_space(line) {
+        Some(at) => Some((&line[..at], &line[at + 1..])),
+        None => None,
+    }
+}
+
+/// Reads the line of a change.
+///
+/// # Errors
+///
+/// `NoFeed` where it is not a number, a space and a command; `Refused` with the first fault of the command.
+fn change_of(line: &[u8]) -> Result<Change, NotRead>
+    ensures { IfOk result (λ change. IsChangeLine line.now change) }
+{
+    let Some((digits, rest)) = at_space(line) else {
+        return Err(NotRead::NoFeed);
+    };
+    let Some(number) = number_of(digits) else {
+        return Err(NotRead::NoFeed);
+    };
+    match read_line(rest) {
+        Ok(Some(Request::Command(command))) => Ok(Change { number, command }),
+        Ok(_) => Err(NotRead::NoFeed),
+        Err(reason) => Err(NotRead::Refused(reason)),
+    }
+}
+
+/// Reads a line that stands after the opening of a feed.
+///
+/// # Errors
+///
+/// As of `change_of`.
+fn told_by(line: &[u8]) -> Result<Option<Change>, NotRead>
+    ensures { IfOk result (λ told. IsLineOf told line.now) }
+{
+    match line.split_first() {
+        Some((b'#', _)) => Ok(None),
+        _ => {
+            let change = change_of(line)?;
+            Ok(Some(change))
+        }
+    }
+}
+
+/// Reads one line of a feed, after its opening. `None` of a comment, as a heartbeat is. It reads byte by byte, so the reader
+/// should have a buffer.
+///
+/// # Errors
+///
+/// `CutOff` where the reader fails or ends before the line does; `NoFeed` where the line is no change; `Refused` with the
+/// first fault of its command, or `LineTooLong`.
+pub fn read_change<R: Read>(reader: &mut R) -> Result<Option<Change>, NotRead>
+    ensures { IfOk result (IsTold (R.remaining reader.old) (R.remaining reader.new)) }
+{
+    let mut line = ArrayVec::<u8, ROOM>::new();
+    if !next_line(reader, &mut line) {
+        return Err(NotRead::CutOff);
+    }
+    let text = line.as_slice();
+    if text.len() > LONGEST_LINE {
+        return Err(NotRead::Refused(Refusal::LineTooLong));
+    }
+    told_by(text)
+}

@@ -1,0 +1,6 @@
+use Rattle.prt_service.proofs.service.Service.end.Goals as goal
+
+pub returns : goal.returns
+returns g c =
+    let said = c.end.ensures in
+    record { last = c.into_inner.result; its = cc; quiet = said.quiet; named = said.of; stands = said.stands }

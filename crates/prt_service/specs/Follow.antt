@@ -1,0 +1,15 @@
+-- What a follower learns, and who is told of commands.
+use Rattle.std.specs.Prelude.{◌≡◌, ◌==◌, ℕ, List, filter, not}
+use Rattle.prt_front.specs.Line.{Line, grown}
+use Rattle.prt_service.specs.declared.news.News.{News}
+use Rattle.prt_service.specs.declared.news.News.TheVariants.{Command, Quiet, Ended}
+
+-- by this news a follower that knew the one list knows the other
+abbrev pub IsNews : Line → News → Line → Type 0
+IsNews old (Command command) new = new ≡ grown old command
+IsNews old Quiet new = new ≡ old
+IsNews old Ended new = new ≡ old
+
+-- the other followers, by their numbers
+abbrev pub others : ℕ → List ℕ → List ℕ
+others number followers = filter (λ one. not (one == number)) followers

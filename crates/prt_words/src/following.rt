@@ -1,0 +1,91 @@
+//! What the words of `follow` and `wait` ask for: what brings the kernel to the tables of a server, and the server itself.
+ghost use Rattle.std.specs.Prelude.{◌≤◌, IfOk};
+ghost use Rattle.prt_words.specs.Reaching.{IsReach};
+
+use crate::fault::BadQuestion;
+use crate::reach::{Reach, reach_of};
+use crate::serving::{number_in, place_of};
+use crate::task::file_in;
+use clap::ArgMatches;
+use std::alloc::Global;
+use std::net::SocketAddrV4;
+
+/// What is wrong with a place of a server.
+pub(crate) const BAD_SERVER: &str =
+    "invalid value for '--server <ADDR:PORT>': it is an IPv4 address, `:` and a port of 0 to 65535";
+
+/// What is wrong with a number of seconds to wait.
+const BAD_SECONDS: &str = "invalid value for '--seconds <S>': it is a number of 0 to 1000000";
+
+/// A question of what brings the kernel to the tables of a server, now and after each of their changes.
+#[derive(Drop)]
+pub struct Following<'a> {
+    /// Where the feed of the server is.
+    pub server: SocketAddrV4,
+    /// What of the kernel may be changed.
+    pub reach: Reach,
+    /// The path of what `ip` printed; standard input where there is none.
+    pub file: Option<&'a str>,
+    /// Whether only what differs now is printed.
+    pub is_once: bool,
+}
+
+/// A wait for a server, until it answers.
+#[derive(Clone, Copy)]
+pub struct Waiting {
+    /// Where the server listens: for sessions, or for those that follow.
+    pub server: SocketAddrV4,
+    /// For how many seconds to wait at most, up to 1,000,000.
+    pub seconds: u64,
+}
+
+/// Gives the place of the server that the matches of `follow` or `wait` name.
+///
+/// # Errors
+///
+/// It is none.
+fn server_in(matches: &ArgMatches<'_>) -> Result<SocketAddrV4, BadQuestion> {
+    match matches.get_str("server").and_then(place_of) {
+        Some(place) => Ok(place),
+        None => Err(BadQuestion::Words(BAD_SERVER)),
+    }
+}
+
+/// Tells what the matches of `follow` ask for.
+///
+/// # Errors
+///
+/// What is wrong with them, or that memory is refused.
+pub(crate) fn following_of<'a>(
+    alloc: Global,
+    matches: &ArgMatches<'a>,
+) -> Result<Following<'a>, BadQuestion>
+    ensures { IfOk result (λ following. IsReach following.reach) }
+{
+    let server = server_in(matches)?;
+    let reach = reach_of(alloc, matches)?;
+    Ok(Following {
+        server,
+        reach,
+        file: file_in(matches),
+        is_once: matches.get_flag("once"),
+    })
+}
+
+/// Tells what the matches of `wait` ask for.
+///
+/// # Errors
+///
+/// What is wrong with them.
+pub(crate) fn waiting_of(matches: &ArgMatches<'_>) -> Result<Waiting, BadQuestion>
+    ensures { IfOk result (λ waiting. waiting.seconds ≤ 1000000) }
+{
+    let server = server_in(matches)?;
+    let Some(seconds) = number_in(matches, "seconds", 0, 1_000_000) else {
+        return Err(BadQuestion::Words(BAD_SECONDS));
+    };
+    Ok(Waiting {
+        server,
+        seconds: u64::from(seconds),
+    })
+}

@@ -1,0 +1,87 @@
+//! The words of `follow` and `wait`, and those that say how far a question reaches, as clap reads them.
+ghost use Rattle.std.specs.Prelude.{◌≡◌, IfOk, false};
+ghost use Rattle.clap.specs.Words.{app_of, rule_of};
+ghost use Rattle.prt_words.specs.CommandLine.{follow_line, has_globals, repeated_rule, server_line, wait_line, with_reach};
+
+use crate::command_line::{flag, listing_operand, needed_option, number_option, option};
+use clap::{Arg, ArgAction, Command};
+use std::alloc::{AllocError, Global};
+
+/// Makes an option that may be given often, each time with a value.
+fn repeated_option<'a>(alloc: Global, name: &'a str, value: &'a str, help: &'a str) -> Arg<'a>
+    ensures rule { rule_of result ≡ repeated_rule name.entry.now }
+    ensures own { result.global ≡ false }
+{
+    option(alloc, name, value, help).action(ArgAction::Append)
+}
+
+/// Adds the words that say how far a question reaches.
+pub(crate) fn with_reach<'a>(alloc: Global, command: Command<'a>) -> Result<Command<'a>, AllocError>
+    ensures line { IfOk result (λ made. app_of made ≡ with_reach (app_of command.entry)) }
+    ensures own { has_globals command.entry ≡ false → IfOk result (λ made. has_globals made ≡ false) }
+{
+    let all = flag(
+        alloc,
+        "all",
+        "Compare and change all of the kernel's rules and routes",
+    );
+    let table = repeated_option(
+        alloc,
+        "table",
+        "T",
+        "Compare and change what is of this table, or of those from the first to the last one as `T-T`; may be given often",
+    );
+    let protocol = repeated_option(
+        alloc,
+        "proto",
+        "P",
+        "Compare and change what is of this protocol; may be given often",
+    );
+    let priority = repeated_option(
+        alloc,
+        "priority",
+        "P",
+        "Compare and change rules of this priority, or of those from the first to the last one as `P-P`; may be given often",
+    );
+    command.arg(all)?.arg(table)?.arg(protocol)?.arg(priority)
+}
+
+/// Says which words name the server that is asked.
+fn server_line<'a>(alloc: Global, name: &'a str, about: &'a str) -> Result<Command<'a>, AllocError>
+    ensures line { IfOk result (λ command. app_of command ≡ server_line name.entry.now) }
+    ensures own { IfOk result (λ command. has_globals command ≡ false) }
+{
+    let server = needed_option(alloc, "server", "ADDR:PORT", "The feed of the server");
+    Command::new(alloc, name).about(about).arg(server)
+}
+
+/// Says which words may follow `follow`.
+pub(crate) fn follow_line<'a>(alloc: Global) -> Result<Command<'a>, AllocError>
+    ensures line { IfOk result (λ command. app_of command ≡ follow_line) }
+    ensures own { IfOk result (λ command. has_globals command ≡ false) }
+{
+    let once = flag(alloc, "once", "End once what differs now is printed");
+    let file = listing_operand(alloc);
+    let server = server_line(
+        alloc,
+        "follow",
+        "Prints the lines for `ip -batch` that bring the kernel to a server's tables, now and after each change",
+    )?;
+    with_reach(alloc, server)?.arg(once)?.arg(file)
+}
+
+/// Says which words may follow `wait`.
+pub(crate) fn wait_line<'a>(alloc: Global) -> Result<Command<'a>, AllocError>
+    ensures line { IfOk result (λ command. app_of command ≡ wait_line) }
+    ensures own { IfOk result (λ command. has_globals command ≡ false) }
+{
+    let seconds = number_option(
+        alloc,
+        "seconds",
+        "S",
+        "30",
+        "For how many seconds to wait at most, up to 1000000",
+    );
+    let server = server_line(alloc, "wait", "Waits until a server answers at its feed")?;
+    server.arg(seconds)
+}

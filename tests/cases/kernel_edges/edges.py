@@ -1,0 +1,133 @@
+"""What the kernel or `ip` reads otherwise than it is written: each is brought, or told and left, and nothing else is lost by it."""
+
+from kernel import DATABASE, HOST, Space, bring, clean, differs, import_tables, prt
+
+DEFAULT = "route add default via 192.0.2.1 dev eth0"
+ALL = ("--db", DATABASE, "--all")
+
+
+def tables_of(*lines):
+    """Makes the database that a host of these lines has."""
+    space = Space()
+    space.do(lines)
+    told = told_of(space.listed())
+    space.close()
+    return told
+
+
+def told_of(listing):
+    """Makes a database of a listing. Gives what it leaves out of it."""
+    return [message for message in import_tables(listing) if message.startswith("prt: line")]
+
+
+def host_of(*lines):
+    space = Space()
+    space.do(lines)
+    return space
+
+
+def mark_of_zero():
+    """A rule for packets without a mark, which `ip` can't be told, isn't brought as one for every packet."""
+    space = host_of(DEFAULT, "route add default via 198.51.100.1 dev eth1 table 50", "rule add priority 50 fwmark 0/0xffffffff table 50")
+    print(told_of(space.listed()))
+    brought = host_of(DEFAULT)
+    print(bring(brought, *ALL), end="")
+    packets = ["203.0.113.7 mark 7"]
+    print(brought.answers(packets) == space.answers(packets), repr(differs(brought, *ALL)))
+    space.close()
+    brought.close()
+
+
+def unknown_selectors():
+    """Rules that prt can't keep stay."""
+    tables_of(DEFAULT)
+    selectors = ["oif eth0", "tos 0x10", "uidrange 1000-2000", "ipproto tcp dport 22"]
+    lines = []
+    for place, selector in enumerate(selectors):
+        lines += [f"rule add priority {100 + place} {selector} table 7", f"rule add priority {100 + place} from 10.5.0.0/16 table 8"]
+    space = host_of(DEFAULT, *lines)
+    told = bring(space, *ALL).count("no such selector of rules")
+    rules = space.ip("rule", "show").stdout
+    print(f"{told} told, {rules.count('lookup 7')} of them stay, and {rules.count('lookup 8')} beside them")
+    space.close()
+
+
+def copied_connected_routes():
+    """A route of protocol kernel in a table of one's own is brought, and goes."""
+    copy = "route add 192.0.2.0/24 dev eth0 proto kernel scope link src 192.0.2.10 table 100"
+    tables_of(copy)
+    space = Space()
+    print(prt("diff", *ALL, "--check", input=space.listed()).returncode)
+    print(bring(space, *ALL) + space.ip("route", "show", "table", "100").stdout.rstrip())
+    tables_of()
+    print(repr(bring(space, *ALL) + space.ip("route", "show", "table", "100").stdout))
+    space.close()
+
+
+def gateway_without_device():
+    """A route by a gateway alone is the one that the kernel made of it."""
+    tables_of()
+    prt("batch", "--db", DATABASE, input="route add default via 192.0.2.1\n")
+    space = host_of()
+    print(bring(space, *ALL) + space.ip("route", "show", "default").stdout.rstrip())
+    print(prt("diff", *ALL, "--check", input=space.listed()).returncode)
+    space.close()
+
+
+def names_of_protocols():
+    print(tables_of("route add 10.1.0.0/16 dev eth0 proto babel", "route add 10.2.0.0/16 dev eth0 proto 201"))
+    space = Space()
+    print(bring(space, *ALL) + space.ip("route", "show", "root", "10.0.0.0/8").stdout.rstrip())
+    space.close()
+
+
+def names_with_quotes():
+    """Names in which a batch of `ip` sees a quote or a line that goes on."""
+    names = ['"q', "'q", "q\\"]
+    addresses = {**HOST, **{name: f"10.20{place}.0.1/24" for place, name in enumerate(names, 1)}}
+    space = Space(addresses)
+    for place, name in enumerate(names, 1):
+        space.ip("route", "add", f"10.{place}.0.0/16", "dev", name)
+    space.do([DEFAULT, "route add 10.9.0.0/16 dev eth1"])
+    told = told_of(space.listed())
+    wanted = space.lines()
+    other = Space(addresses)
+    print(told, bring(other, *ALL), end="")
+    print([line for line in wanted if line not in other.lines()], [line for line in other.lines() if line not in wanted])
+    space.close()
+    other.close()
+
+
+def several_next_hops():
+    """A route by two gateways stays, also where prt has another one in its place."""
+    hops = "nexthop via 192.0.2.1 dev eth0 nexthop via 198.51.100.1 dev eth1"
+    tables_of(DEFAULT, "route add 10.9.0.0/16 dev eth1")
+    space = host_of(f"route add default {hops}", f"route add 10.8.0.0/16 {hops}")
+    told = bring(space, *ALL).count("several next hops")
+    routes = space.ip("route").stdout
+    print(f"{told} told, {routes.count('nexthop')} hops stay, the others are brought: {'10.9.0.0/16 dev eth1' in routes}")
+    space.close()
+
+
+def other_listings():
+    """What `ip` prints otherwise, and what busybox prints, is no listing."""
+    hops = "nexthop via 192.0.2.1 dev eth0 nexthop via 198.51.100.1 dev eth1"
+    space = host_of(f"route add default {hops}", "route add blackhole 10.0.0.0/8", "rule add not fwmark 7 table 100")
+    for option in ("-N", "-o", "-d"):
+        listing = space.ip(option, "-4", "route", "show", "table", "all").stdout + space.ip(option, "-4", "rule", "show").stdout
+        done = prt("import", input=listing)
+        print(option, done.returncode, repr(done.stdout))
+    # As busybox prints it: no protocol, no `not`, and a space at each end.
+    busybox = "".join(f"{line} \n" for line in clean(space.listed().replace(" proto kernel", "").replace("not ", "")))
+    done = prt("diff", *ALL, input=busybox)
+    print("busybox", done.returncode, repr(done.stdout))
+    space.close()
+
+
+EDGES = [
+    mark_of_zero, unknown_selectors, copied_connected_routes, gateway_without_device, names_of_protocols, names_with_quotes,
+    several_next_hops, other_listings,
+]
+for edge in EDGES:
+    print(f"{edge.__name__.replace('_', ' ')}:")
+    edge()

@@ -1,0 +1,70 @@
+"""An accept that fails in passing, ten times a second, is told once, and the client that waited is served. Where one fails for
+good, of either listener, sessions go on to their end, and each of the two faults is told.
+"""
+
+import errno
+import os
+import time
+
+from serving import Client, Follower, Server, preloaded
+
+
+def fail(port, number):
+    """Has each accept on a port fail from now on."""
+    with open(f"new.{port}", "w", encoding="ascii") as file:
+        file.write(str(number))
+    # A server never sees it half written.
+    os.rename(f"new.{port}", f"fault.{port}")
+
+
+def serve_in_passing(variables):
+    """The sessions' listener fails for a second, and then serves who waits; so does that of the feed."""
+    server = Server("--feed", "127.0.0.1:0", "--sessions", "3", variables=variables)
+    first = Client(server)
+    print(first.ask("route add 10/8 dev eth0"))
+    for port in (server.port, server.feed_port):
+        fail(port, errno.ECONNABORTED)
+    # An accept that waited already gives the second, and the next one fails.
+    second = Client(server)
+    print(second.ask("route get 10.0.0.1"))
+    third = Client(server)
+    third.end.sendall(b"route get 10.0.0.1\n")
+    time.sleep(1.5)
+    print(first.ask("route add 11/8 dev eth1"))
+    for port in (server.port, server.feed_port):
+        os.remove(f"fault.{port}")
+    print(third.replies.readline().decode(), end="")
+    follower = Follower(server)
+    print(follower.number, first.ask("rule flush"), follower.changes(1))
+    for client in (first, second, third):
+        client.close()
+    status, told = server.end()
+    print(status, told, end="")
+
+
+def serve_until_it_fails(variables, *names):
+    """One or both of the listeners fail for good beside a session."""
+    server = Server("--feed", "127.0.0.1:0", "--sessions", "2", variables=variables)
+    ports = {"listen": server.port, "feed": server.feed_port}
+    follower = Follower(server)
+    for name in names:
+        fail(ports[name], errno.EINVAL)
+    first = Client(server)
+    print(first.ask("route replace 10/8 dev eth2"), follower.changes(1))
+    time.sleep(0.5)
+    print(first.ask("rule flush"), follower.changes(1))
+    if "listen" not in names:
+        Client(server).close()
+    first.close()
+    status, told = server.end()
+    print(status, told, end="")
+
+
+def main():
+    variables = {"LD_PRELOAD": preloaded("accept.c"), "ACCEPT_FAILS": os.path.abspath("fault")}
+    serve_in_passing(variables)
+    serve_until_it_fails(variables, "feed")
+    serve_until_it_fails(variables, "listen", "feed")
+
+
+main()
