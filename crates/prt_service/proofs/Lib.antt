@@ -1,5 +1,6 @@
 mod Following
 mod Follows
+mod Groups
 mod Receipts
 mod Refusals
 mod SameCommand

@@ -1,4 +1,5 @@
 pub mod Follow
+pub mod Group
 pub mod Lobby
 pub mod Look
 pub mod Named
