@@ -1,0 +1,12 @@
+pub mod Alike
+pub mod MarkBlocks
+pub mod Listed
+pub mod Verdicts
+pub mod Starts
+pub mod SpanList
+pub mod Contrasts
+pub mod AllPackets
+pub mod Gaps
+pub mod Between
+pub mod Joined
+pub mod Locality
