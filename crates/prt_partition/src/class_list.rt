@@ -1,7 +1,8 @@
 //! Classes of packets that every rule takes alike, whatever their destinations.
 ghost use Rattle.std.specs.Prelude.{◌≡◌, ◌≤◌, ◌++◌, IfErr, IfOk, OnOk, flat_map, length, map};
 ghost use Rattle.prt_refusals.specs.declared.refusal.Refusal.TheVariants.{NoMemory};
-ghost use Rattle.prt_partition.specs.Classes.{AreClasses, class_of, classes_of};
+ghost use Rattle.std.specs.List.{IsDistinct};
+ghost use Rattle.prt_partition.specs.Classes.{AreClasses, are_alike, class_of, classes_of};
 
 use crate::cuts::source_starts;
 use crate::interfaces::interfaces;
@@ -98,6 +99,7 @@ pub fn classes(alloc: Global, rules: &[Rule]) -> Result<Vec<Packet>, Refusal>
 pub fn joined_classes(alloc: Global, rules: &[Rule]) -> Result<Vec<Packet>, Refusal>
     requires { length rules.now ≤ 2000 }
     ensures value { IfOk result (λ classes. AreClasses rules.now classes.items) }
+    ensures apart { IfOk result (λ classes. IsDistinct (are_alike rules.now) classes.items) }
     ensures reason { IfErr result (λ reason. reason ≡ NoMemory) }
 {
     let all = classes(alloc, rules)?;

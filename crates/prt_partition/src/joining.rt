@@ -1,8 +1,8 @@
 //! Classes that every rule takes alike, joined into one.
-ghost use Rattle.std.specs.Prelude.{◌≡◌, IfOk, OnOk};
-ghost use Rattle.prt_rule.specs.Same.{is_same_flag};
+ghost use Rattle.std.specs.Prelude.{◌≡◌, ◌++◌, ◌∷◌, [], IfOk, OnOk, filter, not};
+ghost use Rattle.std.specs.List.{IsDistinct};
 ghost use Rattle.prt_rule.specs.Rule.{takes_interface, takes_mark};
-ghost use Rattle.prt_partition.specs.Classes.{AreClasses, are_alike, is_like_one, takes_apart, with_class};
+ghost use Rattle.prt_partition.specs.Classes.{AreClasses, are_alike, joined, takes_apart};
 
 use prt_route::Dev;
 use prt_rule::{Mark, Packet, Rule};
@@ -19,7 +19,7 @@ fn takes_interface(given: &Option<Dev>, iif: &Dev) -> bool
 }
 
 /// Tells whether the marks agree in the bits of the mask, if a mark is given.
-fn takes_mark(given: &Option<Mark>, mark: u32) -> bool
+pub(crate) fn takes_mark(given: &Option<Mark>, mark: u32) -> bool
     ensures { result ≡ takes_mark given.now mark }
 {
     match given {
@@ -28,8 +28,8 @@ fn takes_mark(given: &Option<Mark>, mark: u32) -> bool
     }
 }
 
-/// Tells whether the rule's selector takes the packet, the destination apart.
-fn takes_apart(rule: &Rule, packet: &Packet) -> bool
+/// Tells whether the rule's selector takes the packet, if its destination is left out. `not` doesn't matter.
+pub(crate) fn takes_apart(rule: &Rule, packet: &Packet) -> bool
     ensures { result ≡ takes_apart rule.now packet.now }
 {
     rule.from.contains(packet.src)
@@ -37,49 +37,72 @@ fn takes_apart(rule: &Rule, packet: &Packet) -> bool
         && takes_mark(&rule.mark, packet.mark)
 }
 
-/// Tells whether the rule takes both packets or neither, the destination apart.
-fn takes_alike(rule: &Rule, packet: &Packet, other: &Packet) -> bool
-    ensures { result ≡ is_same_flag (takes_apart rule.now packet.now) (takes_apart rule.now other.now) }
+/// Gives the packets that the rule takes, if their destinations are left out.
+fn taken(alloc: Global, rule: &Rule, packets: &[Packet]) -> Result<Vec<Packet>, AllocError>
+    ensures { IfOk result (λ taken. taken.items ≡ filter (takes_apart rule.now) packets.now) }
 {
-    takes_apart(rule, packet) == takes_apart(rule, other)
+    packets
+        .iter()
+        .filter(|packet| takes_apart(rule, packet))
+        .copied()
+        .collect(alloc)
 }
 
-/// Tells whether each rule takes both packets or neither, the destination apart.
-fn are_alike(rules: &[Rule], packet: &Packet, other: &Packet) -> bool
-    ensures { result ≡ are_alike rules.now packet.now other.now }
+/// Gives the packets that the rule doesn't take, if their destinations are left out.
+fn left(alloc: Global, rule: &Rule, packets: &[Packet]) -> Result<Vec<Packet>, AllocError>
+    ensures { IfOk result (λ left. left.items ≡ filter (λ packet. not (takes_apart rule.now packet)) packets.now) }
 {
-    rules.iter().all(|rule| takes_alike(rule, packet, other))
+    packets
+        .iter()
+        .filter(|packet| !takes_apart(rule, packet))
+        .copied()
+        .collect(alloc)
 }
 
-/// Tells whether each rule takes the packet as one of these, the destination apart.
-fn is_like_one(rules: &[Rule], classes: &[Packet], packet: &Packet) -> bool
-    ensures { result ≡ is_like_one rules.now classes.now packet.now }
+/// Appends the packet.
+fn keep(classes: &mut Vec<Packet>, packet: &Packet) -> Result<(), AllocError>
+    ensures { OnOk result (classes.new.items ≡ classes.old.items ++ packet.now ∷ []) }
 {
-    classes.iter().any(|class| are_alike(rules, packet, class))
-}
-
-/// Appends the class, if it isn't like one of those that are there.
-fn keep(rules: &[Rule], classes: &mut Vec<Packet>, class: &Packet) -> Result<(), AllocError>
-    ensures { OnOk result (classes.new.items ≡ with_class rules.now classes.old.items class.now) }
-{
-    if !is_like_one(rules, classes, class) {
-        classes.push(*class)?;
-    }
+    classes.push(*packet)?;
     Ok(())
 }
 
-/// Leaves out each class that every rule takes as one before it.
+/// Appends one of the packets for each set of them that every rule takes alike.
+///
+/// It calls itself for each half that a rule makes, at most as deep as there are rules, and ends early at a set of one.
+#[tactic(auto, using(crate::proofs::Joined::joined_none, crate::proofs::Joined::joined_one))]
+fn push_joined(
+    classes: &mut Vec<Packet>,
+    rules: &[Rule],
+    packets: &[Packet],
+) -> Result<(), AllocError>
+    ensures { OnOk result (classes.new.items ≡ classes.old.items ++ joined rules.now packets.now) }
+{
+    let Some((first, others)) = packets.split_first() else {
+        return Ok(());
+    };
+    let Some((rule, rest)) = rules.split_first() else {
+        return keep(classes, first);
+    };
+    if others.is_empty() {
+        return keep(classes, first);
+    }
+    let alloc = *classes.allocator();
+    push_joined(classes, rest, &taken(alloc, rule, packets)?)?;
+    push_joined(classes, rest, &left(alloc, rule, packets)?)
+}
+
+/// Leaves out each class that every rule takes as one that is kept.
 pub(crate) fn join(
     alloc: Global,
     rules: &[Rule],
     classes: &[Packet],
 ) -> Result<Vec<Packet>, AllocError>
     requires { AreClasses rules.now classes.now }
-    ensures { IfOk result (λ joined. AreClasses rules.now joined.items) }
+    ensures value { IfOk result (λ joined. AreClasses rules.now joined.items) }
+    ensures apart { IfOk result (λ joined. IsDistinct (are_alike rules.now) joined.items) }
 {
     let mut joined = Vec::new(alloc);
-    for class in classes {
-        keep(rules, &mut joined, class)?;
-    }
+    push_joined(&mut joined, rules, classes)?;
     Ok(joined)
 }
