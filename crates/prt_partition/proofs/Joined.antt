@@ -34,7 +34,7 @@ each_of_all : (p : Rule → Bool) (rules : List Rule) → list_all p rules ≡ t
 each_of_all p [] h = tt
 each_of_all p (rule ∷ rules) h = let parts : (p rule ≡ true) × (list_all p rules ≡ true) = both_true (p rule) (list_all p rules) h in (parts.0, each_of_all p rules parts.1)
 
-reorder : (f t i m : Bool) → (f && t && i && m) ≡ (t && (f && i && m))
+pub reorder : (f t i m : Bool) → (f && t && i && m) ≡ (t && (f && i && m))
 reorder true true i m = refl
 reorder true false i m = refl
 reorder false true i m = refl

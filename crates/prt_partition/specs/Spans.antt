@@ -8,8 +8,10 @@ use Rattle.prt_version.specs.Select.{select}
 use Rattle.prt_version.specs.State.{State}
 use Rattle.prt_version.specs.declared.answer.Verdict.{Verdict}
 use Rattle.prt_partition.specs.Cuts.{to}
+use Rattle.prt_partition.specs.Sameness.{AreSame}
 use Rattle.prt_partition.specs.declared.destinations.Span.{Span}
 use Rattle.prt_partition.specs.declared.differences.Difference.{Difference}
+use Rattle.prt_partition.specs.declared.sameness.Sameness.{Sameness}
 
 -- the last of these that begins at the number or before it
 abbrev pub last_from : {S : Type 0} → (S → ℕ) → List S → ℕ → Option S
@@ -41,17 +43,17 @@ pub record AreSpans (state : State) (packet : Packet) (spans : List Span) : Type
 abbrev pub has : ℕ → Difference → Bool
 has addr difference = nat_le difference.first.0 addr && nat_le addr difference.last.0
 
--- each destination of the range goes one way before and another one after
-pub record IsDifference (before after : State) (packet : Packet) (difference : Difference) : Type 0 where
+-- each destination of the range has one verdict before and another one after
+pub record IsDifference (sameness : Sameness) (before after : State) (packet : Packet) (difference : Difference) : Type 0 where
   pub some : difference.first.0 ≤ difference.last.0
-  pub differs : difference.was ≢ difference.is
+  pub differs : ¬ AreSame sameness difference.was difference.is
   pub was : (addr : ℕ) → has addr difference ≡ true → select before (to packet addr) ≡ difference.was
   pub is : (addr : ℕ) → has addr difference ≡ true → select after (to packet addr) ≡ difference.is
 
-pub record AreDifferences (before after : State) (packet : Packet) (differences : List Difference) : Type 0 where
+pub record AreDifferences (sameness : Sameness) (before after : State) (packet : Packet) (differences : List Difference) : Type 0 where
   -- what they say is so
-  pub sound : Each (IsDifference before after packet) differences
+  pub sound : Each (IsDifference sameness before after packet) differences
   -- no destination is missing
-  pub complete : (addr : ℕ) → addr < 2 ^ 32 → select before (to packet addr) ≢ select after (to packet addr) → list_any (has addr) differences ≡ true
+  pub complete : (addr : ℕ) → addr < 2 ^ 32 → ¬ AreSame sameness (select before (to packet addr)) (select after (to packet addr)) → list_any (has addr) differences ≡ true
   -- each ends before the next one begins
   pub rise : IsRising (λ (difference next : Difference). nat_lt difference.last.0 next.first.0) differences

@@ -1,13 +1,17 @@
 -- What the parts of the program compute.
-use Rattle.std.specs.Prelude.{ℕ, ◌-◌, if◌then◌else◌, ◌&&◌, Bool, List, [], ◌∷◌}
+use Rattle.std.specs.Prelude.{ℕ, ◌-◌, ◌&&◌, Bool, List, [], ◌∷◌, Option, Some, None}
+use Rattle.std.specs.Option.{option_eq}
 use Rattle.prt_rule.specs.declared.packet.Packet.{Packet}
 use Rattle.prt_version.specs.Select.{select}
 use Rattle.prt_version.specs.State.{State}
 use Rattle.prt_partition.specs.Cuts.{to}
 use Rattle.prt_partition.specs.Sameness.{is_same_verdict}
+use Rattle.prt_partition.specs.Touching.{transition_of}
+use Rattle.prt_partition.specs.declared.destinations.Span.{Span}
 use Rattle.prt_partition.specs.declared.differences.Contrast.{Contrast}
 use Rattle.prt_partition.specs.declared.differences.Difference.{Difference}
-use Rattle.prt_partition.specs.declared.destinations.Span.{Span}
+use Rattle.prt_partition.specs.declared.sameness.Sameness.{Sameness}
+use Rattle.prt_partition.specs.declared.touching.Transition.{Transition}
 
 -- the span that begins at the address
 abbrev pub span_from : State → Packet → ℕ → Span
@@ -16,21 +20,30 @@ span_from state packet addr = record { first = record { 0 = addr }; verdict = se
 abbrev pub says_same : Span → Span → Bool
 says_same span before = is_same_verdict span.verdict before.verdict
 
-abbrev pub contrast_from : State → State → Packet → ℕ → Contrast
-contrast_from before after packet addr = record { first = record { 0 = addr }; was = select before (to packet addr); is = select after (to packet addr) }
+-- the contrast that begins at the address
+abbrev pub contrast_from : Sameness → State → State → Packet → ℕ → Contrast
+contrast_from sameness before after packet addr = record { first = record { 0 = addr }; transition = transition_of sameness before after (to packet addr) }
 
-abbrev pub are_same : Contrast → Contrast → Bool
-are_same contrast before = is_same_verdict contrast.was before.was && is_same_verdict contrast.is before.is
+abbrev pub is_same_transition : Transition → Transition → Bool
+is_same_transition a b = is_same_verdict a.was b.was && is_same_verdict a.is b.is
+
+abbrev pub have_same : Contrast → Contrast → Bool
+have_same contrast before = option_eq is_same_transition contrast.transition before.transition
 
 -- the last address before the next one begins
 abbrev pub last_before : List Contrast → ℕ
 last_before [] = 4294967295
 last_before (contrast ∷ contrasts) = contrast.first.0 - 1
 
-abbrev pub difference_to : Contrast → ℕ → Difference
-difference_to contrast last = record { first = contrast.first; last = record { 0 = last }; was = contrast.was; is = contrast.is }
+abbrev pub difference_to : ℕ → ℕ → Transition → Difference
+difference_to first last transition = record { first = record { 0 = first }; last = record { 0 = last }; was = transition.was; is = transition.is }
+
+-- the difference of a contrast up to an address, if there is one, before others
+abbrev pub with_difference : ℕ → Option Transition → ℕ → List Difference → List Difference
+with_difference first None last differences = differences
+with_difference first (Some transition) last differences = difference_to first last transition ∷ differences
 
 -- those that differ
 abbrev pub differences_of : List Contrast → List Difference
 differences_of [] = []
-differences_of (contrast ∷ contrasts) = if is_same_verdict contrast.was contrast.is then differences_of contrasts else difference_to contrast (last_before contrasts) ∷ differences_of contrasts
+differences_of (contrast ∷ contrasts) = with_difference contrast.first.0 contrast.transition (last_before contrasts) (differences_of contrasts)

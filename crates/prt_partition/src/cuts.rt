@@ -2,7 +2,7 @@
 ghost use Rattle.std.specs.Prelude.{◌≡◌, ◌++◌, ◌<◌, ◌≤◌, ◌^◌, ℕ, length, IfOk, OnOk};
 ghost use Rattle.std.specs.List.{All, Contains};
 ghost use Rattle.std.specs.List.Sorted.{IsStrictlyIncreasing};
-ghost use Rattle.prt_partition.specs.Cuts.{AreStarts, cuts_of, destination_cuts, from_cuts, route_cuts, rule_cuts};
+ghost use Rattle.prt_partition.specs.Cuts.{AreStarts, cuts_of, destination_cuts, end_of, from_cuts, route_cuts, rule_cuts};
 
 use prt_addr::Prefix;
 use prt_route::{Range, Route, Selector};
@@ -10,13 +10,20 @@ use prt_rule::Rule;
 use prt_version::Version;
 use std::alloc::{AllocError, Global};
 
+/// Gives the first address after those of the prefix, if there is one.
+pub(crate) fn end_of(prefix: &Prefix) -> Option<u32>
+    ensures { result ≡ end_of prefix.now }
+{
+    let end = u64::from(prefix.bits()) + (1 << (32 - prefix.len()));
+    u32::try_from(end).ok()
+}
+
 /// Appends the first address of the prefix, and the first address after it, if there is one.
-fn push_cuts(cuts: &mut Vec<u32>, prefix: &Prefix) -> Result<(), AllocError>
+pub(crate) fn push_cuts(cuts: &mut Vec<u32>, prefix: &Prefix) -> Result<(), AllocError>
     ensures { OnOk result (cuts.new.items ≡ cuts.old.items ++ cuts_of prefix.now) }
 {
     cuts.push(prefix.bits())?;
-    let end = u64::from(prefix.bits()) + (1 << (32 - prefix.len()));
-    if let Ok(end) = u32::try_from(end) {
+    if let Some(end) = end_of(prefix) {
         cuts.push(end)?;
     }
     Ok(())
@@ -43,7 +50,7 @@ fn push_route_cuts(cuts: &mut Vec<u32>, routes: &[Route]) -> Result<(), AllocErr
 }
 
 /// Gives all routes of the version, in the order of listings.
-fn every_route(version: &Version) -> Result<Vec<Route>, AllocError>
+pub(crate) fn every_route(version: &Version) -> Result<Vec<Route>, AllocError>
     ensures { IfOk result (λ routes. routes.items ≡ version.now.routes) }
 {
     let selector = Selector {
@@ -87,22 +94,6 @@ pub(crate) fn starts_of(alloc: Global, version: &Version) -> Result<Vec<u32>, Al
 {
     let mut starts = Vec::new(alloc);
     push_destination_cuts(&mut starts, version)?;
-    starts.push(0)?;
-    sort_distinct(&mut starts);
-    Ok(starts)
-}
-
-/// Gives the destinations at which an answer of one of the versions can change, and 0.0.0.0, in order.
-pub(crate) fn starts_of_both(
-    alloc: Global,
-    version: &Version,
-    other: &Version,
-) -> Result<Vec<u32>, AllocError>
-    ensures { IfOk result (λ starts. AreStarts (destination_cuts version.now ++ destination_cuts other.now) starts.items) }
-{
-    let mut starts = Vec::new(alloc);
-    push_destination_cuts(&mut starts, version)?;
-    push_destination_cuts(&mut starts, other)?;
     starts.push(0)?;
     sort_distinct(&mut starts);
     Ok(starts)

@@ -7,6 +7,7 @@ ghost use Rattle.prt_partition.specs.Steps.{says_same, span_from};
 
 use crate::cuts::starts_of;
 use crate::sameness::is_same_verdict;
+use crate::touching::to;
 use prt_addr::Addr;
 use prt_refusals::Refusal;
 use prt_rule::Packet;
@@ -26,15 +27,9 @@ pub struct Span {
 fn span_from(version: &Version, packet: &Packet, first: u32) -> Span
     ensures { result ≡ span_from version.now packet.now first }
 {
-    let packet = Packet {
-        dst: Addr(first),
-        src: packet.src,
-        iif: packet.iif,
-        mark: packet.mark,
-    };
     Span {
         first: Addr(first),
-        verdict: version.select(&packet).verdict,
+        verdict: version.select(&to(packet, first)).verdict,
     }
 }
 

@@ -1,10 +1,13 @@
-use Rattle.std.proofs.Common.{arith, sym, ◌∙◌}
-use Rattle.std.proofs.lemmas.Bool.{eqb-true}
+use Rattle.std.proofs.Common.{None, subst}
+use Rattle.prt_partition.specs.Equivalence.{IsFirstChange}
 use Rattle.prt_partition.proofs.AllPackets.{no_change}
 use Rattle.prt_partition.proofs.equivalence.change_of.Goals as goal
 
-pub returns-then-is_empty-clause-value : goal.returns-then-is_empty-clause-value
-returns-then-is_empty-clause-value c =
-    let none = eqb-true _ _ (sym c.is_empty.ensures ∙ c.if-is_empty.true) in
-    let differences = c.in_ok-differences.differences in
-    no_change c.args.before.now c.args.after.now c.args.class.now differences.items (omega (arith, none, differences.ok.0)) c.in_ok-differences.ensures.value
+pub returns : goal.returns
+returns c =
+    let sameness = c.args.sameness in
+    let before = c.args.before.now in
+    let after = c.args.after.now in
+    let class = c.args.class.now in
+    no_change sameness before after class c.args.differing.now c.requires
+    (subst (λ starts. IsFirstChange sameness before after class starts None) c.deref.ensures.value c.in-None.ensures)
