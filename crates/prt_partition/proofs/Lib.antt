@@ -1,0 +1,14 @@
+pub mod Alike
+pub mod AllPackets
+pub mod Between
+pub mod Contrasts
+pub mod Gaps
+pub mod Joined
+pub mod Listed
+pub mod Locality
+pub mod MarkBlocks
+pub mod Merging
+pub mod SpanList
+pub mod Starts
+pub mod Verdicts
+pub mod WhatDiffers

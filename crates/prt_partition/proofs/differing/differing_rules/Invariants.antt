@@ -1,0 +1,15 @@
+use Rattle.std.proofs.Common.{◌≤◌, ◌+◌, ◌-◌, length, take}
+use Rattle.prt_partition.specs.Differing.{without_id}
+use Rattle.prt_partition.proofs.Merging.{Hold}
+use Rattle.prt_partition.proofs.WhatDiffers.{rule_test}
+use Rattle.prt_partition.proofs.differing.differing_rules.Given as goal
+
+abbrev pub invariant-loop-i : goal.invariant-loop-i
+invariant-loop-i l = record {
+  within : l.i ≤ length l.before;
+  among : l.j ≤ length l.after;
+  hold : Hold rule_test without_id (take l.i l.before) (take l.j l.after) l.rules.items;
+}
+
+abbrev pub decreases-loop-i : goal.decreases-loop-i
+decreases-loop-i l = (length l.before - l.i) + (length l.after - l.j)

@@ -1,0 +1,9 @@
+pub mod Classes
+pub mod Cuts
+pub mod Differing
+pub mod Equivalence
+pub mod Marks
+pub mod Sameness
+pub mod Spans
+pub mod Steps
+pub mod Touching

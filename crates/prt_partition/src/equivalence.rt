@@ -1,0 +1,97 @@
+//! Whether two versions answer every packet alike.
+ghost use Rattle.std.specs.Prelude.{◌≡◌, ◌≤◌, ◌++◌, IfErr, IfOk, length};
+ghost use Rattle.prt_refusals.specs.declared.refusal.Refusal.TheVariants.{NoMemory};
+ghost use Rattle.prt_partition.specs.Differing.{IsDiffering};
+ghost use Rattle.prt_partition.specs.Equivalence.{IsChange, IsChangeOf, IsFirstChange};
+ghost use Rattle.prt_partition.specs.Touching.{IsQuiet};
+
+use crate::class_list::joined_classes;
+use crate::differing::{Differing, what_differs};
+use crate::sameness::Sameness;
+use crate::touching::{Touching, is_nothing, to, transition_at, what_touches};
+use prt_refusals::Refusal;
+use prt_rule::{Packet, Rule};
+use prt_version::Version;
+use std::alloc::{AllocError, Global};
+
+/// Gives the first of these destinations at which the verdicts on the packet are not the same.
+fn first_change(
+    before: &Version,
+    after: &Version,
+    touching: &Touching,
+    sameness: Sameness,
+    packet: &Packet,
+    starts: &[u32],
+) -> Option<u32>
+    requires { IsQuiet before.now after.now touching.now packet.now }
+    ensures { IsFirstChange sameness before.now after.now packet.now starts.now result }
+{
+    if is_nothing(touching) {
+        return None;
+    }
+    for start in starts {
+        if transition_at(before, after, touching, sameness, packet, *start).is_some() {
+            return Some(*start);
+        }
+    }
+    None
+}
+
+/// Gives a packet of this class on which the verdicts are not the same, if there is one.
+fn change_of(
+    alloc: Global,
+    before: &Version,
+    after: &Version,
+    differing: &Differing,
+    sameness: Sameness,
+    class: &Packet,
+) -> Result<Option<Packet>, AllocError>
+    requires { IsDiffering before.now after.now differing.now }
+    ensures { IfOk result (IsChangeOf sameness before.now after.now class.now) }
+{
+    let touching = what_touches(alloc, differing, class)?;
+    let starts = &differing.starts;
+    match first_change(before, after, &touching, sameness, class, starts) {
+        Some(addr) => Ok(Some(to(class, addr))),
+        None => Ok(None),
+    }
+}
+
+/// Gives the rules of both versions.
+fn rules_of_both(alloc: Global, before: &Version, after: &Version) -> Result<Vec<Rule>, AllocError>
+    ensures value { IfOk result (λ rules. rules.items ≡ before.now.rules ++ after.now.rules) }
+    ensures few { IfOk result (λ rules. length rules.items ≤ 2000) }
+{
+    // Each version's contract says how many rules there are at most.
+    let _numbers = (before.number(), after.number());
+    let mut rules = Vec::new(alloc);
+    rules.extend_from_slice(before.rules())?;
+    rules.extend_from_slice(after.rules())?;
+    Ok(rules)
+}
+
+/// Gives a packet whose verdict after isn't the same as the one before. If it gives none, there is none: the verdicts on
+/// every packet of every source, destination, interface and mark are the same.
+///
+/// # Errors
+///
+/// `NoMemory` alone.
+pub fn find_change(
+    alloc: Global,
+    before: &Version,
+    after: &Version,
+    sameness: Sameness,
+) -> Result<Option<Packet>, Refusal>
+    ensures value { IfOk result (IsChange sameness before.now after.now) }
+    ensures reason { IfErr result (λ reason. reason ≡ NoMemory) }
+{
+    let differing = what_differs(alloc, before, after)?;
+    let rules = rules_of_both(alloc, before, after)?;
+    let classes = joined_classes(alloc, &rules)?;
+    for class in &classes {
+        if let Some(packet) = change_of(alloc, before, after, &differing, sameness, class)? {
+            return Ok(Some(packet));
+        }
+    }
+    Ok(None)
+}

@@ -1,0 +1,32 @@
+//! What becomes of every packet at once: where answers can change, which packets are answered alike, and which ones a
+//! change sends another way.
+//!
+//! An answer changes along destinations and sources only at cuts: where a prefix of a rule or a route begins, or just after
+//! it ends. Between two cuts one packet answers for all. So finitely many packets answer for every packet that there is.
+#![tactic(auto)]
+
+mod class_list;
+mod cuts;
+mod destinations;
+mod differences;
+mod differing;
+mod equivalence;
+mod interfaces;
+mod joining;
+mod laws;
+mod marks;
+mod near_starts;
+mod reach;
+mod sameness;
+mod touching;
+
+pub use class_list::{classes, joined_classes};
+pub use destinations::{Span, spans};
+pub use differences::{Difference, changes};
+pub use differing::{Differing, what_differs};
+pub use equivalence::find_change;
+pub use laws::{
+    alike_go_alike, changes_at_destination_cuts, changes_at_source_cuts, depends_on_what_takes_it,
+    routes_touch_their_prefixes, rules_touch_what_they_match,
+};
+pub use sameness::{Outcome, Sameness, outcome_of};

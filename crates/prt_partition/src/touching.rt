@@ -1,0 +1,168 @@
+//! Which of the packets that differ in their destinations alone a difference of two versions can send another way.
+ghost use Rattle.std.specs.List.{list_any};
+ghost use Rattle.prt_addr.specs.Prefix.{contains};
+ghost use Rattle.prt_rule.specs.Rule.{matches};
+ghost use Rattle.std.specs.Prelude.{◌≡◌, IfOk, false, filter, true};
+ghost use Rattle.prt_rule.specs.declared.packet.Packet.{Packet as PacketOf};
+ghost use Rattle.prt_version.specs.Select.{select};
+ghost use Rattle.prt_partition.specs.Cuts.{to};
+ghost use Rattle.prt_partition.specs.Touching.{IsQuiet, IsTouching, can_match, is_touched, transition_of};
+
+use crate::differing::Differing;
+use crate::joining::takes_apart;
+use crate::reach::FEW;
+use crate::sameness::{Sameness, are_same};
+use prt_addr::Addr;
+use prt_route::Route;
+use prt_rule::{Packet, Rule, matches};
+use prt_version::{Verdict, Version};
+use std::alloc::{AllocError, Global};
+
+/// What of a difference can touch packets that differ in their destinations alone.
+#[derive(Drop)]
+pub(crate) struct Touching {
+    /// Whether each of them counts as touched, since there are many rules or routes.
+    all: bool,
+    rules: Vec<Rule>,
+    routes: Vec<Route>,
+}
+
+/// The verdicts of a packet before and after, which are not the same.
+#[derive(Clone, Copy)]
+pub(crate) struct Transition {
+    pub was: Verdict,
+    pub is: Verdict,
+}
+
+/// Gives the packet with this destination.
+pub(crate) fn to(packet: &Packet, addr: u32) -> Packet
+    ensures { result ≡ to packet.now addr }
+{
+    Packet {
+        dst: Addr(addr),
+        src: packet.src,
+        iif: packet.iif,
+        mark: packet.mark,
+    }
+}
+
+/// Tells whether the rule matches the packet if it is given some destination.
+fn can_match(packet: &Packet, rule: &Rule) -> bool
+    ensures { result ≡ can_match packet.now rule.now }
+{
+    rule.inverted || takes_apart(rule, packet)
+}
+
+/// Gives the rules that match the packet if it is given some destination.
+fn candidates(alloc: Global, rules: &[Rule], packet: &Packet) -> Result<Vec<Rule>, AllocError>
+    ensures { IfOk result (λ candidates. candidates.items ≡ filter (can_match packet.now) rules.now) }
+{
+    rules
+        .iter()
+        .filter(|rule| can_match(packet, rule))
+        .copied()
+        .collect(alloc)
+}
+
+/// Gives what of a difference can touch the packet, whatever its destination.
+pub(crate) fn what_touches(
+    alloc: Global,
+    differing: &Differing,
+    packet: &Packet,
+) -> Result<Touching, AllocError>
+    ensures { IfOk result (IsTouching differing.now.rules.items differing.now.routes.items packet.now) }
+{
+    let rules = candidates(alloc, &differing.rules, packet)?;
+    if rules.len() > FEW || differing.routes.len() > FEW {
+        return Ok(Touching {
+            all: true,
+            rules: Vec::new(alloc),
+            routes: Vec::new(alloc),
+        });
+    }
+    let routes = Vec::from_slice(alloc, &differing.routes)?;
+    Ok(Touching {
+        all: false,
+        rules,
+        routes,
+    })
+}
+
+/// Tells whether one of the rules matches the packet.
+fn any_matches(rules: &[Rule], packet: &Packet) -> bool
+    ensures { result ≡ list_any (λ rule. matches rule packet.now) rules.now }
+{
+    rules.iter().any(|rule| matches(rule, packet))
+}
+
+/// Tells whether one of the routes has the address.
+fn any_holds(routes: &[Route], addr: Addr) -> bool
+    ensures { result ≡ list_any (λ route. contains route.prefix addr) routes.now }
+{
+    routes.iter().any(|route| route.prefix.contains(addr))
+}
+
+/// Tells whether a rule matches the packet, or a route has its destination.
+fn is_touched(touching: &Touching, packet: &Packet) -> bool
+    ensures { result ≡ is_touched touching.now packet.now }
+{
+    touching.all || any_matches(&touching.rules, packet) || any_holds(&touching.routes, packet.dst)
+}
+
+/// Tells whether no packet is touched.
+pub(crate) fn is_nothing(touching: &Touching) -> bool
+    ensures { result ≡ true → (packet : PacketOf) → is_touched touching.now packet ≡ false }
+{
+    !touching.all && touching.rules.is_empty() && touching.routes.is_empty()
+}
+
+/// Gives the verdicts before and after, unless they are the same.
+fn transition_of(
+    before: &Version,
+    after: &Version,
+    sameness: Sameness,
+    packet: &Packet,
+) -> Option<Transition>
+    ensures { result ≡ transition_of sameness before.now after.now packet.now }
+{
+    let was = before.select(packet).verdict;
+    let is = after.select(packet).verdict;
+    if are_same(sameness, &was, &is) {
+        None
+    } else {
+        Some(Transition { was, is })
+    }
+}
+
+/// Gives the verdicts before and after, unless they are the same. It asks for them only if the packet is touched.
+fn transition_if_touched(
+    before: &Version,
+    after: &Version,
+    touching: &Touching,
+    sameness: Sameness,
+    packet: &Packet,
+) -> Option<Transition>
+    requires { is_touched touching.now packet.now ≡ false → select before.now packet.now ≡ select after.now packet.now }
+    ensures { result ≡ transition_of sameness before.now after.now packet.now }
+{
+    if is_touched(touching, packet) {
+        transition_of(before, after, sameness, packet)
+    } else {
+        None
+    }
+}
+
+/// Gives the verdicts before and after on the packet with this destination, unless they are the same.
+pub(crate) fn transition_at(
+    before: &Version,
+    after: &Version,
+    touching: &Touching,
+    sameness: Sameness,
+    packet: &Packet,
+    addr: u32,
+) -> Option<Transition>
+    requires { IsQuiet before.now after.now touching.now packet.now }
+    ensures { result ≡ transition_of sameness before.now after.now (to packet.now addr) }
+{
+    transition_if_touched(before, after, touching, sameness, &to(packet, addr))
+}
