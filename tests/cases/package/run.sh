@@ -8,6 +8,12 @@ dpkg-deb --field "$package" Package Architecture
 dpkg-deb --extract "$package" root
 (cd root && find . -type f | sort)
 
+# The links of the installed documents lead to what is installed.
+grep -rnoE '\]\([^)#]+[^)]*\)' --include='*.md' root/usr/share/doc | grep -v http | while IFS=: read -r document _ link; do
+  link=${link:2:-1}
+  [ -e "$(dirname "$document")/${link%%#*}" ] || echo "$document: a dead link: $link"
+done
+
 root/usr/bin/prt batch root/usr/share/doc/prt/examples/first-run.batch
 
 for library in $(ldd root/usr/bin/prt | grep -o '/[^ ]*'); do
