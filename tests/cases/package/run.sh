@@ -49,6 +49,10 @@ offered follow --server x:1 --
 offered wait ''
 offered dump --r
 offered diff root/usr/share/doc/prt/examples/g
+offered explain root/usr/share/doc/prt/examples/g
+offered get --db routes.db 10.0.0.1 f
+offered show --db routes.db type b
+offered get 10.0.0.1 iif l | grep -ow lo
 
 # What systemd finds wrong with the units, where the program stands here.
 if command -v systemd-analyze >/dev/null; then
