@@ -3,21 +3,21 @@
  * Tables hold the rules and routes of one database. Lines of prt's command language change them: `route add 10.0.0.0/8
  * via 192.0.2.1`. A version is what the tables hold at one moment, and never changes. Packets are looked up in versions.
  *
- * What is proved of each call stands below it in words; docs/CALLING.md begins with an example. What C has to keep:
+ * The words above each call say what is proved of it; docs/reference/LIBRARY.md begins with an example. What C has to observe:
  *
  *   - A holder (prt_tables, prt_version) is empty when all its bytes are zero, as PRT_EMPTY_HOLDER makes it. After that
  *     only these calls write it. It isn't copied to be used twice.
  *   - A holder is given to one call at a time. It may go from thread to thread, by a lock, an atomic exchange, a thread's
  *     start or its end. Each thread that looks packets up has a version of its own: prt_tables_version makes one more
  *     owner of the same version, and copies no route.
- *   - No pointer is NULL, even where a length is 0. What two parameters point to doesn't overlap.
+ *   - No pointer is NULL, even if a length is 0. What two parameters point to doesn't overlap.
  *   - malloc, realloc and free are the C library's, or agree with one another as those do. No call is made from a signal
  *     handler, or in the child of a fork of a process with threads.
  *
  * No call waits for another thread, reads a clock or a file, or ends the process. No lookup takes memory.
  *
  * An address is a number in the host's order, whose highest byte is the first of the dotted parts: 192.0.2.1 is
- * 0xc0000201. `ntohl` makes it of an address as it stands in a packet.
+ * 0xc0000201. `ntohl` makes it of an address in a packet.
  */
 #ifndef PRT_H
 #define PRT_H
@@ -29,8 +29,8 @@
 extern "C" {
 #endif
 
-/* What a call returns: PRT_DONE, PRT_EMPTY, or the number of a refusal. The number of a refusal is 1 to 34, as in the
- * reply `error 22 NoSuch` of prt; docs/COMMANDS.md has the table. These are some of them. */
+/* What a call returns: PRT_DONE, PRT_EMPTY, or the number of an error. The number of an error is 1 to 34, as in the reply
+ * `error 22 NoSuch` of prt; docs/reference/ERRORS.md has all of them. These are some. */
 enum prt_status {
     PRT_DONE = 0,         /* the call did what it says */
     PRT_BAD_NAME = 13,    /* a packet's interface has no such name */
@@ -51,13 +51,13 @@ typedef struct { void *at; } prt_version;
 
 /* What rules look at of a packet. */
 typedef struct {
-    uint32_t source;                  /* 0 where none is named */
+    uint32_t source;                  /* 0 if none is known */
     uint32_t destination;
-    uint32_t mark;                    /* the firewall mark; 0 where there is none */
-    char interface[PRT_NAME_BYTES];   /* it came in by this; all zeros stand for `lo` */
+    uint32_t mark;                    /* the firewall mark; 0 if there is none */
+    char interface[PRT_NAME_BYTES];   /* it came in by this; all zeros mean `lo` */
 } prt_packet;
 
-/* What becomes of a packet. */
+/* What happens to a packet. */
 enum prt_kind {
     PRT_NO_ROUTE = 0,      /* no rule decides */
     PRT_UNICAST = 1,       /* it is sent on, through the gateway or the device */
@@ -66,21 +66,21 @@ enum prt_kind {
     PRT_PROHIBIT = 4       /* it is dropped; that is administratively forbidden */
 };
 
-/* An answer. A route decides where `table` is not 0. Where it is 0, the rule of that priority drops the packet itself, or
- * none decides; all below `priority` is then 0. */
+/* An answer. A route decides if `table` is not 0. If it is 0, the rule of that priority drops the packet itself, or none
+ * decides; all below `priority` is then 0. */
 typedef struct {
     uint64_t number;              /* how many commands the version's tables had accepted */
     uint32_t kind;                /* an enum prt_kind */
     uint32_t table;               /* the route's table */
-    uint32_t priority;            /* that of the rule that decides; 0 where none does */
+    uint32_t priority;            /* that of the rule that decides; 0 if none does */
     uint32_t destination;         /* the address of the route's prefix */
     uint32_t prefix_length;       /* 0 to 32 */
     uint32_t metric;
     uint32_t has_gateway;         /* 1 or 0 */
-    uint32_t gateway;             /* the next hop; 0 where there is none */
+    uint32_t gateway;             /* the next hop; 0 if there is none */
     uint32_t has_source;          /* 1 or 0 */
-    uint32_t source;              /* the source to prefer; 0 where there is none */
-    char device[PRT_NAME_BYTES];  /* the route's interface; all zeros where it names none */
+    uint32_t source;              /* the source to prefer; 0 if there is none */
+    char device[PRT_NAME_BYTES];  /* the route's interface; all zeros if it names none */
 } prt_answer;
 
 /* ---- tables */
@@ -91,15 +91,15 @@ typedef struct {
  * PRT_NO_MEMORY    `tables` holds what it did. */
 uint32_t prt_tables_new(prt_tables *tables);
 
-/* Executes one line, which stands without its newline. A blank line, a comment and a question (`route get`, `route show`)
- * change nothing.
+/* Executes one line, given without its newline. A blank line, a comment and a query (`route get`, `route show`) change
+ * nothing.
  *
  * PRT_DONE         the tables are those after the line. `*number` is how many commands they have accepted so far.
  * 1 to 18          the first fault of the line.
  * 21 to 24         why the tables refuse the command.
  * PRT_NO_MEMORY    memory was refused.
  * PRT_EMPTY        `tables` holds nothing.
- * But for PRT_DONE the tables and `*number` are as they were. */
+ * After anything but PRT_DONE the tables and `*number` are as they were. */
 uint32_t prt_tables_line(prt_tables *tables, const char *line, size_t length, uint64_t *number);
 
 /* Executes the lines of a text that a newline ends, one after the other, up to the first that is refused.
@@ -107,7 +107,7 @@ uint32_t prt_tables_line(prt_tables *tables, const char *line, size_t length, ui
  * `*bytes` is how many bytes the executed lines have with their newlines: the text from there on is still to be executed.
  * `*number` is how many commands the tables have accepted so far.
  *
- * PRT_DONE         no whole line is left. What stands after the last newline was not executed.
+ * PRT_DONE         no whole line is left. What follows the last newline was not executed.
  * else             what prt_tables_line returns for the line at `*bytes`, which changed nothing.
  * PRT_EMPTY        `tables` holds nothing; `*bytes` and `*number` are as they were. */
 uint32_t prt_tables_lines(prt_tables *tables, const char *text, size_t length, size_t *bytes, uint64_t *number);
@@ -127,7 +127,7 @@ void prt_tables_release(prt_tables *tables);
 
 /* Looks a packet up, by the rules in their order and by longest match, as `route get` of prt does.
  *
- * PRT_DONE         `*answer` is what becomes of the packet in this version.
+ * PRT_DONE         `*answer` is what happens to the packet in this version.
  * PRT_BAD_NAME     `interface` is no name; `*answer` is as it was.
  * PRT_EMPTY        `version` holds nothing; `*answer` is as it was.
  * The version is as it was. */
@@ -135,7 +135,7 @@ uint32_t prt_lookup(prt_version *version, const prt_packet *packet, prt_answer *
 
 /* Looks packets up one after the other, as many as there are packets and answers, up to the first that has no answer.
  *
- * `*count` is how many were looked up, and `answers[k]` for each k below it is what becomes of `packets[k]`. The other
+ * `*count` is how many were looked up, and `answers[k]` for each k below it is what happens to `packets[k]`. The other
  * answers are as they were.
  *
  * PRT_DONE         all were looked up for which there are answers.

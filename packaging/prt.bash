@@ -10,6 +10,19 @@ _prt_files() {
   mapfile -t COMPREPLY < <(compgen -f -- "${COMP_WORDS[COMP_CWORD]}")
 }
 
+# Offers what may follow a word of a line. It fails if that is not known.
+_prt_values() {
+  case $1 in
+    dev | iif) _prt_words "$(ls /sys/class/net 2>/dev/null)" ;;
+    table | lookup) _prt_words "local main default all $(grep -hoE '^[1-9][0-9]*' /etc/iproute2/rt_tables 2>/dev/null)" ;;
+    type) _prt_words 'unicast blackhole unreachable prohibit throw' ;;
+    proto | protocol) _prt_words 'kernel boot static ra zebra bird dhcp bgp isis ospf rip' ;;
+    scope) _prt_words 'global site link host nowhere' ;;
+    from | to | mark | root | match | exact) ;;
+    *) return 1 ;;
+  esac
+}
+
 _prt() {
   local word=${COMP_WORDS[COMP_CWORD]} before=${COMP_WORDS[COMP_CWORD - 1]} options=
   local verbs='batch check diff dump explain follow get import replay serve show wait'
@@ -25,6 +38,9 @@ _prt() {
     --workers | --sessions | --idle | --table | --proto | --priority | --seconds) return ;;
   esac
   case ${COMP_WORDS[1]} in
+    explain | get | show) _prt_values "$before" && return ;;
+  esac
+  case ${COMP_WORDS[1]} in
     batch) options='--force --atomic --db --verbose --help' ;;
     check | replay) options=--help ;;
     explain | get | show) options='--db --server --json --names --help' ;;
@@ -37,10 +53,16 @@ _prt() {
     help) options=$verbs ;;
   esac
   case ${COMP_WORDS[1]} in
-    batch | check | diff | explain | follow | import | replay)
+    explain)
+      # The first word after it may be a script, or an option; the others are those of the packet.
+      [[ $COMP_CWORD -gt 2 || $word == -* ]] || { _prt_files && return; }
+      options+=' to from iif mark'
+      ;;
+    batch | check | diff | follow | import | replay)
       [[ $word == -* ]] || { _prt_files && return; }
       ;;
-    show) options+=' route rule' ;;
+    get) options+=' to from iif mark' ;;
+    show) options+=' route rule root match exact table type proto scope dev' ;;
   esac
   _prt_words "$options"
 }

@@ -1,6 +1,6 @@
 """A model of sessions, for the lines of the swept scripts alone.
 
-It is written after docs/COMMANDS.md and docs/SEMANTICS.md: routes and rules are lists, a lookup goes over all of them,
+It is written after docs/reference/COMMANDS.md and docs/reference/SELECTION.md: routes and rules are lists, a lookup goes over all of them,
 and a script is answered line by line, perhaps with one mishap.
 """
 

@@ -8,6 +8,12 @@ dpkg-deb --field "$package" Package Architecture
 dpkg-deb --extract "$package" root
 (cd root && find . -type f | sort)
 
+# The links of the installed documents lead to what is installed.
+grep -rnoE '\]\([^)#]+[^)]*\)' --include='*.md' root/usr/share/doc | grep -v http | while IFS=: read -r document _ link; do
+  link=${link:2:-1}
+  [ -e "$(dirname "$document")/${link%%#*}" ] || echo "$document: a dead link: $link"
+done
+
 root/usr/bin/prt batch root/usr/share/doc/prt/examples/first-run.batch
 
 for library in $(ldd root/usr/bin/prt | grep -o '/[^ ]*'); do
@@ -43,6 +49,10 @@ offered follow --server x:1 --
 offered wait ''
 offered dump --r
 offered diff root/usr/share/doc/prt/examples/g
+offered explain root/usr/share/doc/prt/examples/g
+offered get --db routes.db 10.0.0.1 f
+offered show --db routes.db type b
+offered get 10.0.0.1 iif l | grep -ow lo
 
 # What systemd finds wrong with the units, where the program stands here.
 if command -v systemd-analyze >/dev/null; then
