@@ -14,13 +14,20 @@ use Rattle.prt_diff.specs.declared.held.Held.{Held}
 
 -- ---- beside lines that can't be kept
 
--- a line that can't be kept has the key of the route, which the fence would have without it
-abbrev pub is_unread_route : Fence → Route → Bool
-is_unread_route fence route = is_unread_key fence (key_of route) && not (is_kernels route) && names_route fence route && is_plain_name route.dev
+-- the fence names the route, and `ip -batch` can read it
+abbrev pub is_meant_route : Fence → Route → Bool
+is_meant_route fence route = not (is_kernels route) && names_route fence route && is_plain_name route.dev
 
--- the same of a rule, by its priority
+abbrev pub is_meant_rule : Fence → Rule → Bool
+is_meant_rule fence rule = names_rule fence rule && is_plain_name rule.iif
+
+-- a line that can't be kept has the key of such a route
+abbrev pub is_unread_route : Fence → Route → Bool
+is_unread_route fence route = is_unread_key fence (key_of route) && is_meant_route fence route
+
+-- or the priority of such a rule
 abbrev pub is_unread_rule : Fence → Rule → Bool
-is_unread_rule fence rule = is_unread_priority fence rule.priority && names_rule fence rule && is_plain_name rule.iif
+is_unread_rule fence rule = is_unread_priority fence rule.priority && is_meant_rule fence rule
 
 -- ---- routes
 

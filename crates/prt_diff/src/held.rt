@@ -2,7 +2,7 @@
 ghost use Rattle.std.specs.Prelude.{◌≡◌, IfOk, true};
 ghost use Rattle.prt_addr.specs.Rising.{IsRising};
 ghost use Rattle.prt_route.specs.Route.{is_listed_before};
-ghost use Rattle.prt_diff.specs.Held.{blocked_routes, hindered_routes, is_nothing_held, staying_routes, unread_rules};
+ghost use Rattle.prt_diff.specs.Held.{blocked_routes, hindered_routes, hindered_rules, is_nothing_held, staying_routes, staying_rules, unread_rules};
 
 use crate::fence::Fence;
 use crate::routes::{has_agreeing, has_key, is_kept, is_taken};
@@ -53,7 +53,7 @@ impl Held {
 }
 
 /// Gives the wanted routes whose key one has that may not be changed, and that are not found so.
-pub(crate) fn blocked_routes(
+fn blocked_routes(
     alloc: Global,
     fence: &Fence,
     found: &[Route],
@@ -72,7 +72,7 @@ pub(crate) fn blocked_routes(
 }
 
 /// Gives the wanted routes whose key a line has that can't be kept, and that are not found so.
-pub(crate) fn hindered_routes(
+fn hindered_routes(
     alloc: Global,
     fence: &Fence,
     found: &[Route],
@@ -91,7 +91,7 @@ pub(crate) fn hindered_routes(
 }
 
 /// Gives the routes that are found, whose key a line has that can't be kept, and no wanted route.
-pub(crate) fn staying_routes(
+fn staying_routes(
     alloc: Global,
     fence: &Fence,
     found: &[Route],
@@ -110,7 +110,7 @@ pub(crate) fn staying_routes(
 }
 
 /// Gives those of the rules that the others don't have, and whose priority a line has that can't be kept.
-pub(crate) fn unread_rules(
+fn unread_rules(
     alloc: Global,
     fence: &Fence,
     rules: &[Rule],
@@ -125,4 +125,30 @@ pub(crate) fn unread_rules(
         }
     }
     Ok(unread)
+}
+
+/// Finds what is held back of the changes from found rules and routes to wanted ones.
+pub(crate) fn find_held(
+    alloc: Global,
+    fence: &Fence,
+    found_rules: &[Rule],
+    found_routes: &[Route],
+    wanted_rules: &[Rule],
+    wanted_routes: &[Route],
+) -> Result<Held, AllocError>
+    requires found { IsRising is_listed_before found_routes.now }
+    requires wanted { IsRising is_listed_before wanted_routes.now }
+    ensures blocked_routes { IfOk result (λ held. held.blocked_routes.items ≡ blocked_routes fence.now found_routes.now wanted_routes.now) }
+    ensures hindered_routes { IfOk result (λ held. held.hindered_routes.items ≡ hindered_routes fence.now found_routes.now wanted_routes.now) }
+    ensures staying_routes { IfOk result (λ held. held.staying_routes.items ≡ staying_routes fence.now found_routes.now wanted_routes.now) }
+    ensures hindered_rules { IfOk result (λ held. held.hindered_rules.items ≡ hindered_rules fence.now found_rules.now wanted_rules.now) }
+    ensures staying_rules { IfOk result (λ held. held.staying_rules.items ≡ staying_rules fence.now found_rules.now wanted_rules.now) }
+{
+    Ok(Held {
+        blocked_routes: blocked_routes(alloc, fence, found_routes, wanted_routes)?,
+        hindered_routes: hindered_routes(alloc, fence, found_routes, wanted_routes)?,
+        staying_routes: staying_routes(alloc, fence, found_routes, wanted_routes)?,
+        hindered_rules: unread_rules(alloc, fence, wanted_rules, found_rules)?,
+        staying_rules: unread_rules(alloc, fence, found_rules, wanted_rules)?,
+    })
 }

@@ -18,7 +18,7 @@ mod text;
 pub use diff::changes;
 pub use fence::{Fence, NumberRange};
 pub use held::Held;
-pub use laws::{changes_bring, no_changes_where_same, no_gap_opens};
+pub use laws::{changes_bring, no_changes_where_same, no_gap_opens, nothing_is_passed_over};
 pub use outside::{Outside, count_outside};
 pub use plan::Changes;
 pub use refusal::NotWritten;
