@@ -1,8 +1,9 @@
 -- What a state answers.
-use Rattle.std.specs.Prelude.{◌≡◌, ◌⊎◌, ℕ, List, []}
+use Rattle.std.specs.Prelude.{◌≡◌, ◌⊎◌, ℕ, Bool, true, ◌&&◌, ◌==◌, List, [], length}
 use Rattle.prt_command.specs.declared.request.Query.{Query}
 use Rattle.prt_command.specs.declared.request.Query.TheVariants.{Get, RouteShow, RuleShow}
 use Rattle.prt_diff.specs.Fence.{routes_outside, rules_outside}
+use Rattle.prt_diff.specs.Held.{AreHeld, is_nothing_held}
 use Rattle.prt_diff.specs.Plan.{plan}
 use Rattle.prt_diff.specs.Replacing.{replacing_text}
 use Rattle.prt_diff.specs.Text.{changes_text}
@@ -62,16 +63,21 @@ IsNotAnswered question state reason = reason ≡ NoMemory
 
 -- nothing
 abbrev pub AreNone : Notes → Type 0
-AreNone notes = (notes.early.items ≡ []) × (notes.moved.items ≡ []) × (notes.left.items ≡ []) × (notes.outside.rules ≡ 0) × (notes.outside.routes ≡ 0)
+AreNone notes = (notes.early.items ≡ []) × (notes.moved.items ≡ []) × (notes.left.items ≡ []) × (is_nothing_held notes.held ≡ true) × (notes.outside.rules ≡ 0) × (notes.outside.routes ≡ 0)
 
--- the rules that the lines of a difference delete early, move or leave, and how much the tables have outside the fence
+-- the rules that the lines of a difference delete early, move or leave, what is held back, and how much the tables have outside the fence
 abbrev pub AreNotesOf : Fence → State → State → Notes → Type 0
 AreNotesOf fence found wanted notes =
     (notes.early.items ≡ (plan fence found wanted).early)
     × (notes.moved.items ≡ (plan fence found wanted).moved)
     × (notes.left.items ≡ (plan fence found wanted).left)
+    × AreHeld fence found wanted notes.held
     × (notes.outside.rules ≡ rules_outside fence wanted.rules)
     × (notes.outside.routes ≡ routes_outside fence wanted.routes)
+
+-- no rule is left, and nothing is held back
+abbrev pub is_whole_change : Notes → Bool
+is_whole_change notes = length notes.left.items == 0 && is_nothing_held notes.held
 
 -- what is told of an answer
 abbrev pub AreNotes : Question → State → Notes → Type 0

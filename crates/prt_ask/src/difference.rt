@@ -41,6 +41,7 @@ pub(crate) fn find_difference(
         early,
         moved,
         left,
+        held,
     } = changes(alloc, fence, found, wanted)?;
     let text = commands_text(alloc, &commands)?;
     let outside = count_outside(fence, wanted)?;
@@ -48,6 +49,7 @@ pub(crate) fn find_difference(
         early,
         moved,
         left,
+        held,
         outside,
     };
     Ok(Difference {

@@ -22,10 +22,17 @@ pub enum FollowEnd {
     Unwritten,
 }
 
-/// Writes what a person is told of lines, if anything is; nobody misses it where that fails.
-fn tell<E: Write>(notes: &Notes, errors: &mut E) {
-    if let Ok(text) = notes.messages(false) {
+/// Writes what a person is told of lines, if anything is; nobody misses it where that fails. What stays and what isn't
+/// brought is told if that isn't what was told last.
+fn tell<E: Write>(notes: &Notes, told: &mut String, errors: &mut E) {
+    if let Ok(text) = notes.steps() {
         let _told = errors.write_all(text.as_bytes()).is_ok();
+    }
+    if let Ok(text) = notes.rest() {
+        if text.as_str() != told.as_str() {
+            let _told = errors.write_all(text.as_bytes()).is_ok();
+            *told = text;
+        }
     }
 }
 
@@ -39,6 +46,7 @@ fn write_lines<W: Write, E: Write>(
     alloc: Global,
     mirror: &mut Mirror,
     change: &Change,
+    told: &mut String,
     output: &mut W,
     errors: &mut E,
 ) -> Result<(), FollowEnd>
@@ -49,7 +57,7 @@ fn write_lines<W: Write, E: Write>(
         Ok(answer) => answer,
         Err(reason) => return Err(FollowEnd::NoLines(reason)),
     };
-    tell(&answer.notes, errors);
+    tell(&answer.notes, told, errors);
     if write_bytes(output, &answer.text) {
         Ok(())
     } else {
@@ -60,11 +68,13 @@ fn write_lines<W: Write, E: Write>(
 /// Writes the lines that bring a listing to the tables of a feed, after each of its changes, and flushes each. Returns where
 /// the feed ends, where a change isn't the next one or has no lines, and where the lines can't be written.
 ///
-/// The reader stands behind the opening of the feed, and should have a buffer.
+/// The reader stands behind the opening of the feed, and should have a buffer. What was told last of what stays and what isn't
+/// brought is told once more only after something else.
 pub fn follow<R: Read, W: Write, E: Write>(
     alloc: Global,
     mirror: &mut Mirror,
     reader: &mut R,
+    mut told: String,
     output: &mut W,
     errors: &mut E,
 ) -> FollowEnd
@@ -76,7 +86,7 @@ pub fn follow<R: Read, W: Write, E: Write>(
             Ok(None) => continue,
             Err(reason) => return FollowEnd::Feed(reason),
         };
-        if let Err(end) = write_lines(alloc, mirror, &change, output, errors) {
+        if let Err(end) = write_lines(alloc, mirror, &change, &mut told, output, errors) {
             return end;
         }
     }

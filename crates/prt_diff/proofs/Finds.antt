@@ -1,7 +1,7 @@
 -- Routes are looked up by their keys in the order of listings.
-use Rattle.std.proofs.Common.{◌≡◌, ◌⊎◌, inl, inr, ℕ, ◌<◌, ◌≤◌, Bool, true, false, not, ◌||◌, ◌&&◌, List, [], ◌∷◌, Option, Some, None, length, get_or, refl, sym, ap, ◌∙◌, arith, cond, find}
+use Rattle.std.proofs.Common.{◌≡◌, ◌⊎◌, inl, inr, ℕ, ◌<◌, ◌≤◌, Bool, true, false, not, ◌||◌, ◌&&◌, List, [], ◌∷◌, Option, Some, None, length, get_or, refl, sym, ap, ◌∙◌, arith, cond, find, is_some}
 use Rattle.std.specs.Prelude.{filter, ◌==◌}
-use Rattle.std.specs.List.{AllByRecursion as Each}
+use Rattle.std.specs.List.{list_any, AllByRecursion as Each}
 use Rattle.std.specs.List.Sorted.{IsPartitionPoint, IsPartitionedBy}
 use Rattle.std.proofs.lemmas.Bool.Decides.{nat_tests}
 use Rattle.std.proofs.lemmas.List.Elements.{recursion_from_All}
@@ -17,6 +17,7 @@ use Rattle.prt_route.proofs.Edits.{listing_order}
 use Rattle.prt_trie.specs.Table.{has_same_key}
 use Rattle.prt_trie.proofs.Order.{rises_far}
 use Rattle.prt_version.proofs.RowOrder.{key_differs, keys_both_ways}
+use Rattle.prt_diff.specs.Held.{blocked_routes}
 use Rattle.prt_diff.specs.Routes.{agrees, has_agreeing, is_kept, kept_routes, managed_routes, missing_routes, unwanted_routes, wanted_routes}
 use Rattle.prt_diff.specs.declared.fence.Fence.{Fence}
 use Rattle.prt_diff.proofs.Members.{IsIn, contains_in, differ, each_in, filtered_twice}
@@ -127,9 +128,21 @@ route_found route (first ∷ routes) rises =
 
 -- ---- what the code asks
 
--- no kept route has the key
-pub free_if : (fence : Fence) (route : Route) (found : List Route) (one : Option Route) → IsRising is_listed_before found → one ≡ find (λ other. has_same_key other route) found → not (passes (is_kept fence) one) ≡ not (has_key (key_of route) (kept_routes fence found))
-free_if fence route found one rises is = ap not (ap (passes (is_kept fence)) is ∙ sym (key_kept (is_kept fence) route found rises))
+found_any : {X : Type 0} (p : X → Bool) (xs : List X) → is_some (find p xs) ≡ list_any p xs
+found_any p [] = refl
+found_any p (x ∷ xs) = by p x xs (p x) (found_any p xs)
+  where
+    by : {X : Type 0} (p : X → Bool) (x : X) (xs : List X) (b : Bool) → is_some (find p xs) ≡ list_any p xs → is_some (cond b (Some x) (find p xs)) ≡ (b || list_any p xs)
+    by p x xs true rest = refl
+    by p x xs false rest = rest
+
+-- one of the routes has the key
+pub key_if : (route : Route) (routes : List Route) (one : Option Route) → one ≡ find (λ other. has_same_key other route) routes → is_some one ≡ has_key (key_of route) routes
+key_if route routes one is = ap is_some is ∙ found_any (λ other. has_same_key other route) routes
+
+-- a kept route has the key
+pub taken_if : (fence : Fence) (route : Route) (found : List Route) (one : Option Route) → IsRising is_listed_before found → one ≡ find (λ other. has_same_key other route) found → passes (is_kept fence) one ≡ has_key (key_of route) (kept_routes fence found)
+taken_if fence route found one rises is = ap (passes (is_kept fence)) is ∙ sym (key_kept (is_kept fence) route found rises)
 
 -- the route is managed, and no kept one has its key
 abbrev pub is_free_and_managed : Fence → List Route → Route → Bool
@@ -172,3 +185,10 @@ pub keys_tell : (a b : Route) (key other : RouteKey) (answer : Bool) → key ≡
 keys_tell a b key other answer first second is =
     is ∙ and_turned (key.table == other.table) (is_same_prefix key.prefix other.prefix) (key.metric == other.metric)
     ∙ ap (λ k. is_same_key k other) first ∙ ap (λ k. is_same_key (key_of a) k) second
+
+-- the route is managed, a kept one has its key, and it is not found so
+abbrev pub is_blocked : Fence → List Route → Route → Bool
+is_blocked fence found route = not (is_kept fence route) && (has_key (key_of route) (kept_routes fence found) && not (has_agreeing route found))
+
+pub blocked_are : (fence : Fence) (found wanted : List Route) → blocked_routes fence found wanted ≡ filter (is_blocked fence found) wanted
+blocked_are fence found wanted = filtered_twice (λ route. not (is_kept fence route)) (λ route. has_key (key_of route) (kept_routes fence found) && not (has_agreeing route found)) wanted

@@ -2,6 +2,7 @@ pub mod Listed
 pub mod Members
 pub mod RulePlaces
 pub mod Finds
+pub mod HeldBack
 pub mod RuleRuns
 pub mod Texts
 pub mod HasRule

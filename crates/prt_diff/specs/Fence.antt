@@ -6,7 +6,7 @@ use Rattle.prt_route.specs.Route.{is_same_key, key_of}
 use Rattle.prt_route.specs.declared.route.Route.{Route}
 use Rattle.prt_route.specs.declared.route.RouteKey.{RouteKey}
 use Rattle.prt_rule.specs.declared.rule.Rule.{Rule}
-use Rattle.prt_diff.specs.Names.{is_plain_name, is_plain_rule}
+use Rattle.prt_diff.specs.Names.{is_plain_name}
 use Rattle.prt_diff.specs.declared.fence.Fence.{Fence}
 use Rattle.prt_diff.specs.declared.fence.NumberRange.{NumberRange}
 
@@ -45,7 +45,7 @@ is_unread_key fence key = list_any (is_same_key key) fence.unread_keys.items
 
 -- a line names the rule, and no other by the same words
 abbrev pub is_safe_rule : Fence → Rule → Bool
-is_safe_rule fence rule = not (is_unread_priority fence rule.priority) && is_plain_rule rule
+is_safe_rule fence rule = not (is_unread_priority fence rule.priority) && is_plain_name rule.iif
 
 -- a line names the route, and no other by the same key
 abbrev pub is_safe_route : Fence → Route → Bool

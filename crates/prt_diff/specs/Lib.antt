@@ -3,6 +3,7 @@ pub mod Fence
 pub mod Routes
 pub mod Rules
 pub mod Plan
+pub mod Held
 pub mod Between
 pub mod Text
 pub mod Replacing

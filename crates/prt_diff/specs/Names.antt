@@ -1,9 +1,7 @@
--- Names of interfaces, and marks, that `ip -batch` can read: ip(8), ip-rule(8).
+-- Names of interfaces that `ip -batch` can read: ip(8).
 use Rattle.std.specs.Prelude.{ℕ, Bool, true, false, not, ◌&&◌, ◌||◌, ◌==◌, nat_le, [], ◌∷◌, Option, Some, None}
 use Rattle.std.specs.List.{list_all}
 use Rattle.prt_addr.specs.Word.{Word}
-use Rattle.prt_rule.specs.declared.rule.Mark.{Mark}
-use Rattle.prt_rule.specs.declared.rule.Rule.{Rule}
 
 -- `"`, `'` and `\`, which quote what follows, and `#`, which hides the rest of the line
 abbrev pub is_quoting : ℕ → Bool
@@ -22,12 +20,3 @@ is_option (b ∷ bytes) = b == 45
 abbrev pub is_plain_name : Option Word → Bool
 is_plain_name None = true
 is_plain_name (Some name) = not (is_option name) && list_all is_plain_byte name
-
--- a line has no mask where each bit counts, and without one `ip` takes a mark of 0 as none
-abbrev pub is_plain_mark : Option Mark → Bool
-is_plain_mark None = true
-is_plain_mark (Some m) = not (m.mark == 0 && m.mask == 4294967295)
-
--- `ip -batch` can read the rule
-abbrev pub is_plain_rule : Rule → Bool
-is_plain_rule rule = is_plain_name rule.iif && is_plain_mark rule.mark

@@ -7,7 +7,7 @@ use Rattle.prt_command.specs.declared.request.Command.{Command}
 use Rattle.prt_command.specs.declared.request.Command.TheVariants.{RuleDel, RuleFlush}
 use Rattle.prt_version.specs.State.{State}
 use Rattle.prt_diff.specs.Fence.{is_kernels}
-use Rattle.prt_diff.specs.Names.{is_plain_name, is_plain_rule}
+use Rattle.prt_diff.specs.Names.{is_plain_name}
 use Rattle.prt_diff.specs.Routes.{replace_route}
 use Rattle.prt_diff.specs.Rules.{add_rule}
 use Rattle.prt_diff.specs.Text.{commands_text}
@@ -18,7 +18,7 @@ first_rule = record { priority = Some 0; inverted = false; from = None; to = Non
 
 -- the rules that `ip -batch` can read
 abbrev pub plain_rules : List Rule → List Rule
-plain_rules rules = filter is_plain_rule rules
+plain_rules rules = filter (λ rule. is_plain_name rule.iif) rules
 
 -- `ip -batch` can read the route, and the kernel doesn't make it itself
 abbrev pub is_put_back : Route → Bool

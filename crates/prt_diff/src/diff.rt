@@ -1,8 +1,10 @@
 //! The commands that bring one version to another.
 ghost use Rattle.std.specs.Prelude.{◌≡◌, IfOk};
+ghost use Rattle.prt_diff.specs.Held.{AreHeld};
 ghost use Rattle.prt_diff.specs.Plan.{plan, plan_of};
 
 use crate::fence::Fence;
+use crate::held::find_held;
 use crate::plan::Changes;
 use crate::routes::{early_routes, late_routes, missing_routes};
 use crate::rules::{barring_rules, coming_rules, going_rules};
@@ -31,7 +33,7 @@ pub(crate) fn every_route(version: &Version) -> Result<Vec<Route>, AllocError>
 /// Gives the commands that bring one version to another within the fence: what differs, and nothing else.
 ///
 /// What is outside the fence stays as it is found. A wanted route counts for nothing if a route outside the fence has
-/// its key. A rule that both have stays, unless it has to move behind another of its priority.
+/// its key: it is held back. A rule that both have stays, unless it has to move behind another of its priority.
 ///
 /// Each is made before another is broken: first routes come whose table no rule looks up, then rules come, then other
 /// routes come or change, then rules go, and at last routes go. A rule that goes does so before rules come, if the kernel
@@ -48,7 +50,8 @@ pub fn changes(
     found: &Version,
     wanted: &Version,
 ) -> Result<Changes, AllocError>
-    ensures { IfOk result (λ changes. plan_of changes ≡ plan fence.now found.now wanted.now) }
+    ensures plan { IfOk result (λ changes. plan_of changes ≡ plan fence.now found.now wanted.now) }
+    ensures held { IfOk result (λ changes. AreHeld fence.now found.now wanted.now changes.held) }
 {
     // Each version's contract says that its rules and its routes are in order.
     let _numbers = (found.number(), wanted.number());
@@ -68,5 +71,13 @@ pub fn changes(
     let still_going = going_rules(alloc, fence, &changes.rules, wanted.rules())?;
     changes.remove_all(&still_going)?;
     changes.delete_unwanted(fence, &found_routes, &wanted_routes)?;
+    changes.held = find_held(
+        alloc,
+        fence,
+        found.rules(),
+        &found_routes,
+        wanted.rules(),
+        &wanted_routes,
+    )?;
     Ok(changes)
 }

@@ -1,9 +1,10 @@
 //! Which rules and routes may be changed.
 ghost use Rattle.std.specs.Prelude.{◌≡◌, ◌&&◌, ◌++◌, ◌∷◌, [], not, OnOk, false, true};
 ghost use Rattle.prt_route.specs.Route.{is_same_key};
+ghost use Rattle.prt_diff.specs.Held.{is_unread_route, is_unread_rule};
 ghost use Rattle.prt_diff.specs.Fence.{has_number, is_allowed, is_in_fence, is_kernels, is_named, is_route_within, is_rule_within, is_safe_route, is_safe_rule, is_unread_key, is_unread_priority, names_route, names_routes, names_rule};
 
-use crate::names::{is_plain_name, is_plain_rule};
+use crate::names::is_plain_name;
 use prt_route::{LOCAL_TABLE, MAIN_TABLE, Route, RouteKey};
 use prt_rule::Rule;
 use std::alloc::{AllocError, Global};
@@ -60,7 +61,7 @@ fn is_same_key(key: &RouteKey, other: &RouteKey) -> bool
 /// What of the rules and routes may be compared and changed.
 ///
 /// Routes of table local, and those of protocol kernel in table main, stay out of every fence. So do rules of an unread
-/// priority, routes of an unread key, and what `ip -batch` can't read: the name of an interface, or a mark of 0.
+/// priority, routes of an unread key, and interfaces whose names `ip -batch` can't read.
 #[derive(Debug, Drop)]
 pub struct Fence {
     /// Whether the fence has everything.
@@ -198,7 +199,7 @@ impl Fence {
     fn is_safe_rule(&self, rule: &Rule) -> bool
         ensures { result ≡ is_safe_rule self.now rule.now }
     {
-        !self.is_unread_priority(rule.priority) && is_plain_rule(rule)
+        !self.is_unread_priority(rule.priority) && is_plain_name(rule.iif)
     }
 
     /// Tells whether a line names the route, and no other by the same key.
@@ -239,6 +240,16 @@ impl Fence {
         !is_kernels(route) && self.has_route(route)
     }
 
+    /// Tells whether a line that can't be kept has the key of the route, which the fence would have without it.
+    pub(crate) fn is_unread_route(&self, route: &Route) -> bool
+        ensures { result ≡ is_unread_route self.now route.now }
+    {
+        self.is_unread_key(&route.key())
+            && !is_kernels(route)
+            && self.names_route(route)
+            && is_plain_name(route.dev)
+    }
+
     /// Tells whether the fence names everything, or the rule's priority.
     fn names_rule(&self, rule: &Rule) -> bool
         ensures { result ≡ names_rule self.now rule.now }
@@ -251,5 +262,12 @@ impl Fence {
         ensures { result ≡ is_rule_within self.now rule.now }
     {
         self.names_rule(rule) && self.is_safe_rule(rule)
+    }
+
+    /// Tells whether a line that can't be kept has the priority of the rule, which the fence would have without it.
+    pub(crate) fn is_unread_rule(&self, rule: &Rule) -> bool
+        ensures { result ≡ is_unread_rule self.now rule.now }
+    {
+        self.is_unread_priority(rule.priority) && self.names_rule(rule) && is_plain_name(rule.iif)
     }
 }

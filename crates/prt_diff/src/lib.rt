@@ -4,6 +4,7 @@
 mod commands;
 mod diff;
 mod fence;
+mod held;
 mod laws;
 mod names;
 mod outside;
@@ -16,7 +17,8 @@ mod text;
 
 pub use diff::changes;
 pub use fence::{Fence, NumberRange};
-pub use laws::{changes_bring, no_changes_where_same, no_gap_opens};
+pub use held::Held;
+pub use laws::{changes_bring, no_changes_where_same, no_gap_opens, nothing_is_passed_over};
 pub use outside::{Outside, count_outside};
 pub use plan::Changes;
 pub use refusal::NotWritten;

@@ -1,10 +1,9 @@
-//! Names of interfaces, and marks, that `ip -batch` can read.
+//! Names of interfaces that `ip -batch` can read.
 ghost use Rattle.std.specs.Prelude.{◌≡◌};
 ghost use Rattle.std.specs.List.{list_all};
-ghost use Rattle.prt_diff.specs.Names.{is_option, is_plain_byte, is_plain_mark, is_plain_name, is_plain_rule, is_quoting};
+ghost use Rattle.prt_diff.specs.Names.{is_option, is_plain_byte, is_plain_name, is_quoting};
 
 use prt_route::Dev;
-use prt_rule::{Mark, Rule};
 
 /// Tells whether the byte quotes what follows, or hides the rest of the line.
 fn is_quoting(byte: u8) -> bool
@@ -45,22 +44,4 @@ pub(crate) fn is_plain_name(name: Option<Dev>) -> bool
         Some(name) => !is_option(name.as_bytes()) && has_plain_bytes(name.as_bytes()),
         None => true,
     }
-}
-
-/// Tells whether `ip -batch` can read the mark, if there is one. It takes a mark of 0 without a mask as none, and a line has
-/// no mask where each bit counts.
-fn is_plain_mark(mark: Option<Mark>) -> bool
-    ensures { result ≡ is_plain_mark mark }
-{
-    match mark {
-        Some(mark) => !(mark.mark == 0 && mark.mask == u32::MAX),
-        None => true,
-    }
-}
-
-/// Tells whether `ip -batch` can read the rule.
-pub(crate) fn is_plain_rule(rule: &Rule) -> bool
-    ensures { result ≡ is_plain_rule rule.now }
-{
-    is_plain_name(rule.iif) && is_plain_mark(rule.mark)
 }

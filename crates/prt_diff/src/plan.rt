@@ -7,6 +7,7 @@ ghost use Rattle.prt_diff.specs.Routes.{in_turn, unwanted_routes};
 
 use crate::commands::{add_rule, delete_rule};
 use crate::fence::Fence;
+use crate::held::Held;
 use crate::routes::{push_in_turn, push_unwanted_routes};
 use crate::rules::{has_rule, insert_rule, is_first_taken, remove_rule};
 use prt_command::Command;
@@ -27,6 +28,8 @@ pub struct Changes {
     pub left: Vec<Rule>,
     /// The rules that go before others come, since the kernel would refuse those beside them.
     pub early: Vec<Rule>,
+    /// What is left as it is, though the fence names it.
+    pub held: Held,
 }
 
 impl Changes {
@@ -40,6 +43,7 @@ impl Changes {
             moved: Vec::new(alloc),
             left: Vec::new(alloc),
             early: Vec::new(alloc),
+            held: Held::nothing(alloc),
         })
     }
 

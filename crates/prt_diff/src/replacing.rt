@@ -8,7 +8,7 @@ ghost use Rattle.prt_diff.specs.Text.{IsAskedFor, IsWhyNotWritten};
 use crate::commands::{add_rule, replace_route};
 use crate::diff::every_route;
 use crate::fence::is_kernels;
-use crate::names::{is_plain_name, is_plain_rule};
+use crate::names::is_plain_name;
 use crate::refusal::NotWritten;
 use crate::text::commands_text;
 use prt_command::Command;
@@ -45,7 +45,7 @@ fn push_rules(commands: &mut Vec<Command>, rules: &[Rule]) -> Result<(), AllocEr
     ensures { OnOk result (commands.new.items ≡ commands.old.items ++ map add_rule (plain_rules rules.now)) }
 {
     for rule in rules {
-        if is_plain_rule(rule) {
+        if is_plain_name(rule.iif) {
             commands.extend_from_slice(&[add_rule(rule)])?;
         }
     }
@@ -93,8 +93,8 @@ fn replacing_commands(alloc: Global, version: &Version) -> Result<Vec<Command>, 
 ///
 /// First comes `rule del priority 0`, so that `ip -batch` stops before anything has changed if a host has no such rule. With
 /// the `rule flush` after it no rule is left. Then comes each rule with its priority, and each route in the place of one of
-/// its key, those by a gateway last. Left out are routes that the kernel makes itself, and what `ip -batch` can't read: the
-/// name of an interface, or a mark of 0. Each line asks for its command, and ends with a newline.
+/// its key, those by a gateway last. Left out are routes that the kernel makes itself, and what has an interface whose name
+/// `ip -batch` can't read. Each line asks for its command, and ends with a newline.
 ///
 /// # Errors
 ///

@@ -15,7 +15,7 @@ use prt_rule::{Action, Rule};
 use std::alloc::{AllocError, Global};
 
 /// Tells whether the route may not be changed.
-fn is_kept(fence: &Fence, route: &Route) -> bool
+pub(crate) fn is_kept(fence: &Fence, route: &Route) -> bool
     ensures { result ≡ is_kept fence.now route.now }
 {
     !fence.is_route_within(route)
@@ -69,15 +69,34 @@ fn find_same_key(routes: &[Route], route: &Route) -> Option<Route>
     }
 }
 
+/// Tells whether one of the routes has the key.
+pub(crate) fn has_key(routes: &[Route], route: &Route) -> bool
+    requires { IsRising is_listed_before routes.now }
+    ensures { result ≡ has_key (key_of route.now) routes.now }
+{
+    match find_same_key(routes, route) {
+        Some(_) => true,
+        None => false,
+    }
+}
+
+/// Tells whether a kept route has the key.
+pub(crate) fn is_taken(fence: &Fence, found: &[Route], route: &Route) -> bool
+    requires { IsRising is_listed_before found.now }
+    ensures { result ≡ has_key (key_of route.now) (kept_routes fence.now found.now) }
+{
+    match find_same_key(found, route) {
+        Some(other) => is_kept(fence, &other),
+        None => false,
+    }
+}
+
 /// Tells whether no kept route has the key.
 fn is_free(fence: &Fence, found: &[Route], route: &Route) -> bool
     requires { IsRising is_listed_before found.now }
     ensures { result ≡ not (has_key (key_of route.now) (kept_routes fence.now found.now)) }
 {
-    match find_same_key(found, route) {
-        Some(other) => !is_kept(fence, &other),
-        None => true,
-    }
+    !is_taken(fence, found, route)
 }
 
 /// Tells whether a wanted route has the key.
@@ -93,7 +112,7 @@ fn has_wanted_key(fence: &Fence, found: &[Route], wanted: &[Route], route: &Rout
 }
 
 /// Tells whether one of the routes is as this one is wanted.
-fn has_agreeing(routes: &[Route], route: &Route) -> bool
+pub(crate) fn has_agreeing(routes: &[Route], route: &Route) -> bool
     requires { IsRising is_listed_before routes.now }
     ensures { result ≡ has_agreeing route.now routes.now }
 {

@@ -1,8 +1,10 @@
 use prt_command::{Command, Refusal, Request, read_line};
 use prt_diff::{
-    Changes, Fence, NotWritten, changes, changes_text, commands_text, count_outside, replacing_text,
+    Changes, Fence, Held, NotWritten, changes, changes_text, commands_text, count_outside,
+    replacing_text,
 };
 use prt_route::{BOOT_PROTOCOL, Kind, LINK_SCOPE, MAIN_TABLE, Prefix, Route, RouteKey, read_dev};
+use prt_rule::{Action, Rule};
 use prt_version::Version;
 use std::alloc::Global;
 use std::test::Fail;
@@ -98,6 +100,44 @@ fn all_changes(alloc: Global, found: &Version, wanted: &Version) -> Result<Chang
         return Err(Fail::from(Refusal::NoMemory));
     };
     Ok(changes)
+}
+
+/// What is held back of the changes between these two, within this fence.
+fn held_between(
+    alloc: Global,
+    fence: &Fence,
+    found: &Version,
+    wanted: &Version,
+) -> Result<Held, Fail> {
+    match changes(alloc, fence, found, wanted) {
+        Ok(Changes { held, .. }) => Ok(held),
+        Err(_) => Err(Fail::from(Refusal::NoMemory)),
+    }
+}
+
+/// Whether there is one route, and this line puts it.
+fn is_one_route(routes: &[Route], line: &str) -> Result<bool, Refusal> {
+    let wanted = route_of(line)?;
+    match routes {
+        [route] => Ok(*route == wanted),
+        _ => Ok(false),
+    }
+}
+
+/// Whether there is one rule, and it looks up this table.
+fn is_one_lookup(rules: &[Rule], table: u32) -> bool {
+    match rules {
+        [rule] => rule.action == Action::Lookup(table),
+        _ => false,
+    }
+}
+
+/// The route that a line puts.
+fn route_of(line: &str) -> Result<Route, Refusal> {
+    match read_line(line.as_bytes())? {
+        Some(Request::Command(Command::RouteAdd(route))) => Ok(route),
+        _ => Err(Refusal::UnknownVerb),
+    }
 }
 
 /// The lines of the changes between what these scripts make.
@@ -423,6 +463,90 @@ rule del priority 600 from 10.0.0.0/8 to all lookup 7
     );
     let outside = count_outside(&fence, &wanted)?;
     assert_eq!(rt; (outside.rules, outside.routes), (1, 1));
+    let held = held_between(rt.alloc(), &fence, &found, &wanted)?;
+    assert!(rt; is_one_route(&held.hindered_routes, "route add 10.1/16 dev eth1 table 7")?);
+    assert!(rt; is_one_lookup(&held.hindered_rules, 8));
+    assert!(rt; is_one_lookup(&held.staying_rules, 7));
+    assert!(rt; held.blocked_routes.is_empty() && held.staying_routes.is_empty());
+    Ok(())
+}
+
+/// A route and a rule go from the tables, each beside a line that can't be kept.
+#[test]
+fn names_what_stays_beside_the_unread(rt: HostRuntime) -> Result<(), Fail> {
+    let found = made(
+        rt.alloc(),
+        "rule add priority 500 from 10/8 table 7
+route add 10.1/16 dev eth0 table 7",
+    )?;
+    let wanted = Version::opening(rt.alloc())?;
+    let mut fence = Fence::nothing(rt.alloc());
+    fence.add_tables(7, 7)?;
+    fence.add_priorities(500, 500)?;
+    fence.add_unread_priority(500)?;
+    fence.add_unread_key(RouteKey {
+        table: 7,
+        prefix: Prefix::masked(0x0a01_0000, 16),
+        metric: 0,
+    })?;
+    let text = text_of(rt.alloc(), &fence, &found, &wanted)?;
+    assert_eq!(rt; text.as_slice(), "".as_bytes());
+    let held = held_between(rt.alloc(), &fence, &found, &wanted)?;
+    assert!(rt; is_one_route(&held.staying_routes, "route add 10.1/16 dev eth0 table 7")?);
+    assert!(rt; is_one_lookup(&held.staying_rules, 7));
+    let none = held_between(rt.alloc(), &fence, &found, &found)?;
+    assert!(rt; none.is_nothing());
+    Ok(())
+}
+
+/// A route of DHCP is in the place of one of ours, and one by its gateway alone is there already.
+#[test]
+fn names_what_another_blocks(rt: HostRuntime) -> Result<(), Fail> {
+    let found = made(
+        rt.alloc(),
+        "route add default via 192.0.2.1 dev eth0 proto dhcp
+route add 10.1/16 dev eth0 proto dhcp
+route add 10.2/16 via 192.0.2.1 dev e\"0 proto static",
+    )?;
+    let wanted = made(
+        rt.alloc(),
+        "route add default via 192.0.2.9 proto static
+route add 10.1/16 dev eth0 proto static metric 5
+route add 10.2/16 via 192.0.2.1 proto static
+route add 10.3/16 dev eth0",
+    )?;
+    let mut fence = Fence::nothing(rt.alloc());
+    fence.add_protocol(4)?;
+    let text = text_of(rt.alloc(), &fence, &found, &wanted)?;
+    assert_eq!(rt;
+        text.as_slice(),
+        "route replace 10.1.0.0/16 dev eth0 proto static scope link metric 5\n".as_bytes()
+    );
+    let held = held_between(rt.alloc(), &fence, &found, &wanted)?;
+    assert!(rt;
+        is_one_route(
+            &held.blocked_routes,
+            "route add default via 192.0.2.9 proto static"
+        )?
+    );
+    assert!(rt; held.hindered_routes.is_empty() && held.staying_routes.is_empty());
+    Ok(())
+}
+
+/// `ip` reads a mark of 0 without a mask as none.
+#[test]
+fn brings_a_rule_for_the_mark_0(rt: HostRuntime) -> Result<(), Fail> {
+    let unmarked = "rule add priority 50 fwmark 0 table 50";
+    let coming = lines_between(rt.alloc(), "", unmarked)?;
+    assert_eq!(rt;
+        coming.as_slice(),
+        "rule add priority 50 from all fwmark 0x0/0xffffffff lookup 50\n".as_bytes()
+    );
+    let going = lines_between(rt.alloc(), unmarked, "")?;
+    assert_eq!(rt;
+        going.as_slice(),
+        "rule del priority 50 from all to all fwmark 0x0/0xffffffff lookup 50\n".as_bytes()
+    );
     Ok(())
 }
 

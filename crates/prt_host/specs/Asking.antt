@@ -5,11 +5,14 @@ use Rattle.std.specs.Io.KnownBytes.{Appends}
 use Rattle.sqlite.specs.Held.{Held}
 use Rattle.sqlite.specs.Store.{Ghosts}
 use Rattle.prt_addr.specs.Word.{Word}
+use Rattle.prt_addr.specs.declared.addr.Addr.{Addr}
 use Rattle.prt_ask.specs.Answers.{answer}
 use Rattle.prt_ask.specs.Mirrors.{mirror_of, steps_text}
 use Rattle.prt_ask.specs.Questions.{question}
 use Rattle.prt_ask.specs.declared.question.Question.{Question}
+use Rattle.prt_ask.specs.declared.question.Question.TheVariants as questions
 use Rattle.prt_command.specs.declared.request.Command.{Command}
+use Rattle.prt_command.specs.declared.request.Query.TheVariants.{Get}
 use Rattle.prt_diff.specs.Text.{changes_text}
 use Rattle.prt_diff.specs.declared.fence.Fence.{Fence}
 use Rattle.prt_import.specs.Accepted.{IsExecuted}
@@ -68,6 +71,12 @@ IsTold inquiry text = ((told : State) × (text ≡ said inquiry told)) ⊎ ((rep
 -- nothing was written, or a part of this text
 abbrev pub IsCutOff : List ℕ → (writer0 writer : Option (List ℕ)) → Type 0
 IsCutOff text writer0 writer = (writer ≡ writer0) ⊎ Written false writer0 writer text
+
+-- the destination of the packet that is asked about, if one is
+abbrev pub destination_of : Question → Option Addr
+destination_of (questions.Query (Get packet) form) = Some packet.dst
+destination_of (questions.Explain packet form) = Some packet.dst
+destination_of question = None
 
 -- ---- what `ip` printed
 

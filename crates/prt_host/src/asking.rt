@@ -1,6 +1,7 @@
 //! Questions to a database, to the server that has it, or to what a script makes.
-ghost use Rattle.std.specs.Prelude.{◌≡◌, ◌⊎◌, IfErr, IfOk, IfSome, List, false, ℕ};
+ghost use Rattle.std.specs.Prelude.{◌≡◌, ◌⊎◌, IfErr, IfOk, IfSome, List, false, true, ℕ};
 ghost use Rattle.std.specs.Io.KnownBytes.{Appends};
+ghost use Rattle.prt_ask.specs.Answers.{is_whole_change};
 ghost use Rattle.prt_host.specs.Asking.{HasAnswered, HasAnsweredAtMost, IsAnswered, IsAnsweredAtMost, IsAskedAt, IsCutOff, IsNotOpened, IsReplied, IsRepliedAtMost, IsTold, called, said};
 ghost use Rattle.prt_import.specs.Accepted.{IsExecuted};
 ghost use Rattle.prt_import.specs.TableNames.{names_of};
@@ -10,7 +11,7 @@ ghost use Rattle.prt_words.specs.declared.asking.Source.TheVariants.{Server};
 
 use crate::databases::DatabaseFiles;
 use crate::inquiry::{Inquiry, called, said};
-use crate::left::tell_left;
+use crate::left::{tell_left, tell_left_out};
 use crate::machine::{Machine, Wanted};
 use crate::opening::open_desk;
 use crate::reading::{names_for, read_whole, report_no_memory};
@@ -95,18 +96,19 @@ pub(crate) fn write_text<W: Write>(text: Vec<u8>, output: &mut W) -> u8
 }
 
 /// Writes an answer, tells what is to be told of it, and gives the exit status: `REFUSED` where all of it was written, and a
-/// rule has to be left that should go.
+/// rule or a route stays that should go, or isn't brought.
 pub(crate) fn write_made<W: Write, E: Write>(made: Answered, output: &mut W, errors: &mut E) -> u8
     ensures status { (result ≡ DONE) ⊎ ((result ≡ REFUSED) ⊎ (result ≡ FAULT)) }
     ensures whole { (result ≡ DONE) ⊎ (result ≡ REFUSED) → Appends (W.contents output.old) (W.contents output.new) made.text.items }
     ensures part { Written false (W.contents output.old) (W.contents output.new) made.text.items }
+    ensures change { result ≡ DONE → is_whole_change made.notes ≡ true }
 {
     let Answered { text, notes } = made;
     // Of lines that change nothing it isn't news what they leave alone.
     let with_outside = !text.is_empty();
     tell(notes.messages(with_outside), errors);
     let written = write_text(text, output);
-    if written == DONE && !notes.left.is_empty() {
+    if written == DONE && !notes.is_whole_change() {
         return REFUSED;
     }
     written
@@ -250,27 +252,25 @@ fn session_of(source: &Source<'_>, question: &Question<'_>) -> Option<SocketAddr
 ///
 /// # Errors
 ///
-/// The exit status, where the script can't be read or memory is refused.
-fn run_over_new<F: Files, R: Read, W: Write, E: Write>(
-    files: &F,
+/// The exit status, where memory is refused.
+fn run_over_new<W: Write, E: Write>(
     alloc: Global,
-    file: Option<&str>,
-    input: &mut R,
+    script: &[u8],
     output: &mut W,
     errors: &mut E,
 ) -> Result<Accepted, u8>
-    ensures made { IfOk result (λ made. (text : List ℕ) × IsExecuted made text) }
+    ensures made { IfOk result (λ made. IsExecuted made script.now) }
     ensures fault { IfErr result (λ status. status ≡ FAULT) }
     ensures unwritten { W.contents output.new ≡ W.contents output.old }
 {
-    let text = read_whole(files, alloc, file, input, output, errors)?;
-    match accept(alloc, &text) {
+    match accept(alloc, script) {
         Ok(accepted) => Ok(accepted),
         Err(_) => Err(report_no_memory(output, errors)),
     }
 }
 
-/// Asks what a script makes of a new database, tells which of its lines are refused, and gives the exit status.
+/// Asks what a script makes of a new database, tells which of its lines are refused and what its comments say was left out,
+/// and gives the exit status.
 fn ask_script<F: Files, R: Read, W: Write, E: Write>(
     files: &F,
     alloc: Global,
@@ -284,17 +284,23 @@ fn ask_script<F: Files, R: Read, W: Write, E: Write>(
     ensures whole { result ≡ DONE → (made : Accepted) × (text : List ℕ) × IsExecuted made text × Appends (W.contents output.old) (W.contents output.new) (said inquiry.now made.version) }
     ensures part { (W.contents output.new ≡ W.contents output.old) ⊎ ((made : Accepted) × (text : List ℕ) × IsExecuted made text × IsCutOff (said inquiry.now made.version) (W.contents output.old) (W.contents output.new)) }
 {
-    let made = match run_over_new(files, alloc, file, input, output, errors) {
+    let script = match read_whole(files, alloc, file, input, output, errors) {
+        Ok(script) => script,
+        Err(status) => return status,
+    };
+    let made = match run_over_new(alloc, &script, output, errors) {
         Ok(made) => made,
         Err(status) => return status,
     };
     let left = tell_left(alloc, &made.left, errors);
     let place = file.unwrap_or(STANDARD_INPUT);
     let answered = said(alloc, &made.version, inquiry);
-    match write_answer(alloc, &place, answered, output, errors) {
-        DONE => left,
-        status => status,
+    let written = write_answer(alloc, &place, answered, output, errors);
+    if written != DONE {
+        return written;
     }
+    tell_left_out(alloc, place, &script, &inquiry.question, errors);
+    left
 }
 
 /// Asks the tables at a source, and gives the exit status.

@@ -73,11 +73,12 @@ pub(crate) fn follow_server<F: Files + Alloc + Clone + Drop, N: Net, R: Read, W:
         Ok(begun) => begun,
         Err(reason) => return report_none(alloc, &place, reason, output, errors),
     };
+    let told = made.notes.rest().unwrap_or_else(|_| String::new(alloc));
     let written = write_made(made, output, errors);
     if following.is_once || written == FAULT {
         return if written == DONE { left } else { written };
     }
-    let end = follow(alloc, &mut mirror, &mut reader, output, errors);
+    let end = follow(alloc, &mut mirror, &mut reader, told, output, errors);
     tell_end(alloc, place, end, errors);
     FAULT
 }

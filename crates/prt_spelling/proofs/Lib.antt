@@ -4,6 +4,7 @@ pub mod Values
 pub mod Texts
 pub mod Words
 pub mod Reading
+pub mod Marks
 pub mod RouteItems
 pub mod RouteLines
 pub mod RouteChoices

@@ -21,17 +21,17 @@ use Rattle.prt_command.specs.Then.{map_ok}
 use Rattle.prt_command.specs.declared.item.Item.TheVariants as item
 use Rattle.prt_command.specs.declared.item.Items.{Items}
 use Rattle.prt_command.specs.declared.item.Slot.TheVariants.{From, To, Iif, Fwmark, Priority, Action, Suppress}
-use Rattle.prt_listing.specs.Parts.{mark_text, part, prefix_or, table_text}
-use Rattle.prt_listing.specs.RuleText.{action_text, mark_part, not_part}
+use Rattle.prt_listing.specs.Parts.{part, prefix_or, table_text}
+use Rattle.prt_listing.specs.RuleText.{action_text, not_part}
 use Rattle.prt_spelling.specs.Fits.{ActionFits, MarkFits}
-use Rattle.prt_spelling.specs.Parts.{prefix_part}
+use Rattle.prt_spelling.specs.Parts.{given_mark_part, given_mark_text, prefix_part}
 use Rattle.prt_spelling.specs.Plain.{is_plain_name}
 use Rattle.prt_spelling.specs.Spelled.{is_spelled_action}
 use Rattle.prt_spelling.proofs.Digits.{number_back}
 use Rattle.prt_spelling.proofs.Texts.{IsWord, ReadsOne, reads_alone, reads_keyword, reads_left_out}
 use Rattle.prt_spelling.proofs.RouteItems.{from_one, name_read, table_back, word_of_block}
-use Rattle.prt_spelling.proofs.Values.{mark_back}
-use Rattle.prt_spelling.proofs.Words.{decimal_word, mark_word, name_facts, named_word}
+use Rattle.prt_spelling.proofs.Marks.{given_mark_back, given_mark_word}
+use Rattle.prt_spelling.proofs.Words.{decimal_word, name_facts, named_word}
 
 -- ---- what a line says of each part
 
@@ -87,11 +87,11 @@ to_reads (Some p) given new is =
     reads_keyword rule_edit_line 2 18 given To (codes "to") (prefix_or (codes "all") p) (item.To p) refl (ap is_some new) (ap (λ o. map_ok item.To (ok_or o BadPrefix)) (all_word p is).0)
     (record { some = omega arith; plain = refl; short = omega arith }) (all_word p is).1
 
-pub mark_reads : (o : Option Mark) (given : Items) → given.fwmark ≡ None → IfSome o MarkFits → ReadsOne rule_edit_line 140 given (with_mark given o) (mark_part o)
+pub mark_reads : (o : Option Mark) (given : Items) → given.fwmark ≡ None → IfSome o MarkFits → ReadsOne rule_edit_line 140 given (with_mark given o) (given_mark_part o)
 mark_reads None given new fits = reads_left_out rule_edit_line 140 given (with_mark given None) (ap (with_mark given) new)
 mark_reads (Some m) given new fits =
-    reads_keyword rule_edit_line 6 133 given Fwmark (codes "fwmark") (mark_text m) (item.Fwmark m) refl (ap is_some new) (ap (map_ok item.Fwmark) (mark_back m fits.0 fits.1))
-    (record { some = omega arith; plain = refl; short = omega arith }) (mark_word m fits.0 fits.1)
+    reads_keyword rule_edit_line 6 133 given Fwmark (codes "fwmark") (given_mark_text m) (item.Fwmark m) refl (ap is_some new) (ap (map_ok item.Fwmark) (given_mark_back m fits.0 fits.1))
+    (record { some = omega arith; plain = refl; short = omega arith }) (given_mark_word m fits.0 fits.1)
 
 pub iif_reads : (o : Option Word) (given : Items) → given.iif ≡ None → is_plain_name o ≡ true → ReadsOne rule_edit_line 19 given (with_iif given o) (part (codes "iif") o)
 iif_reads None given new plain = reads_left_out rule_edit_line 19 given (with_iif given None) (ap (with_iif given) new)

@@ -211,7 +211,7 @@ hex n = codes "0x" ++ digits 16 false n
 hex_apart : (n : ℕ) → n < 2 ^ 32 → Each (λ c. is_slash c ≡ false) (hex n)
 hex_apart n fits = (refl, (refl, each_implies IsHexDigit (λ c. is_slash c ≡ false) unslashed_hex (digits 16 false n) (hex_is n fits).digits))
 
-abbrev mark_by : ℕ → ℕ → Mark
+abbrev pub mark_by : ℕ → ℕ → Mark
 mark_by m mask = record { mark = m; mask = mask }
 
 after_slash : (xs ys : List ℕ) (y : ℕ) → drop (length xs + 1) (xs ++ y ∷ ys) ≡ ys

@@ -1,5 +1,5 @@
 -- What the line of a command says, part by part: ip-route(8), ip-rule(8).
-use Rattle.std.specs.Prelude.{ℕ, Bool, ◌&&◌, ◌==◌, is_none, if◌then◌else◌, List, [], ◌∷◌, ◌++◌, Option, Some, None, option_map, codes, decimal}
+use Rattle.std.specs.Prelude.{ℕ, Bool, ◌^◌, ◌-◌, ◌&&◌, ◌==◌, is_none, if◌then◌else◌, List, [], ◌∷◌, ◌++◌, Option, Some, None, option_map, codes, decimal}
 use Rattle.prt_addr.specs.Addr.{addr_text}
 use Rattle.prt_addr.specs.Block.{Block}
 use Rattle.prt_route.specs.Kind.{kind_name}
@@ -12,10 +12,11 @@ use Rattle.prt_route.specs.declared.choice.Selector.{Selector}
 use Rattle.prt_route.specs.declared.kind.Kind.TheVariants.{Unicast}
 use Rattle.prt_route.specs.declared.route.Route.{Route}
 use Rattle.prt_rule.specs.declared.choice.RuleChoice.{RuleChoice}
+use Rattle.prt_rule.specs.declared.rule.Mark.{Mark}
 use Rattle.prt_command.specs.declared.request.NewRule.{NewRule}
-use Rattle.prt_listing.specs.Parts.{is_everything, name_or_number, part, prefix_or, table_text}
+use Rattle.prt_listing.specs.Parts.{is_everything, mark_text, name_or_number, part, prefix_or, table_text}
 use Rattle.prt_listing.specs.RouteText.{route_parts, table_part}
-use Rattle.prt_listing.specs.RuleText.{action_text, mark_part, not_part}
+use Rattle.prt_listing.specs.RuleText.{action_text, not_part}
 use Rattle.prt_listing.specs.declared.route.TablePart.TheVariants.{Shown}
 
 -- ---- routes
@@ -82,6 +83,17 @@ selector_parts selector =
 abbrev pub prefix_part : List ℕ → Option Block → Option (List ℕ)
 prefix_part word block = part word (option_map (prefix_or (codes "all")) block)
 
+-- the mark 0 of which every bit counts: `ip` reads `fwmark 0` as no mark, if it has no mask
+abbrev pub is_zero_mark : Mark → Bool
+is_zero_mark m = m.mark == 0 && m.mask == 2 ^ 32 - 1
+
+-- a mark as a listing shows it, but 0 with its mask
+abbrev pub given_mark_text : Mark → List ℕ
+given_mark_text m = if is_zero_mark m then codes "0x0/0xffffffff" else mark_text m
+
+abbrev pub given_mark_part : Option Mark → Option (List ℕ)
+given_mark_part mark = part (codes "fwmark") (option_map given_mark_text mark)
+
 -- a rule to be deleted: all that is given
 abbrev pub rule_choice_parts : RuleChoice → List (Option (List ℕ))
 rule_choice_parts choice =
@@ -89,7 +101,7 @@ rule_choice_parts choice =
     ∷ not_part choice.inverted
     ∷ prefix_part (codes "from") choice.from
     ∷ prefix_part (codes "to") choice.to
-    ∷ mark_part choice.mark
+    ∷ given_mark_part choice.mark
     ∷ part (codes "iif") choice.iif
     ∷ option_map action_text choice.action
     ∷ part (codes "suppress_prefixlength") (option_map decimal choice.suppress)

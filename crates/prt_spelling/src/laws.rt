@@ -15,6 +15,7 @@ ghost use Rattle.prt_command.specs.declared.request.Request.TheVariants as reque
 ghost use Rattle.prt_listing.specs.Parts.{mark_text, name_or_number, table_text};
 ghost use Rattle.prt_spelling.specs.Fits.{CommandFits};
 ghost use Rattle.prt_spelling.specs.Line.{command_line};
+ghost use Rattle.prt_spelling.specs.Parts.{given_mark_text};
 ghost use Rattle.prt_spelling.specs.Spelled.{is_spelled};
 
 /// A value that is written is read back as that value.
@@ -26,6 +27,7 @@ pub fn values_read_back()
     ensures protocol { (n : ℕ) → n ≤ 255 → protocol (name_or_number protocols n) ≡ Some n }
     ensures scope { (n : ℕ) → n ≤ 255 → scope (name_or_number scopes n) ≡ Some n }
     ensures mark { (m : Mark) → m.mark < 2 ^ 32 → m.mask < 2 ^ 32 → mark (mark_text m) ≡ Ok m }
+    ensures given_mark { (m : Mark) → m.mark < 2 ^ 32 → m.mask < 2 ^ 32 → mark (given_mark_text m) ≡ Ok m }
 {}
 
 /// The line of a command that can be spelled asks for the command.

@@ -4,15 +4,15 @@ ghost use Rattle.prt_route.specs.Kind.{kind_name};
 ghost use Rattle.prt_listing.specs.Parts.{part};
 ghost use Rattle.prt_listing.specs.RuleText.{action_text};
 ghost use Rattle.prt_listing.specs.Steps.{part_of, value_text};
-ghost use Rattle.prt_spelling.specs.Parts.{given_of, global_part, has_unsaid_scope, prefix_part, proto_part, range_part, ranged, route_choice_parts, rule_choice_parts, scope_part, selector_parts, tables_text};
+ghost use Rattle.prt_spelling.specs.Parts.{given_mark_part, given_mark_text, given_of, global_part, has_unsaid_scope, is_zero_mark, prefix_part, proto_part, range_part, ranged, route_choice_parts, rule_choice_parts, scope_part, selector_parts, tables_text};
 
 use prt_command::NewRule;
 use prt_listing::{
-    Part, TablePart, Value, action_part, addr_part, dev_part, is_everything, mark_part, not_part,
-    prefix_or, protocol_value, scope_value, suppress_part, table_part, table_value,
+    Part, TablePart, Value, action_part, addr_part, dev_part, is_everything, not_part, prefix_or,
+    protocol_value, scope_value, suppress_part, table_part, table_value,
 };
 use prt_route::{GLOBAL_SCOPE, Kind, Prefix, Range, Route, RouteChoice, Selector};
-use prt_rule::{Action, RuleChoice};
+use prt_rule::{Action, Mark, RuleChoice};
 
 /// Tells whether a listing leaves out the scope of the route, and a new route would have another.
 fn has_unsaid_scope(route: &Route) -> bool
@@ -158,6 +158,34 @@ fn given_action(action: Option<Action>) -> Option<Part>
 {
     match action {
         Some(action) => Some(action_part(action)),
+        None => None,
+    }
+}
+
+/// Tells whether the mark is 0, and every bit of it counts.
+fn is_zero_mark(mark: Mark) -> bool
+    ensures { result ≡ is_zero_mark mark }
+{
+    mark.mark == 0 && mark.mask == u32::MAX
+}
+
+/// Gives the mark as a line gives it: 0 with its mask, since `ip` reads it as no mark without one.
+fn mark_value(mark: Mark) -> Value
+    ensures { value_text result ≡ given_mark_text mark }
+{
+    if is_zero_mark(mark) {
+        Value::Text("0x0/0xffffffff")
+    } else {
+        Value::Mark(mark)
+    }
+}
+
+/// Gives the mark, if one is given.
+fn mark_part(mark: Option<Mark>) -> Option<Part>
+    ensures { part_of result ≡ given_mark_part mark }
+{
+    match mark {
+        Some(mark) => Some(Part::Named("fwmark", mark_value(mark))),
         None => None,
     }
 }

@@ -23,6 +23,9 @@ rule add to all blackhole
 rule del priority 0
 rule delete not from all to any
 rule d fwmark 1 dev lo prohibit
+rule a fwmark 0 table 7
+rule d fwmark 0x0/0xFFFFFFFF
+rule a fwmark 0/0 table 7
 rule del lookup 100 suppress_prefixlength 32
 ru flush";
 
@@ -44,6 +47,9 @@ rule add from all blackhole
 rule del priority 0
 rule del not from all to all
 rule del fwmark 0x1 iif lo prohibit
+rule add from all fwmark 0x0/0xffffffff lookup 7
+rule del fwmark 0x0/0xffffffff
+rule add from all fwmark 0x0/0x0 lookup 7
 rule del lookup 100 suppress_prefixlength 32
 rule flush
 ";

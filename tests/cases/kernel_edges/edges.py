@@ -26,16 +26,28 @@ def host_of(*lines):
     return space
 
 
+def rules_of(space, priority):
+    """The rules of a priority, as the kernel has them."""
+    return [line.partition("\t")[2] for line in clean(space.ip("rule", "show").stdout) if line.startswith(f"{priority}:")]
+
+
 def mark_of_zero():
-    """A rule for packets without a mark, which `ip` can't be told, isn't brought as one for every packet."""
+    """A rule for packets without a mark is brought as one, and not as one for every packet. It goes again, and no other does."""
+    marked = "rule add priority 50 fwmark 7 table 51"
     space = host_of(DEFAULT, "route add default via 198.51.100.1 dev eth1 table 50", "rule add priority 50 fwmark 0/0xffffffff table 50")
     print(told_of(space.listed()))
-    brought = host_of(DEFAULT)
+    brought = host_of(DEFAULT, marked)
     print(bring(brought, *ALL), end="")
-    packets = ["203.0.113.7 mark 7"]
+    print(rules_of(brought, 50))
+    packets = ["203.0.113.7", "203.0.113.7 mark 7"]
     print(brought.answers(packets) == space.answers(packets), repr(differs(brought, *ALL)))
-    space.close()
-    brought.close()
+    fresh = host_of()
+    fresh.do(prt("dump", "--db", DATABASE, "--replace").stdout.splitlines())
+    print(rules_of(fresh, 50))
+    tables_of(DEFAULT, marked)
+    print(bring(brought, *ALL) + str(rules_of(brought, 50)))
+    for each in (space, brought, fresh):
+        each.close()
 
 
 def unknown_selectors():
@@ -109,6 +121,38 @@ def several_next_hops():
     space.close()
 
 
+def held_back(done):
+    """The status of a difference, its lines, and what it says of what isn't brought or stays."""
+    said = [line for line in done.stderr.splitlines() if "isn't brought" in line or "stays" in line]
+    print(done.returncode, done.stdout.splitlines())
+    print("".join(f"{line}\n" for line in said), end="")
+
+
+def place_that_is_taken():
+    """A route of DHCP, outside the fence, has the place of one of ours. It stays, and ours is named."""
+    ours = ["route add default via 192.0.2.9 dev eth0 proto static", "route add 10.1.0.0/16 via 192.0.2.9 dev eth0 proto static"]
+    tables_of(*ours, "route add 10.2.0.0/16 via 192.0.2.9 dev eth0 proto static table 100 metric 5")
+    space = host_of("route add default via 192.0.2.1 dev eth0 proto dhcp", "route add 10.2.0.0/16 dev eth1 proto dhcp table 100 metric 5")
+    fence = ("--db", DATABASE, "--proto", "static")
+    held_back(prt("diff", *fence, input=space.listed()))
+    bring(space, *fence)
+    held_back(prt("diff", *fence, input=space.listed()))
+    print(prt("diff", *fence, "--check", input=space.listed()).returncode)
+    print(clean(space.ip("route", "show", "default").stdout), clean(space.ip("route", "show", "10.1.0.0/16").stdout))
+    space.close()
+
+
+def beside_what_cannot_be_kept():
+    """What shares its place with a line that can't be kept neither comes nor goes, and is named."""
+    hops = "nexthop via 192.0.2.1 dev eth0 nexthop via 198.51.100.1 dev eth1"
+    tables_of(DEFAULT, "rule add priority 100 from 10.6.0.0/16 table 9", "rule add priority 101 from 10.6.0.0/16 table 9")
+    space = host_of(f"route add default {hops}", "rule add priority 100 oif eth0 table 7", "rule add priority 100 from 10.5.0.0/16 table 8")
+    held_back(prt("diff", *ALL, input=space.listed()))
+    bring(space, *ALL)
+    print(rules_of(space, 100), rules_of(space, 101), space.ip("route", "show", "default").stdout.count("nexthop"))
+    space.close()
+
+
 def other_listings():
     """What `ip` prints otherwise, and what busybox prints, is no listing."""
     hops = "nexthop via 192.0.2.1 dev eth0 nexthop via 198.51.100.1 dev eth1"
@@ -126,7 +170,7 @@ def other_listings():
 
 EDGES = [
     mark_of_zero, unknown_selectors, copied_connected_routes, gateway_without_device, names_of_protocols, names_with_quotes,
-    several_next_hops, other_listings,
+    several_next_hops, place_that_is_taken, beside_what_cannot_be_kept, other_listings,
 ]
 for edge in EDGES:
     print(f"{edge.__name__.replace('_', ' ')}:")

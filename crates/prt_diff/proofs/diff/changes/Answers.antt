@@ -5,8 +5,8 @@ use Rattle.prt_diff.specs.Routes.{early_routes, in_turn, late_routes, missing_ro
 use Rattle.prt_diff.specs.Rules.{barring_rules, bars_one, coming_rules, going_rules}
 use Rattle.prt_diff.proofs.diff.changes.Goals as goal
 
-pub returns : goal.returns
-returns c =
+pub returns-clause-plan : goal.returns-clause-plan
+returns-clause-plan c =
     let fence = c.args.fence.now in
     let f = c.args.found.now in
     let w = c.args.wanted.now in
