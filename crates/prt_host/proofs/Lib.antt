@@ -1,4 +1,2 @@
-mod Asked
-mod Followed
 mod Runs
 mod Served

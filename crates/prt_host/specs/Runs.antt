@@ -18,11 +18,11 @@ use Rattle.prt_words.specs.declared.fault.TheConstants.{DONE, FAULT}
 use Rattle.prt_words.specs.declared.asking.Asked.{Asked}
 use Rattle.prt_words.specs.declared.serving.Serving.{Serving}
 use Rattle.prt_words.specs.declared.task.Mode.{Mode}
-use Rattle.prt_host.specs.Closing.{LeavesNoneOpen}
-use Rattle.prt_host.specs.Asking.{IsDone, IsDoneAtMost}
-use Rattle.prt_host.specs.Sessions.{RunsOverMachine}
+use Rattle.prt_questions.specs.Closing.{LeavesNoneOpen}
+use Rattle.prt_questions.specs.Asking.{IsDone, IsDoneAtMost}
+use Rattle.prt_questions.specs.Sessions.{RunsOverMachine}
 use Rattle.prt_host.specs.Serving.{HasServed, IsServed}
-use Rattle.prt_host.specs.declared.asking.TheConstants.{REFUSED}
+use Rattle.prt_questions.specs.declared.asking.TheConstants.{REFUSED}
 
 module _ {M S : Type 0} (g : Ghosts S) (opens : M → M → List ℕ → Held S → Type 0) (refuses : M → M → List ℕ → Type 0) (closes : M → M → Held S → Type 0) (old new : M) where
   -- The database at a path was opened, served and closed; or it was refused, and no other was touched. This is the exit status.

@@ -5,7 +5,7 @@ use Rattle.sqlite.specs.Store.{Ghosts}
 use Rattle.prt_refusals.specs.declared.refusal.Refusal.{Refusal}
 use Rattle.prt_publisher.specs.Openings.{OpensOne}
 use Rattle.prt_publisher.specs.Standing.{Standing}
-use Rattle.prt_host.specs.Closing.{IsClosedAgain, LeavesNoneOpen}
+use Rattle.prt_questions.specs.Closing.{IsClosedAgain, LeavesNoneOpen}
 use Rattle.prt_serve.specs.declared.listen.Accepting.{Accepting}
 use Rattle.prt_serve.specs.declared.listen.Accepting.TheVariants.{Failed, NoWorkers}
 use Rattle.prt_serve.specs.declared.listen.ServeEnd.{ServeEnd}

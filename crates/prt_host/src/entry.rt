@@ -3,12 +3,10 @@ ghost use Rattle.prt_host.specs.Runs.{RunsPrt};
 ghost use Rattle.prt_program.specs.Program.{streams_of};
 ghost use Rattle.prt_words.specs.Invocation.{arguments, invocation};
 
-use crate::databases::DatabaseFiles;
-use crate::machine::Machine;
-use crate::questions::answer_question;
 use crate::server::serve;
 use crate::telling::tell_failure;
 use prt_program::{Next, Noting, program};
+use prt_questions::{DatabaseFiles, Machine, answer_question};
 use sqlite::{Alter, Connection};
 use std::alloc::{Alloc, Global};
 use std::fs::Files;

@@ -1,7 +1,7 @@
 //! Laws of runs, which no program calls.
 ghost use Rattle.prt_host.specs.Runs.{AskedIsFound, RunBegins, RunIsFound, ServiceIsFound};
 
-use crate::machine::Machine;
+use prt_questions::Machine;
 use sqlite::{Alter, Connection};
 
 /// A run begins with the state that its opening made (`begins`). An opening after a run makes a state that the session of

@@ -5,14 +5,12 @@ ghost use Rattle.prt_words.specs.declared.fault.Fault.{Fault};
 ghost use Rattle.prt_publisher.specs.Standing.{IsQuiet};
 ghost use Rattle.prt_service.specs.Named.{IsReleased};
 
-use crate::databases::DatabaseFiles;
-use crate::machine::{Machine, Wanted};
-use crate::opening::open_publisher;
 use crate::serving::{NotListened, faults_of, listen, serve_named};
 use crate::telling::tell_shared;
 use prt_grace::Domain;
 use prt_program::{cause_message, log_message};
 use prt_publisher::Publisher;
+use prt_questions::{DatabaseFiles, Machine, Wanted, open_publisher};
 use prt_words::{DONE, FAULT, Fault, Serving, report};
 use sqlite::{Alter, Connection};
 use std::alloc::Global;

@@ -1,5 +1,6 @@
 //! What is told on standard error beside a session.
 use prt_program::{Noting, Refusal, cause_message};
+use prt_questions::tell;
 use prt_serve::Gate;
 use prt_service::{Naming, Service};
 use prt_session::Reply;
@@ -11,14 +12,7 @@ use std::sync::atomic::{AtomicBool, Ordering};
 use std::sync::{Mutex, Wait};
 use std::time::Duration;
 
-/// Writes a message, where there was memory for it.
-pub(crate) fn tell<E: Write>(message: Result<String, AllocError>, errors: &mut E) {
-    if let Ok(message) = message {
-        let _ = errors.write_all(message.as_bytes());
-    }
-}
-
-/// The same, to an end that threads share.
+/// Writes a message to an end that threads share, if there was memory for it.
 pub(crate) fn tell_shared<H: Wait, E: Write + Drop>(
     rt: &H,
     message: Result<String, AllocError>,

@@ -1,0 +1,77 @@
+-- What was asked of a source, and what was written of a text.
+use Rattle.std.proofs.Common.{◌≡◌, ◌⊎◌, ◌∙◌, arith, eqb-true, inl, inr, ℕ, true, List, [], ◌∷◌, ◌++◌, length, Option, Some, ap, append-nil, refl, sym}
+use Rattle.std.specs.Prelude.{◌==◌, false}
+use Rattle.std.specs.Io.KnownBytes.{Appends}
+use Rattle.std.specs.declared.net.socket_addr.SocketAddrV4.{SocketAddrV4}
+use Rattle.sqlite.specs.Held.{Held}
+use Rattle.sqlite.specs.Store.{Ghosts}
+use Rattle.prt_import.specs.Accepted.{IsExecuted}
+use Rattle.prt_import.specs.declared.accepted.Accepted.{Accepted}
+use Rattle.prt_replies.specs.Written.{Written}
+use Rattle.prt_version.specs.State.{State}
+use Rattle.prt_words.specs.declared.asking.Source.{Source}
+use Rattle.prt_words.specs.declared.asking.Source.TheVariants.{Database, Server, Script}
+use Rattle.prt_questions.specs.Asking.{IsAnswered, IsAnsweredAtMost, IsAskedOf, IsCutOff, IsNotAsked, IsReplied, IsRepliedAtMost, IsTold, called, said}
+use Rattle.prt_questions.specs.declared.inquiry.Inquiry.{Inquiry}
+use Rattle.prt_import.specs.TableNames.{names_of}
+
+module _ {M S : Type 0} (g : Ghosts S) (opens : M → M → List ℕ → Held S → Type 0) (refuses : M → M → List ℕ → Type 0) (closes : M → M → Held S → Type 0) (old new : M) where
+  -- what holds of the state that was asked, and what follows from it
+  pub asked_more : (source : Source) (P Q : State → Type 0) → ((state : State) → P state → Q state) → IsAskedOf g opens refuses closes old new source P → IsAskedOf g opens refuses closes old new source Q
+  asked_more (Database path) P Q more asked = record {
+    between = asked.between;
+    first = asked.first;
+    last = asked.last;
+    is_opened = asked.is_opened;
+    made = (asked.made.0, asked.made.1, more asked.made.0 asked.made.2);
+    is_closed = asked.is_closed;
+  }
+  asked_more (Server place) P Q more asked = (asked.0, asked.1, more asked.1 asked.2)
+  asked_more (Script file) P Q more asked = (asked.0, asked.1, asked.2, asked.3, more asked.1.version asked.4)
+
+  -- an answer of which nothing was written
+  nothing_said : (text before lines : List ℕ) → Appends (Some before) (Some lines) text → before ≡ [] → lines ≡ [] → text ≡ []
+  nothing_said text before lines appended begun empty = sym (ap (λ xs. xs ++ text) begun) ∙ sym appended ∙ empty
+
+  pub says_nothing : (source : Source) (says : State → List ℕ) (before lines : List ℕ) → before ≡ [] → lines ≡ []
+      → IsAnswered g opens refuses closes old new (Some before) (Some lines) source says → IsAskedOf g opens refuses closes old new source (λ state. says state ≡ [])
+  says_nothing source says before lines begun empty answered =
+      asked_more source (λ state. Appends (Some before) (Some lines) (says state)) (λ state. says state ≡ [])
+      (λ state appended. nothing_said (says state) before lines appended begun empty) answered
+
+  -- whether it was asked, whatever was written
+  pub asked_or_not : (source : Source) (says : State → List ℕ) (writer0 writer : Option (List ℕ)) → IsAnsweredAtMost g opens refuses closes old new writer0 writer source says
+      → IsNotAsked g opens refuses closes old new source ⊎ IsAskedOf g opens refuses closes old new source (λ state. Unit {0})
+  asked_or_not source says writer0 writer (inl not_asked) = inl not_asked.0
+  asked_or_not source says writer0 writer (inr asked) = inr (asked_more source (λ state. IsCutOff (says state) writer0 writer) (λ state. Unit {0}) (λ state cut. tt) asked)
+
+-- all of a text is a part of it
+pub whole_is_part : (writer0 writer : Option (List ℕ)) (text : List ℕ) → Appends writer0 writer text → Written false writer0 writer text
+whole_is_part writer0 writer text appended = (text, [], sym (append-nil text), appended)
+
+-- a list without elements
+pub none_there : (xs : List ℕ) → (length xs == 0) ≡ true → xs ≡ []
+none_there [] is = refl
+none_there (x ∷ xs) is = let bad : length (x ∷ xs) ≡ 0 = eqb-true (length (x ∷ xs)) 0 is in absurd (omega arith)
+
+-- of a script no database is touched
+pub of_script : {M : Type 0} (machine : M) (writer0 writer : Option (List ℕ)) (says : State → List ℕ)
+    → (writer ≡ writer0) ⊎ ((made : Accepted) × (text : List ℕ) × IsExecuted made text × IsCutOff (says made.version) writer0 writer)
+    → ((machine ≡ machine) × (writer ≡ writer0)) ⊎ ((machine ≡ machine) × (made : Accepted) × (text : List ℕ) × IsExecuted made text × IsCutOff (says made.version) writer0 writer)
+of_script machine writer0 writer says (inl same) = inl (refl, same)
+of_script machine writer0 writer says (inr made) = inr (refl, made.0, made.1, made.2, made.3)
+
+-- what a server said and was written, of its tables or by a session
+module _ {M S : Type 0} (g : Ghosts S) (opens : M → M → List ℕ → Held S → Type 0) (refuses : M → M → List ℕ → Type 0) (closes : M → M → Held S → Type 0) (machine : M) (writer0 writer : Option (List ℕ)) where
+  pub told_whole : (place : SocketAddrV4) (inquiry : Inquiry) (text : List ℕ) → IsTold inquiry text → Appends writer0 writer text
+      → IsAnswered g opens refuses closes machine machine writer0 writer (Server place) (said inquiry)
+      ⊎ IsReplied g opens refuses closes machine machine writer0 writer (Server place) (called inquiry.labels inquiry.form (names_of inquiry.names.now))
+  told_whole place inquiry text (inl (told, is)) appended = inl (refl, told, rw (sym is) appended)
+  told_whole place inquiry text (inr (reply, is)) appended = inr (refl, reply, rw (sym is) appended)
+
+  pub told_at_most : (place : SocketAddrV4) (inquiry : Inquiry) → (writer ≡ writer0) ⊎ ((text : List ℕ) × IsTold inquiry text × IsCutOff text writer0 writer)
+      → IsAnsweredAtMost g opens refuses closes machine machine writer0 writer (Server place) (said inquiry)
+      ⊎ IsRepliedAtMost g opens refuses closes machine machine writer0 writer (Server place) (called inquiry.labels inquiry.form (names_of inquiry.names.now))
+  told_at_most place inquiry (inl same) = inl (inl (refl, same))
+  told_at_most place inquiry (inr (text, inl (told, is), cut)) = inl (inr (refl, told, rw (sym is) cut))
+  told_at_most place inquiry (inr (text, inr (reply, is), cut)) = inr (refl, reply, rw (sym is) cut)

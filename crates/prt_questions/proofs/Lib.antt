@@ -1,0 +1,3 @@
+pub mod Alone
+mod Asked
+mod Followed

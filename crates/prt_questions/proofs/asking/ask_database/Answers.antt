@@ -1,0 +1,34 @@
+use Rattle.std.proofs.Common.{◌≡◌, ◌∙◌, inr, List, ap, subst, sym}
+use Rattle.std.specs.Prelude.{ℕ, IfOk, Result, Vec}
+use Rattle.sqlite.specs.Held.{Held}
+use Rattle.prt_front.specs.Line.{line_state}
+use Rattle.prt_publisher.specs.Openings.{HasOpened}
+use Rattle.prt_questions.specs.Asking.{said}
+use Rattle.prt_questions.proofs.asking.ask_database.Goals as goal
+
+pub returns : goal.returns
+returns g c =
+    let opened = c.in-Ok.ensures.opened in
+    let stored = line_state c.in-Ok.desk.line in
+    let kept : HasOpened g.S.Store opened.was c.end.result stored = subst (λ (last : Held _). HasOpened g.S.Store opened.was last stored) (sym c.end.ensures.tables) opened.opened in
+    let text : List ℕ = said c.args.inquiry.now stored in
+    let says = subst (λ state. IfOk c.said-answered.result (λ made. made.text.items ≡ said c.args.inquiry.now state)) c.version.ensures c.said-answered.ensures in
+    record {
+      status = c.write_answer.ensures.status;
+      whole = λ done. record {
+        between = c.open_desk-opened.new.machine;
+        first = opened.was;
+        last = c.end.result;
+        is_opened = opened.found;
+        made = (stored, kept, c.write_answer.ensures.whole text says done);
+        is_closed = c.close.ensures;
+      };
+      at_most = inr (record {
+        between = c.open_desk-opened.new.machine;
+        first = opened.was;
+        last = c.end.result;
+        is_opened = opened.found;
+        made = (stored, kept, c.write_answer.ensures.part text says);
+        is_closed = c.close.ensures;
+      });
+    }

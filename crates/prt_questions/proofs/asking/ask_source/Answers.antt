@@ -1,0 +1,18 @@
+use Rattle.std.proofs.Common.{refl}
+use Rattle.prt_questions.specs.Asking.{said}
+use Rattle.prt_questions.proofs.Asked.{of_script}
+use Rattle.prt_questions.proofs.asking.ask_source.Goals as goal
+
+pub returns-in-Database-clause-whole : goal.returns-in-Database-clause-whole
+returns-in-Database-clause-whole g c = rw c.in-Database.is c.ask_database.ensures.whole
+
+pub returns-in-Database-clause-at_most : goal.returns-in-Database-clause-at_most
+returns-in-Database-clause-at_most g c = rw c.in-Database.is c.ask_database.ensures.at_most
+
+pub returns-in-Script-clause-whole : goal.returns-in-Script-clause-whole
+returns-in-Script-clause-whole g c = rw c.in-Script.is (λ done. let answered = c.ask_script.ensures.whole done in (refl, answered.0, answered.1, answered.2, answered.3))
+
+pub returns-in-Script-clause-at_most : goal.returns-in-Script-clause-at_most
+returns-in-Script-clause-at_most g c =
+    let contents = g.W.Write.contents in
+    rw c.in-Script.is (of_script c.args.databases.now.machine (contents c.args.output.now) (contents c.ask_script.new.output) (said c.args.inquiry.now) c.ask_script.ensures.part)

@@ -1,0 +1,232 @@
+-- What comes of a question.
+use Rattle.std.specs.Prelude.{◌≡◌, ◌⊎◌, ℕ, Bool, true, false, List, [], ◌++◌, Ok, Option, Some, None, option_map}
+use Rattle.std.specs.List.{list_all}
+use Rattle.std.specs.Io.KnownBytes.{Appends}
+use Rattle.sqlite.specs.Held.{Held}
+use Rattle.sqlite.specs.Store.{Ghosts}
+use Rattle.prt_addr.specs.Word.{Word}
+use Rattle.prt_addr.specs.declared.addr.Addr.{Addr}
+use Rattle.prt_ask.specs.Answers.{answer}
+use Rattle.prt_ask.specs.Mirrors.{mirror_of, steps_text}
+use Rattle.prt_ask.specs.Questions.{question}
+use Rattle.prt_ask.specs.declared.question.Question.{Question}
+use Rattle.prt_ask.specs.declared.question.Question.TheVariants as questions
+use Rattle.prt_command.specs.declared.request.Command.{Command}
+use Rattle.prt_command.specs.declared.request.Query.TheVariants.{Get}
+use Rattle.prt_diff.specs.Text.{changes_text}
+use Rattle.prt_diff.specs.declared.fence.Fence.{Fence}
+use Rattle.prt_import.specs.Accepted.{IsExecuted}
+use Rattle.prt_import.specs.Imported.{IsImportOf}
+use Rattle.prt_import.specs.Naming.{with_names}
+use Rattle.prt_import.specs.TableNames.{KnownNames, TableNames, names_of}
+use Rattle.prt_import.specs.declared.accepted.Accepted.{Accepted}
+use Rattle.prt_import.specs.declared.imported.Imported.{Imported}
+use Rattle.prt_import.specs.declared.left.Left.{Left}
+use Rattle.prt_import.specs.declared.naming.Text.{Text}
+use Rattle.prt_import.specs.declared.naming.Text.TheVariants as forms
+use Rattle.prt_import.specs.declared.reason.Reason.{Reason}
+use Rattle.prt_import.specs.declared.reason.Reason.TheVariants.{Kernel}
+use Rattle.prt_program.specs.Program.{RunsText}
+use Rattle.prt_refusals.specs.declared.refusal.Refusal.{Refusal}
+use Rattle.prt_publisher.specs.Openings.{HasOpened}
+use Rattle.prt_replies.specs.Written.{Written}
+use Rattle.prt_version.specs.Accepted.{IsAccepted}
+use Rattle.prt_version.specs.State.{State}
+use Rattle.prt_words.specs.declared.asking.Asked.{Asked}
+use Rattle.prt_words.specs.declared.asking.Asked.TheVariants.{Tables, Diff, Follow, Import, Wait}
+use Rattle.prt_words.specs.declared.asking.Asking.{Asking}
+use Rattle.prt_words.specs.declared.asking.Form.{Form}
+use Rattle.prt_words.specs.declared.asking.Form.TheVariants.{Json, Lines as InLines}
+use Rattle.prt_words.specs.declared.asking.Labels.{Labels}
+use Rattle.prt_words.specs.declared.asking.Labels.TheVariants.{Names, Numbers}
+use Rattle.prt_words.specs.declared.asking.Shown.{Shown}
+use Rattle.prt_words.specs.declared.asking.Shown.TheVariants.{Lines, Status}
+use Rattle.prt_words.specs.declared.asking.Source.{Source}
+use Rattle.prt_words.specs.declared.asking.Source.TheVariants.{Database, Server, Script}
+use Rattle.prt_words.specs.declared.fault.TheConstants.{DONE}
+use Rattle.prt_words.specs.declared.reach.Reach.{Reach}
+use Rattle.prt_questions.specs.Fencing.{IsFenceOf}
+use Rattle.prt_questions.specs.Closing.{IsClosedAgain, LeavesNoneOpen}
+use Rattle.prt_questions.specs.Sessions.{RunsOverMachine}
+use Rattle.prt_questions.specs.declared.inquiry.Inquiry.{Inquiry}
+
+-- ---- what is said
+
+abbrev pub text_form : Form → Text
+text_form InLines = forms.Lines
+text_form Json = forms.Json
+
+-- a text with tables called by their numbers, or by names
+abbrev pub called : Labels → Form → TableNames → List ℕ → List ℕ
+called Numbers form names text = text
+called Names form names text = with_names (text_form form) names text
+
+abbrev pub said : Inquiry → State → List ℕ
+said inquiry state = called inquiry.labels inquiry.form (names_of inquiry.names.now) (answer inquiry.question state)
+
+-- what a server says to an inquiry: the answer of its tables, or the reply of a session, with tables called as is asked
+abbrev pub IsTold : Inquiry → List ℕ → Type 0
+IsTold inquiry text = ((told : State) × (text ≡ said inquiry told)) ⊎ ((reply : List ℕ) × (text ≡ called inquiry.labels inquiry.form (names_of inquiry.names.now) reply))
+
+-- nothing was written, or a part of this text
+abbrev pub IsCutOff : List ℕ → (writer0 writer : Option (List ℕ)) → Type 0
+IsCutOff text writer0 writer = (writer ≡ writer0) ⊎ Written false writer0 writer text
+
+-- the destination of the packet that is asked about, if one is
+abbrev pub destination_of : Question → Option Addr
+destination_of (questions.Query (Get packet) form) = Some packet.dst
+destination_of (questions.Explain packet form) = Some packet.dst
+destination_of question = None
+
+-- ---- what `ip` printed
+
+-- What a new database accepts of the script of a text, with some names of tables.
+pub record IsListing (accepted : Accepted) : Type 0 where
+  pub names : KnownNames
+  pub text : List ℕ
+  pub imported : Imported
+  pub is_of : IsImportOf imported names text
+  pub executed : IsExecuted accepted imported.script.items
+
+abbrev pub is_kernel : Reason → Bool
+is_kernel Kernel = true
+is_kernel reason = false
+
+-- the kernel makes a line itself
+abbrev pub is_kernels : Left → Bool
+is_kernels line = is_kernel line.reason
+
+-- no line is left out but for those
+abbrev pub AreKernels : List Left → Type 0
+AreKernels lines = list_all is_kernels lines ≡ true
+
+-- all of it is kept
+abbrev pub IsKept : (accepted : Accepted) → IsListing accepted → Type 0
+IsKept accepted listing = AreKernels listing.imported.left.items × AreKernels accepted.left.items
+
+-- a listing that is kept
+abbrev pub IsWholeListing : Accepted → Type 0
+IsWholeListing accepted = (listing : IsListing accepted) × IsKept accepted listing
+
+-- ---- a server that is followed
+
+-- the lines that bring a listing to the tables of a server, within a fence, and then those for commands in turn
+abbrev pub follow_text : Fence → State → State → List Command → List ℕ
+follow_text fence found wanted commands = changes_text fence found wanted ++ steps_text (mirror_of fence found wanted) commands
+
+-- a listing that is kept was brought to the tables that a feed told
+abbrev pub HasFollowed : (writer0 writer : Option (List ℕ)) → Reach → Type 0
+HasFollowed writer0 writer reach =
+    (accepted : Accepted) × IsWholeListing accepted × (fence : Fence) × IsFenceOf reach fence × (told : State)
+    × Appends writer0 writer (changes_text fence accepted.version told)
+
+-- In any case: nothing was written, or a part at most of the lines for the tables that a feed told, and for the commands that it told in turn.
+abbrev pub HasFollowedAtMost : (writer0 writer : Option (List ℕ)) → Reach → Type 0
+HasFollowedAtMost writer0 writer reach =
+    (writer ≡ writer0)
+    ⊎ ((accepted : Accepted) × IsListing accepted × (fence : Fence) × IsFenceOf reach fence × (told : State) × (commands : List Command)
+    × IsAccepted told commands × Written false writer0 writer (follow_text fence accepted.version told commands))
+
+-- ---- what was done
+
+module _ {M S : Type 0} (g : Ghosts S) (opens : M → M → List ℕ → Held S → Type 0) (refuses : M → M → List ℕ → Type 0) (closes : M → M → Held S → Type 0) (old new : M) where
+  -- The database at a path was opened and closed, and this holds of its state. No other was touched.
+  abbrev pub IsAskedAt : List ℕ → (State → Type 0) → Type 0
+  IsAskedAt path Holds = IsClosedAgain opens closes (λ first last. (stored : State) × HasOpened g first last stored × Holds stored) old new path
+
+  -- no database was touched, or the one at a path could not be opened
+  abbrev pub IsNotOpened : List ℕ → Type 0
+  IsNotOpened path = (new ≡ old) ⊎ ((reason : Refusal) × LeavesNoneOpen opens refuses closes g reason old new path)
+
+  -- The state at a source was asked, and this holds of it: that of a database, one that a server told, or what a script makes of a new database.
+  abbrev pub IsAskedOf : Source → (State → Type 0) → Type 0
+  IsAskedOf (Database path) Holds = IsAskedAt path.now Holds
+  IsAskedOf (Server place) Holds = (new ≡ old) × (told : State) × Holds told
+  IsAskedOf (Script file) Holds = (new ≡ old) × (made : Accepted) × (text : List ℕ) × IsExecuted made text × Holds made.version
+
+  abbrev pub IsNotAsked : Source → Type 0
+  IsNotAsked (Database path) = IsNotOpened path.now
+  IsNotAsked source = new ≡ old
+
+module _ {M S : Type 0} (g : Ghosts S) (opens : M → M → List ℕ → Held S → Type 0) (refuses : M → M → List ℕ → Type 0) (closes : M → M → Held S → Type 0) (old new : M) (writer0 writer : Option (List ℕ)) where
+  -- all that the state at a source says was written
+  abbrev pub IsAnswered : Source → (says : State → List ℕ) → Type 0
+  IsAnswered source says = IsAskedOf g opens refuses closes old new source (λ state. Appends writer0 writer (says state))
+
+  -- in any case: it was not asked, and nothing was written; or it was, and a part at most
+  abbrev pub IsAnsweredAtMost : Source → (says : State → List ℕ) → Type 0
+  IsAnsweredAtMost source says =
+      (IsNotAsked g opens refuses closes old new source × (writer ≡ writer0))
+      ⊎ IsAskedOf g opens refuses closes old new source (λ state. IsCutOff (says state) writer0 writer)
+
+  -- a session of a server replied, and all of its reply was written, by this way of calling tables
+  abbrev pub IsReplied : Source → (calls : List ℕ → List ℕ) → Type 0
+  IsReplied (Server place) calls = (new ≡ old) × (reply : List ℕ) × Appends writer0 writer (calls reply)
+  IsReplied source calls = ⊥
+
+  -- and in any case, a part of it at most
+  abbrev pub IsRepliedAtMost : Source → (calls : List ℕ → List ℕ) → Type 0
+  IsRepliedAtMost (Server place) calls = (new ≡ old) × (reply : List ℕ) × IsCutOff (calls reply) writer0 writer
+  IsRepliedAtMost source calls = ⊥
+
+  -- a question was asked, and all of its answer was written
+  abbrev pub HasAnswered : Asking → Type 0
+  HasAnswered asking =
+      (asked : Question) × (question asking.verb asking.line.items asking.form ≡ Ok asked)
+      × (names : TableNames) × (IsAnswered asking.source (λ state. called asking.labels asking.form names (answer asked state))
+      ⊎ IsReplied asking.source (called asking.labels asking.form names))
+
+  -- in any case: its words ask nothing, or it was answered in part at most
+  abbrev pub HasAnsweredAtMost : Asking → Type 0
+  HasAnsweredAtMost asking =
+      (IsNotAsked g opens refuses closes old new asking.source × (writer ≡ writer0))
+      ⊎ ((asked : Question) × (question asking.verb asking.line.items asking.form ≡ Ok asked)
+      × (names : TableNames) × (IsAnsweredAtMost asking.source (λ state. called asking.labels asking.form names (answer asked state))
+      ⊎ IsRepliedAtMost asking.source (called asking.labels asking.form names)))
+
+  -- what differs from the state of a listing was written, or nothing differs
+  abbrev pub HasCompared : Reach → Shown → Source → Type 0
+  HasCompared reach Lines source = (accepted : Accepted) × IsWholeListing accepted × (fence : Fence) × IsFenceOf reach fence × IsAnswered source (changes_text fence accepted.version)
+  HasCompared reach Status source = (accepted : Accepted) × IsWholeListing accepted × (fence : Fence) × IsFenceOf reach fence × (writer ≡ writer0) × IsAskedOf g opens refuses closes old new source (λ state. changes_text fence accepted.version state ≡ [])
+
+  -- In any case: there was no listing, or a part at most was written of what differs from it. A status alone writes nothing.
+  abbrev pub HasComparedAtMost : Reach → Shown → Source → Type 0
+  HasComparedAtMost reach Lines source =
+      (IsNotAsked g opens refuses closes old new source × (writer ≡ writer0))
+      ⊎ ((accepted : Accepted) × IsListing accepted × (fence : Fence) × IsFenceOf reach fence × IsAnsweredAtMost source (changes_text fence accepted.version))
+  HasComparedAtMost reach Status source = (writer ≡ writer0) × (IsNotAsked g opens refuses closes old new source ⊎ IsAskedOf g opens refuses closes old new source (λ state. Unit {0}))
+
+  -- the script of a listing was written, or run over the database at a path, with this status
+  abbrev pub IsImported : Option Word → Accepted → (status : ℕ) → Type 0
+  IsImported None accepted status = (new ≡ old) × Appends writer0 writer accepted.script.items
+  IsImported (Some path) accepted status =
+      RunsText (λ old new path reason. LeavesNoneOpen opens refuses closes g reason old new path) (RunsOverMachine g opens closes old new) old new path accepted.script.items writer0 writer status
+
+  -- all of a listing was imported, and no line was refused
+  abbrev pub HasImported : Option Word → Type 0
+  HasImported database = (accepted : Accepted) × IsWholeListing accepted × IsImported database accepted DONE
+
+  -- the script was written in part, or run to its end with some status
+  abbrev pub IsImportedInPart : Option Word → Accepted → Type 0
+  IsImportedInPart None accepted = (new ≡ old) × IsCutOff accepted.script.items writer0 writer
+  IsImportedInPart (Some path) accepted = (status : ℕ) × IsImported (Some path) accepted status
+
+  -- in any case: there was no listing, and nothing was done, or it was imported in part
+  abbrev pub HasImportedAtMost : Option Word → Type 0
+  HasImportedAtMost database = ((new ≡ old) × (writer ≡ writer0)) ⊎ ((accepted : Accepted) × IsListing accepted × IsImportedInPart database accepted)
+
+  -- what was asked is done, where the exit status is 0
+  abbrev pub IsDone : Asked → Type 0
+  IsDone (Tables asking) = HasAnswered asking
+  IsDone (Diff diffing) = HasCompared diffing.reach diffing.shown diffing.source
+  IsDone (Follow following) = (new ≡ old) × HasFollowed writer0 writer following.reach
+  IsDone (Wait waiting) = (new ≡ old) × (writer ≡ writer0)
+  IsDone (Import importing) = HasImported (option_map (λ path. path.now) importing.database)
+
+  -- and what is left in any case
+  abbrev pub IsDoneAtMost : Asked → Type 0
+  IsDoneAtMost (Tables asking) = HasAnsweredAtMost asking
+  IsDoneAtMost (Diff diffing) = HasComparedAtMost diffing.reach diffing.shown diffing.source
+  IsDoneAtMost (Follow following) = (new ≡ old) × HasFollowedAtMost writer0 writer following.reach
+  IsDoneAtMost (Wait waiting) = (new ≡ old) × (writer ≡ writer0)
+  IsDoneAtMost (Import importing) = HasImportedAtMost (option_map (λ path. path.now) importing.database)

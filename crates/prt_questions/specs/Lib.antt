@@ -1,0 +1,4 @@
+pub mod Closing
+pub mod Sessions
+pub mod Asking
+pub mod Fencing

@@ -1,0 +1,422 @@
+//! Questions to a database, to the server that has it, or to what a script makes.
+ghost use Rattle.std.specs.Prelude.{◌≡◌, ◌⊎◌, IfErr, IfOk, IfSome, List, false, true, ℕ};
+ghost use Rattle.std.specs.Io.KnownBytes.{Appends};
+ghost use Rattle.prt_ask.specs.Answers.{is_whole_change};
+ghost use Rattle.prt_questions.specs.Asking.{HasAnswered, HasAnsweredAtMost, IsAnswered, IsAnsweredAtMost, IsAskedAt, IsCutOff, IsNotOpened, IsReplied, IsRepliedAtMost, IsTold, called, said};
+ghost use Rattle.prt_import.specs.Accepted.{IsExecuted};
+ghost use Rattle.prt_import.specs.TableNames.{names_of};
+ghost use Rattle.prt_replies.specs.Written.{Written};
+ghost use Rattle.prt_version.specs.State.{State};
+ghost use Rattle.prt_words.specs.declared.asking.Source.TheVariants.{Server};
+
+use crate::databases::DatabaseFiles;
+use crate::inquiry::{Inquiry, called, said};
+use crate::left::{tell_left, tell_left_out};
+use crate::machine::{Machine, Wanted};
+use crate::opening::open_desk;
+use crate::reading::{names_for, read_whole, report_no_memory};
+use crate::remote::{Told, ask_line, read_tables};
+use crate::telling::tell;
+use prt_ask::{Answered, NotAnswered, Question, question_of};
+use prt_import::{Accepted, accept};
+use prt_program::{cause_message, log_message, question_message};
+use prt_replies::{Reply, Text, write_reply};
+use prt_words::{Asking, DONE, FAULT, Fault, Form, STANDARD_INPUT, Source, report};
+use sqlite::{Alter, Connection};
+use std::alloc::{Alloc, AllocError, Global};
+use std::fmt::Display;
+use std::fs::Files;
+use std::io::{Read, Write};
+use std::net::{Net, SocketAddrV4};
+use std::sync::Wait;
+
+/// The exit status where the words ask nothing, where a rule or a route has no line, where a line is refused or can't be
+/// kept, and where anything differs.
+pub const REFUSED: u8 = 1;
+
+/// Makes the message of a row of listings that no line can spell.
+fn row_message<P: Display>(
+    alloc: Global,
+    place: &P,
+    listing: &str,
+    row: usize,
+) -> Result<String, AllocError> {
+    let row = row.saturating_add(1);
+    format!(in alloc; "prt: {place}: line {row} of `{listing}`: no command can give it this name\n")
+}
+
+/// Makes the message of why there is no answer, but for want of memory.
+pub(crate) fn none_message<P: Display>(
+    alloc: Global,
+    place: &P,
+    reason: NotAnswered,
+) -> Result<String, AllocError> {
+    match reason {
+        NotAnswered::Rule(row) => row_message(alloc, place, "rule show", row),
+        NotAnswered::Route(row) => row_message(alloc, place, "route show table all", row),
+        NotAnswered::Refused(refusal) => {
+            format!(in alloc; "prt: {place}: a change is refused over the listing: {refusal}\n")
+        }
+        NotAnswered::Gap => format!(in alloc; "prt: {place}: the feed left a change out\n"),
+        NotAnswered::Change | NotAnswered::NoMemory => {
+            format!(in alloc; "prt: {place}: a change has a name that no command can give\n")
+        }
+    }
+}
+
+/// Tells why there is no answer, and gives the exit status for it.
+pub(crate) fn report_none<P: Display, W: Write, E: Write>(
+    alloc: Global,
+    place: &P,
+    reason: NotAnswered,
+    output: &mut W,
+    errors: &mut E,
+) -> u8
+    ensures status { (result ≡ REFUSED) ⊎ (result ≡ FAULT) }
+    ensures unwritten { W.contents output.new ≡ W.contents output.old }
+{
+    if let NotAnswered::NoMemory = reason {
+        return report_no_memory(output, errors);
+    }
+    tell(none_message(alloc, place, reason), errors);
+    REFUSED
+}
+
+/// Writes a text, and gives the exit status for it: `DONE` where all of it was written, else `FAULT`.
+pub(crate) fn write_text<W: Write>(text: Vec<u8>, output: &mut W) -> u8
+    ensures status { (result ≡ DONE) ⊎ (result ≡ FAULT) }
+    ensures whole { result ≡ DONE → Appends (W.contents output.old) (W.contents output.new) text.items }
+    ensures part { Written false (W.contents output.old) (W.contents output.new) text.items }
+{
+    if write_reply(output, &Reply::Answered(Text::new(text))) {
+        DONE
+    } else {
+        FAULT
+    }
+}
+
+/// Writes an answer, tells what is to be told of it, and gives the exit status: `REFUSED` where all of it was written, and a
+/// rule or a route stays that should go, or isn't brought.
+pub(crate) fn write_made<W: Write, E: Write>(made: Answered, output: &mut W, errors: &mut E) -> u8
+    ensures status { (result ≡ DONE) ⊎ ((result ≡ REFUSED) ⊎ (result ≡ FAULT)) }
+    ensures whole { (result ≡ DONE) ⊎ (result ≡ REFUSED) → Appends (W.contents output.old) (W.contents output.new) made.text.items }
+    ensures part { Written false (W.contents output.old) (W.contents output.new) made.text.items }
+    ensures change { result ≡ DONE → is_whole_change made.notes ≡ true }
+{
+    let Answered { text, notes } = made;
+    // Of lines that change nothing it isn't news what they leave alone.
+    let with_outside = !text.is_empty();
+    tell(notes.messages(with_outside), errors);
+    let written = write_text(text, output);
+    if written == DONE && !notes.is_whole_change() {
+        return REFUSED;
+    }
+    written
+}
+
+/// Writes an answer of the tables at a place, or tells why there is none, and gives the exit status.
+fn write_answer<P: Display, W: Write, E: Write>(
+    alloc: Global,
+    place: &P,
+    answered: Result<Answered, NotAnswered>,
+    output: &mut W,
+    errors: &mut E,
+) -> u8
+    ensures status { (result ≡ DONE) ⊎ ((result ≡ REFUSED) ⊎ (result ≡ FAULT)) }
+    ensures whole { (text : List ℕ) → IfOk answered (λ made. made.text.items ≡ text) → result ≡ DONE → Appends (W.contents output.old) (W.contents output.new) text }
+    ensures part { (text : List ℕ) → IfOk answered (λ made. made.text.items ≡ text) → IsCutOff text (W.contents output.old) (W.contents output.new) }
+{
+    match answered {
+        Ok(made) => write_made(made, output, errors),
+        Err(reason) => report_none(alloc, place, reason, output, errors),
+    }
+}
+
+/// Asks the database at a path, which is opened and closed, and gives the exit status.
+fn ask_database<
+    S: Alter + Drop,
+    M: Machine<Connection<S>> + Drop,
+    F: Files,
+    H: Wait + Copy + Drop,
+    W: Write,
+    E: Write,
+>(
+    databases: &mut DatabaseFiles<'_, S, M, F, H>,
+    alloc: Global,
+    path: &str,
+    inquiry: &Inquiry<'_>,
+    output: &mut W,
+    errors: &mut E,
+) -> u8
+    ensures status { (result ≡ DONE) ⊎ ((result ≡ REFUSED) ⊎ (result ≡ FAULT)) }
+    ensures whole { result ≡ DONE → IsAskedAt S.Store M.opens M.refuses M.closes databases.old.machine databases.new.machine path.now (λ state. Appends (W.contents output.old) (W.contents output.new) (said inquiry.now state)) }
+    ensures at_most { (IsNotOpened S.Store M.opens M.refuses M.closes databases.old.machine databases.new.machine path.now × (W.contents output.new ≡ W.contents output.old))
+        ⊎ IsAskedAt S.Store M.opens M.refuses M.closes databases.old.machine databases.new.machine path.now (λ state. IsCutOff (said inquiry.now state) (W.contents output.old) (W.contents output.new)) }
+{
+    let (files, rt) = (databases.files, databases.rt);
+    let opened = open_desk(&mut databases.machine, files, rt, alloc, path, Wanted::Ours);
+    let desk = match opened {
+        Ok(desk) => desk,
+        Err((refusal, cause)) => {
+            let status = report(&Fault::Opening(refusal), output, errors);
+            if let Some(cause) = cause {
+                tell(cause_message(alloc, &path, &cause), errors);
+            }
+            return status;
+        }
+    };
+    let answered = said(alloc, desk.version(), inquiry);
+    if let Err(reason) = databases.machine.close(desk.end()) {
+        tell(log_message(alloc, path, &reason), errors);
+    }
+    write_answer(alloc, &path, answered, output, errors)
+}
+
+/// Asks the server whose feed is at a place, and gives the exit status.
+fn ask_server<N: Net, W: Write, E: Write>(
+    rt: &N,
+    alloc: Global,
+    place: SocketAddrV4,
+    inquiry: &Inquiry<'_>,
+    output: &mut W,
+    errors: &mut E,
+) -> u8
+    ensures status { (result ≡ DONE) ⊎ ((result ≡ REFUSED) ⊎ (result ≡ FAULT)) }
+    ensures whole { result ≡ DONE → (told : State) × Appends (W.contents output.old) (W.contents output.new) (said inquiry.now told) }
+    ensures part { (W.contents output.new ≡ W.contents output.old) ⊎ ((told : State) × IsCutOff (said inquiry.now told) (W.contents output.old) (W.contents output.new)) }
+{
+    match read_tables(rt, alloc, place) {
+        Ok(version) => {
+            let answered = said(alloc, &version, inquiry);
+            write_answer(alloc, &place, answered, output, errors)
+        }
+        Err(reason) => {
+            tell(cause_message(alloc, &place, &reason), errors);
+            FAULT
+        }
+    }
+}
+
+/// Gives what a server said to an inquiry, with tables called as it asks.
+fn said_by(alloc: Global, told: Told, inquiry: &Inquiry<'_>) -> Result<Vec<u8>, NotAnswered>
+    ensures { IfOk result (λ text. IsTold inquiry.now text.items) }
+{
+    match told {
+        Told::Tables(version) => match said(alloc, &version, inquiry) {
+            Ok(made) => Ok(made.text),
+            Err(reason) => Err(reason),
+        },
+        Told::Reply(reply) => called(alloc, inquiry, reply),
+    }
+}
+
+/// Sends a server the line of an inquiry, and gives the exit status. A session replies to it; a feed tells its tables,
+/// and they are asked.
+fn ask_session<N: Net, W: Write, E: Write>(
+    rt: &N,
+    alloc: Global,
+    place: SocketAddrV4,
+    line: &[u8],
+    inquiry: &Inquiry<'_>,
+    output: &mut W,
+    errors: &mut E,
+) -> u8
+    ensures status { (result ≡ DONE) ⊎ ((result ≡ REFUSED) ⊎ (result ≡ FAULT)) }
+    ensures whole { result ≡ DONE → (text : List ℕ) × IsTold inquiry.now text × Appends (W.contents output.old) (W.contents output.new) text }
+    ensures part { (W.contents output.new ≡ W.contents output.old) ⊎ ((text : List ℕ) × IsTold inquiry.now text × IsCutOff text (W.contents output.old) (W.contents output.new)) }
+{
+    let told = match ask_line(rt, alloc, place, line) {
+        Ok(told) => told,
+        Err(reason) => {
+            tell(cause_message(alloc, &place, &reason), errors);
+            return FAULT;
+        }
+    };
+    match said_by(alloc, told, inquiry) {
+        Ok(text) => write_text(text, output),
+        Err(reason) => report_none(alloc, &place, reason, output, errors),
+    }
+}
+
+/// Gives the server that is asked by a line: of its session or of its feed.
+fn session_of(source: &Source<'_>, question: &Question<'_>) -> Option<SocketAddrV4>
+    ensures { IfSome result (λ place. source.now ≡ Server place) }
+{
+    match (source, question) {
+        (Source::Server(place), Question::Query(_, Form::Lines)) => Some(*place),
+        _ => None,
+    }
+}
+
+/// Executes a script over a new database, and leaves out each line that is refused.
+///
+/// # Errors
+///
+/// The exit status, where memory is refused.
+fn run_over_new<W: Write, E: Write>(
+    alloc: Global,
+    script: &[u8],
+    output: &mut W,
+    errors: &mut E,
+) -> Result<Accepted, u8>
+    ensures made { IfOk result (λ made. IsExecuted made script.now) }
+    ensures fault { IfErr result (λ status. status ≡ FAULT) }
+    ensures unwritten { W.contents output.new ≡ W.contents output.old }
+{
+    match accept(alloc, script) {
+        Ok(accepted) => Ok(accepted),
+        Err(_) => Err(report_no_memory(output, errors)),
+    }
+}
+
+/// Asks what a script makes of a new database, tells which of its lines are refused and what its comments say was left out,
+/// and gives the exit status.
+fn ask_script<F: Files, R: Read, W: Write, E: Write>(
+    files: &F,
+    alloc: Global,
+    file: Option<&str>,
+    inquiry: &Inquiry<'_>,
+    input: &mut R,
+    output: &mut W,
+    errors: &mut E,
+) -> u8
+    ensures status { (result ≡ DONE) ⊎ ((result ≡ REFUSED) ⊎ (result ≡ FAULT)) }
+    ensures whole { result ≡ DONE → (made : Accepted) × (text : List ℕ) × IsExecuted made text × Appends (W.contents output.old) (W.contents output.new) (said inquiry.now made.version) }
+    ensures part { (W.contents output.new ≡ W.contents output.old) ⊎ ((made : Accepted) × (text : List ℕ) × IsExecuted made text × IsCutOff (said inquiry.now made.version) (W.contents output.old) (W.contents output.new)) }
+{
+    let script = match read_whole(files, alloc, file, input, output, errors) {
+        Ok(script) => script,
+        Err(status) => return status,
+    };
+    let made = match run_over_new(alloc, &script, output, errors) {
+        Ok(made) => made,
+        Err(status) => return status,
+    };
+    let left = tell_left(alloc, &made.left, errors);
+    let place = file.unwrap_or(STANDARD_INPUT);
+    let answered = said(alloc, &made.version, inquiry);
+    let written = write_answer(alloc, &place, answered, output, errors);
+    if written != DONE {
+        return written;
+    }
+    tell_left_out(alloc, place, &script, &inquiry.question, errors);
+    left
+}
+
+/// Asks the tables at a source, and gives the exit status.
+pub(crate) fn ask_source<
+    S: Alter + Drop,
+    M: Machine<Connection<S>> + Drop,
+    F: Files,
+    N: Net + Wait + Copy + Drop,
+    R: Read,
+    W: Write,
+    E: Write,
+>(
+    databases: &mut DatabaseFiles<'_, S, M, F, N>,
+    alloc: Global,
+    source: &Source<'_>,
+    inquiry: &Inquiry<'_>,
+    input: &mut R,
+    output: &mut W,
+    errors: &mut E,
+) -> u8
+    ensures status { (result ≡ DONE) ⊎ ((result ≡ REFUSED) ⊎ (result ≡ FAULT)) }
+    ensures whole { result ≡ DONE → IsAnswered S.Store M.opens M.refuses M.closes databases.old.machine databases.new.machine (W.contents output.old) (W.contents output.new) source.now (said inquiry.now) }
+    ensures at_most { IsAnsweredAtMost S.Store M.opens M.refuses M.closes databases.old.machine databases.new.machine (W.contents output.old) (W.contents output.new) source.now (said inquiry.now) }
+{
+    match source {
+        Source::Database(path) => ask_database(databases, alloc, path, inquiry, output, errors),
+        Source::Server(place) => ask_server(&databases.rt, alloc, *place, inquiry, output, errors),
+        Source::Script(file) => {
+            ask_script(
+                databases.files,
+                alloc,
+                *file,
+                inquiry,
+                input,
+                output,
+                errors,
+            )
+        }
+    }
+}
+
+/// Asks the tables at a source, or a server by the line of the question, and gives the exit status.
+fn ask_tables<
+    S: Alter + Drop,
+    M: Machine<Connection<S>> + Drop,
+    F: Files,
+    N: Net + Wait + Copy + Drop,
+    R: Read,
+    W: Write,
+    E: Write,
+>(
+    databases: &mut DatabaseFiles<'_, S, M, F, N>,
+    alloc: Global,
+    asking: &Asking<'_>,
+    inquiry: &Inquiry<'_>,
+    input: &mut R,
+    output: &mut W,
+    errors: &mut E,
+) -> u8
+    ensures status { (result ≡ DONE) ⊎ ((result ≡ REFUSED) ⊎ (result ≡ FAULT)) }
+    ensures whole { result ≡ DONE → IsAnswered S.Store M.opens M.refuses M.closes databases.old.machine databases.new.machine (W.contents output.old) (W.contents output.new) asking.now.source (said inquiry.now)
+        ⊎ IsReplied S.Store M.opens M.refuses M.closes databases.old.machine databases.new.machine (W.contents output.old) (W.contents output.new) asking.now.source (called inquiry.now.labels inquiry.now.form (names_of inquiry.now.names.now)) }
+    ensures at_most { IsAnsweredAtMost S.Store M.opens M.refuses M.closes databases.old.machine databases.new.machine (W.contents output.old) (W.contents output.new) asking.now.source (said inquiry.now)
+        ⊎ IsRepliedAtMost S.Store M.opens M.refuses M.closes databases.old.machine databases.new.machine (W.contents output.old) (W.contents output.new) asking.now.source (called inquiry.now.labels inquiry.now.form (names_of inquiry.now.names.now)) }
+{
+    let (source, rt) = (&asking.source, databases.rt);
+    match session_of(source, &inquiry.question) {
+        Some(place) => ask_session(&rt, alloc, place, &asking.line, inquiry, output, errors),
+        None => ask_source(databases, alloc, source, inquiry, input, output, errors),
+    }
+}
+
+/// Asks a question, and gives the exit status.
+///
+/// The status is 0 where all of the answer was written. It is 1 where the words ask nothing, as of a line with a fault,
+/// where a line of the script that is asked is refused, and where a dump has a rule or a route with a name that no line can
+/// spell. It is 3 for a fault of opening, of the server, of reading, of memory or of the writer.
+///
+/// A database is opened and closed. There has to be one at its path, and no rule or route of it changes; its tables may be
+/// made those of the newest format. Of a server or of a script no database is touched. A server is asked `get` and `show`
+/// by their line, unless JSON is wanted; its feed and its sessions both answer that.
+pub(crate) fn ask<
+    S: Alter + Drop,
+    M: Machine<Connection<S>> + Drop,
+    F: Files + Alloc + Clone + Drop,
+    N: Net + Wait + Copy + Drop,
+    R: Read,
+    W: Write,
+    E: Write,
+>(
+    databases: &mut DatabaseFiles<'_, S, M, F, N>,
+    alloc: Global,
+    asking: &Asking<'_>,
+    input: &mut R,
+    output: &mut W,
+    errors: &mut E,
+) -> u8
+    ensures status { (result ≡ DONE) ⊎ ((result ≡ REFUSED) ⊎ (result ≡ FAULT)) }
+    ensures whole { result ≡ DONE → HasAnswered S.Store M.opens M.refuses M.closes databases.old.machine databases.new.machine (W.contents output.old) (W.contents output.new) asking.now }
+    ensures at_most { HasAnsweredAtMost S.Store M.opens M.refuses M.closes databases.old.machine databases.new.machine (W.contents output.old) (W.contents output.new) asking.now }
+{
+    let question = match question_of(asking.verb, &asking.line, asking.form) {
+        Ok(question) => question,
+        Err(refusal) => {
+            tell(question_message(alloc, refusal, &asking.line), errors);
+            return REFUSED;
+        }
+    };
+    let Ok(names) = names_for(databases.files, alloc, asking.labels) else {
+        return report_no_memory(output, errors);
+    };
+    let inquiry = Inquiry {
+        question,
+        form: asking.form,
+        labels: asking.labels,
+        names: &names,
+    };
+    ask_tables(databases, alloc, asking, &inquiry, input, output, errors)
+}

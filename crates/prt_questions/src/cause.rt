@@ -1,0 +1,110 @@
+//! Why a database could not be opened.
+ghost use Rattle.sqlite.specs.Held.{Held};
+ghost use Rattle.prt_questions.specs.Closing.{IsOnlyRead};
+
+use crate::machine::{Machine, Wanted};
+use prt_program::Refusal;
+use prt_reasons::{Reason, columns_reason, rows_reason};
+use sqlite::{Alter, Connection, Error as LibraryError, ErrorCode};
+use std::fs::{self, Files, OpenOptions};
+use std::io;
+use thiserror::Error;
+
+/// Why a database file failed: in the words of the system, by what its tables have, or else in those of the library.
+#[derive(Debug, Drop, Error)]
+pub enum Cause {
+    #[error("{0}")]
+    System(io::Error),
+    #[error("{0}")]
+    Tables(Reason),
+    #[error("{0}")]
+    Library(LibraryError),
+    #[error("{0}: the server that has it can be asked, by --server")]
+    Locked(LibraryError),
+}
+
+/// Asks the system why there is no new file at a path. One that it makes is removed again.
+fn reason_for_none<F: Files>(files: &F, path: &str) -> Option<io::Error> {
+    match OpenOptions::new()
+        .write(true)
+        .create_new(true)
+        .open(files, path)
+    {
+        Ok(_) => {
+            let _ = fs::remove_file(files, path);
+            None
+        }
+        Err(error) => Some(error),
+    }
+}
+
+/// Asks the system why a file can't be opened for reading and writing, and, where any is wanted, not be made; None where
+/// it can be.
+fn system_reason<F: Files>(files: &F, path: &str, wanted: Wanted) -> Option<io::Error> {
+    let error = match OpenOptions::new().read(true).write(true).open(files, path) {
+        Ok(_) => return None,
+        Err(error) => error,
+    };
+    match (wanted, error.kind()) {
+        (Wanted::Any, io::ErrorKind::NotFound) => reason_for_none(files, path),
+        _ => Some(error),
+    }
+}
+
+/// Tells which columns of a database, or else which rows, were refused so, if that is known.
+fn tables_reason<S: Alter>(conn: &mut Connection<S>, refusal: Refusal) -> Option<Reason>
+    ensures { IsOnlyRead S.Store refusal conn.old conn.new }
+{
+    match refusal {
+        Refusal::Damaged => match rows_reason(conn) {
+            Ok(reason) => reason,
+            Err(_) => None,
+        },
+        Refusal::OpenFailed => columns_reason(conn.schema()),
+        _ => None,
+    }
+}
+
+/// Closes a database that was refused, and tells what of its tables was, if that is known. What the closing answers says
+/// no more of that.
+pub(crate) fn close_refused<S: Alter + Drop, M: Machine<Connection<S>>>(
+    machine: &mut M,
+    mut conn: Connection<S>,
+    refusal: Refusal,
+) -> Option<Reason>
+    ensures { (last : Held S) × IsOnlyRead S.Store refusal conn last × M.closes machine.old machine.new last }
+{
+    let reason = tables_reason(&mut conn, refusal);
+    let _ = machine.close(conn);
+    reason
+}
+
+/// Says what failed in the words of the library. Of a file that is only asked, who has it can be asked too.
+fn library_cause(wanted: Wanted, error: LibraryError) -> Cause {
+    match (wanted, error) {
+        (Wanted::Ours, LibraryError::SqliteFailure(ErrorCode::DatabaseBusy)) => {
+            Cause::Locked(error)
+        }
+        (_, error) => Cause::Library(error),
+    }
+}
+
+/// Tells why a database could not be opened, if that is known. The system is asked first, since the library says no more
+/// of a file than that it can't be opened.
+pub(crate) fn cause_of<F: Files>(
+    files: &F,
+    path: &str,
+    wanted: Wanted,
+    refusal: Refusal,
+    found: Result<Option<Reason>, LibraryError>,
+) -> Option<Cause> {
+    if let Refusal::OpenFailed = refusal {
+        if let Some(reason) = system_reason(files, path, wanted) {
+            return Some(Cause::System(reason));
+        }
+    }
+    match found {
+        Ok(reason) => reason.map(Cause::Tables),
+        Err(error) => Some(library_cause(wanted, error)),
+    }
+}

@@ -1,0 +1,118 @@
+//! A kernel that follows a server, and the wait for a server.
+ghost use Rattle.std.specs.Prelude.{◌≡◌, ◌⊎◌};
+ghost use Rattle.prt_questions.specs.Asking.{HasFollowed, HasFollowedAtMost};
+
+use crate::asking::{REFUSED, none_message, report_none, write_made};
+use crate::fencing::fence_beside;
+use crate::importing::read_listing;
+use crate::reading::report_no_memory;
+use crate::remote::{is_there, open_feed};
+use crate::telling::tell;
+use prt_ask::{FollowEnd, Mirror, follow};
+use prt_feed::NotRead;
+use prt_program::cause_message;
+use prt_words::{DONE, FAULT, Following, Waiting};
+use std::alloc::{Alloc, Global};
+use std::fs::Files;
+use std::io::{Read, Write};
+use std::net::{Net, SocketAddrV4};
+use std::rt::Clock;
+use std::thread;
+use std::time::Duration;
+
+/// How many milliseconds lie between two tries to reach a server.
+const PAUSE: u64 = 100;
+
+/// Tells why following a server ended. A reader of the lines that has gone is no news.
+fn tell_end<E: Write>(alloc: Global, place: SocketAddrV4, end: FollowEnd, errors: &mut E) {
+    match end {
+        FollowEnd::Feed(NotRead::CutOff) => {
+            tell(cause_message(alloc, &place, &"the feed ended"), errors);
+        }
+        FollowEnd::Feed(reason) => tell(cause_message(alloc, &place, &reason), errors),
+        FollowEnd::NoLines(reason) => tell(none_message(alloc, &place, reason), errors),
+        FollowEnd::Unwritten => {}
+    }
+}
+
+/// Prints the lines that bring what `ip` printed to the tables of a server, within a fence, and then those for each change
+/// that its feed tells. Gives the exit status.
+///
+/// With `--once` it ends after the first lines, with the status of `diff`. Otherwise it ends with 3: if the feed ends, if a
+/// change has no lines, and if the lines can't be written. No database is touched.
+pub(crate) fn follow_server<F: Files + Alloc + Clone + Drop, N: Net, R: Read, W: Write, E: Write>(
+    files: &F,
+    rt: &N,
+    alloc: Global,
+    following: &Following<'_>,
+    input: &mut R,
+    output: &mut W,
+    errors: &mut E,
+) -> u8
+    ensures status { (result ≡ DONE) ⊎ ((result ≡ REFUSED) ⊎ (result ≡ FAULT)) }
+    ensures whole { result ≡ DONE → HasFollowed (W.contents output.old) (W.contents output.new) following.now.reach }
+    ensures at_most { HasFollowedAtMost (W.contents output.old) (W.contents output.new) following.now.reach }
+{
+    let place = following.server;
+    let read = read_listing(files, alloc, following.file, input, output, errors);
+    let (accepted, left, unread) = match read {
+        Ok(read) => read,
+        Err(status) => return status,
+    };
+    let Ok(fence) = fence_beside(files, alloc, &following.reach, &unread) else {
+        return report_no_memory(output, errors);
+    };
+    let (mut reader, wanted) = match open_feed(rt, alloc, place) {
+        Ok(opened) => opened,
+        Err(reason) => {
+            tell(cause_message(alloc, &place, &reason), errors);
+            return FAULT;
+        }
+    };
+    let (mut mirror, made) = match Mirror::begin(alloc, fence, accepted.version, wanted) {
+        Ok(begun) => begun,
+        Err(reason) => return report_none(alloc, &place, reason, output, errors),
+    };
+    let told = made.notes.rest().unwrap_or_else(|_| String::new(alloc));
+    let written = write_made(made, output, errors);
+    if following.is_once || written == FAULT {
+        return if written == DONE { left } else { written };
+    }
+    let end = follow(alloc, &mut mirror, &mut reader, told, output, errors);
+    tell_end(alloc, place, end, errors);
+    FAULT
+}
+
+/// Gives the time by the clock that never goes back; 0 if it can't be read.
+fn time<N: Clock>(rt: &N) -> Duration {
+    rt.monotonic().unwrap_or(Duration::ZERO)
+}
+
+/// Waits until a server answers at a place, its sessions or its feed, and gives the exit status: 3 if none has answered after
+/// the seconds that are given. Without a clock it waits through as many pauses. No database is touched, and nothing printed.
+pub(crate) fn wait_for<N: Net + Clock, E: Write>(
+    rt: &N,
+    alloc: Global,
+    waiting: &Waiting,
+    errors: &mut E,
+) -> u8
+    ensures { (result ≡ DONE) ⊎ (result ≡ FAULT) }
+{
+    let begun = time(rt);
+    let patience = Duration::from_secs(waiting.seconds);
+    let tries = waiting.seconds.saturating_mul(1000 / PAUSE);
+    for _try in 0..=tries {
+        if matches!(is_there(rt, waiting.server), Ok(true)) {
+            return DONE;
+        }
+        if time(rt).saturating_sub(begun) >= patience {
+            break;
+        }
+        thread::sleep(rt, Duration::from_millis(PAUSE));
+    }
+    tell(
+        cause_message(alloc, &waiting.server, &"no server answers"),
+        errors,
+    );
+    FAULT
+}

@@ -1,0 +1,283 @@
+//! What `ip` prints, as a script, and what differs from it.
+ghost use Rattle.std.specs.Prelude.{◌≡◌, ◌⊎◌, IfErr, IfOk, [], option_map};
+ghost use Rattle.prt_questions.specs.Asking.{HasCompared, HasImported, HasComparedAtMost, HasImportedAtMost, IsAskedOf, IsImported, IsImportedInPart, IsListing, IsNotAsked, IsWholeListing, said};
+ghost use Rattle.prt_import.specs.Imported.{IsImportOf};
+ghost use Rattle.prt_import.specs.TableNames.{KnownNames};
+ghost use Rattle.prt_words.specs.declared.asking.Shown.TheVariants as shows;
+
+use crate::asking::{REFUSED, ask_source, write_text};
+use crate::databases::DatabaseFiles;
+use crate::fencing::fence_beside;
+use crate::inquiry::Inquiry;
+use crate::left::tell_left;
+use crate::machine::Machine;
+use crate::reading::{host_names, read_whole, report_no_memory, report_unread};
+use prt_ask::{Comparison, Question};
+use prt_import::{Accepted, Imported, Left, Names, accept, check_listing, import};
+use prt_ip_json::{NotListed, is_json, listing_of};
+use prt_program::{Refusal, run_text};
+use prt_words::{DONE, Diffing, FAULT, Form, Importing, Labels, Shown, Source};
+use sqlite::{Alter, Connection};
+use std::alloc::{Alloc, Global};
+use std::fs::Files;
+use std::io::{IsTerminal, Read, Write};
+use std::net::Net;
+use std::rt::Clock;
+use std::sync::Wait;
+
+/// Gives the lines of what `ip` printed, also where that is the JSON of `ip -j`.
+fn lines_of(alloc: Global, text: Vec<u8>) -> Result<Vec<u8>, NotListed> {
+    if is_json(&text) {
+        listing_of(alloc, &text)
+    } else {
+        Ok(text)
+    }
+}
+
+/// Makes a script of lines, by the names that iproute2 has.
+fn script_of<F: Files + Alloc + Clone + Drop>(
+    files: &F,
+    alloc: Global,
+    lines: &[u8],
+) -> Result<Imported, Refusal>
+    ensures { IfOk result (λ imported. (names : KnownNames) × IsImportOf imported names lines.now) }
+{
+    let names = host_names(files, alloc)?;
+    import(alloc, &names, lines)
+}
+
+/// Makes what a new database accepts of lines that `ip` prints, and tells what can't be kept of them. Gives the exit status
+/// for what was told, too, and the lines that can't be kept.
+///
+/// # Errors
+///
+/// `NoMemory` alone.
+fn keep_lines<F: Files + Alloc + Clone + Drop, E: Write>(
+    files: &F,
+    alloc: Global,
+    lines: &[u8],
+    errors: &mut E,
+) -> Result<(Accepted, u8, Vec<Left>), Refusal>
+    ensures made { IfOk result (λ read. IsListing read.0) }
+    ensures status { IfOk result (λ read. (read.1 ≡ DONE) ⊎ (read.1 ≡ REFUSED)) }
+    ensures kept { IfOk result (λ read. read.1 ≡ DONE → IsWholeListing read.0) }
+{
+    let imported = match script_of(files, alloc, lines) {
+        Ok(imported) => imported,
+        Err(refusal) => return Err(refusal),
+    };
+    let accepted = match accept(alloc, &imported.script) {
+        Ok(accepted) => accepted,
+        Err(refusal) => return Err(refusal),
+    };
+    let _kept = tell_left(alloc, &imported.notes, errors);
+    let left = tell_left(alloc, &imported.left, errors);
+    let refused = tell_left(alloc, &accepted.left, errors);
+    let status = if left == DONE { refused } else { left };
+    Ok((accepted, status, imported.left))
+}
+
+/// Reads what `ip` printed, of a file or of the input, as `keep_lines` does.
+///
+/// # Errors
+///
+/// The exit status, where it can't be read, isn't a whole listing of IPv4, or memory is refused.
+pub(crate) fn read_listing<F: Files + Alloc + Clone + Drop, R: Read, W: Write, E: Write>(
+    files: &F,
+    alloc: Global,
+    file: Option<&str>,
+    input: &mut R,
+    output: &mut W,
+    errors: &mut E,
+) -> Result<(Accepted, u8, Vec<Left>), u8>
+    ensures made { IfOk result (λ read. IsListing read.0) }
+    ensures status { IfOk result (λ read. (read.1 ≡ DONE) ⊎ (read.1 ≡ REFUSED)) }
+    ensures kept { IfOk result (λ read. read.1 ≡ DONE → IsWholeListing read.0) }
+    ensures fault { IfErr result (λ status. status ≡ FAULT) }
+    ensures unwritten { W.contents output.new ≡ W.contents output.old }
+{
+    let text = read_whole(files, alloc, file, input, output, errors)?;
+    let lines = match lines_of(alloc, text) {
+        Ok(lines) => lines,
+        Err(NotListed::NoMemory) => return Err(report_no_memory(output, errors)),
+        Err(reason) => return Err(report_unread(alloc, file, &reason, output, errors)),
+    };
+    if let Err(reason) = check_listing(&lines) {
+        return Err(report_unread(alloc, file, &reason, output, errors));
+    }
+    match keep_lines(files, alloc, &lines, errors) {
+        Ok(read) => Ok(read),
+        Err(_) => Err(report_no_memory(output, errors)),
+    }
+}
+
+/// Prints a script, or runs it over the database at a path, and gives the exit status.
+fn print_or_run<
+    S: Alter + Drop,
+    M: Machine<Connection<S>> + Drop,
+    F: Files + Clock,
+    N: Wait + Copy + Drop,
+    W: Write + IsTerminal,
+    E: Write,
+>(
+    databases: &mut DatabaseFiles<'_, S, M, F, N>,
+    alloc: Global,
+    database: Option<&str>,
+    accepted: Accepted,
+    output: &mut W,
+    errors: &mut E,
+) -> u8
+    ensures status { (result ≡ DONE) ⊎ ((result ≡ REFUSED) ⊎ (result ≡ FAULT)) }
+    ensures whole { result ≡ DONE → IsImported S.Store M.opens M.refuses M.closes databases.old.machine databases.new.machine (W.contents output.old) (W.contents output.new) (option_map (λ path. path.now) database.entry) accepted DONE }
+    ensures part { IsImportedInPart S.Store M.opens M.refuses M.closes databases.old.machine databases.new.machine (W.contents output.old) (W.contents output.new) (option_map (λ path. path.now) database.entry) accepted }
+{
+    match database {
+        Some(path) => {
+            let files = databases.files;
+            run_text(
+                files,
+                databases,
+                alloc,
+                path,
+                &accepted.script,
+                output,
+                errors,
+            )
+        }
+        None => write_text(accepted.script, output),
+    }
+}
+
+/// Prints the script of what `ip` printed, or runs it over a database, and gives the exit status.
+///
+/// The status is 1 where a line can't be kept, which standard error names, unless the kernel makes it itself, and where the
+/// database refuses a line. It is 3 where the listing can't be read, for want of memory, for a fault of opening or of the
+/// store, and where the script or a reply can't be written.
+pub(crate) fn import_listing<
+    S: Alter + Drop,
+    M: Machine<Connection<S>> + Drop,
+    F: Files + Alloc + Clone + Clock + Drop,
+    N: Wait + Copy + Drop,
+    R: Read,
+    W: Write + IsTerminal,
+    E: Write,
+>(
+    databases: &mut DatabaseFiles<'_, S, M, F, N>,
+    alloc: Global,
+    importing: &Importing<'_>,
+    input: &mut R,
+    output: &mut W,
+    errors: &mut E,
+) -> u8
+    ensures status { (result ≡ DONE) ⊎ ((result ≡ REFUSED) ⊎ (result ≡ FAULT)) }
+    ensures whole { result ≡ DONE → HasImported S.Store M.opens M.refuses M.closes databases.old.machine databases.new.machine (W.contents output.old) (W.contents output.new) (option_map (λ path. path.now) importing.now.database) }
+    ensures at_most { HasImportedAtMost S.Store M.opens M.refuses M.closes databases.old.machine databases.new.machine (W.contents output.old) (W.contents output.new) (option_map (λ path. path.now) importing.now.database) }
+{
+    let read = read_listing(
+        databases.files,
+        alloc,
+        importing.file,
+        input,
+        output,
+        errors,
+    );
+    let (accepted, left, _) = match read {
+        Ok(read) => read,
+        Err(status) => return status,
+    };
+    match print_or_run(
+        databases,
+        alloc,
+        importing.database,
+        accepted,
+        output,
+        errors,
+    ) {
+        DONE => left,
+        status => status,
+    }
+}
+
+/// Asks what differs at a source, prints nothing of it, and gives the exit status: 1 where anything differs.
+fn compare<
+    S: Alter + Drop,
+    M: Machine<Connection<S>> + Drop,
+    F: Files,
+    N: Net + Wait + Copy + Drop,
+    R: Read,
+    E: Write,
+>(
+    databases: &mut DatabaseFiles<'_, S, M, F, N>,
+    alloc: Global,
+    source: &Source<'_>,
+    inquiry: &Inquiry<'_>,
+    input: &mut R,
+    errors: &mut E,
+) -> u8
+    ensures status { (result ≡ DONE) ⊎ ((result ≡ REFUSED) ⊎ (result ≡ FAULT)) }
+    ensures same { result ≡ DONE → IsAskedOf S.Store M.opens M.refuses M.closes databases.old.machine databases.new.machine source.now (λ state. said inquiry.now state ≡ []) }
+    ensures part { IsNotAsked S.Store M.opens M.refuses M.closes databases.old.machine databases.new.machine source.now ⊎ IsAskedOf S.Store M.opens M.refuses M.closes databases.old.machine databases.new.machine source.now (λ state. Unit {0}) }
+{
+    let mut lines: Vec<u8> = Vec::new(alloc);
+    let asked = ask_source(databases, alloc, source, inquiry, input, &mut lines, errors);
+    if asked != DONE {
+        return asked;
+    }
+    if lines.as_slice().is_empty() {
+        DONE
+    } else {
+        REFUSED
+    }
+}
+
+/// Prints the lines that bring what `ip` printed to the tables at a source, within a fence, and gives the exit status; or, if
+/// that alone is to be shown, whether anything differs.
+///
+/// What stands in the place of a line that can't be kept is left alone. The status is 1 if anything differs of which the
+/// status alone is shown, if a line can't be kept, as of `import_listing`, and if a rule is left that should go. It is 3 as of
+/// `ask` and `import_listing`.
+pub(crate) fn diff<
+    S: Alter + Drop,
+    M: Machine<Connection<S>> + Drop,
+    F: Files + Alloc + Clone + Drop,
+    N: Net + Wait + Copy + Drop,
+    R: Read,
+    W: Write,
+    E: Write,
+>(
+    databases: &mut DatabaseFiles<'_, S, M, F, N>,
+    alloc: Global,
+    diffing: &Diffing<'_>,
+    input: &mut R,
+    output: &mut W,
+    errors: &mut E,
+) -> u8
+    ensures status { (result ≡ DONE) ⊎ ((result ≡ REFUSED) ⊎ (result ≡ FAULT)) }
+    ensures whole { result ≡ DONE → HasCompared S.Store M.opens M.refuses M.closes databases.old.machine databases.new.machine (W.contents output.old) (W.contents output.new) diffing.now.reach diffing.now.shown diffing.now.source }
+    ensures at_most { HasComparedAtMost S.Store M.opens M.refuses M.closes databases.old.machine databases.new.machine (W.contents output.old) (W.contents output.new) diffing.now.reach diffing.now.shown diffing.now.source }
+{
+    let read = read_listing(databases.files, alloc, diffing.file, input, output, errors);
+    let (accepted, left, unread) = match read {
+        Ok(read) => read,
+        Err(status) => return status,
+    };
+    let made = fence_beside(databases.files, alloc, &diffing.reach, &unread);
+    let Ok(fence) = made else {
+        return report_no_memory(output, errors);
+    };
+    let inquiry = Inquiry {
+        question: Question::Diff(Comparison {
+            fence: &fence,
+            found: &accepted.version,
+        }),
+        form: Form::Lines,
+        labels: Labels::Numbers,
+        names: &Names::new(alloc),
+    };
+    let source = &diffing.source;
+    let asked = match diffing.shown {
+        Shown::Lines => ask_source(databases, alloc, source, &inquiry, input, output, errors),
+        Shown::Status => compare(databases, alloc, source, &inquiry, input, errors),
+    };
+    if asked == DONE { left } else { asked }
+}

@@ -1,0 +1,69 @@
+//! What is asked of tables, and how an answer calls them.
+ghost use Rattle.std.specs.Prelude.{◌≡◌, IfOk};
+ghost use Rattle.prt_questions.specs.Asking.{called, said, text_form};
+ghost use Rattle.prt_import.specs.TableNames.{names_of};
+
+use prt_ask::{Answered, NotAnswered, Question, answer};
+use prt_import::{Names, Text, with_names};
+use prt_version::Version;
+use prt_words::{Form, Labels};
+use std::alloc::Global;
+
+/// A question, and how its answer calls tables.
+#[derive(Clone, Copy)]
+pub(crate) struct Inquiry<'a> {
+    pub(crate) question: Question<'a>,
+    pub(crate) form: Form,
+    pub(crate) labels: Labels,
+    /// The names that tables have.
+    pub(crate) names: &'a Names,
+}
+
+/// Gives the form of a text in which names are put.
+fn text_form(form: Form) -> Text
+    ensures { result ≡ text_form form }
+{
+    match form {
+        Form::Lines => Text::Lines,
+        Form::Json => Text::Json,
+    }
+}
+
+/// Gives a text with tables called as these labels do.
+pub(crate) fn called(
+    alloc: Global,
+    inquiry: &Inquiry<'_>,
+    text: Vec<u8>,
+) -> Result<Vec<u8>, NotAnswered>
+    ensures { IfOk result (λ made. made.items ≡ called inquiry.now.labels inquiry.now.form (names_of inquiry.now.names.now) text.items) }
+{
+    let Labels::Names = inquiry.labels else {
+        return Ok(text);
+    };
+    match with_names(alloc, inquiry.names, text_form(inquiry.form), &text) {
+        Ok(named) => Ok(named),
+        Err(_) => Err(NotAnswered::NoMemory),
+    }
+}
+
+/// Gives what a version answers, and what a person is told of it.
+///
+/// # Errors
+///
+/// As of `answer`, and `NoMemory`.
+pub(crate) fn said(
+    alloc: Global,
+    version: &Version,
+    inquiry: &Inquiry<'_>,
+) -> Result<Answered, NotAnswered>
+    ensures { IfOk result (λ made. made.text.items ≡ said inquiry.now version.now) }
+{
+    let Answered { text, notes } = match answer(alloc, version, &inquiry.question) {
+        Ok(made) => made,
+        Err(reason) => return Err(reason),
+    };
+    match called(alloc, inquiry, text) {
+        Ok(text) => Ok(Answered { text, notes }),
+        Err(reason) => Err(reason),
+    }
+}

@@ -1,0 +1,94 @@
+//! What is told of lines that are left out.
+ghost use Rattle.std.specs.Prelude.{◌≡◌, ◌⊎◌};
+ghost use Rattle.std.specs.List.{list_all};
+ghost use Rattle.prt_questions.specs.Asking.{AreKernels, destination_of, is_kernels};
+
+use crate::asking::REFUSED;
+use crate::telling::tell;
+use prt_addr::Addr;
+use prt_ask::Question;
+use prt_command::Query;
+use prt_import::{Left, Reason, left_out};
+use prt_words::DONE;
+use std::alloc::{AllocError, Global};
+use std::io::Write;
+
+/// What a comment begins with that says what was left out of a script.
+const COMMENT: &[u8] = b"# left out:";
+
+/// Makes the message of a line that is left out, or of what is left out of one.
+fn left_message(alloc: Global, left: &Left) -> Result<String, AllocError> {
+    format!(in alloc; "prt: {left}\n")
+}
+
+/// Tells whether the kernel makes a line itself.
+fn is_kernels(line: &Left) -> bool
+    ensures { result ≡ is_kernels line.now }
+{
+    matches!(line.reason, Reason::Kernel)
+}
+
+/// Tells whether the kernel makes each of the lines itself.
+fn are_kernels(left: &[Left]) -> bool
+    ensures { result ≡ list_all is_kernels left.now }
+{
+    left.iter().all(|line| is_kernels(line))
+}
+
+/// Tells what was left out, but for what the kernel makes itself.
+fn tell_others<E: Write>(alloc: Global, left: &[Left], errors: &mut E) {
+    for line in left {
+        if !is_kernels(line) {
+            tell(left_message(alloc, line), errors);
+        }
+    }
+}
+
+/// Tells what was left out, and gives the exit status for it. What the kernel makes itself isn't told.
+pub(crate) fn tell_left<E: Write>(alloc: Global, left: &[Left], errors: &mut E) -> u8
+    ensures status { (result ≡ DONE) ⊎ (result ≡ REFUSED) }
+    ensures kernels { result ≡ DONE → AreKernels left.now }
+{
+    tell_others(alloc, left, errors);
+    if are_kernels(left) { DONE } else { REFUSED }
+}
+
+/// Gives the destination of the packet that is asked about, if one is.
+fn destination_of(question: &Question<'_>) -> Option<Addr>
+    ensures { result ≡ destination_of question.now }
+{
+    match question {
+        Question::Query(Query::Get(packet), _) | Question::Explain(packet, _) => Some(packet.dst),
+        _ => None,
+    }
+}
+
+/// Makes the message of a comment that says what was left out of a script. What can't be printed is shown as `?`.
+fn comment_message(alloc: Global, script: &str, said: &[u8]) -> Result<String, AllocError> {
+    let mut message = format!(in alloc; "prt: {script}: the script left out: ")?;
+    for byte in said {
+        let is_shown = *byte >= b' ' && *byte <= b'~';
+        message.push(char::from(if is_shown { *byte } else { b'?' }))?;
+    }
+    message.push('\n')?;
+    Ok(message)
+}
+
+/// Tells what the comments of a script say that was left out of it when it was made of a listing. Of a packet that is asked
+/// about this is what could have decided on it.
+pub(crate) fn tell_left_out<E: Write>(
+    alloc: Global,
+    name: &str,
+    script: &[u8],
+    question: &Question<'_>,
+    errors: &mut E,
+) {
+    let Ok(comments) = left_out(alloc, script, destination_of(question)) else {
+        return;
+    };
+    for comment in comments.split(|byte| *byte == b'\n') {
+        if let Some(said) = comment.strip_prefix(COMMENT) {
+            tell(comment_message(alloc, name, said.trim_ascii()), errors);
+        }
+    }
+}

@@ -1,0 +1,82 @@
+//! Publishers and desks over the databases of a machine.
+ghost use Rattle.std.specs.Prelude.{◌≡◌, IfErr, IfOk};
+ghost use Rattle.prt_refusals.specs.Opening.{IsOpenRefusal};
+ghost use Rattle.prt_desk.specs.StoreDesk.{StandsFor, published};
+ghost use Rattle.prt_front.specs.Line.{line_state};
+ghost use Rattle.prt_questions.specs.Closing.{LeavesNoneOpen};
+ghost use Rattle.prt_publisher.specs.Openings.{OpensOne};
+ghost use Rattle.prt_publisher.specs.Standing.{IsQuiet};
+ghost use Rattle.prt_session.specs.Open.{IsOpenOn};
+ghost use Rattle.prt_version.specs.Sound.{IsSound};
+
+use crate::cause::{Cause, cause_of, close_refused};
+use crate::machine::{Machine, Wanted};
+use prt_desk::StoreDesk;
+use prt_grace::Domain;
+use prt_program::Refusal;
+use prt_publisher::{Phase, Publisher, publisher_over};
+use sqlite::{Alter, Connection};
+use std::alloc::Global;
+use std::fs::Files;
+use std::sync::Wait;
+
+/// Opens a publisher over the database at a path of the machine, where it is one that is wanted.
+///
+/// # Errors
+///
+/// As of `publisher_over`, with the cause where it is known. No database is open then: one that was refused was closed
+/// again, and after the refusal only read.
+pub fn open_publisher<S: Alter + Drop, M: Machine<Connection<S>>, F: Files>(
+    machine: &mut M,
+    files: &F,
+    alloc: Global,
+    path: &str,
+    wanted: Wanted,
+) -> Result<(Publisher<S>, Domain), (Refusal, Option<Cause>)>
+    ensures ready { IfOk result (λ made. made.0.phase ≡ Phase.Ready) }
+    ensures quiet { IfOk result (λ made. IsQuiet made.0.phase) }
+    ensures sound { IfOk result (λ made. IsSound (line_state made.0.line)) }
+    ensures opened { IfOk result (λ made. OpensOne S.Store (M.opens machine.old machine.new path.now) made.0) }
+    ensures reason { IfErr result (λ refused. IsOpenRefusal refused.0) }
+    ensures closed { IfErr result (λ refused. LeavesNoneOpen M.opens M.refuses M.closes S.Store refused.0 machine.old machine.new path.now) }
+{
+    match publisher_over(alloc, machine.open(path, wanted)) {
+        Ok(made) => Ok(made),
+        Err((refusal, Ok(conn))) => {
+            let reason = close_refused(machine, conn, refusal);
+            Err((refusal, cause_of(files, path, wanted, refusal, Ok(reason))))
+        }
+        Err((refusal, Err(error))) => {
+            Err((refusal, cause_of(files, path, wanted, refusal, Err(error))))
+        }
+    }
+}
+
+/// Opens a desk over the database at a path of the machine, where it is one that is wanted.
+///
+/// # Errors
+///
+/// As of `open_publisher`.
+pub(crate) fn open_desk<
+    S: Alter + Drop,
+    M: Machine<Connection<S>>,
+    F: Files,
+    H: Wait + Copy + Drop,
+>(
+    machine: &mut M,
+    files: &F,
+    rt: H,
+    alloc: Global,
+    path: &str,
+    wanted: Wanted,
+) -> Result<StoreDesk<S, H>, (Refusal, Option<Cause>)>
+    ensures stands { IfOk result (λ desk. IsSound (published desk) × IsOpenOn (StandsFor S.Store) desk (published desk)) }
+    ensures opened { IfOk result (OpensOne S.Store (M.opens machine.old machine.new path.now)) }
+    ensures reason { IfErr result (λ refused. IsOpenRefusal refused.0) }
+    ensures closed { IfErr result (λ refused. LeavesNoneOpen M.opens M.refuses M.closes S.Store refused.0 machine.old machine.new path.now) }
+{
+    match open_publisher(machine, files, alloc, path, wanted) {
+        Ok((publisher, domain)) => Ok(StoreDesk::new(rt, publisher, domain)),
+        Err(refused) => Err(refused),
+    }
+}

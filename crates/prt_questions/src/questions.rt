@@ -1,0 +1,52 @@
+//! What is asked from outside a session.
+ghost use Rattle.std.specs.Prelude.{◌≡◌, ◌⊎◌};
+ghost use Rattle.prt_questions.specs.Asking.{IsDone, IsDoneAtMost};
+
+use crate::asking::{REFUSED, ask};
+use crate::databases::DatabaseFiles;
+use crate::following::{follow_server, wait_for};
+use crate::importing::{diff, import_listing};
+use crate::machine::Machine;
+use prt_words::{Asked, DONE, FAULT};
+use sqlite::{Alter, Connection};
+use std::alloc::{Alloc, Global};
+use std::fs::Files;
+use std::io::{IsTerminal, Read, Write};
+use std::net::Net;
+use std::rt::Clock;
+use std::sync::Wait;
+
+/// Answers what is asked, and gives the exit status: that of `ask`, `diff`, `follow_server`, `wait_for` or `import_listing`.
+pub fn answer_question<
+    S: Alter + Drop,
+    M: Machine<Connection<S>> + Drop,
+    F: Files + Alloc + Clone + Clock + Drop,
+    N: Net + Wait + Clock + Copy + Drop,
+    R: Read,
+    W: Write + IsTerminal,
+    E: Write,
+>(
+    databases: &mut DatabaseFiles<'_, S, M, F, N>,
+    alloc: Global,
+    asked: &Asked<'_>,
+    input: &mut R,
+    output: &mut W,
+    errors: &mut E,
+) -> u8
+    ensures status { (result ≡ DONE) ⊎ ((result ≡ REFUSED) ⊎ (result ≡ FAULT)) }
+    ensures whole { result ≡ DONE → IsDone S.Store M.opens M.refuses M.closes databases.old.machine databases.new.machine (W.contents output.old) (W.contents output.new) asked.now }
+    ensures at_most { IsDoneAtMost S.Store M.opens M.refuses M.closes databases.old.machine databases.new.machine (W.contents output.old) (W.contents output.new) asked.now }
+{
+    match asked {
+        Asked::Tables(asking) => ask(databases, alloc, asking, input, output, errors),
+        Asked::Diff(diffing) => diff(databases, alloc, diffing, input, output, errors),
+        Asked::Follow(following) => {
+            let (files, rt) = (databases.files, databases.rt);
+            follow_server(files, &rt, alloc, following, input, output, errors)
+        }
+        Asked::Wait(waiting) => wait_for(&databases.rt, alloc, waiting, errors),
+        Asked::Import(importing) => {
+            import_listing(databases, alloc, importing, input, output, errors)
+        }
+    }
+}
