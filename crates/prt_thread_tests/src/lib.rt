@@ -1,5 +1,5 @@
-//! Tests of publishers and services over databases in memory, of sessions over a service, of workers and of the loop that
-//! accepts connections.
+//! Tests of registries of grace periods, of publishers and services over databases in memory, of sessions over a service, of
+//! workers and of the loop that accepts connections.
 #![tactic(auto)]
 
 #[cfg(test)]
@@ -10,6 +10,8 @@ mod connections;
 mod followers;
 #[cfg(test)]
 mod front;
+#[cfg(test)]
+mod grace;
 #[cfg(test)]
 mod held_versions;
 #[cfg(test)]

@@ -1,5 +1,0 @@
-//! Tests of dumps.
-#![tactic(auto)]
-
-#[cfg(test)]
-mod dumps;

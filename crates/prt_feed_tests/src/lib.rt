@@ -1,5 +1,0 @@
-//! Tests of feeds.
-#![tactic(auto)]
-
-#[cfg(test)]
-mod feeds;

@@ -1,5 +1,0 @@
-//! Tests of lines from JSON.
-#![tactic(auto)]
-
-#[cfg(test)]
-mod listings;

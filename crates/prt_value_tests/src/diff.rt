@@ -1,0 +1,3 @@
+//! Tests of the changes between two versions.
+
+mod changes;

@@ -1,0 +1,3 @@
+//! Tests of dumps.
+
+mod dumps;

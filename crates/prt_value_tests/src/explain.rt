@@ -1,0 +1,3 @@
+//! Tests of explanations.
+
+mod explanations;

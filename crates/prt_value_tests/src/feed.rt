@@ -1,0 +1,3 @@
+//! Tests of feeds.
+
+mod feeds;

@@ -1,0 +1,3 @@
+//! Tests of lines from JSON.
+
+mod listings;

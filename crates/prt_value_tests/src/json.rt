@@ -1,0 +1,5 @@
+//! Tests of routes, rules, answers and explanations as JSON.
+
+mod explained;
+mod script;
+mod shown;

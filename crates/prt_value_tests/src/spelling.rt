@@ -1,0 +1,3 @@
+//! Tests of the lines of commands.
+
+mod lines;

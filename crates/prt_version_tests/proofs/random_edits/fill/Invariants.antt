@@ -1,5 +1,0 @@
-use Rattle.prt_trie.specs.Table.{IsOfTable}
-use Rattle.prt_version_tests.proofs.random_edits.fill.Given as goal
-
-abbrev pub invariant-loop-number : goal.invariant-loop-number
-invariant-loop-number g l = IsOfTable 254 l.table
