@@ -95,7 +95,7 @@ uint32_t prt_tables_new(prt_tables *tables);
  * nothing.
  *
  * PRT_DONE         the tables are those after the line. `*number` is how many commands they have accepted so far.
- * 1 to 18          the first fault of the line.
+ * 1 to 18          the first error of the line.
  * 21 to 24         why the tables refuse the command.
  * PRT_NO_MEMORY    memory was refused.
  * PRT_EMPTY        `tables` holds nothing.
