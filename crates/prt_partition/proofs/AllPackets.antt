@@ -1,22 +1,14 @@
 -- The classes of packets, and that versions which agree on them agree on all.
-use Rattle.std.proofs.Common.{◌≡◌, ◌⊎◌, inl, inr, ℕ, ◌<◌, ◌≤◌, true, false, ◌||◌, List, [], ◌∷◌, ◌++◌, length, get_or, Option, Some, None, refl, sym, ap, ◌∙◌, subst, ⊎_elim}
-use Rattle.std.specs.Prelude.{bytes_eq, flat_map, map}
+use Rattle.std.proofs.Common.{◌≡◌, ℕ, ◌<◌, List, ◌++◌, length, get_or, None, sym, ◌∙◌, subst}
 use Rattle.std.specs.List.{AllByRecursion as Each}
-use Rattle.std.specs.Option.{option_eq, option_to_list}
-use Rattle.std.proofs.lemmas.Bool.{cases_Bool}
 use Rattle.std.proofs.lemmas.List.{get_or_default}
-use Rattle.std.proofs.lemmas.Slice.Eq.{bytes_eq-Decides}
-use Rattle.prt_addr.specs.Word.{Word}
-use Rattle.prt_addr.proofs.Each.{each_fails}
-use Rattle.prt_rule.specs.Rule.{matches, takes_interface, takes_mark}
+use Rattle.prt_rule.specs.Rule.{matches}
 use Rattle.prt_rule.specs.declared.packet.Packet.{Packet}
-use Rattle.prt_rule.specs.declared.rule.Mark.{Mark}
 use Rattle.prt_rule.specs.declared.rule.Rule.{Rule}
 use Rattle.prt_version.specs.Select.{select}
 use Rattle.prt_version.specs.State.{State}
-use Rattle.prt_partition.specs.Classes.{AreClasses, AreInterfaces, class_of, classes_of, is_named, names, names_of}
-use Rattle.prt_partition.specs.Cuts.{AreStarts, HasNoCut, cuts_of, from_cuts, to}
-use Rattle.prt_partition.specs.Marks.{AreMarkBlocks, IsMarkBlock}
+use Rattle.prt_partition.specs.Classes.{AreClasses}
+use Rattle.prt_partition.specs.Cuts.{to}
 use Rattle.prt_partition.specs.Differing.{IsDiffering, near_cuts}
 use Rattle.prt_partition.specs.Equivalence.{GoesSame, IsChange, IsChangeOf, IsFirstChange}
 use Rattle.prt_partition.specs.Sameness.{AreSame}
@@ -27,79 +19,9 @@ use Rattle.prt_version.specs.declared.answer.Verdict.{Verdict}
 use Rattle.prt_partition.proofs.Contrasts.{same_there}
 use Rattle.prt_partition.proofs.WhatDiffers.{same_transition}
 use Rattle.prt_partition.proofs.Alike.{same_select}
-use Rattle.prt_partition.proofs.Between.{each_left, each_of_each, each_refl, each_right, same_contains, same_matches}
-use Rattle.prt_partition.proofs.MarkBlocks.{each_both}
-use Rattle.prt_partition.proofs.Starts.{IsIn, any_found, contains_in, each_in, each_moved, in_contains, in_flat_map, in_left, in_map, in_right, nearest}
+use Rattle.prt_partition.proofs.Between.{each_left, each_refl, each_right}
+use Rattle.prt_partition.proofs.Starts.{contains_in, each_moved, in_contains, nearest}
 use Rattle.prt_partition.proofs.SpanList.{rises}
-
--- ---- interfaces
-
-named_by : (iif : Word) (o : Option Word) → option_eq bytes_eq o (Some iif) ≡ true → IsIn iif (option_to_list o)
-named_by iif None h = absurd cc
-named_by iif (Some n) h = inl (sym ((bytes_eq-Decides n iif).0 h))
-
-pub named_in : (rules : List Rule) (iif : Word) → is_named rules iif ≡ true → IsIn iif (names_of rules)
-named_in [] iif h = absurd cc
-named_in (rule ∷ rules) iif h =
-    ⊎_elim
-    (λ (e : names iif rule ≡ true). in_left iif (option_to_list rule.iif) (names_of rules) (named_by iif rule.iif e))
-    (λ (e : names iif rule ≡ false). in_right iif (option_to_list rule.iif) (names_of rules) (named_in rules iif (ap (λ b. b || is_named rules iif) (sym e) ∙ h)))
-    (cases_Bool (names iif rule))
-
-unnamed_by : (o : Option Word) (a b : Word) → option_eq bytes_eq o (Some a) ≡ false → option_eq bytes_eq o (Some b) ≡ false → takes_interface o a ≡ takes_interface o b
-unnamed_by None a b h k = refl
-unnamed_by (Some n) a b h k = h ∙ sym k
-
-each_itself : (rules : List Rule) (iif : Word) → Each (λ (rule : Rule). takes_interface rule.iif iif ≡ takes_interface rule.iif iif) rules
-each_itself [] iif = tt
-each_itself (rule ∷ rules) iif = (refl, each_itself rules iif)
-
--- those that are named, and one that is not
-pub all_interfaces : (rules : List Rule) (fresh : Word) (interfaces : List Word) → is_named rules fresh ≡ false → interfaces ≡ fresh ∷ names_of rules → AreInterfaces rules interfaces
-all_interfaces rules fresh interfaces unnamed are iif =
-    ⊎_elim
-    (λ (e : is_named rules iif ≡ true).
-    let within : IsIn iif (fresh ∷ names_of rules) = inr (named_in rules iif e) in
-    (iif, in_contains iif interfaces (subst (IsIn iif) (sym are) within), each_itself rules iif))
-    (λ (e : is_named rules iif ≡ false).
-    let within : IsIn fresh (fresh ∷ names_of rules) = inl refl in (
-      fresh,
-      in_contains fresh interfaces (subst (IsIn fresh) (sym are) within),
-      each_both (λ (rule : Rule). names iif rule ≡ false) (λ (rule : Rule). names fresh rule ≡ false) (λ (rule : Rule). takes_interface rule.iif iif ≡ takes_interface rule.iif fresh)
-          (λ rule h k. unnamed_by rule.iif iif fresh h k) rules (each_fails (names iif) rules e) (each_fails (names fresh) rules unnamed),
-    ))
-    (cases_Bool (is_named rules iif))
-
--- ---- classes
-
--- of each source, each interface and each block
-in_classes : (sources : List ℕ) (interfaces : List Word) (blocks : List Mark) (src : ℕ) (iif : Word) (block : Mark) → IsIn src sources → IsIn iif interfaces → IsIn block blocks → IsIn (class_of src iif block) (classes_of sources interfaces blocks)
-in_classes sources interfaces blocks src iif block s i b =
-    in_flat_map (λ src. flat_map (λ iif. map (class_of src iif) blocks) interfaces) src sources (class_of src iif block) s
-    (in_flat_map (λ iif. map (class_of src iif) blocks) iif interfaces (class_of src iif block) i (in_map (class_of src iif) block blocks b))
-
-pub all_classes : (rules : List Rule) (sources : List ℕ) (interfaces : List Word) (blocks : List Mark) → AreStarts (from_cuts rules) sources → AreInterfaces rules interfaces → AreMarkBlocks rules blocks → AreClasses rules (classes_of sources interfaces blocks)
-all_classes rules sources interfaces blocks starts ifs marks packet is =
-    let near = nearest (from_cuts rules) sources packet.src.0 (rises sources starts.rise) (each_moved (from_cuts rules) sources starts.all) (contains_in 0 sources starts.zero) in
-    let src : ℕ = near.0 in
-    let one = ifs packet.iif in
-    let found = any_found (λ (block : Mark). takes_mark (Some block) packet.mark) blocks (marks.cover packet.mark is.mark) in
-    let block : Mark = found.0 in
-    let class : Packet = class_of src one.0 block in
-    let of_block : IsMarkBlock rules block = each_in (IsMarkBlock rules) block blocks marks.alike found.1 in
-    let by_source : Each (λ (rule : Rule). HasNoCut (cuts_of rule.from) src packet.src.0) rules = each_of_each (λ cut. (cut ≤ src) ⊎ (packet.src.0 < cut)) (λ (rule : Rule). cuts_of rule.from) rules near.3 in (
-      class,
-      in_contains class (classes_of sources interfaces blocks) (in_classes sources interfaces blocks src one.0 block near.1 (contains_in one.0 interfaces one.1) found.1),
-      λ addr. each_both
-          (λ (rule : Rule). HasNoCut (cuts_of rule.from) src packet.src.0 × (takes_interface rule.iif packet.iif ≡ takes_interface rule.iif one.0))
-          (λ (rule : Rule). takes_mark rule.mark packet.mark ≡ takes_mark rule.mark block.mark)
-          (λ (rule : Rule). matches rule (to packet addr) ≡ matches rule (to class addr))
-          (λ rule h k. same_matches rule (to packet addr) (to class addr) (sym (same_contains rule.from src packet.src.0 near.2 is.src h.0)) refl h.1 k)
-          rules
-          (each_both (λ (rule : Rule). HasNoCut (cuts_of rule.from) src packet.src.0) (λ (rule : Rule). takes_interface rule.iif packet.iif ≡ takes_interface rule.iif one.0)
-          (λ (rule : Rule). HasNoCut (cuts_of rule.from) src packet.src.0 × (takes_interface rule.iif packet.iif ≡ takes_interface rule.iif one.0)) (λ rule h k. (h, k)) rules by_source one.2)
-          (of_block.1 packet.mark is.mark found.2),
-    )
 
 -- ---- two versions
 

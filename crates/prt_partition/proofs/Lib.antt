@@ -1,7 +1,9 @@
 pub mod Alike
 pub mod AllPackets
 pub mod Between
+pub mod BoxList
 pub mod Contrasts
+pub mod Counts
 pub mod Gaps
 pub mod Joined
 pub mod Listed

@@ -1,3 +1,4 @@
+pub mod Boxes
 pub mod Classes
 pub mod Cuts
 pub mod Differing

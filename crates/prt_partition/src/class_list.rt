@@ -1,75 +1,24 @@
 //! Classes of packets that every rule takes alike, whatever their destinations.
-ghost use Rattle.std.specs.Prelude.{◌≡◌, ◌≤◌, ◌++◌, IfErr, IfOk, OnOk, flat_map, length, map};
+ghost use Rattle.std.specs.Prelude.{◌≡◌, ◌≤◌, IfErr, IfOk, length, map};
 ghost use Rattle.prt_refusals.specs.declared.refusal.Refusal.TheVariants.{NoMemory};
 ghost use Rattle.std.specs.List.{IsDistinct};
-ghost use Rattle.prt_partition.specs.Classes.{AreClasses, are_alike, class_of, classes_of};
+ghost use Rattle.prt_partition.specs.Classes.{AreClasses, are_alike};
+ghost use Rattle.prt_partition.specs.Boxes.{packet_of};
 
-use crate::cuts::source_starts;
-use crate::interfaces::interfaces;
+use crate::division::boxes;
+use crate::interfaces::fresh_name;
 use crate::joining::join;
-use crate::marks::mark_blocks;
-use prt_addr::Addr;
+use crate::packet_box::PacketBox;
 use prt_refusals::Refusal;
 use prt_route::Dev;
-use prt_rule::{Mark, Packet, Rule};
+use prt_rule::{Packet, Rule};
 use std::alloc::{AllocError, Global};
 
-/// Gives the packet of this source, this interface and the value of this block of marks.
-fn class_of(src: u32, iif: &Dev, block: &Mark) -> Packet
-    ensures { result ≡ class_of src iif.now block.now }
+/// Gives a packet of each box. The fresh interface is one that no rule names.
+fn packets_of(alloc: Global, boxes: &[PacketBox], fresh: &Dev) -> Result<Vec<Packet>, AllocError>
+    ensures { IfOk result (λ packets. packets.items ≡ map (packet_of fresh.now) boxes.now) }
 {
-    Packet {
-        dst: Addr(0),
-        src: Addr(src),
-        iif: *iif,
-        mark: block.mark,
-    }
-}
-
-/// Appends the packets of this source and this interface.
-fn push_marks(
-    classes: &mut Vec<Packet>,
-    src: u32,
-    iif: &Dev,
-    blocks: &[Mark],
-) -> Result<(), AllocError>
-    ensures { OnOk result (classes.new.items ≡ classes.old.items ++ map (class_of src iif.now) blocks.now) }
-{
-    for block in blocks {
-        classes.push(class_of(src, iif, block))?;
-    }
-    Ok(())
-}
-
-/// Appends the packets of this source.
-fn push_interfaces(
-    classes: &mut Vec<Packet>,
-    src: u32,
-    interfaces: &[Dev],
-    blocks: &[Mark],
-) -> Result<(), AllocError>
-    ensures { OnOk result (classes.new.items ≡ classes.old.items ++ flat_map (λ iif. map (class_of src iif) blocks.now) interfaces.now) }
-{
-    for iif in interfaces {
-        push_marks(classes, src, iif, blocks)?;
-    }
-    Ok(())
-}
-
-/// Gives a packet of each source, each interface and each block of marks.
-fn all_of(
-    alloc: Global,
-    sources: &[u32],
-    interfaces: &[Dev],
-    blocks: &[Mark],
-) -> Result<Vec<Packet>, AllocError>
-    ensures { IfOk result (λ classes. classes.items ≡ classes_of sources.now interfaces.now blocks.now) }
-{
-    let mut classes = Vec::new(alloc);
-    for src in sources {
-        push_interfaces(&mut classes, *src, interfaces, blocks)?;
-    }
-    Ok(classes)
+    boxes.iter().map(|one| one.packet(fresh)).collect(alloc)
 }
 
 /// Gives packets of which one stands for each packet that there is: every rule takes both alike, whatever destination the
@@ -83,10 +32,9 @@ pub fn classes(alloc: Global, rules: &[Rule]) -> Result<Vec<Packet>, Refusal>
     ensures value { IfOk result (λ classes. AreClasses rules.now classes.items) }
     ensures reason { IfErr result (λ reason. reason ≡ NoMemory) }
 {
-    let sources = source_starts(alloc, rules)?;
-    let names = interfaces(alloc, rules)?;
-    let blocks = mark_blocks(alloc, rules)?;
-    let all = all_of(alloc, &sources, &names, &blocks)?;
+    let boxes = boxes(alloc, rules)?;
+    let fresh = fresh_name(alloc, rules)?;
+    let all = packets_of(alloc, &boxes, &fresh)?;
     Ok(all)
 }
 

@@ -1,8 +1,9 @@
-//! Interfaces that stand for all: those that rules name, and one that no rule names.
-ghost use Rattle.std.specs.Prelude.{◌≡◌, ◌≤◌, ◌++◌, false, length, IfOk, OnOk};
-ghost use Rattle.std.specs.List.{Contains};
+//! The interfaces that rules name, and one that no rule names.
+ghost use Rattle.std.specs.Prelude.{◌≡◌, ◌≤◌, ◌++◌, false, length, IfOk, OnOk, bytes_eq};
+ghost use Rattle.std.specs.List.{Contains, list_any};
 ghost use Rattle.std.specs.List.Sorted.{IsStrictlyIncreasing};
-ghost use Rattle.prt_partition.specs.Classes.{AreInterfaces, is_named, names, names_of, number_of, numbers_of};
+ghost use Rattle.prt_partition.specs.Boxes.{AreNames, with_name};
+ghost use Rattle.prt_partition.specs.Classes.{is_named, names, number_of, numbers_of};
 
 use crate::cuts::sort_distinct;
 use prt_route::{Dev, read_dev};
@@ -17,7 +18,7 @@ fn names(name: &Dev, rule: &Rule) -> bool
 }
 
 /// Tells whether a rule names the interface.
-fn is_named(rules: &[Rule], name: &Dev) -> bool
+pub(crate) fn is_named(rules: &[Rule], name: &Dev) -> bool
     ensures { result ≡ is_named rules.now name.now }
 {
     rules.iter().any(|rule| names(name, rule))
@@ -82,7 +83,7 @@ fn name_of(number: u32) -> Dev
 }
 
 /// Gives an interface that no rule names.
-fn fresh_name(alloc: Global, rules: &[Rule]) -> Result<Dev, AllocError>
+pub(crate) fn fresh_name(alloc: Global, rules: &[Rule]) -> Result<Dev, AllocError>
     requires { length rules.now ≤ 2000 }
     ensures { IfOk result (λ name. is_named rules.now name ≡ false) }
 {
@@ -92,26 +93,35 @@ fn fresh_name(alloc: Global, rules: &[Rule]) -> Result<Dev, AllocError>
     Ok(name_of(first_gap(&numbers)))
 }
 
-/// Appends the interfaces that rules name.
-fn push_names(interfaces: &mut Vec<Dev>, rules: &[Rule]) -> Result<(), AllocError>
-    ensures { OnOk result (interfaces.new.items ≡ interfaces.old.items ++ names_of rules.now) }
+/// Tells whether the name is one of these.
+fn is_among(names: &[Dev], name: &Dev) -> bool
+    ensures { result ≡ list_any (bytes_eq name.now) names.now }
 {
-    for rule in rules {
-        if let Some(name) = rule.iif {
-            interfaces.push(name)?;
-        }
-    }
-    Ok(())
+    names
+        .iter()
+        .any(|other| name.as_bytes() == other.as_bytes())
 }
 
-/// Gives interfaces of which one stands for each that there is: every rule takes both, or neither.
-pub(crate) fn interfaces(alloc: Global, rules: &[Rule]) -> Result<Vec<Dev>, AllocError>
-    requires { length rules.now ≤ 2000 }
-    ensures { IfOk result (λ interfaces. AreInterfaces rules.now interfaces.items) }
+/// Appends the name, if there is one and it isn't one of these.
+fn push_name(names: &mut Vec<Dev>, name: &Option<Dev>) -> Result<(), AllocError>
+    ensures { OnOk result (names.new.items ≡ with_name names.old.items name.now) }
 {
-    let fresh = fresh_name(alloc, rules)?;
-    let mut interfaces = Vec::new(alloc);
-    interfaces.push(fresh)?;
-    push_names(&mut interfaces, rules)?;
-    Ok(interfaces)
+    match name {
+        Some(name) if !is_among(names, name) => {
+            names.push(*name)?;
+            Ok(())
+        }
+        _ => Ok(()),
+    }
+}
+
+/// Gives the interfaces that rules name, each of them once.
+pub(crate) fn names_of(alloc: Global, rules: &[Rule]) -> Result<Vec<Dev>, AllocError>
+    ensures { IfOk result (λ names. AreNames rules.now names.items) }
+{
+    let mut names = Vec::new(alloc);
+    for rule in rules {
+        push_name(&mut names, &rule.iif)?;
+    }
+    Ok(names)
 }

@@ -10,12 +10,14 @@ mod cuts;
 mod destinations;
 mod differences;
 mod differing;
+mod division;
 mod equivalence;
 mod interfaces;
 mod joining;
 mod laws;
 mod marks;
 mod near_starts;
+mod packet_box;
 mod reach;
 mod sameness;
 mod touching;
@@ -24,9 +26,12 @@ pub use class_list::{classes, joined_classes};
 pub use destinations::{Span, spans};
 pub use differences::{Difference, changes};
 pub use differing::{Differing, what_differs};
+pub use division::boxes;
 pub use equivalence::find_change;
 pub use laws::{
-    alike_go_alike, changes_at_destination_cuts, changes_at_source_cuts, depends_on_what_takes_it,
-    routes_touch_their_prefixes, rules_touch_what_they_match,
+    alike_go_alike, boxes_go_alike, changes_at_destination_cuts, changes_at_source_cuts,
+    depends_on_what_takes_it, ids_only_order, routes_touch_their_prefixes,
+    rules_touch_what_they_match,
 };
+pub use packet_box::{Interfaces, PacketBox};
 pub use sameness::{Outcome, Sameness, outcome_of};
