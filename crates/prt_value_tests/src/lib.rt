@@ -18,6 +18,8 @@ mod ip_json;
 #[cfg(test)]
 mod json;
 #[cfg(test)]
+mod partition;
+#[cfg(test)]
 mod rule;
 #[cfg(test)]
 mod spelling;

@@ -1,4 +1,4 @@
-use crate::tables::{outcome, packet_of, version_after};
+use super::tables::{outcome, packet_of, version_after};
 use prt_addr::Addr;
 use prt_command::{Packet, Refusal, Rule};
 use prt_partition::{Interfaces, boxes, classes, joined_classes, outcome_of, spans};

@@ -1,4 +1,4 @@
-use crate::tables::{outcome, packet_of, version_after};
+use super::tables::{outcome, packet_of, version_after};
 use prt_addr::Addr;
 use prt_command::{Packet, Refusal};
 use prt_partition::{Difference, Sameness, changes, find_change, what_differs};

@@ -1,5 +1,5 @@
 //! Changes against the answers to a grid of packets, one by one.
-use crate::tables::{outcome, packet_of, version_after};
+use super::tables::{outcome, packet_of, version_after};
 use prt_addr::Addr;
 use prt_command::{Packet, Refusal};
 use prt_partition::{Difference, Sameness, changes, find_change, outcome_of, what_differs};
