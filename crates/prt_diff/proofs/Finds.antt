@@ -17,7 +17,7 @@ use Rattle.prt_route.proofs.Edits.{listing_order}
 use Rattle.prt_trie.specs.Table.{has_same_key}
 use Rattle.prt_trie.proofs.Order.{rises_far}
 use Rattle.prt_version.proofs.RowOrder.{key_differs, keys_both_ways}
-use Rattle.prt_diff.specs.Held.{blocked_routes}
+use Rattle.prt_diff.specs.Held.{blocked_routes, has_serving, serves}
 use Rattle.prt_diff.specs.Routes.{agrees, has_agreeing, is_kept, kept_routes, managed_routes, missing_routes, unwanted_routes, wanted_routes}
 use Rattle.prt_diff.specs.declared.fence.Fence.{Fence}
 use Rattle.prt_diff.proofs.Members.{IsIn, contains_in, differ, each_in, filtered_twice}
@@ -114,17 +114,28 @@ or_nothing : (b : Bool) → (b || false) ≡ b
 or_nothing true = refl
 or_nothing false = refl
 
-route_found_by : (route first : Route) (routes : List Route) (b : Bool) → has_same_key first route ≡ b → (b ≡ true → has_agreeing route routes ≡ false) → has_agreeing route routes ≡ passes (agrees route) (find (λ one. has_same_key one route) routes) → has_agreeing route (first ∷ routes) ≡ passes (agrees route) (cond b (Some first) (find (λ one. has_same_key one route) routes))
-route_found_by route first routes true is none rest = ap (λ b. agrees route first || b) (none refl) ∙ or_nothing (agrees route first)
-route_found_by route first routes false is none rest = ap (λ b. b || has_agreeing route routes) (unlike_key route first is) ∙ rest
+unlike_serving : (route other : Route) → has_same_key other route ≡ false → serves route other ≡ false
+unlike_serving route other apart = simp (keys_both_ways route other ∙ apart) refl
+
+one_found_by : (p : Route → Bool) (route first : Route) (routes : List Route) (b : Bool) → has_same_key first route ≡ b → (b ≡ true → list_any p routes ≡ false) → ((one : Route) → has_same_key one route ≡ false → p one ≡ false) → list_any p routes ≡ passes p (find (λ one. has_same_key one route) routes) → list_any p (first ∷ routes) ≡ passes p (cond b (Some first) (find (λ one. has_same_key one route) routes))
+one_found_by p route first routes true is none unlike rest = ap (λ b. p first || b) (none refl) ∙ or_nothing (p first)
+one_found_by p route first routes false is none unlike rest = ap (λ b. b || list_any p routes) (unlike first is) ∙ rest
+
+-- one passes that no route of another key does, where the one that has the key passes
+one_found : (p : Route → Bool) (route : Route) (routes : List Route) → ((one : Route) → has_same_key one route ≡ false → p one ≡ false) → IsRising is_listed_before routes → list_any p routes ≡ passes p (find (λ one. has_same_key one route) routes)
+one_found p route [] unlike rises = refl
+one_found p route (first ∷ routes) unlike rises =
+    one_found_by p route first routes (has_same_key first route) refl
+    (λ same. any_none p routes (each_implies (λ one. is_listed_before first one ≡ true) (λ one. p one ≡ false) (λ one ahead. unlike one (later_differs route first one ahead same)) routes rises.0))
+    unlike
+    (one_found p route routes unlike rises.1)
 
 -- the route is there, where the one that has its key is the same
 pub route_found : (route : Route) (routes : List Route) → IsRising is_listed_before routes → has_agreeing route routes ≡ passes (agrees route) (find (λ one. has_same_key one route) routes)
-route_found route [] rises = refl
-route_found route (first ∷ routes) rises =
-    route_found_by route first routes (has_same_key first route) refl
-    (λ same. any_none (agrees route) routes (each_implies (λ one. is_listed_before first one ≡ true) (λ one. agrees route one ≡ false) (λ one ahead. unlike_key route one (later_differs route first one ahead same)) routes rises.0))
-    (route_found route routes rises.1)
+route_found route routes rises = one_found (agrees route) route routes (unlike_key route) rises
+
+serving_found : (route : Route) (routes : List Route) → IsRising is_listed_before routes → has_serving route routes ≡ passes (serves route) (find (λ one. has_same_key one route) routes)
+serving_found route routes rises = one_found (serves route) route routes (unlike_serving route) rises
 
 -- ---- what the code asks
 
@@ -140,9 +151,28 @@ found_any p (x ∷ xs) = by p x xs (p x) (found_any p xs)
 pub key_if : (route : Route) (routes : List Route) (one : Option Route) → one ≡ find (λ other. has_same_key other route) routes → is_some one ≡ has_key (key_of route) routes
 key_if route routes one is = ap is_some is ∙ found_any (λ other. has_same_key other route) routes
 
--- a kept route has the key
-pub taken_if : (fence : Fence) (route : Route) (found : List Route) (one : Option Route) → IsRising is_listed_before found → one ≡ find (λ other. has_same_key other route) found → passes (is_kept fence) one ≡ has_key (key_of route) (kept_routes fence found)
-taken_if fence route found one rises is = ap (passes (is_kept fence)) is ∙ sym (key_kept (is_kept fence) route found rises)
+-- no kept route has the key
+pub free_if : (fence : Fence) (route : Route) (found : List Route) (one : Option Route) → IsRising is_listed_before found → one ≡ find (λ other. has_same_key other route) found → not (passes (is_kept fence) one) ≡ not (has_key (key_of route) (kept_routes fence found))
+free_if fence route found one rises is = ap not (ap (passes (is_kept fence)) is ∙ sym (key_kept (is_kept fence) route found rises))
+
+-- a kept route has the key or not, and none passes that no route of another key does
+kept_if : (p : Route → Bool) (test : Bool → Bool) (fence : Fence) (route : Route) (found : List Route) (one : Option Route) → IsRising is_listed_before found → list_any p found ≡ passes p (find (λ other. has_same_key other route) found) → one ≡ find (λ other. has_same_key other route) found
+    → test (passes (is_kept fence) one) && not (passes p one) ≡ test (has_key (key_of route) (kept_routes fence found)) && not (list_any p found)
+kept_if p test fence route found one rises any is =
+    ap (λ o. test (passes (is_kept fence) o) && not (passes p o)) is
+    ∙ ap (λ b. test b && not (passes p (find (λ other. has_same_key other route) found))) (sym (key_kept (is_kept fence) route found rises))
+    ∙ ap (λ b. test (has_key (key_of route) (kept_routes fence found)) && not b) (sym any)
+
+pub blocked_if : (fence : Fence) (route : Route) (found : List Route) (one : Option Route) → IsRising is_listed_before found → one ≡ find (λ other. has_same_key other route) found
+    → passes (is_kept fence) one && not (passes (serves route) one) ≡ has_key (key_of route) (kept_routes fence found) && not (has_serving route found)
+blocked_if fence route found one rises is = kept_if (serves route) (λ b. b) fence route found one rises (serving_found route found rises) is
+
+pub unmade_if : (fence : Fence) (route : Route) (found : List Route) (one : Option Route) → IsRising is_listed_before found → one ≡ find (λ other. has_same_key other route) found
+    → not (passes (is_kept fence) one) && not (passes (agrees route) one) ≡ not (has_key (key_of route) (kept_routes fence found)) && not (has_agreeing route found)
+unmade_if fence route found one rises is = kept_if (agrees route) not fence route found one rises (route_found route found rises) is
+
+pub serving_if : (route : Route) (routes : List Route) (one : Option Route) → IsRising is_listed_before routes → one ≡ find (λ other. has_same_key other route) routes → passes (serves route) one ≡ has_serving route routes
+serving_if route routes one rises is = ap (passes (serves route)) is ∙ sym (serving_found route routes rises)
 
 -- the route is managed, and no kept one has its key
 abbrev pub is_free_and_managed : Fence → List Route → Route → Bool
@@ -153,9 +183,6 @@ wanted_if fence route found wanted one rises is =
     ap (passes (is_free_and_managed fence found)) is
     ∙ sym (key_kept (is_free_and_managed fence found) route wanted rises)
     ∙ ap (has_key (key_of route)) (sym (filtered_twice (λ route. not (is_kept fence route)) (λ route. not (has_key (key_of route) (kept_routes fence found))) wanted))
-
-pub agreeing_if : (route : Route) (routes : List Route) (one : Option Route) → IsRising is_listed_before routes → one ≡ find (λ other. has_same_key other route) routes → passes (agrees route) one ≡ has_agreeing route routes
-agreeing_if route routes one rises is = ap (passes (agrees route)) is ∙ sym (route_found route routes rises)
 
 -- the route is managed, and no wanted one has its key
 abbrev pub is_unwanted : Fence → List Route → List Route → Route → Bool
@@ -186,9 +213,9 @@ keys_tell a b key other answer first second is =
     is ∙ and_turned (key.table == other.table) (is_same_prefix key.prefix other.prefix) (key.metric == other.metric)
     ∙ ap (λ k. is_same_key k other) first ∙ ap (λ k. is_same_key (key_of a) k) second
 
--- the route is managed, a kept one has its key, and it is not found so
+-- the route is managed, a kept one has its key, and none serves for it
 abbrev pub is_blocked : Fence → List Route → Route → Bool
-is_blocked fence found route = not (is_kept fence route) && (has_key (key_of route) (kept_routes fence found) && not (has_agreeing route found))
+is_blocked fence found route = not (is_kept fence route) && (has_key (key_of route) (kept_routes fence found) && not (has_serving route found))
 
 pub blocked_are : (fence : Fence) (found wanted : List Route) → blocked_routes fence found wanted ≡ filter (is_blocked fence found) wanted
-blocked_are fence found wanted = filtered_twice (λ route. not (is_kept fence route)) (λ route. has_key (key_of route) (kept_routes fence found) && not (has_agreeing route found)) wanted
+blocked_are fence found wanted = filtered_twice (λ route. not (is_kept fence route)) (λ route. has_key (key_of route) (kept_routes fence found) && not (has_serving route found)) wanted

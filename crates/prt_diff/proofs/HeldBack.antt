@@ -7,9 +7,9 @@ use Rattle.prt_route.specs.declared.route.Route.{Route}
 use Rattle.prt_rule.specs.declared.rule.Rule.{Rule}
 use Rattle.prt_version.specs.Change.{has_rule}
 use Rattle.prt_diff.specs.Fence.{is_kernels, is_rule_within, is_unread_key, is_unread_priority, names_route, names_rule, rules_within}
-use Rattle.prt_diff.specs.Held.{blocked_routes, hindered_routes, is_meant_route, is_meant_rule, is_unread_route, is_unread_rule, staying_routes, unread_rules}
+use Rattle.prt_diff.specs.Held.{blocked_routes, has_serving, hindered_routes, is_meant_route, is_meant_rule, is_unread_route, is_unread_rule, staying_routes, unread_rules}
 use Rattle.prt_diff.specs.Names.{is_plain_name}
-use Rattle.prt_diff.specs.Routes.{has_agreeing, is_kept, kept_routes, managed_routes, wanted_routes}
+use Rattle.prt_diff.specs.Routes.{is_kept, kept_routes, managed_routes, wanted_routes}
 use Rattle.prt_diff.specs.declared.fence.Fence.{Fence}
 use Rattle.prt_diff.proofs.Members.{IsIn, contains_in, differ, in_contains, passing}
 
@@ -31,22 +31,22 @@ both : (p q : Bool) → p ≡ true → q ≡ false → p && not q ≡ true
 both p q first second = ap (λ b. b && not q) first ∙ ap not second
 
 wanted_by : (fence : Fence) (found wanted : List Route) (route : Route) → IsIn route wanted → is_meant_route fence route ≡ true
-    → (there unread taken : Bool) → has_agreeing route found ≡ there → is_unread_key fence (key_of route) ≡ unread → has_key (key_of route) (kept_routes fence found) ≡ taken
-    → Contains (wanted_routes fence found wanted) route ⊎ ((has_agreeing route found ≡ true) ⊎ (Contains (blocked_routes fence found wanted) route ⊎ Contains (hindered_routes fence found wanted) route))
+    → (there unread taken : Bool) → has_serving route found ≡ there → is_unread_key fence (key_of route) ≡ unread → has_key (key_of route) (kept_routes fence found) ≡ taken
+    → Contains (wanted_routes fence found wanted) route ⊎ ((has_serving route found ≡ true) ⊎ (Contains (blocked_routes fence found wanted) route ⊎ Contains (hindered_routes fence found wanted) route))
 wanted_by fence found wanted route within meant true unread taken is reads takes = inr (inl is)
 wanted_by fence found wanted route within meant false true taken is reads takes =
-    inr (inr (inr (in_contains route _ (passing (λ route. is_unread_route fence route && not (has_agreeing route found)) route wanted within (both (is_unread_route fence route) (has_agreeing route found) (unread_if fence route meant reads) is)))))
+    inr (inr (inr (in_contains route _ (passing (λ route. is_unread_route fence route && not (has_serving route found)) route wanted within (both (is_unread_route fence route) (has_serving route found) (unread_if fence route meant reads) is)))))
 wanted_by fence found wanted route within meant false false true is reads takes =
-    inr (inr (inl (in_contains route _ (passing (λ route. has_key (key_of route) (kept_routes fence found) && not (has_agreeing route found)) route (managed_routes fence wanted)
-    (passing (λ route. not (is_kept fence route)) route wanted within (managed_if fence route meant reads)) (both (has_key (key_of route) (kept_routes fence found)) (has_agreeing route found) takes is)))))
+    inr (inr (inl (in_contains route _ (passing (λ route. has_key (key_of route) (kept_routes fence found) && not (has_serving route found)) route (managed_routes fence wanted)
+    (passing (λ route. not (is_kept fence route)) route wanted within (managed_if fence route meant reads)) (both (has_key (key_of route) (kept_routes fence found)) (has_serving route found) takes is)))))
 wanted_by fence found wanted route within meant false false false is reads takes =
     inl (in_contains route _ (passing (λ route. not (has_key (key_of route) (kept_routes fence found))) route (managed_routes fence wanted)
     (passing (λ route. not (is_kept fence route)) route wanted within (managed_if fence route meant reads)) (ap not takes)))
 
 pub wanted_route : (fence : Fence) (found wanted : List Route) (route : Route) → Contains wanted route → is_meant_route fence route ≡ true
-    → Contains (wanted_routes fence found wanted) route ⊎ ((has_agreeing route found ≡ true) ⊎ (Contains (blocked_routes fence found wanted) route ⊎ Contains (hindered_routes fence found wanted) route))
+    → Contains (wanted_routes fence found wanted) route ⊎ ((has_serving route found ≡ true) ⊎ (Contains (blocked_routes fence found wanted) route ⊎ Contains (hindered_routes fence found wanted) route))
 wanted_route fence found wanted route within meant =
-    wanted_by fence found wanted route (contains_in route wanted within) meant (has_agreeing route found) (is_unread_key fence (key_of route)) (has_key (key_of route) (kept_routes fence found)) refl refl refl
+    wanted_by fence found wanted route (contains_in route wanted within) meant (has_serving route found) (is_unread_key fence (key_of route)) (has_key (key_of route) (kept_routes fence found)) refl refl refl
 
 found_by : (fence : Fence) (found wanted : List Route) (route : Route) → IsIn route found → is_meant_route fence route ≡ true
     → (unread asked : Bool) → is_unread_key fence (key_of route) ≡ unread → has_key (key_of route) wanted ≡ asked

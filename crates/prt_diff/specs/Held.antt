@@ -1,14 +1,17 @@
 -- What is wanted and not brought, and what is not wanted and stays: ip-route(8), ip-rule(8).
-use Rattle.std.specs.Prelude.{◌≡◌, Bool, not, ◌&&◌, ◌==◌, List, filter, length}
+use Rattle.std.specs.Prelude.{◌≡◌, Bool, not, ◌&&◌, ◌||◌, ◌==◌, List, filter, is_none, length}
+use Rattle.std.specs.List.{list_any}
+use Rattle.std.specs.Option.{option_eq}
 use Rattle.prt_route.specs.Edit.{has_key}
-use Rattle.prt_route.specs.Route.{key_of}
+use Rattle.prt_route.specs.Route.{is_same_key, key_of}
+use Rattle.prt_route.specs.RouteChoice.{is_same_addr, is_same_kind}
 use Rattle.prt_route.specs.declared.route.Route.{Route}
 use Rattle.prt_rule.specs.declared.rule.Rule.{Rule}
 use Rattle.prt_version.specs.Change.{has_rule}
 use Rattle.prt_version.specs.State.{State}
 use Rattle.prt_diff.specs.Fence.{is_kernels, is_unread_key, is_unread_priority, names_route, names_rule}
 use Rattle.prt_diff.specs.Names.{is_plain_name}
-use Rattle.prt_diff.specs.Routes.{has_agreeing, kept_routes, managed_routes}
+use Rattle.prt_diff.specs.Routes.{agrees, agrees_on_dev, kept_routes, managed_routes}
 use Rattle.prt_diff.specs.declared.fence.Fence.{Fence}
 use Rattle.prt_diff.specs.declared.held.Held.{Held}
 
@@ -31,13 +34,24 @@ is_unread_rule fence rule = is_unread_priority fence rule.priority && is_meant_r
 
 -- ---- routes
 
--- Routes that are wanted and not brought: one that may not be changed has their key, and is not as they are wanted.
+-- The kernel made the route itself: as it is wanted, except for its protocol, and for a source that is not named.
+abbrev pub is_made_alike : Route → Route → Bool
+is_made_alike wanted found = is_same_key (key_of wanted) (key_of found) && is_kernels found && is_same_kind wanted.kind found.kind && option_eq is_same_addr wanted.via found.via && agrees_on_dev wanted found && (is_none wanted.src || option_eq is_same_addr wanted.src found.src) && wanted.scope == found.scope
+
+-- the route that is found is as it is wanted, or the kernel made it so
+abbrev pub serves : Route → Route → Bool
+serves wanted found = agrees wanted found || is_made_alike wanted found
+
+abbrev pub has_serving : Route → List Route → Bool
+has_serving route routes = list_any (serves route) routes
+
+-- Routes that are wanted and not brought: one that may not be changed has their key, and doesn't serve for them.
 abbrev pub blocked_routes : Fence → List Route → List Route → List Route
-blocked_routes fence found wanted = filter (λ route. has_key (key_of route) (kept_routes fence found) && not (has_agreeing route found)) (managed_routes fence wanted)
+blocked_routes fence found wanted = filter (λ route. has_key (key_of route) (kept_routes fence found) && not (has_serving route found)) (managed_routes fence wanted)
 
 -- Routes that are wanted and not brought: a line that can't be kept has their key.
 abbrev pub hindered_routes : Fence → List Route → List Route → List Route
-hindered_routes fence found wanted = filter (λ route. is_unread_route fence route && not (has_agreeing route found)) wanted
+hindered_routes fence found wanted = filter (λ route. is_unread_route fence route && not (has_serving route found)) wanted
 
 -- Routes that are not wanted and stay: a line that can't be kept has their key.
 abbrev pub staying_routes : Fence → List Route → List Route → List Route

@@ -5,7 +5,7 @@ ghost use Rattle.prt_route.specs.Route.{is_listed_before};
 ghost use Rattle.prt_diff.specs.Held.{blocked_routes, hindered_routes, hindered_rules, is_nothing_held, staying_routes, staying_rules, unread_rules};
 
 use crate::fence::Fence;
-use crate::routes::{has_agreeing, has_key, is_kept, is_taken};
+use crate::routes::{has_key, has_serving, is_blocked, is_kept};
 use crate::rules::has_rule;
 use prt_route::Route;
 use prt_rule::Rule;
@@ -52,7 +52,7 @@ impl Held {
     }
 }
 
-/// Gives the wanted routes whose key one has that may not be changed, and that are not found so.
+/// Gives the wanted routes whose key one has that may not be changed, if none that is found serves for them.
 fn blocked_routes(
     alloc: Global,
     fence: &Fence,
@@ -64,14 +64,14 @@ fn blocked_routes(
 {
     let mut routes = Vec::new(alloc);
     for route in wanted {
-        if !is_kept(fence, route) && is_taken(fence, found, route) && !has_agreeing(found, route) {
+        if !is_kept(fence, route) && is_blocked(fence, found, route) {
             routes.push(*route)?;
         }
     }
     Ok(routes)
 }
 
-/// Gives the wanted routes whose key a line has that can't be kept, and that are not found so.
+/// Gives the wanted routes whose key a line has that can't be kept, if none that is found serves for them.
 fn hindered_routes(
     alloc: Global,
     fence: &Fence,
@@ -83,7 +83,7 @@ fn hindered_routes(
 {
     let mut routes = Vec::new(alloc);
     for route in wanted {
-        if fence.is_unread_route(route) && !has_agreeing(found, route) {
+        if fence.is_unread_route(route) && !has_serving(found, route) {
             routes.push(*route)?;
         }
     }

@@ -11,9 +11,9 @@ ghost use Rattle.prt_version.specs.Sound.{IsSound};
 ghost use Rattle.prt_version.specs.State.{State};
 ghost use Rattle.prt_diff.specs.Between.{CanBring, EachState, IsBetween, IsBrought, end_of};
 ghost use Rattle.prt_diff.specs.Fence.{rules_within};
-ghost use Rattle.prt_diff.specs.Held.{blocked_routes, hindered_routes, hindered_rules, is_meant_route, is_meant_rule, staying_routes, staying_rules};
+ghost use Rattle.prt_diff.specs.Held.{blocked_routes, has_serving, hindered_routes, hindered_rules, is_meant_route, is_meant_rule, staying_routes, staying_rules};
 ghost use Rattle.prt_diff.specs.Plan.{changes, plan};
-ghost use Rattle.prt_diff.specs.Routes.{has_agreeing, managed_routes, wanted_routes};
+ghost use Rattle.prt_diff.specs.Routes.{managed_routes, wanted_routes};
 ghost use Rattle.prt_diff.specs.declared.fence.Fence.{Fence};
 
 /// The changes are each accepted over the state that was found. Before and after each of them, all that both ends have
@@ -40,7 +40,7 @@ pub fn no_changes_where_same()
 /// What is found may go, is wanted, or is held back.
 pub fn nothing_is_passed_over()
     ensures wanted_routes { (fence : Fence) (found wanted : List Route) (route : Route) → Contains wanted route → is_meant_route fence route ≡ true
-        → Contains (wanted_routes fence found wanted) route ⊎ ((has_agreeing route found ≡ true) ⊎ (Contains (blocked_routes fence found wanted) route ⊎ Contains (hindered_routes fence found wanted) route)) }
+        → Contains (wanted_routes fence found wanted) route ⊎ ((has_serving route found ≡ true) ⊎ (Contains (blocked_routes fence found wanted) route ⊎ Contains (hindered_routes fence found wanted) route)) }
     ensures found_routes { (fence : Fence) (found wanted : List Route) (route : Route) → Contains found route → is_meant_route fence route ≡ true
         → Contains (managed_routes fence found) route ⊎ ((has_key (key_of route) wanted ≡ true) ⊎ Contains (staying_routes fence found wanted) route) }
     ensures wanted_rules { (fence : Fence) (found wanted : List Rule) (rule : Rule) → Contains wanted rule → is_meant_rule fence rule ≡ true

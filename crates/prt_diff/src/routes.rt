@@ -1,14 +1,15 @@
 //! Which routes differ.
-ghost use Rattle.std.specs.Prelude.{◌≡◌, ◌==◌, ◌++◌, IfOk, OnOk, filter, find, map, not};
+ghost use Rattle.std.specs.Prelude.{◌≡◌, ◌==◌, ◌&&◌, ◌++◌, IfOk, OnOk, filter, find, map, not};
 ghost use Rattle.std.specs.List.{list_any};
 ghost use Rattle.prt_addr.specs.Rising.{IsRising};
 ghost use Rattle.prt_route.specs.Edit.{has_key};
 ghost use Rattle.prt_route.specs.Route.{is_listed_before, key_of};
 ghost use Rattle.prt_trie.specs.Table.{has_same_key};
+ghost use Rattle.prt_diff.specs.Held.{has_serving, is_made_alike, serves};
 ghost use Rattle.prt_diff.specs.Routes.{agrees, agrees_on_dev, agrees_on_src, delete_route, early_routes, gateways_are_found, has_agreeing, highest_first, in_turn, is_early, is_kept, is_late_link, is_looked_up, is_lookup_of, is_main_rule, kept_routes, late_routes, leaves_dev, missing_routes, rank, replace_route, unwanted_routes, wanted_routes};
 
 use crate::commands::{delete_route, replace_route};
-use crate::fence::Fence;
+use crate::fence::{Fence, is_kernels};
 use prt_command::Command;
 use prt_route::{MAIN_TABLE, Route};
 use prt_rule::{Action, Rule};
@@ -80,14 +81,59 @@ pub(crate) fn has_key(routes: &[Route], route: &Route) -> bool
     }
 }
 
-/// Tells whether a kept route has the key.
-pub(crate) fn is_taken(fence: &Fence, found: &[Route], route: &Route) -> bool
+/// Tells whether the kernel made the route itself, as it is wanted except for its protocol and a source that isn't named.
+fn is_made_alike(wanted: &Route, found: &Route) -> bool
+    ensures { result ≡ is_made_alike wanted.now found.now }
+{
+    wanted.key() == found.key()
+        && is_kernels(found)
+        && wanted.kind == found.kind
+        && wanted.via == found.via
+        && agrees_on_dev(wanted, found)
+        && (wanted.src.is_none() || wanted.src == found.src)
+        && wanted.scope == found.scope
+}
+
+/// Tells whether the route that is found is as it is wanted, or the kernel made it so.
+fn serves(wanted: &Route, found: &Route) -> bool
+    ensures { result ≡ serves wanted.now found.now }
+{
+    agrees(wanted, found) || is_made_alike(wanted, found)
+}
+
+/// Tells whether the route that is found may not be changed, and doesn't serve for this one.
+fn blocks(fence: &Fence, wanted: &Route, found: &Route) -> bool
+    ensures { result ≡ is_kept fence.now found.now && not (serves wanted.now found.now) }
+{
+    is_kept(fence, found) && !serves(wanted, found)
+}
+
+/// Tells whether the route that is found may be changed, and isn't as this one is wanted.
+fn gives_way(fence: &Fence, wanted: &Route, found: &Route) -> bool
+    ensures { result ≡ not (is_kept fence.now found.now) && not (agrees wanted.now found.now) }
+{
+    !is_kept(fence, found) && !agrees(wanted, found)
+}
+
+/// Tells whether a kept route has the key, and none serves for this one.
+pub(crate) fn is_blocked(fence: &Fence, found: &[Route], route: &Route) -> bool
     requires { IsRising is_listed_before found.now }
-    ensures { result ≡ has_key (key_of route.now) (kept_routes fence.now found.now) }
+    ensures { result ≡ has_key (key_of route.now) (kept_routes fence.now found.now) && not (has_serving route.now found.now) }
 {
     match find_same_key(found, route) {
-        Some(other) => is_kept(fence, &other),
+        Some(other) => blocks(fence, route, &other),
         None => false,
+    }
+}
+
+/// Tells whether no kept route has the key, and none is as this one is wanted.
+fn is_unmade(fence: &Fence, found: &[Route], route: &Route) -> bool
+    requires { IsRising is_listed_before found.now }
+    ensures { result ≡ not (has_key (key_of route.now) (kept_routes fence.now found.now)) && not (has_agreeing route.now found.now) }
+{
+    match find_same_key(found, route) {
+        Some(other) => gives_way(fence, route, &other),
+        None => true,
     }
 }
 
@@ -96,7 +142,10 @@ fn is_free(fence: &Fence, found: &[Route], route: &Route) -> bool
     requires { IsRising is_listed_before found.now }
     ensures { result ≡ not (has_key (key_of route.now) (kept_routes fence.now found.now)) }
 {
-    !is_taken(fence, found, route)
+    match find_same_key(found, route) {
+        Some(other) => !is_kept(fence, &other),
+        None => true,
+    }
 }
 
 /// Tells whether a wanted route has the key.
@@ -111,13 +160,13 @@ fn has_wanted_key(fence: &Fence, found: &[Route], wanted: &[Route], route: &Rout
     }
 }
 
-/// Tells whether one of the routes is as this one is wanted.
-pub(crate) fn has_agreeing(routes: &[Route], route: &Route) -> bool
+/// Tells whether one of the routes serves for this one.
+pub(crate) fn has_serving(routes: &[Route], route: &Route) -> bool
     requires { IsRising is_listed_before routes.now }
-    ensures { result ≡ has_agreeing route.now routes.now }
+    ensures { result ≡ has_serving route.now routes.now }
 {
     match find_same_key(routes, route) {
-        Some(other) => agrees(route, &other),
+        Some(other) => serves(route, &other),
         None => false,
     }
 }
@@ -135,7 +184,7 @@ pub(crate) fn missing_routes(
 {
     let mut missing = Vec::new(alloc);
     for route in wanted {
-        if !is_kept(fence, route) && is_free(fence, found, route) && !has_agreeing(found, route) {
+        if !is_kept(fence, route) && is_unmade(fence, found, route) {
             missing.push(*route)?;
         }
     }

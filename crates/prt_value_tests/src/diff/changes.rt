@@ -533,6 +533,29 @@ route add 10.3/16 dev eth0",
     Ok(())
 }
 
+/// The kernel makes a route to the network of an address itself. It serves for one of ours that goes the same way.
+#[test]
+fn takes_a_route_of_the_kernel_for_one_of_ours(rt: HostRuntime) -> Result<(), Fail> {
+    let found = made(
+        rt.alloc(),
+        "route add 192.0.2.0/24 dev eth0 proto kernel scope link src 192.0.2.10
+route add 198.51.100.0/24 dev eth1 proto kernel scope link src 198.51.100.10
+route add 203.0.113.0/24 dev eth2 proto kernel scope link src 203.0.113.10",
+    )?;
+    let wanted = made(
+        rt.alloc(),
+        "route add 192.0.2.0/24 dev eth0
+route add 198.51.100.0/24 dev eth0
+route add 203.0.113.0/24 dev eth2 src 203.0.113.10",
+    )?;
+    let fence = Fence::all(rt.alloc());
+    let text = text_of(rt.alloc(), &fence, &found, &wanted)?;
+    assert_eq!(rt; text.as_slice(), "".as_bytes());
+    let held = held_between(rt.alloc(), &fence, &found, &wanted)?;
+    assert!(rt; is_one_route(&held.blocked_routes, "route add 198.51.100.0/24 dev eth0")?);
+    Ok(())
+}
+
 /// `ip` reads a mark of 0 without a mask as none.
 #[test]
 fn brings_a_rule_for_the_mark_0(rt: HostRuntime) -> Result<(), Fail> {
