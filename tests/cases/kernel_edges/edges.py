@@ -142,6 +142,16 @@ def place_that_is_taken():
     space.close()
 
 
+def network_of_an_address():
+    """The kernel makes the route to it itself, which serves for one of ours, unless that goes another way."""
+    tables_of()
+    space = host_of()
+    for device in ("eth0", "eth1"):
+        prt("batch", "--db", DATABASE, input=f"route replace 192.0.2.0/24 dev {device}\n")
+        held_back(prt("diff", *ALL, input=space.listed()))
+    space.close()
+
+
 def beside_what_cannot_be_kept():
     """What shares its place with a line that can't be kept neither comes nor goes, and is named."""
     hops = "nexthop via 192.0.2.1 dev eth0 nexthop via 198.51.100.1 dev eth1"
@@ -170,7 +180,7 @@ def other_listings():
 
 EDGES = [
     mark_of_zero, unknown_selectors, copied_connected_routes, gateway_without_device, names_of_protocols, names_with_quotes,
-    several_next_hops, place_that_is_taken, beside_what_cannot_be_kept, other_listings,
+    several_next_hops, place_that_is_taken, network_of_an_address, beside_what_cannot_be_kept, other_listings,
 ]
 for edge in EDGES:
     print(f"{edge.__name__.replace('_', ' ')}:")

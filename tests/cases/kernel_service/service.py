@@ -114,6 +114,10 @@ def main():
     print("an interface that was gone:", "10.3.0.0/16" in space.listed(), once(variables), settles(space, server))
     space.do(["route del default table 100", "route add 10.9.0.0/16 dev eth0 table 100", "rule add priority 1500 table 7"])
     print("what others do:", once(variables), settles(space, server))
+    hops = "nexthop via 192.0.2.1 dev eth0 nexthop via 198.51.100.1 dev eth1"
+    space.do([f"route add 10.8.0.0/16 table 100 {hops}", "route del default table 100"])
+    print("beside what can't be kept:", once(variables), "default via" in space.ip("route", "show", "table", "100").stdout)
+    space.do(["route del 10.8.0.0/16 table 100"])
     unit.end()
     print("what is outside:", [line for line in before if line not in space.lines()])
     server.kill(signal.SIGKILL)
