@@ -1,6 +1,6 @@
 //! Whether two versions answer every packet alike.
 ghost use Rattle.std.specs.Prelude.{◌≡◌, ◌≤◌, ◌++◌, IfErr, IfOk, length};
-ghost use Rattle.prt_refusals.specs.declared.refusal.Refusal.TheVariants.{NoMemory};
+ghost use Rattle.prt_partition.specs.Boxes.{IsUndivided};
 ghost use Rattle.prt_partition.specs.Differing.{IsDiffering};
 ghost use Rattle.prt_partition.specs.Equivalence.{IsChange, IsChangeOf, IsFirstChange};
 ghost use Rattle.prt_partition.specs.Touching.{IsQuiet};
@@ -75,7 +75,8 @@ fn rules_of_both(alloc: Global, before: &Version, after: &Version) -> Result<Vec
 ///
 /// # Errors
 ///
-/// `NoMemory` alone.
+/// `Full` if the rules of both versions would divide packets into more than [`MOST_BOXES`](crate::MOST_BOXES) boxes, and
+/// otherwise `NoMemory` alone. `NoMemory` may come before that.
 pub fn find_change(
     alloc: Global,
     before: &Version,
@@ -83,7 +84,7 @@ pub fn find_change(
     sameness: Sameness,
 ) -> Result<Option<Packet>, Refusal>
     ensures value { IfOk result (IsChange sameness before.now after.now) }
-    ensures reason { IfErr result (λ reason. reason ≡ NoMemory) }
+    ensures reason { IfErr result (IsUndivided (before.now.rules ++ after.now.rules)) }
 {
     let differing = what_differs(alloc, before, after)?;
     let rules = rules_of_both(alloc, before, after)?;

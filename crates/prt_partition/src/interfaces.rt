@@ -117,7 +117,8 @@ fn push_name(names: &mut Vec<Dev>, name: &Option<Dev>) -> Result<(), AllocError>
 
 /// Gives the interfaces that rules name, each of them once.
 pub(crate) fn names_of(alloc: Global, rules: &[Rule]) -> Result<Vec<Dev>, AllocError>
-    ensures { IfOk result (λ names. AreNames rules.now names.items) }
+    ensures value { IfOk result (λ names. AreNames rules.now names.items) }
+    ensures few { IfOk result (λ names. length names.items ≤ length rules.now) }
 {
     let mut names = Vec::new(alloc);
     for rule in rules {

@@ -15,6 +15,7 @@ mod equivalence;
 mod interfaces;
 mod joining;
 mod laws;
+mod limits;
 mod marks;
 mod near_starts;
 mod packet_box;
@@ -33,5 +34,6 @@ pub use laws::{
     depends_on_what_takes_it, ids_only_order, routes_touch_their_prefixes,
     rules_touch_what_they_match,
 };
+pub use limits::MOST_BOXES;
 pub use packet_box::{Interfaces, PacketBox};
 pub use sameness::{Outcome, Sameness, outcome_of};
