@@ -20,8 +20,8 @@ fn packets_of(alloc: Global, boxes: &[PacketBox], fresh: &Dev) -> Result<Vec<Pac
     boxes.iter().map(|one| one.packet(fresh)).collect(alloc)
 }
 
-/// Gives packets of which one stands for each packet that there is: every rule takes both alike, whatever destination the
-/// two are given.
+/// Gives packets that represent all packets: for each packet there is one that every rule takes alike, whatever destination
+/// the two are given. It is one packet of each box.
 ///
 /// # Errors
 ///
@@ -38,8 +38,8 @@ pub fn classes(alloc: Global, rules: &[Rule]) -> Result<Vec<Packet>, Refusal>
     Ok(all)
 }
 
-/// Gives packets of which one stands for each packet that there is: every rule takes both alike, whatever destination the
-/// two are given. No two of them are taken alike by every rule.
+/// Gives packets that represent all packets: for each packet there is one that every rule takes alike, whatever destination
+/// the two are given. No two of them are taken alike by every rule.
 ///
 /// # Errors
 ///

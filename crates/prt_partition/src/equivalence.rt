@@ -6,7 +6,7 @@ ghost use Rattle.prt_partition.specs.Equivalence.{IsChange, IsChangeOf, IsFirstC
 ghost use Rattle.prt_partition.specs.Touching.{IsQuiet};
 
 use crate::class_list::joined_classes;
-use crate::differing::{Differing, what_differs};
+use crate::differing::{Differing, is_same_everywhere, what_differs};
 use crate::sameness::Sameness;
 use crate::touching::{Touching, is_nothing, to, transition_at, what_touches};
 use prt_refusals::Refusal;
@@ -87,6 +87,9 @@ pub fn find_change(
     ensures reason { IfErr result (IsUndivided (before.now.rules ++ after.now.rules)) }
 {
     let differing = what_differs(alloc, before, after)?;
+    if is_same_everywhere(&differing) {
+        return Ok(None);
+    }
     let rules = rules_of_both(alloc, before, after)?;
     let classes = joined_classes(alloc, &rules)?;
     for class in &classes {

@@ -83,7 +83,11 @@ fn name_of(number: u32) -> Dev
 }
 
 /// Gives an interface that no rule names.
-pub(crate) fn fresh_name(alloc: Global, rules: &[Rule]) -> Result<Dev, AllocError>
+///
+/// # Errors
+///
+/// Memory is refused.
+pub fn fresh_name(alloc: Global, rules: &[Rule]) -> Result<Dev, AllocError>
     requires { length rules.now ≤ 2000 }
     ensures { IfOk result (λ name. is_named rules.now name ≡ false) }
 {

@@ -29,6 +29,7 @@ pub use differences::{Difference, changes};
 pub use differing::{Differing, what_differs};
 pub use division::boxes;
 pub use equivalence::find_change;
+pub use interfaces::fresh_name;
 pub use laws::{
     alike_go_alike, boxes_go_alike, changes_at_destination_cuts, changes_at_source_cuts,
     depends_on_what_takes_it, ids_only_order, routes_touch_their_prefixes,

@@ -1,7 +1,7 @@
 //! Blocks of marks that every rule takes alike.
 //!
-//! A block is a value with a mask: it has the marks that agree with the value in the bits of the mask. It begins with all
-//! marks, and is split by the mark of each rule, bit by bit, where some of its marks agree with that and others don't.
+//! A block is a value with a mask: it has the marks that agree with the value in the bits of the mask. The first block has
+//! all marks. The mark of each rule splits the blocks, bit by bit, if some of their marks agree with it and others don't.
 ghost use Rattle.std.specs.Prelude.{◌≡◌, ◌⊎◌, ◌++◌, ◌<◌, ◌≤◌, IfErr, IfOk, OnOk, flat_map, length};
 ghost use Rattle.prt_refusals.specs.declared.refusal.Refusal.TheVariants.{Full, NoMemory};
 ghost use Rattle.prt_partition.specs.Marks.{AreMarkBlocks, agreeing_half, bit, differs, flipped, is_open, kept, mark_blocks, other_half, parts, parts_of, split_by};

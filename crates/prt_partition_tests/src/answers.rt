@@ -186,7 +186,10 @@ fn too_many_boxes_are_refused(rt: HostRuntime) -> Result<(), Fail> {
     assert_eq!(rt; boxes_of(rt.alloc(), &version)?.len(), 1024);
     let version = version_of_bits(rt.alloc(), 32)?;
     assert!(rt; matches!(boxes_of(rt.alloc(), &version), Err(Refusal::Full)));
-    let found = find_change(rt.alloc(), &version, &version, Sameness::Outcomes);
+    let other = version_of_bits(rt.alloc(), 31)?;
+    let found = find_change(rt.alloc(), &other, &version, Sameness::Outcomes);
     assert!(rt; matches!(found, Err(Refusal::Full)));
+    let found = find_change(rt.alloc(), &version, &version, Sameness::Outcomes)?;
+    assert!(rt; found.is_none());
     Ok(())
 }
