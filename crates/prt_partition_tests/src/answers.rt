@@ -2,7 +2,8 @@ use crate::tables::{next_version, outcome, packet_of, version_after};
 use prt_addr::Addr;
 use prt_command::{Packet, Refusal};
 use prt_partition::{
-    Interfaces, PacketBox, Sameness, boxes, classes, find_change, joined_classes, outcome_of, spans,
+    Interfaces, PacketBox, Sameness, boxes, classes, find_change, fresh_name, joined_classes,
+    outcome_of, spans,
 };
 use prt_route::{Kind, read_dev};
 use prt_version::{Verdict, Version};
@@ -191,5 +192,30 @@ fn too_many_boxes_are_refused(rt: HostRuntime) -> Result<(), Fail> {
     assert!(rt; matches!(found, Err(Refusal::Full)));
     let found = find_change(rt.alloc(), &version, &version, Sameness::Outcomes)?;
     assert!(rt; found.is_none());
+    Ok(())
+}
+
+/// Tells whether each box has its own packet.
+fn have_their_packets(alloc: Global, version: &Version) -> Result<bool, Refusal> {
+    // The version's contract says how many rules there are at most.
+    let _number = version.number();
+    let boxes = boxes_of(alloc, version)?;
+    let fresh = fresh_name(alloc, version.rules())?;
+    let mut all = true;
+    for one in &boxes {
+        all = all && one.contains(version.rules(), &one.packet(&fresh));
+    }
+    Ok(all)
+}
+
+#[test]
+fn each_box_has_its_packet(rt: HostRuntime) -> Result<(), Fail> {
+    for script in [
+        SELECTORS,
+        "rule add iif aaa table 100\nrule add not iif aab table 100",
+    ] {
+        let version = version_after(rt.alloc(), script)?;
+        assert!(rt; have_their_packets(rt.alloc(), &version)?, "after {script}");
+    }
     Ok(())
 }
