@@ -28,7 +28,7 @@ use Rattle.prt_partition.proofs.SpanList.{rises}
 go_as_class : (state : State) (packet class : Packet) (addr : ℕ) → Each (λ (rule : Rule). matches rule (to packet addr) ≡ matches rule (to class addr)) state.rules → select state (to packet addr) ≡ select state (to class addr)
 go_as_class state packet class addr alike = same_select state (to packet addr) (to class addr) (record { rules = alike; routes = each_refl state.routes (to packet addr) })
 
--- where the classes all go the same way, all packets do
+-- if the classes all go the same way, all packets do
 pub one_way : (sameness : Sameness) (before after : State) (classes : List Packet) → AreClasses (before.rules ++ after.rules) classes → ((k : ℕ) → k < length classes → (d : Packet) → IsChangeOf sameness before after (get_or classes k d) None) → IsChange sameness before after None
 one_way sameness before after classes are same packet is =
     let found = are packet is in
@@ -41,7 +41,7 @@ one_way sameness before after classes are same packet is =
     let now : select after (to packet addr) ≡ select after (to class addr) = go_as_class after packet class addr (each_right (λ (rule : Rule). matches rule (to packet addr) ≡ matches rule (to class addr)) before.rules after.rules alike) in
     subst (λ (v : Verdict). AreSame sameness v (select after (to packet addr))) (sym was) (subst (λ (w : Verdict). AreSame sameness (select before (to class addr)) w) (sym now) agree)
 
--- where no start has a change, no destination has one
+-- if no start has a change, no destination has one
 pub no_change : (sameness : Sameness) (before after : State) (class : Packet) (differing : Differing) → IsDiffering before after differing → IsFirstChange sameness before after class differing.starts.items None → IsChangeOf sameness before after class None
 no_change sameness before after class differing is none addr fits =
     let starts = differing.starts.items in

@@ -1,17 +1,19 @@
 -- Each packet is in exactly one box, and rules take all packets of a box alike.
-use Rattle.std.proofs.Common.{◌≡◌, ◌⊎◌, inl, inr, ℕ, ◌+◌, ◌-◌, ◌^◌, ◌<◌, ◌≤◌, Bool, true, false, not, ◌&&◌, ◌||◌, cond, List, [], ◌∷◌, ◌++◌, length, get_or, take, Option, Some, None, refl, sym, ap, ◌∙◌, subst, arith, ⊎_elim, leb, lit<, zero-add, add-zero}
-use Rattle.std.specs.Prelude.{bytes_eq, count_by, flat_map, map}
+use Rattle.std.proofs.Common.{◌≡◌, ◌⊎◌, inl, inr, ℕ, ◌+◌, ◌-◌, ◌*◌, ◌^◌, ◌<◌, ◌≤◌, Bool, true, false, not, ◌&&◌, ◌||◌, cond, List, [], ◌∷◌, ◌++◌, length, length-append, get_or, take, Option, Some, None, refl, sym, ap, ◌∙◌, subst, arith, ⊎_elim, leb, lit<, zero-add, add-zero}
+use Rattle.std.specs.Prelude.{bytes_eq, count_by, flat_map, map, nat_lt}
 use Rattle.std.specs.Cmp.{IsEquivalence}
 use Rattle.std.specs.List.{list_any, AllByRecursion as Each, IsDistinct}
-use Rattle.std.specs.Option.{option_eq}
+use Rattle.std.specs.Option.{option_eq, option_to_list}
 use Rattle.std.proofs.lemmas.Bool.{cases_lt, le-leb, lt-leb, leb-true}
 use Rattle.std.proofs.lemmas.Bool.Decides.{Decides-like, same_from_decides}
-use Rattle.std.proofs.lemmas.List.{take_more}
+use Rattle.std.proofs.lemmas.List.{length-map, take_more}
 use Rattle.std.proofs.lemmas.List.Elements.{recursion_from_All}
 use Rattle.std.proofs.lemmas.List.Folds.{list_any-append}
 use Rattle.std.proofs.lemmas.Map.Keys.{IsDistinct-push}
+use Rattle.std.proofs.lemmas.Nat.{mul-le}
 use Rattle.std.proofs.lemmas.Slice.Eq.{bytes_eq-Decides}
-use Rattle.prt_addr.specs.Prefix.{contains}
+use Rattle.prt_addr.specs.Block.{Block}
+use Rattle.prt_addr.specs.Prefix.{contains, masked}
 use Rattle.prt_addr.specs.Word.{Word}
 use Rattle.prt_addr.proofs.Each.{each_append, each_fails, each_implies}
 use Rattle.prt_rule.specs.Rule.{matches, takes_interface, takes_mark}
@@ -21,10 +23,10 @@ use Rattle.prt_rule.specs.declared.rule.Rule.{Rule}
 use Rattle.prt_trie.proofs.Filters.{each_of}
 use Rattle.prt_version.specs.Select.{select}
 use Rattle.prt_version.specs.State.{State}
-use Rattle.prt_partition.specs.Boxes.{AreBoxes, AreNames, AreTakenAlike, IsBox, all_interfaces, box_of, boxes_between, boxes_from, has_interface, has_packet, is_between, last_before, one_of, packet_of, with_name}
+use Rattle.prt_partition.specs.Boxes.{AreBoxes, AreNames, AreTakenAlike, IsBox, all_interfaces, box_of, boxes_between, boxes_from, has_interface, has_packet, is_between, last_before, most_boxes, one_of, packet_of, with_name}
 use Rattle.prt_partition.specs.Classes.{AreClasses, IsPacket, is_named, names}
-use Rattle.prt_partition.specs.Cuts.{AreStarts, HasNoCut, cuts_of, destination_cuts, from_cuts, to}
-use Rattle.prt_partition.specs.Marks.{AreMarkBlocks, IsMarkBlock}
+use Rattle.prt_partition.specs.Cuts.{AreStarts, HasNoCut, cuts_of, destination_cuts, end, from_cuts, to}
+use Rattle.prt_partition.specs.Marks.{AreMarkBlocks, IsMarkBlock, mark_blocks}
 use Rattle.prt_partition.specs.declared.packet_box.Interfaces.{Interfaces}
 use Rattle.prt_partition.specs.declared.packet_box.Interfaces.TheVariants.{Named, AllOthers}
 use Rattle.prt_partition.specs.declared.packet_box.PacketBox.{PacketBox}
@@ -373,3 +375,34 @@ box_goes_alike state boxes are =
     same_by_destination state packet packet.dst.0 other.dst.0 le is_other.dst none
     ∙ same_select state (to packet other.dst.0) other (record { rules = alike packet other is is_other h k other.dst.0; routes = each_refl state.routes (to packet other.dst.0) }))
     boxes are.alike
+
+-- ---- how many there are
+
+with_name_by : (known : List Word) (name : Word) (b : Bool) → length (cond b known (known ++ name ∷ [])) ≤ length known + 1
+with_name_by known name true = omega arith
+with_name_by known name false = omega (arith, length-append known (name ∷ []))
+
+pub one_name_more : (known : List Word) (o : Option Word) → length (with_name known o) ≤ length known + 1
+one_name_more known None = omega arith
+one_name_more known (Some name) = with_name_by known name (list_any (bytes_eq name) known)
+
+cuts_by : (block : Block) (b : Bool) → length ((masked block).bits ∷ option_to_list (cond b (Some (end block)) None)) ≤ 2
+cuts_by block true = omega arith
+cuts_by block false = omega arith
+
+pub few_cuts : (rules : List Rule) → length (from_cuts rules) ≤ 2 * length rules
+few_cuts [] = omega arith
+few_cuts (rule ∷ rules) =
+    let here : length (cuts_of rule.from) ≤ 2 = cuts_by rule.from (nat_lt (end rule.from) 4294967296) in
+    let rest : length (from_cuts rules) ≤ 2 * length rules = few_cuts rules in
+    let both : length (cuts_of rule.from ++ from_cuts rules) ≡ length (cuts_of rule.from) + length (from_cuts rules) = length-append (cuts_of rule.from) (from_cuts rules) in
+    omega arith
+
+-- so many ranges, interfaces and blocks are no more than the most
+pub within_most : (rules : List Rule) (sources interfaces : ℕ) (blocks : List Mark) → sources ≤ 2 * length rules + 1 → interfaces ≤ length rules + 1 → blocks ≡ mark_blocks rules → sources * interfaces * length blocks ≤ most_boxes rules
+within_most rules sources interfaces blocks low lower are =
+    subst (λ bs. sources * interfaces * length bs ≤ most_boxes rules) (sym are)
+    (mul-le (sources * interfaces) (length (mark_blocks rules)) ((2 * length rules + 1) * (length rules + 1)) (length (mark_blocks rules)) (mul-le sources interfaces (2 * length rules + 1) (length rules + 1) low lower) (omega arith))
+
+pub count_interfaces : (interfaces : List Interfaces) (known : List Word) → interfaces ≡ all_interfaces known → length interfaces ≡ length known + 1
+count_interfaces interfaces known are = let e : length interfaces ≡ length (all_interfaces known) = ap length are in let m : length (map Named known) ≡ length known = length-map known Named in omega arith

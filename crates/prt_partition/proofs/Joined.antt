@@ -98,7 +98,7 @@ like_same rule rules packet (other ∷ others) b e h =
     ap (λ a. (a && are_alike rules packet other) || is_like_one (rule ∷ rules) others packet) flag
     ∙ ap (λ a. are_alike rules packet other || a) (like_same rule rules packet others b e h.1)
 
--- the packets of both halves are told apart by the rule
+-- the rule takes the packets of one half, and none of the other half
 is_taken : (rule : Rule) (rules : List Rule) (packets : List Packet) → Each (λ packet. takes_apart rule packet ≡ true) (joined rules (taken rule packets))
 is_taken rule rules packets = each_joined (λ packet. takes_apart rule packet ≡ true) rules (taken rule packets) (each_passes (takes_apart rule) packets)
 

@@ -105,7 +105,7 @@ pub all_same : (sameness : Sameness) (a b : Verdict) → Decides (are_same samen
 all_same Outcomes a b = outcomes_same (outcome_of a) (outcome_of b)
 all_same Verdicts a b = verdicts_same a b
 
-equal_are_same : (sameness : Sameness) (a b : Verdict) → a ≡ b → AreSame sameness a b
+pub equal_are_same : (sameness : Sameness) (a b : Verdict) → a ≡ b → AreSame sameness a b
 equal_are_same Outcomes a b e = ap outcome_of e
 equal_are_same Verdicts a b e = e
 

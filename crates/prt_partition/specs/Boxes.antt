@@ -1,13 +1,17 @@
 -- Boxes of packets: ranges of sources, interfaces, and blocks of marks.
-use Rattle.std.specs.Prelude.{◌≡◌, ℕ, ◌-◌, ◌^◌, ◌<◌, ◌≤◌, Bool, true, not, ◌&&◌, if◌then◌else◌, nat_le, List, [], ◌∷◌, ◌++◌, flat_map, map, Option, Some, None, bytes_eq, count_by}
+use Rattle.std.specs.Prelude.{◌≡◌, ◌⊎◌, ℕ, ◌+◌, ◌-◌, ◌*◌, ◌^◌, length, ◌<◌, ◌≤◌, Bool, true, not, ◌&&◌, if◌then◌else◌, nat_le, List, [], ◌∷◌, ◌++◌, flat_map, map, Option, Some, None, bytes_eq, count_by}
 use Rattle.std.specs.List.{list_any, AllByRecursion as Each, IsDistinct}
 use Rattle.prt_addr.specs.Word.{Word}
+use Rattle.prt_refusals.specs.declared.refusal.Refusal.{Refusal}
+use Rattle.prt_refusals.specs.declared.refusal.Refusal.TheVariants.{Full, NoMemory}
 use Rattle.prt_rule.specs.Rule.{matches, takes_mark}
 use Rattle.prt_rule.specs.declared.packet.Packet.{Packet}
 use Rattle.prt_rule.specs.declared.rule.Mark.{Mark}
 use Rattle.prt_rule.specs.declared.rule.Rule.{Rule}
 use Rattle.prt_partition.specs.Classes.{IsPacket, is_named}
 use Rattle.prt_partition.specs.Cuts.{to}
+use Rattle.prt_partition.specs.Marks.{mark_blocks}
+use Rattle.prt_partition.specs.declared.limits.TheConstants.{MOST_BOXES}
 use Rattle.prt_partition.specs.declared.packet_box.Interfaces.{Interfaces}
 use Rattle.prt_partition.specs.declared.packet_box.Interfaces.TheVariants.{Named, AllOthers}
 use Rattle.prt_partition.specs.declared.packet_box.PacketBox.{PacketBox}
@@ -44,6 +48,14 @@ pub record AreBoxes (rules : List Rule) (boxes : List PacketBox) : Type 0 where
   pub once : (packet : Packet) → IsPacket packet → count_by (has_packet rules packet) boxes ≡ 1
   pub alike : Each (λ box. (packet other : Packet) → IsPacket packet → IsPacket other → has_packet rules packet box ≡ true → has_packet rules other box ≡ true → AreTakenAlike rules packet other) boxes
   pub each : Each IsBox boxes
+
+-- No more boxes are made: a prefix cuts the sources at two places at most, and a rule names one interface at most.
+abbrev pub most_boxes : List Rule → ℕ
+most_boxes rules = (2 * length rules + 1) * (length rules + 1) * length (mark_blocks rules)
+
+-- why no boxes are made: memory is refused, or there may be too many
+abbrev pub IsUndivided : List Rule → Refusal → Type 0
+IsUndivided rules reason = (reason ≡ NoMemory) ⊎ ((reason ≡ Full) × (MOST_BOXES < most_boxes rules))
 
 -- ---- how they are made
 

@@ -39,7 +39,7 @@ pub record IsUntouched (by_rules : List Rule) (by_routes : List Route) (packet :
   pub rules : list_any (λ (rule : Rule). matches rule packet) by_rules ≡ false
   pub routes : list_any (λ (route : Route). contains route.prefix packet.dst) by_routes ≡ false
 
--- ---- where they can be met
+-- ---- the destinations that they can reach
 
 abbrev pub has_any : List Block → ℕ → Bool
 has_any blocks addr = list_any (λ (block : Block). contains block (record { 0 = addr })) blocks
@@ -62,7 +62,7 @@ rule_cuts_within blocks rules = flat_map (λ (rule : Rule). cuts_within blocks r
 abbrev pub route_cuts_within : List Block → List Route → List ℕ
 route_cuts_within blocks routes = flat_map (λ (route : Route). cuts_within blocks route.prefix) routes
 
--- where blocks begin and end, and where in them answers of two versions of these rules and routes can change
+-- The cuts of the blocks themselves, and those in the blocks at which an answer of one of two versions can change.
 abbrev pub near_cuts : List Block → List Rule → List Rule → List Route → List Route → List ℕ
 near_cuts blocks before_rules after_rules before_routes after_routes =
     flat_map cuts_of blocks

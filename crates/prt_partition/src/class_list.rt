@@ -1,9 +1,8 @@
 //! Classes of packets that every rule takes alike, whatever their destinations.
 ghost use Rattle.std.specs.Prelude.{◌≡◌, ◌≤◌, IfErr, IfOk, length, map};
-ghost use Rattle.prt_refusals.specs.declared.refusal.Refusal.TheVariants.{NoMemory};
 ghost use Rattle.std.specs.List.{IsDistinct};
 ghost use Rattle.prt_partition.specs.Classes.{AreClasses, are_alike};
-ghost use Rattle.prt_partition.specs.Boxes.{packet_of};
+ghost use Rattle.prt_partition.specs.Boxes.{IsUndivided, packet_of};
 
 use crate::division::boxes;
 use crate::interfaces::fresh_name;
@@ -21,16 +20,17 @@ fn packets_of(alloc: Global, boxes: &[PacketBox], fresh: &Dev) -> Result<Vec<Pac
     boxes.iter().map(|one| one.packet(fresh)).collect(alloc)
 }
 
-/// Gives packets of which one stands for each packet that there is: every rule takes both alike, whatever destination the
-/// two are given.
+/// Gives packets that represent all packets: for each packet there is one that every rule takes alike, whatever destination
+/// the two are given. It is one packet of each box.
 ///
 /// # Errors
 ///
-/// `NoMemory` alone.
+/// `Full` if the rules would divide packets into more than [`MOST_BOXES`](crate::MOST_BOXES) boxes, and otherwise `NoMemory`
+/// alone. `NoMemory` may come before that.
 pub fn classes(alloc: Global, rules: &[Rule]) -> Result<Vec<Packet>, Refusal>
     requires { length rules.now ≤ 2000 }
     ensures value { IfOk result (λ classes. AreClasses rules.now classes.items) }
-    ensures reason { IfErr result (λ reason. reason ≡ NoMemory) }
+    ensures reason { IfErr result (IsUndivided rules.now) }
 {
     let boxes = boxes(alloc, rules)?;
     let fresh = fresh_name(alloc, rules)?;
@@ -38,17 +38,18 @@ pub fn classes(alloc: Global, rules: &[Rule]) -> Result<Vec<Packet>, Refusal>
     Ok(all)
 }
 
-/// Gives packets of which one stands for each packet that there is: every rule takes both alike, whatever destination the
-/// two are given. No two of them are taken alike by every rule.
+/// Gives packets that represent all packets: for each packet there is one that every rule takes alike, whatever destination
+/// the two are given. No two of them are taken alike by every rule.
 ///
 /// # Errors
 ///
-/// `NoMemory` alone.
+/// `Full` if the rules would divide packets into more than [`MOST_BOXES`](crate::MOST_BOXES) boxes, and otherwise `NoMemory`
+/// alone. `NoMemory` may come before that.
 pub fn joined_classes(alloc: Global, rules: &[Rule]) -> Result<Vec<Packet>, Refusal>
     requires { length rules.now ≤ 2000 }
     ensures value { IfOk result (λ classes. AreClasses rules.now classes.items) }
     ensures apart { IfOk result (λ classes. IsDistinct (are_alike rules.now) classes.items) }
-    ensures reason { IfErr result (λ reason. reason ≡ NoMemory) }
+    ensures reason { IfErr result (IsUndivided rules.now) }
 {
     let all = classes(alloc, rules)?;
     let joined = join(alloc, rules, &all)?;

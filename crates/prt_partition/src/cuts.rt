@@ -1,5 +1,5 @@
 //! The addresses at which answers can change: where a prefix begins, and just after it ends.
-ghost use Rattle.std.specs.Prelude.{◌≡◌, ◌++◌, ◌<◌, ◌≤◌, ◌^◌, ℕ, length, IfOk, OnOk};
+ghost use Rattle.std.specs.Prelude.{◌≡◌, ◌++◌, ◌<◌, ◌≤◌, ◌^◌, ℕ, length, IfOk, OnOk, ◌+◌, ◌*◌};
 ghost use Rattle.std.specs.List.{All, Contains};
 ghost use Rattle.std.specs.List.Sorted.{IsStrictlyIncreasing};
 ghost use Rattle.prt_partition.specs.Cuts.{AreStarts, cuts_of, destination_cuts, end_of, from_cuts, route_cuts, rule_cuts};
@@ -111,7 +111,8 @@ fn push_from_cuts(cuts: &mut Vec<u32>, rules: &[Rule]) -> Result<(), AllocError>
 
 /// Gives the sources at which a rule can begin or cease to match, and 0.0.0.0, in order.
 pub(crate) fn source_starts(alloc: Global, rules: &[Rule]) -> Result<Vec<u32>, AllocError>
-    ensures { IfOk result (λ starts. AreStarts (from_cuts rules.now) starts.items) }
+    ensures value { IfOk result (λ starts. AreStarts (from_cuts rules.now) starts.items) }
+    ensures few { IfOk result (λ starts. length starts.items ≤ 2 * length rules.now + 1) }
 {
     let mut starts = Vec::new(alloc);
     push_from_cuts(&mut starts, rules)?;

@@ -1,7 +1,8 @@
 //! What differs between two versions.
-ghost use Rattle.std.specs.Prelude.{◌≡◌, IfErr, IfOk};
+ghost use Rattle.std.specs.Prelude.{◌≡◌, IfErr, IfOk, true};
+ghost use Rattle.prt_rule.specs.declared.packet.Packet.{Packet as PacketOf};
 ghost use Rattle.prt_refusals.specs.declared.refusal.Refusal.TheVariants.{NoMemory};
-ghost use Rattle.prt_partition.specs.Differing.{HoldRouteChanges, HoldRuleChanges, IsDiffering};
+ghost use Rattle.prt_partition.specs.Differing.{HoldRouteChanges, HoldRuleChanges, IsDiffering, IsUntouched};
 
 use crate::cuts::every_route;
 use crate::near_starts::near_starts;
@@ -79,6 +80,13 @@ fn differing_routes(
     routes.extend_from_slice(&before[i..])?;
     routes.extend_from_slice(&after[j..])?;
     Ok(routes)
+}
+
+/// Tells whether no rule and no route differs.
+pub(crate) fn is_same_everywhere(differing: &Differing) -> bool
+    ensures { result ≡ true → (packet : PacketOf) → IsUntouched differing.now.rules.items differing.now.routes.items packet }
+{
+    differing.rules.is_empty() && differing.routes.is_empty()
 }
 
 /// Finds the rules and routes that only one of the versions has, and the destinations at which they can change an answer.

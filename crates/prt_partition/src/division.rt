@@ -1,10 +1,10 @@
 //! All packets divided into boxes, by rules.
-ghost use Rattle.std.specs.Prelude.{◌≡◌, ◌≤◌, ◌++◌, IfErr, IfOk, OnOk, drop, flat_map, length, map};
-ghost use Rattle.prt_refusals.specs.declared.refusal.Refusal.TheVariants.{NoMemory};
-ghost use Rattle.prt_partition.specs.Boxes.{AreBoxes, all_interfaces, box_of, boxes_between, boxes_from, last_before};
+ghost use Rattle.std.specs.Prelude.{◌≡◌, ◌≤◌, ◌*◌, ◌++◌, IfErr, IfOk, OnOk, drop, flat_map, length, map};
+ghost use Rattle.prt_partition.specs.Boxes.{AreBoxes, IsUndivided, all_interfaces, box_of, boxes_between, boxes_from, last_before};
 
 use crate::cuts::source_starts;
 use crate::interfaces::names_of;
+use crate::limits::MOST_BOXES;
 use crate::marks::mark_blocks;
 use crate::packet_box::{Interfaces, PacketBox};
 use prt_addr::Addr;
@@ -98,20 +98,34 @@ fn boxes_from(
     Ok(boxes)
 }
 
+/// Gives how many boxes there are of so many ranges of sources, interfaces and blocks of marks.
+fn count(sources: usize, interfaces: usize, marks: usize) -> usize
+    requires sources { sources ≤ 4001 }
+    requires interfaces { interfaces ≤ 2001 }
+    requires marks { marks ≤ MOST_BOXES }
+    ensures { result ≡ sources * interfaces * marks }
+{
+    sources * interfaces * marks
+}
+
 /// Divides all packets into boxes by the rules: each packet is in exactly one box, and each rule takes all packets of a box
 /// alike, if they are given one destination.
 ///
 /// # Errors
 ///
-/// `NoMemory` alone.
+/// `Full` if there would be more than [`MOST_BOXES`], and otherwise `NoMemory` alone. `NoMemory` may come before that.
 pub fn boxes(alloc: Global, rules: &[Rule]) -> Result<Vec<PacketBox>, Refusal>
+    requires { length rules.now ≤ 2000 }
     ensures value { IfOk result (λ boxes. AreBoxes rules.now boxes.items) }
-    ensures reason { IfErr result (λ reason. reason ≡ NoMemory) }
+    ensures reason { IfErr result (IsUndivided rules.now) }
 {
     let starts = source_starts(alloc, rules)?;
     let names = names_of(alloc, rules)?;
     let interfaces = all_interfaces(alloc, &names)?;
     let marks = mark_blocks(alloc, rules)?;
+    if count(starts.len(), interfaces.len(), marks.len()) > MOST_BOXES {
+        return Err(Refusal::Full);
+    }
     let boxes = boxes_from(alloc, &starts, &interfaces, &marks)?;
     Ok(boxes)
 }

@@ -1,12 +1,12 @@
 //! Whether two versions answer every packet alike.
 ghost use Rattle.std.specs.Prelude.{◌≡◌, ◌≤◌, ◌++◌, IfErr, IfOk, length};
-ghost use Rattle.prt_refusals.specs.declared.refusal.Refusal.TheVariants.{NoMemory};
+ghost use Rattle.prt_partition.specs.Boxes.{IsUndivided};
 ghost use Rattle.prt_partition.specs.Differing.{IsDiffering};
 ghost use Rattle.prt_partition.specs.Equivalence.{IsChange, IsChangeOf, IsFirstChange};
 ghost use Rattle.prt_partition.specs.Touching.{IsQuiet};
 
 use crate::class_list::joined_classes;
-use crate::differing::{Differing, what_differs};
+use crate::differing::{Differing, is_same_everywhere, what_differs};
 use crate::sameness::Sameness;
 use crate::touching::{Touching, is_nothing, to, transition_at, what_touches};
 use prt_refusals::Refusal;
@@ -75,7 +75,8 @@ fn rules_of_both(alloc: Global, before: &Version, after: &Version) -> Result<Vec
 ///
 /// # Errors
 ///
-/// `NoMemory` alone.
+/// `Full` if the rules of both versions would divide packets into more than [`MOST_BOXES`](crate::MOST_BOXES) boxes, and
+/// otherwise `NoMemory` alone. `NoMemory` may come before that.
 pub fn find_change(
     alloc: Global,
     before: &Version,
@@ -83,9 +84,12 @@ pub fn find_change(
     sameness: Sameness,
 ) -> Result<Option<Packet>, Refusal>
     ensures value { IfOk result (IsChange sameness before.now after.now) }
-    ensures reason { IfErr result (λ reason. reason ≡ NoMemory) }
+    ensures reason { IfErr result (IsUndivided (before.now.rules ++ after.now.rules)) }
 {
     let differing = what_differs(alloc, before, after)?;
+    if is_same_everywhere(&differing) {
+        return Ok(None);
+    }
     let rules = rules_of_both(alloc, before, after)?;
     let classes = joined_classes(alloc, &rules)?;
     for class in &classes {

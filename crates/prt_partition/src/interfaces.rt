@@ -83,7 +83,11 @@ fn name_of(number: u32) -> Dev
 }
 
 /// Gives an interface that no rule names.
-pub(crate) fn fresh_name(alloc: Global, rules: &[Rule]) -> Result<Dev, AllocError>
+///
+/// # Errors
+///
+/// Memory is refused.
+pub fn fresh_name(alloc: Global, rules: &[Rule]) -> Result<Dev, AllocError>
     requires { length rules.now ≤ 2000 }
     ensures { IfOk result (λ name. is_named rules.now name ≡ false) }
 {
@@ -117,7 +121,8 @@ fn push_name(names: &mut Vec<Dev>, name: &Option<Dev>) -> Result<(), AllocError>
 
 /// Gives the interfaces that rules name, each of them once.
 pub(crate) fn names_of(alloc: Global, rules: &[Rule]) -> Result<Vec<Dev>, AllocError>
-    ensures { IfOk result (λ names. AreNames rules.now names.items) }
+    ensures value { IfOk result (λ names. AreNames rules.now names.items) }
+    ensures few { IfOk result (λ names. length names.items ≤ length rules.now) }
 {
     let mut names = Vec::new(alloc);
     for rule in rules {

@@ -15,6 +15,7 @@ mod equivalence;
 mod interfaces;
 mod joining;
 mod laws;
+mod limits;
 mod marks;
 mod near_starts;
 mod packet_box;
@@ -28,10 +29,12 @@ pub use differences::{Difference, changes};
 pub use differing::{Differing, what_differs};
 pub use division::boxes;
 pub use equivalence::find_change;
+pub use interfaces::fresh_name;
 pub use laws::{
     alike_go_alike, boxes_go_alike, changes_at_destination_cuts, changes_at_source_cuts,
     depends_on_what_takes_it, ids_only_order, routes_touch_their_prefixes,
     rules_touch_what_they_match,
 };
+pub use limits::MOST_BOXES;
 pub use packet_box::{Interfaces, PacketBox};
 pub use sameness::{Outcome, Sameness, outcome_of};

@@ -1,10 +1,13 @@
 //! Blocks of marks that every rule takes alike.
 //!
-//! A block is a value with a mask: it has the marks that agree with the value in the bits of the mask. It begins with all
-//! marks, and is split by the mark of each rule, bit by bit, where some of its marks agree with that and others don't.
-ghost use Rattle.std.specs.Prelude.{◌≡◌, ◌++◌, ◌<◌, IfOk, OnOk, flat_map};
-ghost use Rattle.prt_partition.specs.Marks.{AreMarkBlocks, agreeing_half, bit, differs, flipped, is_open, kept, other_half, parts, parts_of, split_by};
+//! A block is a value with a mask: it has the marks that agree with the value in the bits of the mask. The first block has
+//! all marks. The mark of each rule splits the blocks, bit by bit, if some of their marks agree with it and others don't.
+ghost use Rattle.std.specs.Prelude.{◌≡◌, ◌⊎◌, ◌++◌, ◌<◌, ◌≤◌, IfErr, IfOk, OnOk, flat_map, length};
+ghost use Rattle.prt_refusals.specs.declared.refusal.Refusal.TheVariants.{Full, NoMemory};
+ghost use Rattle.prt_partition.specs.Marks.{AreMarkBlocks, agreeing_half, bit, differs, flipped, is_open, kept, mark_blocks, other_half, parts, parts_of, split_by};
 
+use crate::limits::MOST_BOXES;
+use prt_refusals::Refusal;
 use prt_rule::{Mark, Rule};
 use std::alloc::{AllocError, Global};
 
@@ -127,14 +130,24 @@ fn split_by(alloc: Global, blocks: Vec<Mark>, by: &Option<Mark>) -> Result<Vec<M
     }
 }
 
-/// Gives blocks of marks: each mark is of one of them, and each rule takes all marks of a block or none.
-pub(crate) fn mark_blocks(alloc: Global, rules: &[Rule]) -> Result<Vec<Mark>, AllocError>
-    ensures { IfOk result (λ blocks. AreMarkBlocks rules.now blocks.items) }
+/// Gives blocks of marks: each mark is in exactly one of them, and each rule takes all marks of a block or none.
+///
+/// # Errors
+///
+/// `Full` if there would be more than [`MOST_BOXES`], and otherwise `NoMemory` alone. `NoMemory` may come before that.
+pub(crate) fn mark_blocks(alloc: Global, rules: &[Rule]) -> Result<Vec<Mark>, Refusal>
+    ensures value { IfOk result (λ blocks. AreMarkBlocks rules.now blocks.items) }
+    ensures all { IfOk result (λ blocks. blocks.items ≡ mark_blocks rules.now) }
+    ensures few { IfOk result (λ blocks. length blocks.items ≤ MOST_BOXES) }
+    ensures reason { IfErr result (λ reason. (reason ≡ NoMemory) ⊎ ((reason ≡ Full) × (MOST_BOXES < length (mark_blocks rules.now)))) }
 {
     let mut blocks = Vec::new(alloc);
     blocks.push(Mark { mark: 0, mask: 0 })?;
     for rule in rules {
         blocks = split_by(alloc, blocks, &rule.mark)?;
+        if blocks.len() > MOST_BOXES {
+            return Err(Refusal::Full);
+        }
     }
     Ok(blocks)
 }

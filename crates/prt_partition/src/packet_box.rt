@@ -57,8 +57,10 @@ impl PacketBox {
             && takes_mark(&Some(self.mark), packet.mark)
     }
 
-    /// Gives a packet of the box, to 0.0.0.0. The fresh interface is one that no rule names.
-    pub(crate) fn packet(&self, fresh: &Dev) -> Packet
+    /// Gives a packet of the box, to 0.0.0.0, which represents all packets of the box.
+    ///
+    /// The fresh interface is one that no rule names, as [`fresh_name`](crate::fresh_name) gives it.
+    pub fn packet(&self, fresh: &Dev) -> Packet
         ensures { result ≡ packet_of fresh.now self.now }
     {
         let iif = match self.interfaces {

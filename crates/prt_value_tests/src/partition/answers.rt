@@ -1,7 +1,10 @@
-use super::tables::{outcome, packet_of, version_after};
+use super::tables::{next_version, outcome, packet_of, version_after};
 use prt_addr::Addr;
-use prt_command::{Packet, Refusal, Rule};
-use prt_partition::{Interfaces, boxes, classes, joined_classes, outcome_of, spans};
+use prt_command::{Packet, Refusal};
+use prt_partition::{
+    Interfaces, PacketBox, Sameness, boxes, classes, find_change, fresh_name, joined_classes,
+    outcome_of, spans,
+};
 use prt_route::{Kind, read_dev};
 use prt_version::{Verdict, Version};
 use std::alloc::Global;
@@ -92,12 +95,19 @@ fn counts_boxes_and_classes(rt: HostRuntime) -> Result<(), Fail> {
     Ok(())
 }
 
+/// The boxes of the version's rules.
+fn boxes_of(alloc: Global, version: &Version) -> Result<Vec<PacketBox>, Refusal> {
+    // The version's contract says how many rules there are at most.
+    let _number = version.number();
+    boxes(alloc, version.rules())
+}
+
 /// How many of the boxes have the packet.
-fn boxes_with(alloc: Global, rules: &[Rule], packet: &Packet) -> Result<usize, Refusal> {
-    let boxes = boxes(alloc, rules)?;
+fn boxes_with(alloc: Global, version: &Version, packet: &Packet) -> Result<usize, Refusal> {
+    let boxes = boxes_of(alloc, version)?;
     let mut count = 0usize;
     for one in &boxes {
-        if one.contains(rules, packet) {
+        if one.contains(version.rules(), packet) {
             count = count.saturating_add(1);
         }
     }
@@ -116,11 +126,7 @@ fn each_packet_is_in_one_box(rt: HostRuntime) -> Result<(), Fail> {
         "route get 255.255.255.255 from 255.255.255.255 iif eth0 mark 2",
     ] {
         let packet = packet_of(line)?;
-        assert_eq!(rt;
-            boxes_with(rt.alloc(), version.rules(), &packet)?,
-            1,
-            "at {line}"
-        );
+        assert_eq!(rt; boxes_with(rt.alloc(), &version, &packet)?, 1, "at {line}");
     }
     Ok(())
 }
@@ -128,7 +134,7 @@ fn each_packet_is_in_one_box(rt: HostRuntime) -> Result<(), Fail> {
 #[test]
 fn boxes_name_interfaces(rt: HostRuntime) -> Result<(), Fail> {
     let version = version_after(rt.alloc(), "rule add iif eth0 table 100")?;
-    let boxes = boxes(rt.alloc(), version.rules())?;
+    let boxes = boxes_of(rt.alloc(), &version)?;
     assert_eq!(rt; boxes.len(), 2);
     assert_eq!(rt; boxes[0].interfaces, Interfaces::AllOthers);
     assert_eq!(rt; boxes[1].interfaces, Interfaces::Named(read_dev(b"eth0")?));
@@ -161,5 +167,55 @@ fn outcomes_leave_out_rules(rt: HostRuntime) -> Result<(), Fail> {
     assert_eq!(rt; outcome(&version, &packet).kind, None);
     let version = version_after(rt.alloc(), "rule add priority 9 prohibit")?;
     assert_eq!(rt; outcome(&version, &packet).kind, Some(Kind::Prohibit));
+    Ok(())
+}
+
+/// The version with a rule for each of this many single bits of marks.
+fn version_of_bits(alloc: Global, bits: u32) -> Result<Version, Refusal> {
+    let mut version = Version::opening(alloc)?;
+    for bit in 0..bits {
+        let mark = 1u32.wrapping_shl(bit);
+        let line = format!(in alloc; "rule add priority 9 fwmark {mark}/{mark} table 100")?;
+        version = next_version(&version, line.as_str())?;
+    }
+    Ok(version)
+}
+
+#[test]
+fn too_many_boxes_are_refused(rt: HostRuntime) -> Result<(), Fail> {
+    let version = version_of_bits(rt.alloc(), 10)?;
+    assert_eq!(rt; boxes_of(rt.alloc(), &version)?.len(), 1024);
+    let version = version_of_bits(rt.alloc(), 32)?;
+    assert!(rt; matches!(boxes_of(rt.alloc(), &version), Err(Refusal::Full)));
+    let other = version_of_bits(rt.alloc(), 31)?;
+    let found = find_change(rt.alloc(), &other, &version, Sameness::Outcomes);
+    assert!(rt; matches!(found, Err(Refusal::Full)));
+    let found = find_change(rt.alloc(), &version, &version, Sameness::Outcomes)?;
+    assert!(rt; found.is_none());
+    Ok(())
+}
+
+/// Tells whether each box has its own packet.
+fn have_their_packets(alloc: Global, version: &Version) -> Result<bool, Refusal> {
+    // The version's contract says how many rules there are at most.
+    let _number = version.number();
+    let boxes = boxes_of(alloc, version)?;
+    let fresh = fresh_name(alloc, version.rules())?;
+    let mut all = true;
+    for one in &boxes {
+        all = all && one.contains(version.rules(), &one.packet(&fresh));
+    }
+    Ok(all)
+}
+
+#[test]
+fn each_box_has_its_packet(rt: HostRuntime) -> Result<(), Fail> {
+    for script in [
+        SELECTORS,
+        "rule add iif aaa table 100\nrule add not iif aab table 100",
+    ] {
+        let version = version_after(rt.alloc(), script)?;
+        assert!(rt; have_their_packets(rt.alloc(), &version)?, "after {script}");
+    }
     Ok(())
 }

@@ -13,7 +13,7 @@ fn version_with(version: &Version, command: &Command) -> Result<Version, Refusal
 }
 
 /// The version after the command of this line.
-fn next_version(version: &Version, line: &str) -> Result<Version, Refusal> {
+pub(crate) fn next_version(version: &Version, line: &str) -> Result<Version, Refusal> {
     match read_line(line.as_bytes())? {
         Some(Request::Command(command)) => version_with(version, &command),
         _ => Err(Refusal::UnknownVerb),

@@ -2,6 +2,7 @@ use Rattle.std.proofs.Common.{below_more, subst, sym, arith, ◌∙◌}
 use Rattle.prt_partition.specs.Classes.{AreClasses}
 use Rattle.prt_partition.specs.Equivalence.{IsChangeOf}
 use Rattle.prt_partition.proofs.AllPackets.{at_class, one_way}
+use Rattle.prt_partition.proofs.Verdicts.{equal_are_same}
 use Rattle.prt_partition.proofs.equivalence.find_change.Goals as goal
 
 pub loop-class-preserved : goal.loop-class-preserved
@@ -20,3 +21,6 @@ returns-clause-value c =
     one_way c.args.sameness c.args.before.now c.args.after.now classes
     (subst (AreClasses _) (sym c.deref-class-items.ensures.value) (subst (λ rs. AreClasses rs c.in_ok-classes.classes.items) rules c.in_ok-classes.ensures.value))
     (λ k lt d. c.loop-class.invariant k (omega arith) d)
+
+pub returns-then-is_same_everywhere-clause-value : goal.returns-then-is_same_everywhere-clause-value
+returns-then-is_same_everywhere-clause-value c = λ packet is. equal_are_same c.args.sameness _ _ (c.in_ok-differing.ensures.value.quiet packet (c.is_same_everywhere.ensures c.if-is_same_everywhere.true packet))
