@@ -16,7 +16,7 @@ pub(crate) const LARGEST: i64 = 4_294_967_295;
 /// What stands in a column for an address, a mark or a mask that is not there.
 pub(crate) const ABSENT: i64 = -1;
 
-/// The values that a column takes (`docs/STORE.md`).
+/// The values that a column takes (`FILE-FORMAT.md`).
 #[derive(Clone, Copy)]
 pub(crate) enum Domain {
     /// A number from the first to the second.

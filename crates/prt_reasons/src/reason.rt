@@ -23,7 +23,7 @@ impl fmt::Display for DatabaseTable {
     }
 }
 
-/// What is wrong with a row that spells nothing (`docs/STORE.md`).
+/// What is wrong with a row that spells nothing (`FILE-FORMAT.md`).
 #[derive(Clone, Copy, Debug, Error)]
 pub enum RowFault {
     /// This column has a value that it doesn't take.

@@ -79,7 +79,7 @@ fn first_column(tables: &[Declared]) -> Option<Reason> {
 }
 
 /// Gives which table has the name of one of the four and other columns, keys or constraints, with the first column that
-/// is not as in format 2 (`docs/STORE.md`).
+/// is not as in format 2 (`FILE-FORMAT.md`).
 ///
 /// None where each table that has such a name is that one.
 pub fn columns_reason(schema: &Schema) -> Option<Reason>

@@ -1,4 +1,4 @@
-//! The numbers that stand in a row for a kind of route and for an action of a rule (`docs/STORE.md`).
+//! The numbers that stand in a row for a kind of route and for an action of a rule (`FILE-FORMAT.md`).
 
 ghost use Rattle.std.specs.Prelude.{◌≡◌, [], ◌∷◌, ⊤};
 ghost use Rattle.prt_rows.specs.Cell.{number};

@@ -291,7 +291,7 @@ fn are_first(rule: &Table, route: &Table, meta: &Table, key: &Index) -> bool
         && is_route_index(key)
 }
 
-/// Tells whether the first tables of the file are those of format 2 (`docs/STORE.md`), as the first opening makes them
+/// Tells whether the first tables of the file are those of format 2 (`FILE-FORMAT.md`), as the first opening makes them
 /// in an empty file, and no other table refers to them and no other unique index is on the table of routes.
 pub fn is_format_2(schema: &Schema) -> bool
     ensures { IsTrue result ↔ IsFormat2 schema.now }
@@ -416,7 +416,7 @@ pub fn suits_format_2(schema: &Schema) -> bool
     suit_names(schema.tables.as_slice())
 }
 
-/// Tells whether the file has the four tables of format 2 (`docs/STORE.md`), column by column, in whatever trees and
+/// Tells whether the file has the four tables of format 2 (`FILE-FORMAT.md`), column by column, in whatever trees and
 /// order.
 pub fn has_format_2(schema: &Schema) -> bool
     ensures { IsTrue result ↔ HasFormat2 schema.now }

@@ -41,7 +41,7 @@ fn count_of_row(row: &Row, format: u32) -> Option<u64>
 
 /// Gives the count of accepted commands, 0 to 10^15, that the rows of the table `meta` spell, if they spell one.
 ///
-/// There is one row, with id 1 and format 2 (`docs/STORE.md`).
+/// There is one row, with id 1 and format 2 (`FILE-FORMAT.md`).
 pub fn count_of_rows(rows: &[Row]) -> Option<u64>
     ensures { Decodes meta_rows IsCount rows.now result }
 {

@@ -23,7 +23,7 @@ fn kind(row: &Row, at: usize) -> Option<Kind>
 
 /// The route that a row of the table `route`, its rowid first, spells, if it spells one.
 ///
-/// The ten cells after the rowid stand in the order of the columns, each in its range (`docs/STORE.md`). Whether a table
+/// The ten cells after the rowid stand in the order of the columns, each in its range (`FILE-FORMAT.md`). Whether a table
 /// may hold the route says `Route::is_storable`.
 pub fn route_of_row(row: &Row) -> Option<Route>
     ensures { Decodes route_row IsInRange (drop 1 row.now) result }
@@ -44,7 +44,7 @@ pub fn route_of_row(row: &Row) -> Option<Route>
     })
 }
 
-/// The values of the row of a route, in the order of the columns (`docs/STORE.md`), to be bound to a statement. The
+/// The values of the row of a route, in the order of the columns (`FILE-FORMAT.md`), to be bound to a statement. The
 /// rowid is not among them.
 pub fn route_values(route: &Route) -> [ValueRef<'_>; ROUTE_WIDTH]
     ensures value { bound result ≡ route_row route.now }

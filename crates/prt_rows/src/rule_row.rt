@@ -44,7 +44,7 @@ fn action(row: &Row, act_at: usize, table_at: usize) -> Option<Action>
 
 /// The rule that a row of the table `rule` spells, if it spells one with an id of 1 to `last`. It suppresses nothing.
 ///
-/// Its twelve cells stand in the order of the columns, each in its range (`docs/STORE.md`). Mark and mask are there
+/// Its twelve cells stand in the order of the columns, each in its range (`FILE-FORMAT.md`). Mark and mask are there
 /// together or not at all, and no table stands beside an action that looks up none. Whether a database may hold the rule
 /// says `Rule::is_storable`.
 pub fn rule_of_row(row: &Row, last: u64) -> Option<Rule>
@@ -66,7 +66,7 @@ pub fn rule_of_row(row: &Row, last: u64) -> Option<Rule>
     })
 }
 
-/// The values of the row of a rule, whose id is below 2^63, in the order of the columns (`docs/STORE.md`), to be bound
+/// The values of the row of a rule, whose id is below 2^63, in the order of the columns (`FILE-FORMAT.md`), to be bound
 /// to a statement.
 pub fn rule_values(rule: &Rule) -> [ValueRef<'_>; RULE_WIDTH]
     requires { rule.now.id < 2 ^ 63 }

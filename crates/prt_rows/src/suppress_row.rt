@@ -24,7 +24,7 @@ pub struct RuleLength {
 
 /// The length that a row of the table `suppress` spells, if it spells one of a rule with an id of 1 to `last`.
 ///
-/// Its two cells stand in the order of the columns, each in its range (`docs/STORE.md`).
+/// Its two cells stand in the order of the columns, each in its range (`FILE-FORMAT.md`).
 pub fn length_of_row(row: &Row, last: u64) -> Option<RuleLength>
     ensures { Decodes suppress_row (IsLength last) row.now result }
 {
@@ -39,7 +39,7 @@ pub fn length_of_row(row: &Row, last: u64) -> Option<RuleLength>
     })
 }
 
-/// The values of the row of a length, whose rule's id is below 2^63, in the order of the columns (`docs/STORE.md`), to
+/// The values of the row of a length, whose rule's id is below 2^63, in the order of the columns (`FILE-FORMAT.md`), to
 /// be bound to a statement.
 pub fn length_values(length: &RuleLength) -> [ValueRef<'static>; SUPPRESS_WIDTH]
     requires { length.now.rule < 2 ^ 63 }
