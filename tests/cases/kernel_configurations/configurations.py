@@ -166,8 +166,10 @@ class Target:
     def put_back(self, space, where):
         """Has the kernel take the dump of the tables."""
         lines = prt("dump", *self.tables[:2], "--replace").stdout
-        done = space.ip("-force", "-batch", "-", input=lines)
-        self.seen += [f"the dump of {self.name} over {where}: {told}" for told in clean(done.stderr)]
+        done = space.ip("-batch", "-", input=lines)
+        if done.returncode:
+            self.seen.append(f"the dump of {self.name} over {where} stops: {clean(done.stderr)[-1]}")
+            space.ip("-force", "-batch", "-", input=lines)
         left = differs(space, *self.tables)
         self.seen += [f"the dump of {self.name} over {where} leaves: {line}" for line in left.splitlines()]
         space.close()

@@ -183,6 +183,7 @@ def main():
         accepted += client.ask(change(chance, rules)).startswith("ok ")
         if turn % 100 == 0:
             print(turn, settles(space, server) or "the kernel has what the server has")
+            print("1000 probes agree:", space.answers(PACKETS * 50) == prober.first * 50)
     prober.end()
     print("most were accepted:", accepted > CHANGES / 2, "probed often:", prober.probes * len(PACKETS) > 1000)
     print("packets that went another way:", sorted(prober.others))
