@@ -274,8 +274,12 @@ impl Version {
         })
     }
 
-    /// Gives this version once more, with the same rules and routes.
-    fn again(&self) -> Result<Version, AllocError>
+    /// Makes another owner of the same rules and routes, without copying them.
+    ///
+    /// # Errors
+    ///
+    /// Memory is refused.
+    pub fn share(&self) -> Result<Version, AllocError>
         ensures { IfOk result (λ version. version ≡ self.now) }
     {
         Ok(Version {
@@ -299,7 +303,7 @@ impl Version {
         ensures reason { IfErr result (IsRefusedFor self.now commands.now) }
     {
         let mut changes = Vec::with_capacity(*self.rules.allocator(), commands.len())?;
-        let last = make_all(self.again()?, commands, &mut changes)?;
+        let last = make_all(self.share()?, commands, &mut changes)?;
         Ok((changes, last))
     }
 
