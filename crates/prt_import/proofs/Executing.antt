@@ -1,5 +1,5 @@
 -- The lines of a script, executed one by one.
-use Rattle.std.proofs.Common.{◌≡◌, ◌≢◌, ◌⊎◌, OnOk, ℕ, ◌+◌, ◌≤◌, ◌<◌, false, List, [], ◌∷◌, ◌++◌, Option, Some, None, Result, Ok, Err, refl, sym, ap, subst, ◌∙◌, append_assoc, length, map, arith, inl, inr}
+use Rattle.std.proofs.Common.{◌≡◌, ◌≢◌, ◌⊎◌, IfOk, OnOk, ℕ, ◌+◌, ◌≤◌, ◌<◌, false, List, [], ◌∷◌, ◌++◌, Option, Some, None, Result, Ok, Err, refl, sym, ap, subst, ◌∙◌, append_assoc, length, map, arith, inl, inr}
 use Rattle.std.proofs.lemmas.Bool.{cases_Bool}
 use Rattle.std.proofs.lemmas.List.{append-nil}
 use Rattle.std.specs.List.{list_any, onto_first, AllByRecursion as Each}
@@ -16,7 +16,7 @@ use Rattle.prt_version.specs.declared.change.Change.{Change}
 use Rattle.prt_lines.specs.Chunk.{AreAccepted, lines_state}
 use Rattle.prt_lines.specs.Lines.{line_refusal, line_state, read_refusal, read_state}
 use Rattle.prt_listing.specs.QueryText.{lines_text}
-use Rattle.prt_import.specs.Accepted.{Executed, Extends, IsAcceptedScript, IsExecuted, IsOpening, accepted_line, executed, onto, refused_line}
+use Rattle.prt_import.specs.Accepted.{BeginsAt, Executed, Extends, IsAcceptedScript, IsExecuted, IsExecutedOver, accepted_line, executed, onto, refused_line}
 use Rattle.prt_import.specs.Lines.{lines_of}
 use Rattle.prt_import.specs.Told.{Numbered, remark_of}
 use Rattle.prt_import.specs.declared.accepted.Accepted.{Accepted}
@@ -57,23 +57,23 @@ takes_unless_no_memory (Err x) old new line reason why other e = tt
 
 -- ---- line by line
 
--- The lines of a text up to this number were executed, and these are left.
-pub record SoFar (made : Accepted) (number : ℕ) (text rest : List ℕ) : Type 0 where
+-- The lines of a text up to this number were executed over a state, and these are left.
+pub record SoFar (first : State) (made : Accepted) (number : ℕ) (text rest : List ℕ) : Type 0 where
   pub count : number + length rest ≤ length text
-  pub script : (executed opening_state 1 (lines_of text)).script ≡ made.script.items ++ (executed made.version (number + 1) (lines_of rest)).script
-  pub state : (executed opening_state 1 (lines_of text)).state ≡ (executed made.version (number + 1) (lines_of rest)).state
-  pub left : (executed opening_state 1 (lines_of text)).left ≡ map remark_of made.left.items ++ (executed made.version (number + 1) (lines_of rest)).left
+  pub script : (executed first 1 (lines_of text)).script ≡ made.script.items ++ (executed made.version (number + 1) (lines_of rest)).script
+  pub state : (executed first 1 (lines_of text)).state ≡ (executed made.version (number + 1) (lines_of rest)).state
+  pub left : (executed first 1 (lines_of text)).left ≡ map remark_of made.left.items ++ (executed made.version (number + 1) (lines_of rest)).left
 
-pub begins : (made : Accepted) (text : List ℕ) → IsOpening made → SoFar made 0 text text
-begins made text is = record {
+pub begins : (first : State) (made : Accepted) (text : List ℕ) → BeginsAt first made → SoFar first made 0 text text
+begins first made text is = record {
   count = omega arith;
   script = sym (ap (λ xs. xs ++ (executed made.version 1 (lines_of text)).script) is.script ∙ ap (λ s. (executed s 1 (lines_of text)).script) is.version);
   state = sym (ap (λ s. (executed s 1 (lines_of text)).state) is.version);
   left = sym (ap (λ xs. xs ++ (executed made.version 1 (lines_of text)).left) is.left ∙ ap (λ s. (executed s 1 (lines_of text)).left) is.version);
 }
 
-pub goes_on : (old new : Accepted) (number : ℕ) (text rest line after : List ℕ) → SoFar old number text rest → lines_of rest ≡ line ∷ lines_of after → length after < length rest → Extends old new (accepted_line line (line_refusal old.version line)) (line_state old.version line) (refused_line (record { number = number + 1; content = line }) (line_refusal old.version line)) → SoFar new (number + 1) text after
-goes_on old new number text rest line after so_far cut shorter e =
+pub goes_on : (first : State) (old new : Accepted) (number : ℕ) (text rest line after : List ℕ) → SoFar first old number text rest → lines_of rest ≡ line ∷ lines_of after → length after < length rest → Extends old new (accepted_line line (line_refusal old.version line)) (line_state old.version line) (refused_line (record { number = number + 1; content = line }) (line_refusal old.version line)) → SoFar first new (number + 1) text after
+goes_on first old new number text rest line after so_far cut shorter e =
     let here : Numbered = record { number = number + 1; content = line } in
     let refusal : Option Refusal = line_refusal old.version line in
     let others : Executed = executed (line_state old.version line) (number + 1 + 1) (lines_of after) in record {
@@ -96,8 +96,8 @@ goes_on old new number text rest line after so_far cut shorter e =
           ∙ ap (λ s. map remark_of new.left.items ++ (executed s (number + 1 + 1) (lines_of after)).left) (sym e.version);
     }
 
-pub ends : (made : Accepted) (number : ℕ) (text rest : List ℕ) → SoFar made number text rest → rest ≡ [] → IsExecuted made text
-ends made number text rest so_far none = record {
+pub ends : (first : State) (made : Accepted) (number : ℕ) (text rest : List ℕ) → SoFar first made number text rest → rest ≡ [] → IsExecutedOver first made text
+ends first made number text rest so_far none = record {
   script = sym (so_far.script ∙ ap (λ t. made.script.items ++ (executed made.version (number + 1) (lines_of t)).script) none ∙ append-nil made.script.items);
   version = sym (so_far.state ∙ ap (λ t. (executed made.version (number + 1) (lines_of t)).state) none);
   left = sym (so_far.left ∙ ap (λ t. map remark_of made.left.items ++ (executed made.version (number + 1) (lines_of t)).left) none ∙ append-nil (map remark_of made.left.items));
@@ -148,8 +148,12 @@ are_accepted script version l =
     let P : List (List ℕ) → Type 0 = λ ls. AreAccepted opening_state ls in
     record { accepted = subst P (sym is) l.accepted; made = l.made ∙ ap (lines_state opening_state) (sym is) }
 
-pub executed_is_accepted : (made : Accepted) (text : List ℕ) → IsExecuted made text → IsAcceptedScript made.script.items made.version
+executed_is_accepted : (made : Accepted) (text : List ℕ) → IsExecuted made text → IsAcceptedScript made.script.items made.version
 executed_is_accepted made text is =
     let P : List ℕ → Type 0 = λ script. IsAcceptedScript script made.version in
     let Q : State → Type 0 = λ state. IsAcceptedScript (executed opening_state 1 (lines_of text)).script state in
     subst P (sym is.script) (subst Q (sym is.version) (are_accepted (executed opening_state 1 (lines_of text)).script (executed opening_state 1 (lines_of text)).state (leads opening_state 1 (lines_of text) (lines_whole text))))
+
+pub made_is_accepted : {E : Type 0} (result : Result Accepted E) (text : List ℕ) → IfOk result (λ made. IsExecuted made text) → IfOk result (λ made. IsAcceptedScript made.script.items made.version)
+made_is_accepted (Ok made) text is = executed_is_accepted made text is
+made_is_accepted (Err e) text is = tt

@@ -40,17 +40,21 @@ pub record Extends (old new : Accepted) (added : List ℕ) (after : State) (told
   pub version : new.version ≡ after
   pub left : map remark_of new.left.items ≡ map remark_of old.left.items ++ told
 
--- no line was executed
-pub record IsOpening (made : Accepted) : Type 0 where
+-- no line was executed yet over this state
+pub record BeginsAt (state : State) (made : Accepted) : Type 0 where
   pub script : made.script.items ≡ []
-  pub version : made.version ≡ opening_state
+  pub version : made.version ≡ state
   pub left : map remark_of made.left.items ≡ []
 
--- what was made of a text is that of its lines over a new database
-pub record IsExecuted (made : Accepted) (text : List ℕ) : Type 0 where
-  pub script : made.script.items ≡ (executed opening_state 1 (lines_of text)).script
-  pub version : made.version ≡ (executed opening_state 1 (lines_of text)).state
-  pub left : map remark_of made.left.items ≡ (executed opening_state 1 (lines_of text)).left
+-- what was made of a text is that of its lines over this state
+pub record IsExecutedOver (state : State) (made : Accepted) (text : List ℕ) : Type 0 where
+  pub script : made.script.items ≡ (executed state 1 (lines_of text)).script
+  pub version : made.version ≡ (executed state 1 (lines_of text)).state
+  pub left : map remark_of made.left.items ≡ (executed state 1 (lines_of text)).left
+
+-- that of its lines over a new database
+abbrev pub IsExecuted : Accepted → List ℕ → Type 0
+IsExecuted = IsExecutedOver opening_state
 
 -- each line of the script is accepted after those before it, and the version is the one after the last
 pub record IsAcceptedScript (script : List ℕ) (after : State) : Type 0 where

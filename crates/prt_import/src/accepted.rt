@@ -1,9 +1,9 @@
-//! The lines of a script that a new database accepts.
+//! The lines of a script that tables accept.
 ghost use Rattle.std.specs.Prelude.{◌≡◌, ◌≢◌, ◌++◌, [], ◌∷◌, IfErr, IfOk, OnOk, codes};
 ghost use Rattle.std.specs.Option.{unwrap_or};
 ghost use Rattle.prt_refusals.specs.declared.refusal.Refusal.TheVariants.{NoMemory};
 ghost use Rattle.prt_lines.specs.Lines.{line_refusal, line_state};
-ghost use Rattle.prt_import.specs.Accepted.{Extends, IsAcceptedScript, IsExecuted, IsOpening, accepted_line, refused_line};
+ghost use Rattle.prt_import.specs.Accepted.{BeginsAt, Extends, IsAcceptedScript, IsExecuted, IsExecutedOver, accepted_line, refused_line};
 ghost use Rattle.prt_import.specs.Told.{numbered, remark};
 ghost use Rattle.prt_import.specs.declared.reason.Reason.TheVariants.{Refused};
 
@@ -14,28 +14,27 @@ use crate::reason::Reason;
 use prt_command::Refusal;
 use prt_lines::next_version;
 use prt_version::Version;
-use std::alloc::Global;
+use std::alloc::{AllocError, Global};
 
-/// What a new database accepts of a script.
+/// What tables accept of a script.
 #[derive(Drop)]
 pub struct Accepted {
     /// The lines that are accepted, each with a newline.
     pub script: Vec<u8>,
-    /// The version that they make of a new database.
+    /// The version that they make.
     pub version: Version,
     /// The lines that are refused, with their numbers in the script and `Reason::Refused`.
     pub left: Vec<Left>,
 }
 
 impl Accepted {
-    /// Begins with a new database and no lines.
-    fn new(alloc: Global) -> Result<Accepted, Refusal>
-        ensures ok { IfOk result (λ made. IsOpening made) }
-        ensures err { IfErr result (λ refusal. refusal ≡ NoMemory) }
+    /// Begins over a version, with no lines.
+    fn over(alloc: Global, version: &Version) -> Result<Accepted, AllocError>
+        ensures { IfOk result (BeginsAt version.now) }
     {
         Ok(Accepted {
             script: Vec::new(alloc),
-            version: Version::opening(alloc)?,
+            version: version.share()?,
             left: Vec::new(alloc),
         })
     }
@@ -86,7 +85,28 @@ impl Accepted {
     }
 }
 
-/// Executes the lines of a script one after the other over a new database, and leaves out each that is refused: where a
+/// Executes the lines of a script one after the other over a version, and leaves out each line that is refused. The version
+/// itself stays as it is.
+///
+/// # Errors
+///
+/// `NoMemory`.
+pub fn accept_over(alloc: Global, version: &Version, script: &[u8]) -> Result<Accepted, Refusal>
+    ensures ok { IfOk result (λ made. IsExecutedOver version.now made script.now) }
+    ensures err { IfErr result (λ refusal. refusal ≡ NoMemory) }
+{
+    let mut made = Accepted::over(alloc, version)?;
+    let mut number: u64 = 0;
+    let mut rest = script;
+    while let Some((line, after)) = next_line(rest) {
+        number += 1;
+        made.take(alloc, Source { number, line })?;
+        rest = after;
+    }
+    Ok(made)
+}
+
+/// Executes the lines of a script one after the other over a new database, and leaves out each that is refused: if a
 /// route or a rule is there already, or there is no room for one more.
 ///
 /// # Errors
@@ -97,13 +117,6 @@ pub fn accept(alloc: Global, script: &[u8]) -> Result<Accepted, Refusal>
     ensures accepted { IfOk result (λ made. IsAcceptedScript made.script.items made.version) }
     ensures err { IfErr result (λ refusal. refusal ≡ NoMemory) }
 {
-    let mut made = Accepted::new(alloc)?;
-    let mut number: u64 = 0;
-    let mut rest = script;
-    while let Some((line, after)) = next_line(rest) {
-        number += 1;
-        made.take(alloc, Source { number, line })?;
-        rest = after;
-    }
-    Ok(made)
+    let opening = Version::opening(alloc)?;
+    accept_over(alloc, &opening, script)
 }

@@ -22,7 +22,7 @@ mod step;
 mod told;
 mod translate;
 
-pub use accepted::{Accepted, accept};
+pub use accepted::{Accepted, accept, accept_over};
 pub use comments::{kernel_routes, left_out};
 pub use imported::{Imported, import};
 pub use keys::{route_key, rule_priority};
