@@ -336,7 +336,7 @@ one_inside : (rules : List Rule) (fresh : Word) (one : Interfaces) → is_named 
 one_inside rules fresh (Named name) unnamed = (bytes_eq-Decides name name).1 refl
 one_inside rules fresh AllOthers unnamed = ap not unnamed
 
-packet_inside : (rules : List Rule) (fresh : Word) (box : PacketBox) → is_named rules fresh ≡ false → IsBox box → has_packet rules (packet_of fresh box) box ≡ true
+pub packet_inside : (rules : List Rule) (fresh : Word) (box : PacketBox) → is_named rules fresh ≡ false → IsBox box → has_packet rules (packet_of fresh box) box ≡ true
 packet_inside rules fresh box unnamed is =
     let low : leb box.first.0 box.first.0 ≡ true = le-leb box.first.0 box.first.0 (omega arith) in
     let high : leb box.first.0 box.last.0 ≡ true = le-leb box.first.0 box.last.0 is.some in

@@ -10,7 +10,7 @@ ghost use Rattle.prt_partition.specs.Touching.{IsQuiet};
 
 use crate::differing::Differing;
 use crate::sameness::{Sameness, is_same_verdict};
-use crate::touching::{Touching, Transition, transition_at, what_touches};
+use crate::touching::{Touching, Transition, is_nothing, transition_at, what_touches};
 use prt_addr::Addr;
 use prt_refusals::Refusal;
 use prt_rule::Packet;
@@ -154,6 +154,9 @@ pub fn changes(
     ensures reason { IfErr result (λ reason. reason ≡ NoMemory) }
 {
     let touching = what_touches(alloc, differing, packet)?;
+    if is_nothing(&touching) {
+        return Ok(Vec::new(alloc));
+    }
     let starts = &differing.starts;
     let mut contrasts = contrasts_from(alloc, before, after, &touching, sameness, packet, starts)?;
     join(&mut contrasts);

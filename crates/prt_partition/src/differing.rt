@@ -82,8 +82,8 @@ fn differing_routes(
     Ok(routes)
 }
 
-/// Tells whether no rule and no route differs.
-pub(crate) fn is_same_everywhere(differing: &Differing) -> bool
+/// Tells whether no rule and no route differs. Then every packet goes the same way.
+pub fn is_same_everywhere(differing: &Differing) -> bool
     ensures { result ≡ true → (packet : PacketOf) → IsUntouched differing.now.rules.items differing.now.routes.items packet }
 {
     differing.rules.is_empty() && differing.routes.is_empty()

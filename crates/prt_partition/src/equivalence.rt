@@ -58,7 +58,15 @@ fn change_of(
 }
 
 /// Gives the rules of both versions.
-fn rules_of_both(alloc: Global, before: &Version, after: &Version) -> Result<Vec<Rule>, AllocError>
+///
+/// # Errors
+///
+/// Memory is refused.
+pub fn rules_of_both(
+    alloc: Global,
+    before: &Version,
+    after: &Version,
+) -> Result<Vec<Rule>, AllocError>
     ensures value { IfOk result (λ rules. rules.items ≡ before.now.rules ++ after.now.rules) }
     ensures few { IfOk result (λ rules. length rules.items ≤ 2000) }
 {

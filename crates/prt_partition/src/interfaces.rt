@@ -82,7 +82,7 @@ fn name_of(number: u32) -> Dev
     }
 }
 
-/// Gives an interface that no rule names.
+/// Finds an interface that no rule names: the loopback, which packets of the host itself come from, or else a made-up one.
 ///
 /// # Errors
 ///
@@ -91,6 +91,10 @@ pub fn fresh_name(alloc: Global, rules: &[Rule]) -> Result<Dev, AllocError>
     requires { length rules.now ≤ 2000 }
     ensures { IfOk result (λ name. is_named rules.now name ≡ false) }
 {
+    let loopback = Dev::loopback();
+    if !is_named(rules, &loopback) {
+        return Ok(loopback);
+    }
     let mut numbers = Vec::new(alloc);
     push_numbers(&mut numbers, rules)?;
     sort_distinct(&mut numbers);
@@ -120,7 +124,11 @@ fn push_name(names: &mut Vec<Dev>, name: &Option<Dev>) -> Result<(), AllocError>
 }
 
 /// Gives the interfaces that rules name, each of them once.
-pub(crate) fn names_of(alloc: Global, rules: &[Rule]) -> Result<Vec<Dev>, AllocError>
+///
+/// # Errors
+///
+/// Memory is refused.
+pub fn names_of(alloc: Global, rules: &[Rule]) -> Result<Vec<Dev>, AllocError>
     ensures value { IfOk result (λ names. AreNames rules.now names.items) }
     ensures few { IfOk result (λ names. length names.items ≤ length rules.now) }
 {

@@ -26,10 +26,10 @@ mod touching;
 pub use class_list::{classes, joined_classes};
 pub use destinations::{Span, spans};
 pub use differences::{Difference, changes};
-pub use differing::{Differing, what_differs};
+pub use differing::{Differing, is_same_everywhere, what_differs};
 pub use division::boxes;
-pub use equivalence::find_change;
-pub use interfaces::fresh_name;
+pub use equivalence::{find_change, rules_of_both};
+pub use interfaces::{fresh_name, names_of};
 pub use laws::{
     alike_go_alike, boxes_go_alike, changes_at_destination_cuts, changes_at_source_cuts,
     depends_on_what_takes_it, ids_only_order, routes_touch_their_prefixes,
@@ -37,4 +37,4 @@ pub use laws::{
 };
 pub use limits::MOST_BOXES;
 pub use packet_box::{Interfaces, PacketBox};
-pub use sameness::{Outcome, Sameness, outcome_of};
+pub use sameness::{Outcome, Sameness, is_same_verdict, outcome_of};

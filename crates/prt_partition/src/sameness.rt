@@ -90,7 +90,7 @@ pub(crate) fn is_same_route(route: &Route, other: &Route) -> bool
 }
 
 /// Tells whether the verdicts are equal in every part.
-pub(crate) fn is_same_verdict(verdict: &Verdict, other: &Verdict) -> bool
+pub fn is_same_verdict(verdict: &Verdict, other: &Verdict) -> bool
     ensures { result ≡ is_same_verdict verdict.now other.now }
 {
     match (verdict, other) {
