@@ -28,6 +28,7 @@ pub use imported::{Imported, import};
 pub use keys::{route_key, rule_priority};
 pub use laws::{keeps_without_names, keeps_without_tables};
 pub use left::Left;
+pub use lines::next_line;
 pub use listed::{NoListing, check_listing};
 pub use names::{HostNames, Names};
 pub use naming::{Text, with_names};

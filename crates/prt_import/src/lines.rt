@@ -10,7 +10,7 @@ fn first_newline(text: &[u8]) -> Option<usize>
 }
 
 /// Takes the first line of a text, which a newline or the end of the text ends: the line, and the text after it.
-pub(crate) fn next_line(text: &[u8]) -> Option<(&[u8], &[u8])>
+pub fn next_line(text: &[u8]) -> Option<(&[u8], &[u8])>
     ensures { MatchOption result (text.now ≡ [])
         (λ next. (lines_of text.now ≡ next.0.now ∷ lines_of next.1.now) × (length next.1.now < length text.now)) }
 {

@@ -1,0 +1,54 @@
+-- The claims of a text, checked line by line.
+use Rattle.std.proofs.Common.{◌≡◌, OnOk, ℕ, ◌+◌, ◌≤◌, ◌<◌, List, [], ◌∷◌, ◌++◌, Option, Some, None, Result, Ok, Err, refl, sym, ap, subst, ◌∙◌, append_assoc, append-nil, length, arith}
+use Rattle.prt_import.specs.Lines.{lines_of}
+use Rattle.prt_version.specs.State.{State}
+use Rattle.prt_claims.specs.Checking.{AreFound, Extends, ExtendsBy, IsChecked, IsFoundAt, bad_line, bad_lines}
+use Rattle.prt_claims.specs.Reading.{reading, stated}
+use Rattle.prt_claims.specs.declared.checking.Breach.{Breach}
+use Rattle.prt_claims.specs.declared.checking.Checked.{Checked}
+use Rattle.prt_claims.specs.declared.claim.Claim.{Claim}
+
+-- a line that has a claim
+pub of_claim : {T E : Type 0} (result : Result T E) (state : State) (number : ℕ) (line : List ℕ) (claim : Claim) (old new : Checked) → reading line ≡ Ok (Some (stated claim)) → OnOk result (ExtendsBy state number claim old new) → OnOk result (Extends state number line old new)
+of_claim (Ok x) state number line claim old new read e = record {
+  found = e.found;
+  is = subst (λ r. IsFoundAt state number r e.found) (sym read) (claim, refl, e.is);
+  bad = e.bad ∙ sym (append-nil old.bad.items) ∙ ap (λ r. old.bad.items ++ bad_line number r) (sym read);
+  breaches = e.breaches;
+}
+of_claim (Err x) state number line claim old new read e = tt
+
+-- The lines of a text up to this number were checked, and these are left.
+pub record SoFar (state : State) (checked : Checked) (number : ℕ) (text rest : List ℕ) : Type 0 where
+  pub count : number + length rest ≤ length text
+  pub bad : bad_lines 1 (lines_of text) ≡ checked.bad.items ++ bad_lines (number + 1) (lines_of rest)
+  pub found : (others : List Breach) → AreFound state (number + 1) (lines_of rest) others → AreFound state 1 (lines_of text) (checked.breaches.items ++ others)
+
+pub begins : (state : State) (checked : Checked) (text : List ℕ) → checked.bad.items ≡ [] → checked.breaches.items ≡ [] → SoFar state checked 0 text text
+begins state checked text bad breaches = record {
+  count = omega arith;
+  bad = sym (ap (λ xs. xs ++ bad_lines 1 (lines_of text)) bad);
+  found = λ others are. subst (λ xs. AreFound state 1 (lines_of text) (xs ++ others)) (sym breaches) are;
+}
+
+pub goes_on : (state : State) (old new : Checked) (number : ℕ) (text rest line after : List ℕ) → SoFar state old number text rest → lines_of rest ≡ line ∷ lines_of after → length after < length rest → Extends state (number + 1) line old new → SoFar state new (number + 1) text after
+goes_on state old new number text rest line after so_far cut shorter e = record {
+  count = (let within = so_far.count in omega (arith, within, shorter));
+  bad =
+      so_far.bad
+      ∙ ap (λ ls. old.bad.items ++ bad_lines (number + 1) ls) cut
+      ∙ sym (append_assoc old.bad.items (bad_line (number + 1) (reading line)) (bad_lines (number + 1 + 1) (lines_of after)))
+      ∙ ap (λ xs. xs ++ bad_lines (number + 1 + 1) (lines_of after)) (sym e.bad);
+  found = λ others are.
+      subst (λ xs. AreFound state 1 (lines_of text) xs)
+      (sym (append_assoc old.breaches.items e.found others) ∙ ap (λ xs. xs ++ others) (sym e.breaches))
+      (so_far.found (e.found ++ others) (subst (λ ls. AreFound state (number + 1) ls (e.found ++ others)) (sym cut) (e.found, others, e.is, are, refl)));
+}
+
+pub ends : (state : State) (checked : Checked) (number : ℕ) (text rest : List ℕ) → SoFar state checked number text rest → rest ≡ [] → IsChecked state text checked
+ends state checked number text rest so_far none = record {
+  bad = sym (append-nil checked.bad.items) ∙ ap (λ t. checked.bad.items ++ bad_lines (number + 1) (lines_of t)) (sym none) ∙ sym so_far.bad;
+  breaches =
+      subst (λ xs. AreFound state 1 (lines_of text) xs) (append-nil checked.breaches.items)
+      (so_far.found [] (subst (λ t. AreFound state (number + 1) (lines_of t) []) (sym none) refl));
+}

@@ -1,0 +1,3 @@
+mod Checks
+pub mod Breaches
+pub mod Spans

@@ -1,0 +1,8 @@
+use Rattle.prt_claims.proofs.Checks.{begins, ends, goes_on}
+use Rattle.prt_claims.proofs.checking.check_claims.Goals as goal
+
+pub loop-line-preserved : goal.loop-line-preserved
+loop-line-preserved c = goes_on _ _ _ _ _ _ _ _ c.loop-line.invariant c.in-Some.ensures.0 c.in-Some.ensures.1 c.in_ok-take.ensures.ok
+
+pub returns-clause-value : goal.returns-clause-value
+returns-clause-value c = ends _ _ _ _ _ c.loop-line.invariant c.in_default.ensures

@@ -1,0 +1,5 @@
+pub mod Claims
+pub mod Reading
+pub mod BreachText
+pub mod Checking
+pub mod Example
