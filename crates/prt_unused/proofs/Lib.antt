@@ -1,0 +1,11 @@
+pub mod Both
+pub mod Deciders
+pub mod Finds
+pub mod Left
+pub mod Loops
+pub mod Marks
+pub mod RoutePlaces
+pub mod Whole
+pub mod WhyUnused
+pub mod Samples
+pub mod Texts

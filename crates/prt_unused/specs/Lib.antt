@@ -1,0 +1,3 @@
+pub mod Unused
+pub mod Steps
+pub mod Text
