@@ -17,7 +17,7 @@ use Rattle.prt_route.proofs.Edits.{listing_order}
 use Rattle.prt_trie.specs.Table.{has_same_key}
 use Rattle.prt_trie.proofs.Order.{rises_far}
 use Rattle.prt_version.proofs.RowOrder.{key_differs, keys_both_ways}
-use Rattle.prt_diff.specs.Held.{blocked_routes, has_serving, serves}
+use Rattle.prt_diff.specs.Held.{has_serving, serves}
 use Rattle.prt_diff.specs.Routes.{agrees, has_agreeing, is_kept, kept_routes, managed_routes, missing_routes, unwanted_routes, wanted_routes}
 use Rattle.prt_diff.specs.declared.fence.Fence.{Fence}
 use Rattle.prt_diff.proofs.Members.{IsIn, contains_in, differ, each_in, filtered_twice}
@@ -212,10 +212,3 @@ pub keys_tell : (a b : Route) (key other : RouteKey) (answer : Bool) → key ≡
 keys_tell a b key other answer first second is =
     is ∙ and_turned (key.table == other.table) (is_same_prefix key.prefix other.prefix) (key.metric == other.metric)
     ∙ ap (λ k. is_same_key k other) first ∙ ap (λ k. is_same_key (key_of a) k) second
-
--- the route is managed, a kept one has its key, and none serves for it
-abbrev pub is_blocked : Fence → List Route → Route → Bool
-is_blocked fence found route = not (is_kept fence route) && (has_key (key_of route) (kept_routes fence found) && not (has_serving route found))
-
-pub blocked_are : (fence : Fence) (found wanted : List Route) → blocked_routes fence found wanted ≡ filter (is_blocked fence found) wanted
-blocked_are fence found wanted = filtered_twice (λ route. not (is_kept fence route)) (λ route. has_key (key_of route) (kept_routes fence found) && not (has_serving route found)) wanted

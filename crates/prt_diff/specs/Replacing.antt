@@ -1,20 +1,35 @@
 -- The lines that put a state back on a host that has made some of its routes already: ip-rule(8), ip-route(8).
-use Rattle.std.specs.Prelude.{ℕ, Bool, false, not, ◌&&◌, is_none, is_some, List, ◌∷◌, ◌++◌, filter, map, Some, None}
+use Rattle.std.specs.Prelude.{ℕ, Bool, false, not, ◌&&◌, is_none, is_some, List, [], ◌∷◌, ◌++◌, filter, map, Some, None}
+use Rattle.prt_addr.specs.Prefix.{everything}
 use Rattle.prt_route.specs.declared.route.Route.{Route}
+use Rattle.prt_route.specs.Names.{local_table}
 use Rattle.prt_rule.specs.declared.choice.RuleChoice.{RuleChoice}
+use Rattle.prt_rule.specs.declared.rule.Action.TheVariants.{Lookup}
 use Rattle.prt_rule.specs.declared.rule.Rule.{Rule}
 use Rattle.prt_command.specs.declared.request.Command.{Command}
 use Rattle.prt_command.specs.declared.request.Command.TheVariants.{RuleDel, RuleFlush}
-use Rattle.prt_version.specs.State.{State}
+use Rattle.prt_version.specs.State.{State, table_rule}
 use Rattle.prt_diff.specs.Fence.{is_kernels}
 use Rattle.prt_diff.specs.Names.{is_plain_name}
 use Rattle.prt_diff.specs.Routes.{replace_route}
 use Rattle.prt_diff.specs.Rules.{add_rule}
 use Rattle.prt_diff.specs.Text.{commands_text}
 
--- the rule of the lowest priority
+-- a rule that looks up local, behind those of priority 0
+abbrev pub spare_rule : ℕ → Rule
+spare_rule priority = table_rule 0 priority local_table
+
+-- the first rule that looks up local, whatever its priority
+abbrev pub first_local : RuleChoice
+first_local = record { priority = None; inverted = false; from = None; to = None; iif = None; mark = None; action = Some (Lookup local_table); suppress = None }
+
+-- the first rule, whatever it has: `from all` names nothing
 abbrev pub first_rule : RuleChoice
-first_rule = record { priority = Some 0; inverted = false; from = None; to = None; iif = None; mark = None; action = None; suppress = None }
+first_rule = record { priority = None; inverted = false; from = Some everything; to = None; iif = None; mark = None; action = None; suppress = None }
+
+-- Each rule goes. A flush leaves those of priority 0. Of them local and one more are deleted, or a spare rule for each.
+abbrev pub clearing : List Command
+clearing = RuleFlush ∷ add_rule (spare_rule 1) ∷ add_rule (spare_rule 2) ∷ RuleDel first_local ∷ RuleDel first_rule ∷ RuleFlush ∷ []
 
 -- the rules that `ip -batch` can read
 abbrev pub plain_rules : List Rule → List Rule
@@ -30,12 +45,11 @@ direct_routes routes = filter (λ route. is_put_back route && is_none route.via)
 abbrev pub gateway_routes : List Route → List Route
 gateway_routes routes = filter (λ route. is_put_back route && is_some route.via) routes
 
--- The kernel's three rules go. Then come the rules in their order, the routes without a gateway, and those that may need them.
+-- The rules go. Then come those of the state in their order, the routes without a gateway, and those that may need them.
 abbrev pub replacing_commands : State → List Command
 replacing_commands state =
-    RuleDel first_rule
-    ∷ RuleFlush
-    ∷ (map add_rule (plain_rules state.rules) ++ (map replace_route (direct_routes state.routes) ++ map replace_route (gateway_routes state.routes)))
+    clearing
+    ++ (map add_rule (plain_rules state.rules) ++ (map replace_route (direct_routes state.routes) ++ map replace_route (gateway_routes state.routes)))
 
 -- a line for each
 abbrev pub replacing_text : State → List ℕ

@@ -52,7 +52,7 @@ impl Held {
     }
 }
 
-/// Gives the wanted routes whose key one has that may not be changed, if none that is found serves for them.
+/// Finds the wanted routes whose key one has that may not be changed, if none that is found serves for them.
 fn blocked_routes(
     alloc: Global,
     fence: &Fence,
@@ -62,16 +62,15 @@ fn blocked_routes(
     requires { IsRising is_listed_before found.now }
     ensures { IfOk result (λ routes. routes.items ≡ blocked_routes fence.now found.now wanted.now) }
 {
-    let mut routes = Vec::new(alloc);
-    for route in wanted {
-        if !is_kept(fence, route) && is_blocked(fence, found, route) {
-            routes.push(*route)?;
-        }
-    }
-    Ok(routes)
+    wanted
+        .iter()
+        .filter(|route| !is_kept(fence, route))
+        .filter(|route| is_blocked(fence, found, route))
+        .copied()
+        .collect(alloc)
 }
 
-/// Gives the wanted routes whose key a line has that can't be kept, if none that is found serves for them.
+/// Finds the wanted routes whose key a line has that can't be kept, if none that is found serves for them.
 fn hindered_routes(
     alloc: Global,
     fence: &Fence,
@@ -81,16 +80,14 @@ fn hindered_routes(
     requires { IsRising is_listed_before found.now }
     ensures { IfOk result (λ routes. routes.items ≡ hindered_routes fence.now found.now wanted.now) }
 {
-    let mut routes = Vec::new(alloc);
-    for route in wanted {
-        if fence.is_unread_route(route) && !has_serving(found, route) {
-            routes.push(*route)?;
-        }
-    }
-    Ok(routes)
+    wanted
+        .iter()
+        .filter(|route| fence.is_unread_route(route) && !has_serving(found, route))
+        .copied()
+        .collect(alloc)
 }
 
-/// Gives the routes that are found, whose key a line has that can't be kept, and no wanted route.
+/// Finds the routes whose key a line has that can't be kept, and no wanted route.
 fn staying_routes(
     alloc: Global,
     fence: &Fence,
@@ -100,16 +97,14 @@ fn staying_routes(
     requires { IsRising is_listed_before wanted.now }
     ensures { IfOk result (λ routes. routes.items ≡ staying_routes fence.now found.now wanted.now) }
 {
-    let mut routes = Vec::new(alloc);
-    for route in found {
-        if fence.is_unread_route(route) && !has_key(wanted, route) {
-            routes.push(*route)?;
-        }
-    }
-    Ok(routes)
+    found
+        .iter()
+        .filter(|route| fence.is_unread_route(route) && !has_key(wanted, route))
+        .copied()
+        .collect(alloc)
 }
 
-/// Gives those of the rules that the others don't have, and whose priority a line has that can't be kept.
+/// Finds the rules that the others don't have, and whose priority a line has that can't be kept.
 fn unread_rules(
     alloc: Global,
     fence: &Fence,
@@ -118,13 +113,11 @@ fn unread_rules(
 ) -> Result<Vec<Rule>, AllocError>
     ensures { IfOk result (λ unread. unread.items ≡ unread_rules fence.now rules.now others.now) }
 {
-    let mut unread = Vec::new(alloc);
-    for rule in rules {
-        if fence.is_unread_rule(rule) && !has_rule(rule, others) {
-            unread.push(*rule)?;
-        }
-    }
-    Ok(unread)
+    rules
+        .iter()
+        .filter(|rule| fence.is_unread_rule(rule) && !has_rule(rule, others))
+        .copied()
+        .collect(alloc)
 }
 
 /// Finds what is held back of the changes from found rules and routes to wanted ones.

@@ -1,6 +1,6 @@
 //! The lines that put a version back on a host that has made some of its routes already.
 ghost use Rattle.std.specs.Prelude.{◌≡◌, ◌++◌, All, IfErr, IfOk, OnOk, map};
-ghost use Rattle.prt_diff.specs.Replacing.{direct_routes, first_rule, gateway_routes, is_put_back, plain_rules, replacing_commands, replacing_text};
+ghost use Rattle.prt_diff.specs.Replacing.{clearing, direct_routes, first_local, first_rule, gateway_routes, is_put_back, plain_rules, replacing_commands, replacing_text, spare_rule};
 ghost use Rattle.prt_diff.specs.Routes.{replace_route};
 ghost use Rattle.prt_diff.specs.Rules.{add_rule};
 ghost use Rattle.prt_diff.specs.Text.{IsAskedFor, IsWhyNotWritten};
@@ -12,25 +12,75 @@ use crate::names::is_plain_name;
 use crate::refusal::NotWritten;
 use crate::text::commands_text;
 use prt_command::Command;
-use prt_route::Route;
-use prt_rule::{Rule, RuleChoice};
+use prt_route::{LOCAL_TABLE, Prefix, Route};
+use prt_rule::{Action, Rule, RuleChoice};
 use prt_version::Version;
 use std::alloc::{AllocError, Global};
 
-/// Chooses the rule of the lowest priority.
+/// Makes a rule that looks up local, at this priority.
+fn spare_rule(priority: u32) -> Rule
+    ensures { result ≡ spare_rule priority }
+{
+    Rule {
+        id: 0,
+        priority,
+        inverted: false,
+        from: Prefix::masked(0, 0),
+        to: Prefix::masked(0, 0),
+        iif: None,
+        mark: None,
+        action: Action::Lookup(LOCAL_TABLE),
+        suppress: None,
+    }
+}
+
+/// Chooses the first rule that looks up local.
+fn first_local() -> RuleChoice
+    ensures { result ≡ first_local }
+{
+    RuleChoice {
+        priority: None,
+        inverted: false,
+        from: None,
+        to: None,
+        iif: None,
+        mark: None,
+        action: Some(Action::Lookup(LOCAL_TABLE)),
+        suppress: None,
+    }
+}
+
+/// Chooses the first rule, since the kernel compares no `from all`.
 fn first_rule() -> RuleChoice
     ensures { result ≡ first_rule }
 {
     RuleChoice {
-        priority: Some(0),
+        priority: None,
         inverted: false,
-        from: None,
+        from: Some(Prefix::masked(0, 0)),
         to: None,
         iif: None,
         mark: None,
         action: None,
         suppress: None,
     }
+}
+
+/// Gives the commands that delete each rule of a host, none of which fails (`ip-rule(8)`, `flush`).
+///
+/// A flush leaves the rules of priority 0. Of these local and one more are deleted. If they aren't there, a deletion takes one
+/// of the two that were added.
+fn clearing() -> [Command; 6]
+    ensures { result ≡ clearing }
+{
+    [
+        Command::RuleFlush,
+        add_rule(&spare_rule(1)),
+        add_rule(&spare_rule(2)),
+        Command::RuleDel(first_local()),
+        Command::RuleDel(first_rule()),
+        Command::RuleFlush,
+    ]
 }
 
 /// Tells whether the route is put back: `ip -batch` can read it, and the kernel doesn't make it itself.
@@ -82,7 +132,7 @@ fn replacing_commands(alloc: Global, version: &Version) -> Result<Vec<Command>, 
 {
     let routes = every_route(version)?;
     let mut commands = Vec::new(alloc);
-    commands.extend_from_slice(&[Command::RuleDel(first_rule()), Command::RuleFlush])?;
+    commands.extend_from_slice(&clearing())?;
     push_rules(&mut commands, version.rules())?;
     push_direct_routes(&mut commands, &routes)?;
     push_gateway_routes(&mut commands, &routes)?;
@@ -91,10 +141,10 @@ fn replacing_commands(alloc: Global, version: &Version) -> Result<Vec<Command>, 
 
 /// Gives the lines that put the version back on a host whose addresses have made some of its routes already.
 ///
-/// First comes `rule del priority 0`, so that `ip -batch` stops before anything has changed if a host has no such rule. With
-/// the `rule flush` after it no rule is left. Then comes each rule with its priority, and each route in the place of one of
-/// its key, those by a gateway last. Left out are routes that the kernel makes itself, and what has an interface whose name
-/// `ip -batch` can't read. Each line asks for its command, and ends with a newline.
+/// First come six lines that delete each rule of the host, and don't fail if it has no rule of priority 0. Of priority 0 they
+/// delete local and one rule more. Then comes each rule with its priority, and each route in the place of one of its key, those
+/// by a gateway last. Left out are routes that the kernel makes itself, and what has an interface whose name `ip -batch`
+/// can't read. Each line asks for its command, and ends with a newline.
 ///
 /// # Errors
 ///
