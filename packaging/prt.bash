@@ -25,7 +25,7 @@ _prt_values() {
 
 _prt() {
   local word=${COMP_WORDS[COMP_CWORD]} before=${COMP_WORDS[COMP_CWORD - 1]} options=
-  local verbs='batch check diff dump explain follow get import replay serve show wait'
+  local verbs='assert batch check diff dump explain follow get impact import replay serve show unused wait'
   COMPREPLY=()
   if [ "$COMP_CWORD" -eq 1 ]; then
     _prt_words "$verbs help --help --version"
@@ -41,14 +41,17 @@ _prt() {
     explain | get | show) _prt_values "$before" && return ;;
   esac
   case ${COMP_WORDS[1]} in
+    assert) options='--db --server --explain --help' ;;
     batch) options='--force --atomic --db --verbose --help' ;;
     check | replay) options=--help ;;
     explain | get | show) options='--db --server --json --names --help' ;;
     dump) options='--db --server --json --names --replace --help' ;;
-    diff) options='--db --server --all --table --proto --priority --check --help' ;;
+    diff) options='--db --server --all --table --proto --priority --check --impact --help' ;;
     follow) options='--server --all --table --proto --priority --once --help' ;;
+    impact) options='--db --server --json --exact --force --help' ;;
     import) options='--db --help' ;;
     serve) options='--db --listen --feed --workers --sessions --idle --help' ;;
+    unused) options='--db --server --help' ;;
     wait) options='--server --seconds --help' ;;
     help) options=$verbs ;;
   esac
@@ -58,7 +61,7 @@ _prt() {
       [[ $COMP_CWORD -gt 2 || $word == -* ]] || { _prt_files && return; }
       options+=' to from iif mark'
       ;;
-    batch | check | diff | follow | import | replay)
+    assert | batch | check | diff | follow | impact | import | replay | unused)
       [[ $word == -* ]] || { _prt_files && return; }
       ;;
     get) options+=' to from iif mark' ;;

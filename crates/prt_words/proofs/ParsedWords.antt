@@ -50,6 +50,9 @@ record IsOther (word : Text) : Type 0 where
   no_follow : bytes_eq (codes "follow") word ≡ false
   no_wait : bytes_eq (codes "wait") word ≡ false
   no_import : bytes_eq (codes "import") word ≡ false
+  no_impact : bytes_eq (codes "impact") word ≡ false
+  no_assert : bytes_eq (codes "assert") word ≡ false
+  no_unused : bytes_eq (codes "unused") word ≡ false
   no_help : bytes_eq (codes "help") word ≡ false
 
 first_empty : First []
@@ -62,7 +65,7 @@ first_hyphen = mistake refl refl refl
 
 first_plain : (byte : ℕ) (rest : Text) → (byte == 45) ≡ false → IsOther (byte ∷ rest) → First (byte ∷ rest)
 unfolding clap_on_literals
-first_plain byte rest plain other = mistake (rw plain refl) (rw plain refl) (rw (other.no_batch, other.no_check, other.no_replay, other.no_serve, other.no_get, other.no_show, other.no_explain, other.no_dump, other.no_diff, other.no_follow, other.no_wait, other.no_import, other.no_help, plain, plain) refl)
+first_plain byte rest plain other = mistake (rw plain refl) (rw plain refl) (rw (other.no_batch, other.no_check, other.no_replay, other.no_serve, other.no_get, other.no_show, other.no_explain, other.no_dump, other.no_diff, other.no_follow, other.no_wait, other.no_import, other.no_impact, other.no_assert, other.no_unused, other.no_help, plain, plain) refl)
 
 first_short : (byte : ℕ) (rest : Text) (letter : Option ℕ) → (byte == 45) ≡ false → slice_get (chars (byte ∷ rest)) 0 ≡ letter → First (45 ∷ byte ∷ rest)
 unfolding walked bundle_met flags_fault
@@ -84,16 +87,16 @@ first_long_other byte rest no_help no_version turn =
 
 no_long : (word name : Text) (value : Option Text) → bytes_eq word (codes "--") ≡ false → IsOther word
     → long_of word ≡ Some (name, value) → bytes_eq (codes "help") name ≡ false → bytes_eq (codes "version") name ≡ false → IsMistake (first_turn word)
-no_long word name value plain other long no_help no_version = rw (other.no_batch, other.no_check, other.no_replay, other.no_serve, other.no_get, other.no_show, other.no_explain, other.no_dump, other.no_diff, other.no_follow, other.no_wait, other.no_import, other.no_help, plain, long, no_help, no_version) refl
+no_long word name value plain other long no_help no_version = rw (other.no_batch, other.no_check, other.no_replay, other.no_serve, other.no_get, other.no_show, other.no_explain, other.no_dump, other.no_diff, other.no_follow, other.no_wait, other.no_import, other.no_impact, other.no_assert, other.no_unused, other.no_help, plain, long, no_help, no_version) refl
 
 help_valued : (word value : Text) → bytes_eq word (codes "--") ≡ false → IsOther word → long_of word ≡ Some (codes "help", Some value) → IsMistake (first_turn word)
-help_valued word value plain other long = rw (other.no_batch, other.no_check, other.no_replay, other.no_serve, other.no_get, other.no_show, other.no_explain, other.no_dump, other.no_diff, other.no_follow, other.no_wait, other.no_import, other.no_help, plain, long) refl
+help_valued word value plain other long = rw (other.no_batch, other.no_check, other.no_replay, other.no_serve, other.no_get, other.no_show, other.no_explain, other.no_dump, other.no_diff, other.no_follow, other.no_wait, other.no_import, other.no_impact, other.no_assert, other.no_unused, other.no_help, plain, long) refl
 
 version_valued : (word value : Text) → bytes_eq word (codes "--") ≡ false → IsOther word → long_of word ≡ Some (codes "version", Some value) → IsMistake (first_turn word)
-version_valued word value plain other long = rw (other.no_batch, other.no_check, other.no_replay, other.no_serve, other.no_get, other.no_show, other.no_explain, other.no_dump, other.no_diff, other.no_follow, other.no_wait, other.no_import, other.no_help, plain, long) refl
+version_valued word value plain other long = rw (other.no_batch, other.no_check, other.no_replay, other.no_serve, other.no_get, other.no_show, other.no_explain, other.no_dump, other.no_diff, other.no_follow, other.no_wait, other.no_import, other.no_impact, other.no_assert, other.no_unused, other.no_help, plain, long) refl
 
 long_other : (rest : Text) → IsOther (45 ∷ 45 ∷ rest)
-long_other rest = record { no_batch = refl; no_check = refl; no_replay = refl; no_serve = refl; no_get = refl; no_show = refl; no_explain = refl; no_dump = refl; no_diff = refl; no_follow = refl; no_wait = refl; no_import = refl; no_help = refl }
+long_other rest = record { no_batch = refl; no_check = refl; no_replay = refl; no_serve = refl; no_get = refl; no_show = refl; no_explain = refl; no_dump = refl; no_diff = refl; no_follow = refl; no_wait = refl; no_import = refl; no_impact = refl; no_assert = refl; no_unused = refl; no_help = refl }
 
 -- one with a value
 first_valued : (byte : ℕ) (rest name : Text) → name ≡ long_name (byte ∷ rest) → has_byte 61 (byte ∷ rest) ≡ true
@@ -186,19 +189,19 @@ fault_of_subcommand Replay program words =
 abbrev found_by : Subcommand → List Text → Option (Text × List Row)
 found_by s words = Some (name_of s, rows_after (rules_of s) [] words)
 
-subcommand_found : (s : Subcommand) (program : Text) (words : List Text) → subcommand_of command_line (program ∷ name_of s ∷ words) ≡ found_by s words
+pub subcommand_found : (s : Subcommand) (program : Text) (words : List Text) → subcommand_of command_line (program ∷ name_of s ∷ words) ≡ found_by s words
 unfolding walked
 subcommand_found Batch program words = ap (λ (at : Walk). entered (built command_line) at.stopped) (stays (codes "batch") [] words)
 subcommand_found Check program words = ap (λ (at : Walk). entered (built command_line) at.stopped) (stays (codes "check") [] words)
 subcommand_found Replay program words = ap (λ (at : Walk). entered (built command_line) at.stopped) (stays (codes "replay") [] words)
 
 -- `serve` is found by its name, whatever follows
-serve_named : (program : Text) (words : List Text) → subcommand_name (subcommand_of command_line (program ∷ codes "serve" ∷ words)) ≡ Some (codes "serve")
+pub serve_named : (program : Text) (words : List Text) → subcommand_name (subcommand_of command_line (program ∷ codes "serve" ∷ words)) ≡ Some (codes "serve")
 unfolding walked
 serve_named program words = ap (λ (at : Walk). subcommand_name (entered (built command_line) at.stopped)) (stays (codes "serve") [] words)
 
 -- and so is a question
-abbrev named_is : (name : Text) (program : Text) (words : List Text) → Type 0
+abbrev pub named_is : (name : Text) (program : Text) (words : List Text) → Type 0
 named_is name program words = subcommand_name (subcommand_of command_line (program ∷ name ∷ words)) ≡ Some name
 
 get_named : (program : Text) (words : List Text) → named_is (codes "get") program words
@@ -233,24 +236,42 @@ import_named : (program : Text) (words : List Text) → named_is (codes "import"
 unfolding walked
 import_named program words = ap (λ (at : Walk). subcommand_name (entered (built command_line) at.stopped)) (stays (codes "import") [] words)
 
+impact_named : (program : Text) (words : List Text) → named_is (codes "impact") program words
+unfolding walked
+impact_named program words = ap (λ (at : Walk). subcommand_name (entered (built command_line) at.stopped)) (stays (codes "impact") [] words)
+
+assert_named : (program : Text) (words : List Text) → named_is (codes "assert") program words
+unfolding walked
+assert_named program words = ap (λ (at : Walk). subcommand_name (entered (built command_line) at.stopped)) (stays (codes "assert") [] words)
+
+unused_named : (program : Text) (words : List Text) → named_is (codes "unused") program words
+unfolding walked
+unused_named program words = ap (λ (at : Walk). subcommand_name (entered (built command_line) at.stopped)) (stays (codes "unused") [] words)
+
 -- one of two words
 either_word : {X : Type 0} (a b : Bool) → (a || b) ≡ true → (a ≡ true → X) → (b ≡ true → X) → X
 either_word true b is one other = one refl
 either_word false b is one other = other is
 
-question_named : (program word : Text) (words : List Text) → is_question word ≡ true → asks_question (subcommand_name (subcommand_of command_line (program ∷ word ∷ words))) ≡ true
-question_named program word words is =
-    either_word _ _ is (λ e. by (codes "get") e refl (get_named program words))
-    (λ is. either_word _ _ is (λ e. by (codes "show") e refl (show_named program words))
-    (λ is. either_word _ _ is (λ e. by (codes "explain") e refl (explain_named program words))
-    (λ is. either_word _ _ is (λ e. by (codes "dump") e refl (dump_named program words))
-    (λ is. either_word _ _ is (λ e. by (codes "diff") e refl (diff_named program words))
-    (λ is. either_word _ _ is (λ e. by (codes "follow") e refl (follow_named program words))
-    (λ is. either_word _ _ is (λ e. by (codes "wait") e refl (wait_named program words))
-    (λ e. by (codes "import") e refl (import_named program words))))))))
+pub question_found : (program word : Text) (words : List Text) → is_question word ≡ true → named_is word program words
+question_found program word words is =
+    either_word _ _ is (λ e. by (codes "get") e (get_named program words))
+    (λ is. either_word _ _ is (λ e. by (codes "show") e (show_named program words))
+    (λ is. either_word _ _ is (λ e. by (codes "explain") e (explain_named program words))
+    (λ is. either_word _ _ is (λ e. by (codes "dump") e (dump_named program words))
+    (λ is. either_word _ _ is (λ e. by (codes "diff") e (diff_named program words))
+    (λ is. either_word _ _ is (λ e. by (codes "follow") e (follow_named program words))
+    (λ is. either_word _ _ is (λ e. by (codes "wait") e (wait_named program words))
+    (λ is. either_word _ _ is (λ e. by (codes "import") e (import_named program words))
+    (λ is. either_word _ _ is (λ e. by (codes "impact") e (impact_named program words))
+    (λ is. either_word _ _ is (λ e. by (codes "assert") e (assert_named program words))
+    (λ e. by (codes "unused") e (unused_named program words)))))))))))
   where
-    by : (name : Text) → bytes_eq word name ≡ true → asks_question (Some name) ≡ true → named_is name program words → asks_question (subcommand_name (subcommand_of command_line (program ∷ word ∷ words))) ≡ true
-    by name same one named = subst (λ w. asks_question (subcommand_name (subcommand_of command_line (program ∷ w ∷ words))) ≡ true) (sym (same_bytes word name same)) (ap asks_question named ∙ one)
+    by : (name : Text) → bytes_eq word name ≡ true → named_is name program words → named_is word program words
+    by name same named = subst (λ w. named_is w program words) (sym (same_bytes word name same)) named
+
+question_named : (program word : Text) (words : List Text) → is_question word ≡ true → asks_question (subcommand_name (subcommand_of command_line (program ∷ word ∷ words))) ≡ true
+question_named program word words is = ap asks_question (question_found program word words is) ∙ is
 
 own_words_agree : (s : Subcommand) (words : List Text) → Agrees (asked_by s words anywhere nothing_given) (own_fault s words) (found_by s words)
 own_words_agree Batch words = subcommand_reads Batch words
@@ -282,7 +303,7 @@ after_delimiter program [] = refl
 after_delimiter program (word ∷ words) = refl
 
 no_question : (word : Word) → IsOther word → is_question word ≡ false
-no_question word other = rw (flipped (codes "get") word other.no_get, flipped (codes "show") word other.no_show, flipped (codes "explain") word other.no_explain, flipped (codes "dump") word other.no_dump, flipped (codes "diff") word other.no_diff, flipped (codes "follow") word other.no_follow, flipped (codes "wait") word other.no_wait, flipped (codes "import") word other.no_import) refl
+no_question word other = rw (flipped (codes "get") word other.no_get, flipped (codes "show") word other.no_show, flipped (codes "explain") word other.no_explain, flipped (codes "dump") word other.no_dump, flipped (codes "diff") word other.no_diff, flipped (codes "follow") word other.no_follow, flipped (codes "wait") word other.no_wait, flipped (codes "import") word other.no_import, flipped (codes "impact") word other.no_impact, flipped (codes "assert") word other.no_assert, flipped (codes "unused") word other.no_unused) refl
 
 asks_help : (word : Word) (words : List Word) → IsOther word → is_help word ≡ true → invocation (word ∷ words) ≡ help
 asks_help word words other h = rw (flipped (codes "batch") word other.no_batch, flipped (codes "check") word other.no_check, flipped (codes "replay") word other.no_replay, flipped (codes "serve") word other.no_serve, no_question word other, flipped (codes "help") word other.no_help, h) refl
@@ -322,7 +343,10 @@ other_word word b c r s q h =
     let after_dump = neither (bytes_eq word (codes "dump")) _ after_explain.1 in
     let after_diff = neither (bytes_eq word (codes "diff")) _ after_dump.1 in
     let after_follow = neither (bytes_eq word (codes "follow")) _ after_diff.1 in
-    let last = neither (bytes_eq word (codes "wait")) (bytes_eq word (codes "import")) after_follow.1 in
+    let after_wait = neither (bytes_eq word (codes "wait")) _ after_follow.1 in
+    let after_import = neither (bytes_eq word (codes "import")) _ after_wait.1 in
+    let after_impact = neither (bytes_eq word (codes "impact")) _ after_import.1 in
+    let last = neither (bytes_eq word (codes "assert")) (bytes_eq word (codes "unused")) after_impact.1 in
     record {
       no_batch = flipped word (codes "batch") b;
       no_check = flipped word (codes "check") c;
@@ -334,8 +358,11 @@ other_word word b c r s q h =
       no_dump = flipped word (codes "dump") after_dump.0;
       no_diff = flipped word (codes "diff") after_diff.0;
       no_follow = flipped word (codes "follow") after_follow.0;
-      no_wait = flipped word (codes "wait") last.0;
-      no_import = flipped word (codes "import") last.1;
+      no_wait = flipped word (codes "wait") after_wait.0;
+      no_import = flipped word (codes "import") after_import.0;
+      no_impact = flipped word (codes "impact") after_impact.0;
+      no_assert = flipped word (codes "assert") last.0;
+      no_unused = flipped word (codes "unused") last.1;
       no_help = flipped word (codes "help") h;
     }
 

@@ -1,6 +1,7 @@
 -- From what a parse gives to what the words ask for.
-use Rattle.std.proofs.Common.{◌≡◌, ◌∙◌, ◌&&◌, ◌⊎◌, Bool, true, false, refl, sym, ap, ap₂, subst, inl, inr, List, [], ◌∷◌, Option, Some, None, option_map, is_some, codes, drop, true≢false}
+use Rattle.std.proofs.Common.{◌≡◌, ◌∙◌, ◌&&◌, ◌⊎◌, Bool, true, false, refl, sym, ap, ap₂, subst, inl, inr, List, [], ◌∷◌, Option, Some, None, option_map, is_some, codes, cond, drop, true≢false}
 use Rattle.std.specs.Borrow.{Bor}
+use Rattle.std.specs.Str.{bytes_eq}
 use Rattle.std.specs.Box.{box_value}
 use Rattle.std.specs.Prelude.{Box, Err, IfErr, MatchOption, Ok, Result, ℕ, ◌==◌, option_and_then, slice_get, unwrap_or}
 use Rattle.clap.specs.Words.{fault_of, subcommand_name_of, subcommand_of, subcommand_rows, subcommand_rows_of}
@@ -9,7 +10,7 @@ use Rattle.clap.specs.declared.parser.matches.ArgMatches.{ArgMatches}
 use Rattle.clap.specs.declared.parser.matches.ArgMatches.TheViews.{out-ArgMatches, out-SubCommand}
 use Rattle.clap.specs.Walk.{Row}
 use Rattle.prt_addr.specs.Word.{Word}
-use Rattle.prt_words.specs.CommandLine.{asks_question, IsConflict, IsModeOf, IsTaskOf, command_line, invocation_of, subcommand_name, flag_text, text_of_flag}
+use Rattle.prt_words.specs.CommandLine.{asks_question, IsConflict, IsModeOf, IsQuestionOf, IsTaskOf, command_line, invocation_of, subcommand_name, flag_text, text_of_flag}
 use Rattle.std.specs.List.{list_all}
 use Rattle.clap.specs.Kinds.{HasKind, IsAmong, Kinds}
 use Rattle.clap.specs.Words.{Text, kind_of}
@@ -17,14 +18,15 @@ use Rattle.clap.specs.declared.error.Error.{Error}
 use Rattle.clap.specs.declared.error.kind.ErrorKind.{ErrorKind}
 use Rattle.clap.specs.declared.error.kind.ErrorKind.TheVariants.{DisplayHelp, DisplayVersion, InvalidSubcommand}
 use Rattle.prt_words.specs.Faults.{FaultOf, IsStatusOf, IsWordsFault, words_status}
-use Rattle.prt_words.specs.Invocation.{Invocation, ask, batch, check, replay, serve, help, help_on, version, invocation, usage_error, file_of}
+use Rattle.prt_words.specs.Invocation.{Invocation, ask, batch, check, replay, serve, help, help_on, version, invocation, is_help, is_question, is_version, usage_error, file_of}
+use Rattle.prt_words.specs.Invocation as subcommand
 use Rattle.prt_words.specs.declared.task.Mode.{Mode}
 use Rattle.prt_words.specs.declared.fault.Fault.{Fault}
 use Rattle.prt_words.specs.declared.task.Task.{Task}
 use Rattle.prt_words.specs.declared.task.Task.TheVariants.{Ask, Batch, Check, Replay, Serve}
-use Rattle.prt_words.proofs.ParsedWords.{words_agree}
+use Rattle.prt_words.proofs.ParsedWords.{named_is, question_found, serve_named, subcommand_found, words_agree}
 use Rattle.prt_words.proofs.Walks.{Agrees, HasMode}
-use Rattle.prt_words.proofs.WordClasses.{IsMistake, is_mistake}
+use Rattle.prt_words.proofs.WordClasses.{IsMistake, is_mistake, same_bytes}
 
 not_empty : (k : ErrorKind) (kinds : Kinds) → (k ∷ kinds) ≡ [] → ⊥
 not_empty k kinds same = absurd (true≢false (ap is_some_kind same))
@@ -229,6 +231,58 @@ pub asked_is : (words : List Text) (m : ArgMatches) → subcommand_rows_of m ≡
 asked_is words m found none named =
     ask_is (invocation (drop 1 words)) (fault_of command_line words) (subcommand_of command_line words) (words_agree words) none
     (ap asks_question (sym (ap subcommand_name found) ∙ sym (name_of_found (out-ArgMatches m).subcommand)) ∙ named)
+
+-- a word that names no task of its own
+no_subcommand : (word : Text) (words : List Text) → bytes_eq word (codes "batch") ≡ false → bytes_eq word (codes "check") ≡ false → bytes_eq word (codes "replay") ≡ false → bytes_eq word (codes "serve") ≡ false
+    → is_question word ≡ false → invocation (word ∷ words) ≡ cond (bytes_eq word (codes "help")) help_on (cond (is_help word) help (cond (is_version word) version usage_error))
+no_subcommand word words b c r s q = rw (b, c, r, s, q) refl
+
+-- the word that asks a question
+never_ask : (topic h v : Bool) → cond topic help_on (cond h help (cond v version usage_error)) ≡ ask → ⊥
+never_ask true h v is = absurd cc
+never_ask false true v is = absurd cc
+never_ask false false true is = absurd cc
+never_ask false false false is = absurd cc
+
+no_ask : (program word name : Text) (words : List Text) → bytes_eq word name ≡ true → asks_question (Some name) ≡ false → named_is name program words
+    → asks_question (subcommand_name (subcommand_of command_line (program ∷ word ∷ words))) ≡ false
+no_ask program word name words same none named =
+    subst (λ w. asks_question (subcommand_name (subcommand_of command_line (program ∷ w ∷ words))) ≡ false) (sym (same_bytes word name same)) (ap asks_question named ∙ none)
+
+first_asks : (program word : Text) (words : List Text) (is_batch is_check is_replay is_serve is_ask : Bool) → bytes_eq word (codes "batch") ≡ is_batch → bytes_eq word (codes "check") ≡ is_check
+    → bytes_eq word (codes "replay") ≡ is_replay → bytes_eq word (codes "serve") ≡ is_serve → is_question word ≡ is_ask
+    → asks_question (subcommand_name (subcommand_of command_line (program ∷ word ∷ words))) ≡ true → invocation (word ∷ words) ≡ ask → is_question word ≡ true
+first_asks program word words true is_check is_replay is_serve is_ask b c r s q asks is =
+    absurd (true≢false (sym asks ∙ no_ask program word (codes "batch") words b refl (ap subcommand_name (subcommand_found subcommand.Batch program words))))
+first_asks program word words false true is_replay is_serve is_ask b c r s q asks is =
+    absurd (true≢false (sym asks ∙ no_ask program word (codes "check") words c refl (ap subcommand_name (subcommand_found subcommand.Check program words))))
+first_asks program word words false false true is_serve is_ask b c r s q asks is =
+    absurd (true≢false (sym asks ∙ no_ask program word (codes "replay") words r refl (ap subcommand_name (subcommand_found subcommand.Replay program words))))
+first_asks program word words false false false true is_ask b c r s q asks is =
+    absurd (true≢false (sym asks ∙ no_ask program word (codes "serve") words s refl (serve_named program words)))
+first_asks program word words false false false false true b c r s q asks is = q
+first_asks program word words false false false false false b c r s q asks is =
+    absurd (never_ask (bytes_eq word (codes "help")) (is_help word) (is_version word) (sym (no_subcommand word words b c r s q) ∙ is))
+
+first_word : (words : List Text) (name : Option Text) → subcommand_name (subcommand_of command_line words) ≡ name → asks_question name ≡ true → invocation (drop 1 words) ≡ ask → slice_get (drop 1 words) 0 ≡ name
+first_word [] name named asks is = absurd cc
+first_word (program ∷ []) name named asks is = absurd cc
+first_word (program ∷ word ∷ words) name named asks is =
+    let question = first_asks program word words _ _ _ _ _ refl refl refl refl refl (ap asks_question named ∙ asks) is in
+    sym (question_found program word words question) ∙ named
+
+pub question_is : (words : List Text) (m : ArgMatches) (name : Text) → subcommand_rows_of m ≡ subcommand_of command_line words → fault_of command_line words ≡ [] → asks_question (subcommand_name_of m) ≡ true
+    → subcommand_name_of m ≡ Some name → slice_get (drop 1 words) 0 ≡ Some name
+question_is words m name found none asks named =
+    first_word words (Some name) (sym (ap subcommand_name found) ∙ sym (name_of_found (out-ArgMatches m).subcommand) ∙ named) (sym (ap asks_question named) ∙ asks) (asked_is words m found none asks)
+
+-- another task is no question
+pub no_question_of : (words : List Text) (found : Option (Text × List Row)) (task : Task) → IsTaskOf found task → IsQuestionOf words task
+no_question_of words found (Batch script) is = tt
+no_question_of words found (Check file) is = tt
+no_question_of words found (Replay file) is = tt
+no_question_of words found (Serve serving) is = tt
+no_question_of words found (Ask asked) is = absurd is
 
 pub other_is : (words : List Text) (m : ArgMatches) (task : Task) → subcommand_rows_of m ≡ subcommand_of command_line words → fault_of command_line words ≡ []
     → (subcommand_name_of m ≡ Some (codes "serve") → ⊥) → asks_question (subcommand_name_of m) ≡ false → IsTaskOf (subcommand_rows_of m) task → invocation (drop 1 words) ≡ invocation_of task

@@ -1,11 +1,12 @@
 -- The words that the program knows, as a parse reads them, and what it finds of its subcommands.
-use Rattle.std.specs.Prelude.{◌≡◌, ◌≢◌, ◌≤◌, Bool, true, false, List, [], ◌∷◌, Option, Some, None, codes, option_and_then, option_map}
+use Rattle.std.specs.Prelude.{◌≡◌, ◌≢◌, ◌≤◌, Bool, true, false, List, [], ◌∷◌, Option, Some, None, codes, option_and_then, option_map, slice_get}
 use Rattle.std.specs.Option.{option_map_or}
 use Rattle.clap.specs.Words.{App, Row, Rule, Text, first_of, one_of, new_app, new_rule, with_rule, with_subcommand}
 use Rattle.clap.specs.Simple.{on_top}
 use Rattle.clap.specs.declared.builder.action.ArgAction.TheVariants.{Append, SetTrue}
 use Rattle.clap.specs.declared.builder.command.Command.{Command}
 use Rattle.clap.specs.declared.builder.command.Command.TheViews.{out-Command}
+use Rattle.prt_words.specs.Asking.{name_of_asked}
 use Rattle.prt_words.specs.Invocation.{Invocation, ask, batch, check, file_of, is_question, mode_of, replay, serve}
 use Rattle.prt_words.specs.Reaching.{IsAsked}
 use Rattle.prt_words.specs.declared.serving.Serving.{Serving}
@@ -80,7 +81,7 @@ abbrev pub with_reach : App → App
 with_reach app = with_rule (with_rule (with_rule (with_rule app (flag_rule (codes "all"))) (repeated_rule (codes "table"))) (repeated_rule (codes "proto"))) (repeated_rule (codes "priority"))
 
 abbrev pub diff_line : App
-diff_line = with_rule (with_rule (with_reach (place_line (codes "diff"))) (flag_rule (codes "check"))) file_rule
+diff_line = with_rule (with_rule (with_rule (with_reach (place_line (codes "diff"))) (flag_rule (codes "check"))) (flag_rule (codes "impact"))) file_rule
 
 -- a question of a server
 abbrev pub server_line : Text → App
@@ -95,6 +96,16 @@ wait_line = with_rule (server_line (codes "wait")) (number_rule (codes "seconds"
 abbrev pub import_line : App
 import_line = with_rule (with_rule (new_app (codes "import")) (option_rule (codes "db"))) file_rule
 
+-- the words of `impact` and `assert` are the files
+abbrev pub impact_line : App
+impact_line = with_rule (with_rule (with_rule (with_rule (place_line (codes "impact")) (flag_rule (codes "json"))) (flag_rule (codes "exact"))) (flag_rule (codes "force"))) words_rule
+
+abbrev pub assert_line : App
+assert_line = with_rule (with_rule (place_line (codes "assert")) (flag_rule (codes "explain"))) words_rule
+
+abbrev pub unused_line : App
+unused_line = with_rule (place_line (codes "unused")) file_rule
+
 abbrev pub opening_line : App
 opening_line = on_top (λ top. record top { subcommand_required = true; arg_required_else_help = true; has_version = true }) (new_app (codes "prt"))
 
@@ -102,8 +113,12 @@ opening_line = on_top (λ top. record top { subcommand_required = true; arg_requ
 abbrev pub with_questions : App → App
 with_questions app = with_subcommand (with_subcommand (with_subcommand (with_subcommand (with_subcommand (with_subcommand (with_subcommand (with_subcommand app get_line.top) show_line.top) explain_line.top) dump_line.top) diff_line.top) follow_line.top) wait_line.top) import_line.top
 
+-- with those that analyse where packets go
+abbrev pub with_analyses : App → App
+with_analyses app = with_subcommand (with_subcommand (with_subcommand app impact_line.top) assert_line.top) unused_line.top
+
 abbrev pub command_line : App
-command_line = with_questions (with_subcommand (with_subcommand (with_subcommand (with_subcommand opening_line batch_line.top) check_line.top) replay_line.top) serve_line.top)
+command_line = with_analyses (with_questions (with_subcommand (with_subcommand (with_subcommand (with_subcommand opening_line batch_line.top) check_line.top) replay_line.top) serve_line.top))
 
 -- whether an argument of the command is one of its subcommands too
 abbrev pub has_globals : Command → Bool
@@ -173,6 +188,11 @@ invocation_of (Check file) = check (option_map (λ path. path.now) file)
 invocation_of (Replay file) = replay (option_map (λ path. path.now) file)
 invocation_of (Serve serving) = serve
 invocation_of (Ask asked) = ask
+
+-- a question is that of the first word
+abbrev pub IsQuestionOf : List Text → Task → Type 0
+IsQuestionOf words (Ask asked) = slice_get words 0 ≡ Some (name_of_asked asked)
+IsQuestionOf words task = Unit {0}
 
 -- 1 to 64 workers, at most 1,000,000 sessions, and at most as many seconds without a byte
 abbrev pub IsServing : Serving → Type 0

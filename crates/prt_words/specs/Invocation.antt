@@ -26,7 +26,7 @@ pub data Invocation : Type 0 where
   replay : Option Word → Invocation
   -- the word `serve`: sessions over TCP, help on that, or bad words
   serve : Invocation
-  -- the word of a question: what tables say, what differs from them or is imported, whether a server answers, help on that, or bad words
+  -- the word of a question: what tables say, what differs from them or is imported, whether a server answers, what an analysis finds, help on that, or bad words
   ask : Invocation
   help : Invocation
   -- the version, and the formats of database file that are read
@@ -201,9 +201,13 @@ asked_by subcommand (word ∷ words) place given = asked_with place given (part_
 abbrev pub arguments : {Z : Type 0} → List (String Z) → List Word
 arguments words = drop 1 (map string_bytes words)
 
--- `get`, `show`, `explain`, `dump`, `diff`, `follow`, `wait` and `import`
+-- `impact`, `assert` and `unused`
+abbrev pub is_analysis : Word → Bool
+is_analysis word = bytes_eq word (codes "impact") || (bytes_eq word (codes "assert") || bytes_eq word (codes "unused"))
+
+-- `get`, `show`, `explain`, `dump`, `diff`, `follow`, `wait`, `import` and these
 abbrev pub is_question : Word → Bool
-is_question word = bytes_eq word (codes "get") || (bytes_eq word (codes "show") || (bytes_eq word (codes "explain") || (bytes_eq word (codes "dump") || (bytes_eq word (codes "diff") || (bytes_eq word (codes "follow") || (bytes_eq word (codes "wait") || bytes_eq word (codes "import")))))))
+is_question word = bytes_eq word (codes "get") || (bytes_eq word (codes "show") || (bytes_eq word (codes "explain") || (bytes_eq word (codes "dump") || (bytes_eq word (codes "diff") || (bytes_eq word (codes "follow") || (bytes_eq word (codes "wait") || (bytes_eq word (codes "import") || is_analysis word)))))))
 
 -- what they ask for
 abbrev pub invocation : List Word → Invocation

@@ -1,3 +1,5 @@
+pub mod Analysis
+pub mod Asking
 pub mod CommandLine
 pub mod Faults
 pub mod Invocation

@@ -7,7 +7,7 @@ use Rattle.prt_addr.specs.Number.{number}
 use Rattle.prt_addr.specs.Word.{Word, all_of, keep}
 use Rattle.prt_route.specs.Names.{protocol, table}
 use Rattle.prt_words.specs.declared.asking.Asked.{Asked}
-use Rattle.prt_words.specs.declared.asking.Asked.TheVariants.{Diff, Follow, Import, Tables, Wait}
+use Rattle.prt_words.specs.declared.asking.Asked.TheVariants.{Assert, Diff, Follow, Impact, Import, Tables, Unused, Wait}
 use Rattle.prt_words.specs.declared.reach.Ends.{Ends}
 use Rattle.prt_words.specs.declared.reach.Ends.TheVariants as ends
 use Rattle.prt_words.specs.declared.reach.NumberSpan.{NumberSpan}
@@ -60,3 +60,6 @@ IsAsked (Diff diffing) = IsReach diffing.reach
 IsAsked (Follow following) = IsReach following.reach
 IsAsked (Wait waiting) = waiting.seconds ≤ 1000000
 IsAsked (Import importing) = Unit {0}
+IsAsked (Impact rehearsing) = Unit {0}
+IsAsked (Assert asserting) = Unit {0}
+IsAsked (Unused source) = Unit {0}

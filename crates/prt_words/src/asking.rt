@@ -1,11 +1,14 @@
-//! What the words of a question ask for: those of `get`, `show`, `explain`, `dump`, `diff`, `follow`, `wait` and `import`.
-ghost use Rattle.std.specs.Prelude.{◌≡◌, IfErr, IfOk, IfSome, Some, is_some, true};
+//! What the words of a question ask for: those of `get`, `show`, `explain`, `dump`, `diff`, `follow`, `wait`, `import`, `impact`, `assert` and `unused`.
+ghost use Rattle.std.specs.Prelude.{◌≡◌, IfErr, IfOk, IfSome, MatchOption, None, Some, codes, is_some, true};
 ghost use Rattle.clap.specs.Words.{subcommand_name_of};
+ghost use Rattle.prt_words.specs.Analysis.{IsFlag, IsNamed, IsShownBy, NoneIsNamed, form_of};
+ghost use Rattle.prt_words.specs.Asking.{name_of_asked, name_of_verb, name_of_word};
 ghost use Rattle.prt_words.specs.CommandLine.{asks_question};
 ghost use Rattle.prt_words.specs.Faults.{IsWordsFault};
-ghost use Rattle.prt_words.specs.Invocation.{ask};
+ghost use Rattle.prt_words.specs.Invocation.{ask, is_analysis};
 ghost use Rattle.prt_words.specs.Reaching.{IsAsked, IsReach};
 
+use crate::analysis::{Asserting, Rehearsing, asserting_of, rehearsing_of, searched_of};
 use crate::fault::{BadQuestion, Fault, asking_fault};
 use crate::following::{BAD_SERVER, Following, Waiting, following_of, waiting_of};
 use crate::reach::{Reach, reach_of};
@@ -28,6 +31,9 @@ const NO_ADDRESS: &str = "a value is required for '<ADDRESS>...'";
 
 /// What is wrong with a dump whose commands replace, and that is no list of commands or calls tables by names.
 const REPLACE_CONFLICT: &str = "the argument '--replace' cannot be used with '--json' or '--names'";
+
+/// What is wrong with a difference that is only tested, and whose impact is to be shown.
+const IMPACT_CONFLICT: &str = "the argument '--impact' cannot be used with '--check'";
 
 /// The subcommand that says which route a packet gets.
 const GET: &str = "get";
@@ -52,6 +58,15 @@ const WAIT: &str = "wait";
 
 /// The subcommand that makes a script of what `ip` prints.
 const IMPORT: &str = "import";
+
+/// The subcommand that shows which packets get another answer once commands were executed.
+const IMPACT: &str = "impact";
+
+/// The subcommand that checks claims of which packets go where.
+const ASSERT: &str = "assert";
+
+/// The subcommand that lists rules and routes that no packet gets.
+const UNUSED: &str = "unused";
 
 /// Where the tables are that are asked.
 #[derive(Clone, Copy)]
@@ -114,6 +129,8 @@ pub struct Asking<'a> {
 pub enum Shown {
     /// The lines that make it the same.
     Lines,
+    /// As comments which packets these lines send another way, and then the lines.
+    Impact,
     /// Whether anything differs, by the status alone.
     Status,
 }
@@ -151,6 +168,12 @@ pub enum Asked<'a> {
     Wait(Waiting),
     /// Which script makes what `ip` printed.
     Import(Importing<'a>),
+    /// Which packets get another answer once the commands of a file were executed over tables.
+    Impact(Rehearsing<'a>),
+    /// Whether the claims of a file hold of tables.
+    Assert(Asserting<'a>),
+    /// Which rules and routes of these tables no packet gets.
+    Unused(Source<'a>),
 }
 
 /// A subcommand that asks a question.
@@ -161,11 +184,31 @@ pub(crate) enum QuestionWord {
     Follow,
     Wait,
     Import,
+    Impact,
+    Assert,
+    Unused,
+}
+
+/// Finds the subcommand of a name, if that is `impact`, `assert` or `unused`.
+fn analysis_word(name: &str) -> Option<QuestionWord>
+    ensures known { is_some result ≡ is_analysis name.now }
+    ensures word { IfSome result (λ word. name.now ≡ name_of_word word) }
+{
+    if name == IMPACT {
+        Some(QuestionWord::Impact)
+    } else if name == ASSERT {
+        Some(QuestionWord::Assert)
+    } else if name == UNUSED {
+        Some(QuestionWord::Unused)
+    } else {
+        None
+    }
 }
 
 /// Gives the subcommand of a name, if it asks a question.
 fn question_word(name: &str) -> Option<QuestionWord>
-    ensures { is_some result ≡ asks_question (Some name.now) }
+    ensures known { is_some result ≡ asks_question (Some name.now) }
+    ensures word { IfSome result (λ word. name.now ≡ name_of_word word) }
 {
     if name == GET {
         Some(QuestionWord::Tables(Verb::Get))
@@ -184,7 +227,7 @@ fn question_word(name: &str) -> Option<QuestionWord>
     } else if name == IMPORT {
         Some(QuestionWord::Import)
     } else {
-        None
+        analysis_word(name)
     }
 }
 
@@ -216,7 +259,9 @@ fn line_of(alloc: Global, verb: Verb, words: &[&str]) -> Result<Vec<u8>, AllocEr
 /// # Errors
 ///
 /// They name two, or a place that is none.
-fn named_source<'a>(matches: &ArgMatches<'a>) -> Result<Option<Source<'a>>, BadQuestion> {
+pub(crate) fn named_source<'a>(matches: &ArgMatches<'a>) -> Result<Option<Source<'a>>, BadQuestion>
+    ensures { IfOk result (λ named. MatchOption named (NoneIsNamed matches.now) (IsNamed matches.now)) }
+{
     match (matches.get_str("db"), matches.get_str("server")) {
         (None, None) => Ok(None),
         (Some(path), None) => Ok(Some(Source::Database(path))),
@@ -269,7 +314,9 @@ fn needs_words(verb: Verb) -> bool {
 /// # Errors
 ///
 /// They do, and the answer is to be in JSON, or to call tables by names.
-fn verb_in(verb: Verb, matches: &ArgMatches<'_>) -> Result<Verb, BadQuestion> {
+fn verb_in(verb: Verb, matches: &ArgMatches<'_>) -> Result<Verb, BadQuestion>
+    ensures { IfOk result (λ meant. name_of_verb meant ≡ name_of_verb verb) }
+{
     let is_dump = matches!(verb, Verb::Dump);
     if !is_dump || !matches.get_flag("replace") {
         return Ok(verb);
@@ -278,6 +325,17 @@ fn verb_in(verb: Verb, matches: &ArgMatches<'_>) -> Result<Verb, BadQuestion> {
         return Err(BadQuestion::Words(REPLACE_CONFLICT));
     }
     Ok(Verb::Replace)
+}
+
+/// Finds in which form an answer is to be written.
+pub(crate) fn form_in(matches: &ArgMatches<'_>) -> Form
+    ensures { IsFlag matches.now (codes "json") form_of result }
+{
+    if matches.get_flag("json") {
+        Form::Json
+    } else {
+        Form::Lines
+    }
 }
 
 /// Tells what the matches of a question to tables ask for.
@@ -289,17 +347,14 @@ fn asking_of<'a>(
     alloc: Global,
     verb: Verb,
     matches: &ArgMatches<'a>,
-) -> Result<Asking<'a>, BadQuestion> {
+) -> Result<Asking<'a>, BadQuestion>
+    ensures { IfOk result (λ asking. name_of_verb asking.verb ≡ name_of_verb verb) }
+{
     let given = matches.get_strs("words").unwrap_or(&[]);
     let (source, words) = source_and_words(verb, matches, given)?;
     if words.is_empty() && needs_words(verb) {
         return Err(BadQuestion::Words(NO_ADDRESS));
     }
-    let form = if matches.get_flag("json") {
-        Form::Json
-    } else {
-        Form::Lines
-    };
     let labels = if matches.get_flag("names") {
         Labels::Names
     } else {
@@ -310,9 +365,26 @@ fn asking_of<'a>(
         source,
         verb: verb_in(verb, matches)?,
         line,
-        form,
+        form: form_in(matches),
         labels,
     })
+}
+
+/// Finds what is to be shown of what differs.
+///
+/// # Errors
+///
+/// Its impact, and no line.
+fn shown_in(matches: &ArgMatches<'_>) -> Result<Shown, BadQuestion>
+    ensures shown { IfOk result (λ shown. IsShownBy matches.now (Some shown)) }
+    ensures conflict { IfErr result (λ bad. IsShownBy matches.now None) }
+{
+    match (matches.get_flag("check"), matches.get_flag("impact")) {
+        (false, false) => Ok(Shown::Lines),
+        (false, true) => Ok(Shown::Impact),
+        (true, false) => Ok(Shown::Status),
+        (true, true) => Err(BadQuestion::Words(IMPACT_CONFLICT)),
+    }
 }
 
 /// Tells what the matches of `diff` ask for.
@@ -321,15 +393,12 @@ fn asking_of<'a>(
 ///
 /// What is wrong with them, or that memory is refused.
 fn diffing_of<'a>(alloc: Global, matches: &ArgMatches<'a>) -> Result<Diffing<'a>, BadQuestion>
-    ensures { IfOk result (λ diffing. IsReach diffing.reach) }
+    ensures limits { IfOk result (λ diffing. IsReach diffing.reach) }
+    ensures shown { IfOk result (λ diffing. IsShownBy matches.now (Some diffing.shown)) }
 {
     let source = source_in(matches)?;
     let reach = reach_of(alloc, matches)?;
-    let shown = if matches.get_flag("check") {
-        Shown::Status
-    } else {
-        Shown::Lines
-    };
+    let shown = shown_in(matches)?;
     Ok(Diffing {
         source,
         reach,
@@ -348,7 +417,8 @@ fn asked_of<'a>(
     word: QuestionWord,
     matches: &ArgMatches<'a>,
 ) -> Result<Asked<'a>, BadQuestion>
-    ensures { IfOk result IsAsked }
+    ensures limits { IfOk result IsAsked }
+    ensures word { IfOk result (λ asked. name_of_asked asked ≡ name_of_word word) }
 {
     match word {
         QuestionWord::Tables(verb) => Ok(Asked::Tables(asking_of(alloc, verb, matches)?)),
@@ -359,6 +429,9 @@ fn asked_of<'a>(
             file: file_in(matches),
             database: matches.get_str("db"),
         })),
+        QuestionWord::Impact => Ok(Asked::Impact(rehearsing_of(matches)?)),
+        QuestionWord::Assert => Ok(Asked::Assert(asserting_of(matches)?)),
+        QuestionWord::Unused => Ok(Asked::Unused(searched_of(matches)?)),
     }
 }
 
@@ -373,6 +446,7 @@ pub(crate) fn asked_in<'a>(
     matches: &ArgMatches<'a>,
 ) -> Result<Option<Asked<'a>>, Fault>
     ensures asked { IfOk result (λ asked. is_some asked ≡ asks_question (subcommand_name_of matches.now)) }
+    ensures word { IfOk result (λ asked. IfSome asked (λ asked. subcommand_name_of matches.now ≡ Some (name_of_asked asked))) }
     ensures limits { IfOk result (λ asked. IfSome asked IsAsked) }
     ensures fault { IfErr result (λ fault. (asks_question (subcommand_name_of matches.now) ≡ true) × IsWordsFault ask fault) }
 {

@@ -3,13 +3,14 @@ ghost use Rattle.std.specs.Prelude.{◌≡◌, IfOk, false};
 ghost use Rattle.clap.specs.Words.{app_of, rule_of};
 ghost use Rattle.prt_words.specs.CommandLine.{batch_line, check_line, command_line, database_rule, diff_line, dump_line, explain_line, file_rule, flag_rule, get_line, has_globals, import_line, needed_rule, number_rule, option_rule, place_line, question_line, replay_line, serve_line, show_line, tables_line, with_questions, words_rule};
 
+use crate::analysis_lines::with_analyses;
 use crate::reach_lines::{follow_line, wait_line, with_reach};
 use crate::version::VERSION;
 use clap::{Arg, ArgAction, Command};
 use std::alloc::{AllocError, Global};
 
 /// Makes the operand that names a file.
-fn file_operand<'a>(alloc: Global, help: &'a str) -> Arg<'a>
+pub(crate) fn file_operand<'a>(alloc: Global, help: &'a str) -> Arg<'a>
     ensures rule { rule_of result ≡ file_rule }
     ensures own { result.global ≡ false }
 {
@@ -33,7 +34,7 @@ fn database_option<'a>(alloc: Global) -> Arg<'a>
     ensures own { result.global ≡ false }
 {
     Arg::new(alloc, "db").long("db").value_name("PATH").help(
-        "The database file, made where there is none; without it a new database in memory",
+        "The database file, created if it is missing; without it a new database in memory",
     )
 }
 
@@ -94,12 +95,9 @@ pub(crate) fn batch_line<'a>(alloc: Global) -> Result<Command<'a>, AllocError>
     let verbose = flag(
         alloc,
         "verbose",
-        "Tell of each refused line on standard error, also where that is no terminal",
+        "Report each refused line on standard error, even if that is no terminal",
     );
-    let file = file_operand(
-        alloc,
-        "The script; standard input where it is missing or `-`",
-    );
+    let file = file_operand(alloc, "The script; standard input if it is missing or `-`");
     Command::new(alloc, "batch")
         .about("Runs a script of route and rule commands over a database")
         .arg(force)?
@@ -114,13 +112,10 @@ fn check_line<'a>(alloc: Global) -> Result<Command<'a>, AllocError>
     ensures line { IfOk result (λ command. app_of command ≡ check_line) }
     ensures own { IfOk result (λ command. has_globals command ≡ false) }
 {
-    let file = file_operand(
-        alloc,
-        "The script; standard input where it is missing or `-`",
-    );
+    let file = file_operand(alloc, "The script; standard input if it is missing or `-`");
     Command::new(alloc, "check")
         .about(
-            "Reads a script, executes nothing, and says which lines would be refused as they stand",
+            "Reads a script without executing it, and lists the lines that would be refused as written",
         )
         .arg(file)
 }
@@ -132,10 +127,10 @@ fn replay_line<'a>(alloc: Global) -> Result<Command<'a>, AllocError>
 {
     let file = file_operand(
         alloc,
-        "The events, one a line; standard input where it is missing or `-`",
+        "The events, one a line; standard input if it is missing or `-`",
     );
     Command::new(alloc, "replay")
-        .about("Replays a list of events from a new database, and says what comes of each")
+        .about("Replays a list of events from a new database, and shows what each of them leads to")
         .arg(file)
 }
 
@@ -148,19 +143,19 @@ pub(crate) fn serve_line<'a>(alloc: Global) -> Result<Command<'a>, AllocError>
         alloc,
         "db",
         "PATH",
-        "The database file, made where there is none",
+        "The database file, created if it is missing",
     );
     let listen = needed_option(
         alloc,
         "listen",
         "ADDR:PORT",
-        "The address and the port to listen at; port 0 takes a free one",
+        "The address and port to listen on; port 0 takes a free one",
     );
     let feed = option(
         alloc,
         "feed",
         "ADDR:PORT",
-        "Where to send each change as it is made, after the tables; nowhere without it",
+        "The address and port of the feed, which sends the tables and then each change; none without it",
     );
     let workers = number_option(
         alloc,
@@ -174,14 +169,14 @@ pub(crate) fn serve_line<'a>(alloc: Global) -> Result<Command<'a>, AllocError>
         "sessions",
         "K",
         "0",
-        "End after this many connections, up to 1000000; 0 is without end",
+        "End after this many connections, up to 1000000; 0 means never",
     );
     let idle = number_option(
         alloc,
         "idle",
         "SECONDS",
         "0",
-        "End a session that sends nothing for so long, up to 1000000; 0 is no limit",
+        "End a session that sends nothing for so long, up to 1000000; 0 means never",
     );
     Command::new(alloc, "serve")
         .about("Serves sessions of route and rule commands over TCP")
@@ -194,7 +189,7 @@ pub(crate) fn serve_line<'a>(alloc: Global) -> Result<Command<'a>, AllocError>
 }
 
 /// Makes the operand that has the words of a question.
-fn words_operand<'a>(alloc: Global, value: &'a str, help: &'a str) -> Arg<'a>
+pub(crate) fn words_operand<'a>(alloc: Global, value: &'a str, help: &'a str) -> Arg<'a>
     ensures rule { rule_of result ≡ words_rule }
     ensures own { result.global ≡ false }
 {
@@ -205,7 +200,11 @@ fn words_operand<'a>(alloc: Global, value: &'a str, help: &'a str) -> Arg<'a>
 }
 
 /// Says which words name the tables that are asked.
-fn place_line<'a>(alloc: Global, name: &'a str, about: &'a str) -> Result<Command<'a>, AllocError>
+pub(crate) fn place_line<'a>(
+    alloc: Global,
+    name: &'a str,
+    about: &'a str,
+) -> Result<Command<'a>, AllocError>
     ensures line { IfOk result (λ command. app_of command ≡ place_line name.entry.now) }
     ensures own { IfOk result (λ command. has_globals command ≡ false) }
 {
@@ -213,13 +212,13 @@ fn place_line<'a>(alloc: Global, name: &'a str, about: &'a str) -> Result<Comman
         alloc,
         "db",
         "PATH",
-        "The database file, which has to be there; no rule and no route of it changes",
+        "The database file, which must exist; none of its rules and routes changes",
     );
     let server = option(
         alloc,
         "server",
         "ADDR:PORT",
-        "The feed of a server that has the database",
+        "The address and port of a server's feed",
     );
     Command::new(alloc, name)
         .about(about)
@@ -232,11 +231,15 @@ fn tables_line<'a>(alloc: Global, name: &'a str, about: &'a str) -> Result<Comma
     ensures line { IfOk result (λ command. app_of command ≡ tables_line name.entry.now) }
     ensures own { IfOk result (λ command. has_globals command ≡ false) }
 {
-    let json = flag(alloc, "json", "Answer in JSON, in the names of `ip -j`");
+    let json = flag(
+        alloc,
+        "json",
+        "Answer in JSON, with the field names of `ip -j`",
+    );
     let names = flag(
         alloc,
         "names",
-        "Call tables by their names in iproute2's `rt_tables`",
+        "Print tables by their names in iproute2's `rt_tables`",
     );
     let place = place_line(alloc, name, about)?;
     place.arg(json)?.arg(names)
@@ -266,7 +269,7 @@ pub(crate) fn get_line<'a>(alloc: Global) -> Result<Command<'a>, AllocError>
     question_line(
         alloc,
         "get",
-        "Says which route a packet gets",
+        "Shows which route a packet gets",
         "ADDRESS",
         "The destination, and after it `from`, `iif` and `mark` with their values, as after `route get`",
     )
@@ -282,7 +285,7 @@ pub(crate) fn show_line<'a>(alloc: Global) -> Result<Command<'a>, AllocError>
         "show",
         "Lists routes or rules",
         "OBJECT",
-        "`rule`, or `route` and the words that may follow `route show`; the routes of table main where it is missing",
+        "`rule`, or `route` and the words that may follow `route show`; the routes of table main if it is missing",
     )
 }
 
@@ -294,9 +297,9 @@ pub(crate) fn explain_line<'a>(alloc: Global) -> Result<Command<'a>, AllocError>
     question_line(
         alloc,
         "explain",
-        "Says which rules a packet meets, and why it gets its route",
+        "Shows which rules a packet meets, and explains why it gets its route",
         "ADDRESS",
-        "The destination, and after it `from`, `iif` and `mark` with their values, as after `route get`; without --db and --server a script before it",
+        "The destination, and after it `from`, `iif` and `mark` with their values, as after `route get`; without --db and --server a script before it makes the tables",
     )
 }
 
@@ -308,12 +311,12 @@ pub(crate) fn dump_line<'a>(alloc: Global) -> Result<Command<'a>, AllocError>
     let replace = flag(
         alloc,
         "replace",
-        "Print commands that put them in the place of what is there; not with --json or --names",
+        "Print commands that replace existing routes, without the kernel's own routes; not with --json or --names",
     );
     let tables = tables_line(
         alloc,
         "dump",
-        "Prints commands that make the rules and routes of a database anew",
+        "Prints commands that recreate the rules and routes of a database",
     )?;
     tables.arg(replace)
 }
@@ -325,7 +328,7 @@ pub(crate) fn listing_operand<'a>(alloc: Global) -> Arg<'a>
 {
     file_operand(
         alloc,
-        "What `ip -4 route show table all` and `ip -4 rule` print, or these with `-j`; standard input where it is missing or `-`",
+        "What `ip -4 route show table all` and `ip -4 rule` print, or these with `-j`; standard input if it is missing or `-`",
     )
 }
 
@@ -337,15 +340,20 @@ pub(crate) fn diff_line<'a>(alloc: Global) -> Result<Command<'a>, AllocError>
     let check = flag(
         alloc,
         "check",
-        "Print nothing; the status is 1 where anything differs",
+        "Print nothing; the status is 1 if anything differs",
+    );
+    let impact = flag(
+        alloc,
+        "impact",
+        "Show first, as comments, which packets the lines send another way; not with --check",
     );
     let file = listing_operand(alloc);
     let place = place_line(
         alloc,
         "diff",
-        "Prints the lines for `ip -batch` that bring the kernel to a database, as far as they may reach",
+        "Prints the lines for `ip -batch` that bring the kernel to a database, as far as the options allow",
     )?;
-    with_reach(alloc, place)?.arg(check)?.arg(file)
+    with_reach(alloc, place)?.arg(check)?.arg(impact)?.arg(file)
 }
 
 /// Says which words may follow `import`.
@@ -357,7 +365,7 @@ pub(crate) fn import_line<'a>(alloc: Global) -> Result<Command<'a>, AllocError>
         alloc,
         "db",
         "PATH",
-        "Run the script over this database file in place of printing it",
+        "Run the script over this database file instead of printing it",
     );
     let file = listing_operand(alloc);
     Command::new(alloc, "import")
@@ -407,5 +415,6 @@ pub(crate) fn command_line<'a>(alloc: Global) -> Result<Command<'a>, AllocError>
         .subcommand(check)?
         .subcommand(replay)?
         .subcommand(serve)?;
-    with_questions(alloc, command)
+    let asking = with_questions(alloc, command)?;
+    with_analyses(alloc, asking)
 }

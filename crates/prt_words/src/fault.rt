@@ -6,6 +6,7 @@ ghost use Rattle.prt_words.specs.Faults.{FaultOf, IsWordsFault, fault_status};
 ghost use Rattle.prt_words.specs.Invocation.{ask, serve, usage_error};
 ghost use Rattle.prt_words.specs.declared.fault.Fault.TheVariants.{Opening};
 
+use crate::analysis_lines::{assert_line, impact_line, unused_line};
 use crate::asking::{QuestionWord, Verb};
 use crate::command_line::{
     batch_line, command_line, diff_line, dump_line, explain_line, get_line, import_line,
@@ -162,6 +163,9 @@ fn asking_line<'a>(
         QuestionWord::Follow => Ok(("prt follow", follow_line(alloc)?)),
         QuestionWord::Wait => Ok(("prt wait", wait_line(alloc)?)),
         QuestionWord::Import => Ok(("prt import", import_line(alloc)?)),
+        QuestionWord::Impact => Ok(("prt impact", impact_line(alloc)?)),
+        QuestionWord::Assert => Ok(("prt assert", assert_line(alloc)?)),
+        QuestionWord::Unused => Ok(("prt unused", unused_line(alloc)?)),
     }
 }
 

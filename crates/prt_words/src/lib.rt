@@ -1,6 +1,8 @@
 //! The words of the program `prt`: what they ask for, or why it runs nothing.
 #![tactic(auto)]
 
+mod analysis;
+mod analysis_lines;
 mod asking;
 mod command_line;
 mod fault;
@@ -11,6 +13,7 @@ mod serving;
 mod task;
 mod version;
 
+pub use analysis::{Asserting, Exactness, Rehearsing};
 pub use asking::{Asked, Asking, Diffing, Form, Importing, Labels, Shown, Source, Verb};
 pub use fault::{DONE, FAULT, Fault, report, words_fault};
 pub use following::{Following, Waiting};

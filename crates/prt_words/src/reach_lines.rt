@@ -7,7 +7,7 @@ use crate::command_line::{flag, listing_operand, needed_option, number_option, o
 use clap::{Arg, ArgAction, Command};
 use std::alloc::{AllocError, Global};
 
-/// Makes an option that may be given often, each time with a value.
+/// Makes an option that may be repeated, each time with a value.
 fn repeated_option<'a>(alloc: Global, name: &'a str, value: &'a str, help: &'a str) -> Arg<'a>
     ensures rule { rule_of result ≡ repeated_rule name.entry.now }
     ensures own { result.global ≡ false }
@@ -29,19 +29,19 @@ pub(crate) fn with_reach<'a>(alloc: Global, command: Command<'a>) -> Result<Comm
         alloc,
         "table",
         "T",
-        "Compare and change what is of this table, or of those from the first to the last one as `T-T`; may be given often",
+        "Compare and change the routes of this table, or of the tables from the first to the last one as `T-T`; may be repeated",
     );
     let protocol = repeated_option(
         alloc,
         "proto",
         "P",
-        "Compare and change what is of this protocol; may be given often",
+        "Compare and change the routes of this protocol; may be repeated",
     );
     let priority = repeated_option(
         alloc,
         "priority",
         "P",
-        "Compare and change rules of this priority, or of those from the first to the last one as `P-P`; may be given often",
+        "Compare and change the rules of this priority, or of the priorities from the first to the last one as `P-P`; may be repeated",
     );
     command.arg(all)?.arg(table)?.arg(protocol)?.arg(priority)
 }
@@ -51,7 +51,12 @@ fn server_line<'a>(alloc: Global, name: &'a str, about: &'a str) -> Result<Comma
     ensures line { IfOk result (λ command. app_of command ≡ server_line name.entry.now) }
     ensures own { IfOk result (λ command. has_globals command ≡ false) }
 {
-    let server = needed_option(alloc, "server", "ADDR:PORT", "The feed of the server");
+    let server = needed_option(
+        alloc,
+        "server",
+        "ADDR:PORT",
+        "The address and port of the server's feed",
+    );
     Command::new(alloc, name).about(about).arg(server)
 }
 
@@ -60,7 +65,7 @@ pub(crate) fn follow_line<'a>(alloc: Global) -> Result<Command<'a>, AllocError>
     ensures line { IfOk result (λ command. app_of command ≡ follow_line) }
     ensures own { IfOk result (λ command. has_globals command ≡ false) }
 {
-    let once = flag(alloc, "once", "End once what differs now is printed");
+    let once = flag(alloc, "once", "End after the lines for what differs now");
     let file = listing_operand(alloc);
     let server = server_line(
         alloc,
@@ -80,8 +85,8 @@ pub(crate) fn wait_line<'a>(alloc: Global) -> Result<Command<'a>, AllocError>
         "seconds",
         "S",
         "30",
-        "For how many seconds to wait at most, up to 1000000",
+        "How many seconds to wait at most, up to 1000000",
     );
-    let server = server_line(alloc, "wait", "Waits until a server answers at its feed")?;
+    let server = server_line(alloc, "wait", "Waits until a server answers")?;
     server.arg(seconds)
 }

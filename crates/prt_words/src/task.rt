@@ -1,7 +1,7 @@
 //! What the words of the program ask for.
 ghost use Rattle.std.specs.Prelude.{◌≡◌, IfErr, IfOk, None, Some, codes, false, option_and_then, option_map, true};
 ghost use Rattle.clap.specs.Words.{first_of, found_of, one_of, rows_of, subcommand_rows_of};
-ghost use Rattle.prt_words.specs.CommandLine.{IsConflict, IsModeBy, IsTaskOf, IsWithinLimits, invocation_of};
+ghost use Rattle.prt_words.specs.CommandLine.{IsConflict, IsModeBy, IsQuestionOf, IsTaskOf, IsWithinLimits, invocation_of};
 ghost use Rattle.prt_words.specs.Faults.{IsWordsFault};
 ghost use Rattle.prt_words.specs.Invocation.{arguments, file_of, invocation, usage_error};
 
@@ -159,6 +159,7 @@ fn task_of<'a>(alloc: Global, matches: &ArgMatches<'a>) -> Result<Task<'a>, Faul
 /// `Words` where they ask for help, for the version or for nothing that there is, where a value of `serve` or of a question is none that it may have, or where a script is to go on and to be executed together; `Opening` with `NoMemory` where memory is refused.
 pub fn read_words<'a>(alloc: Global, words: &'a [String]) -> Result<Task<'a>, Fault>
     ensures task { IfOk result (λ task. invocation (arguments words.entry.now) ≡ invocation_of task) }
+    ensures question { IfOk result (IsQuestionOf (arguments words.entry.now)) }
     ensures limits { IfOk result IsWithinLimits }
     ensures fault { IfErr result (IsWordsFault (invocation (arguments words.entry.now))) }
 {

@@ -1,13 +1,14 @@
-use Rattle.std.proofs.Common.{rules, ◌∙◌, ℕ, is_some, ap, subst, sym, map, List, true≢false}
+use Rattle.std.proofs.Common.{rules, ◌≡◌, ◌∙◌, ℕ, Some, is_some, ap, subst, sym, map, List, true≢false}
 use Rattle.std.proofs.lemmas.Result.{IfErr-weaker, IfOk-weaker, err_from_is_err_and}
-use Rattle.std.specs.Prelude.{string_bytes}
+use Rattle.std.specs.Prelude.{IfSome, string_bytes}
 use Rattle.clap.specs.Kinds.{HasKind}
-use Rattle.clap.specs.Words.{App, fault_of, is_simple, is_simple_and_free, subcommand_of}
+use Rattle.clap.specs.Words.{App, fault_of, is_simple, is_simple_and_free, subcommand_name_of, subcommand_of}
+use Rattle.prt_words.specs.Asking.{name_of_asked}
 use Rattle.prt_words.specs.CommandLine.{command_line}
 use Rattle.prt_words.specs.Invocation.{invocation, arguments}
 use Rattle.prt_words.proofs.WordClasses.{simple_line, free_line}
 use Rattle.prt_words.proofs.ParsedWords.{words_agree}
-use Rattle.prt_words.proofs.WordsRead.{asked_is, conflict_fault, conflicting_is, other_is, served_is, words_fault}
+use Rattle.prt_words.proofs.WordsRead.{asked_is, conflict_fault, conflicting_is, no_question_of, other_is, question_is, served_is, words_fault}
 use Rattle.prt_words.proofs.task.read_words.Goals as goal
 
 pub returns-in_err-matches-clause-fault : goal.returns-in_err-matches-clause-fault
@@ -52,6 +53,20 @@ returns-in-Some-2-clause-task c =
     let found = (c.in_ok-matches.ensures.matches (ap is_simple line ∙ simple_line)).1 ∙ ap (λ (a : App). subcommand_of a texts) line in
     let none = sym (ap (λ (a : App). fault_of a texts) line) ∙ c.in_ok-matches.ensures.kinds (ap is_simple_and_free line ∙ free_line) in
     asked_is texts c.in_ok-matches.matches found none (sym c.in_ok-asked-in-None.ensures.asked ∙ ap is_some c.in-Some-2.is)
+
+pub returns-in-Some-2-clause-question : goal.returns-in-Some-2-clause-question
+returns-in-Some-2-clause-question c =
+    let texts : List (List ℕ) = map string_bytes c.args.words.now in
+    let line = c.in_ok-command_line.ensures in
+    let found = (c.in_ok-matches.ensures.matches (ap is_simple line ∙ simple_line)).1 ∙ ap (λ (a : App). subcommand_of a texts) line in
+    let none = sym (ap (λ (a : App). fault_of a texts) line) ∙ c.in_ok-matches.ensures.kinds (ap is_simple_and_free line ∙ free_line) in
+    let asks = sym c.in_ok-asked-in-None.ensures.asked ∙ ap is_some c.in-Some-2.is in
+    let named = subst (λ asked. IfSome asked (λ asked. subcommand_name_of c.in_ok-matches.matches ≡ Some (name_of_asked asked))) c.in-Some-2.is c.in_ok-asked-in-None.ensures.word in
+    question_is texts c.in_ok-matches.matches (name_of_asked c.in-Some-2.asked) found none asks named
+
+pub returns-clause-question : goal.returns-clause-question
+returns-clause-question c =
+    IfOk-weaker c.task_of.result _ _ (λ task is. no_question_of (arguments c.args.words.now) _ task is) c.task_of.ensures.task
 
 pub returns-clause-task : goal.returns-clause-task
 returns-clause-task c =

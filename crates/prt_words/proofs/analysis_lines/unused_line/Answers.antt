@@ -1,0 +1,13 @@
+use Rattle.std.proofs.Common.{◌∙◌, ◌||◌, Bool, ap₂}
+use Rattle.std.proofs.lemmas.Result.{IfOk-weaker}
+use Rattle.clap.specs.Words.{with_rule}
+use Rattle.prt_words.proofs.analysis_lines.unused_line.Goals as goal
+
+abbrev either : Bool → Bool → Bool
+either a b = a || b
+
+pub returns : goal.returns
+returns c = record {
+  line = IfOk-weaker c.arg.result _ _ (λ command added. added.shape c.file_operand-file.ensures.own ∙ ap₂ with_rule c.in_ok-place.ensures.line c.file_operand-file.ensures.rule) c.arg.ensures;
+  own = IfOk-weaker c.arg.result _ _ (λ command added. added.globals ∙ ap₂ either c.in_ok-place.ensures.own c.file_operand-file.ensures.own) c.arg.ensures;
+}
