@@ -19,10 +19,11 @@ use Rattle.prt_words.specs.declared.asking.Asked.{Asked}
 use Rattle.prt_words.specs.declared.serving.Serving.{Serving}
 use Rattle.prt_words.specs.declared.task.Mode.{Mode}
 use Rattle.prt_questions.specs.Closing.{LeavesNoneOpen}
-use Rattle.prt_questions.specs.Asking.{IsDone, IsDoneAtMost}
+use Rattle.prt_questions.specs.Done.{IsDone, IsDoneAtMost, IsFound}
 use Rattle.prt_questions.specs.Sessions.{RunsOverMachine}
 use Rattle.prt_host.specs.Serving.{HasServed, IsServed}
 use Rattle.prt_questions.specs.declared.asking.TheConstants.{REFUSED}
+use Rattle.prt_questions.specs.declared.asserting.TheConstants.{UNREADABLE}
 
 module _ {M S : Type 0} (g : Ghosts S) (opens : M → M → List ℕ → Held S → Type 0) (refuses : M → M → List ℕ → Type 0) (closes : M → M → Held S → Type 0) (old new : M) where
   -- The database at a path was opened, served and closed; or it was refused, and no other was touched. This is the exit status.
@@ -35,8 +36,9 @@ module _ {M S : Type 0} (g : Ghosts S) (opens : M → M → List ℕ → Held S 
   -- A question was answered, in part at most, or to its end. This is the exit status.
   pub record Asks (writer0 writer : Option (List ℕ)) (status : ℕ) : Type 0 where
     pub question : Asked
-    pub status_is : (status ≡ DONE) ⊎ ((status ≡ REFUSED) ⊎ (status ≡ FAULT))
+    pub status_is : (status ≡ DONE) ⊎ ((status ≡ REFUSED) ⊎ ((status ≡ UNREADABLE) ⊎ (status ≡ FAULT)))
     pub whole : status ≡ DONE → IsDone g opens refuses closes old new writer0 writer question
+    pub found : status ≡ REFUSED → IsFound g opens refuses closes old new writer0 writer question
     pub at_most : IsDoneAtMost g opens refuses closes old new writer0 writer question
 
   -- What becomes of a run, with its exit status. A script, a check or a replay was run, and no database was touched where none was asked for. Or nothing was run. Or sessions were served, or a question was answered, as the words ask.

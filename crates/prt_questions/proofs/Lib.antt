@@ -1,3 +1,6 @@
 pub mod Alone
 mod Asked
+mod Comments
 mod Followed
+mod ReadTables
+mod Rehearsals

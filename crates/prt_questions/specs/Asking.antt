@@ -1,5 +1,5 @@
 -- What comes of a question.
-use Rattle.std.specs.Prelude.{◌≡◌, ◌⊎◌, ℕ, Bool, true, false, List, [], ◌++◌, Ok, Option, Some, None, option_map}
+use Rattle.std.specs.Prelude.{◌≡◌, ◌⊎◌, ℕ, Bool, true, false, List, [], ◌++◌, Ok, Option, Some, None, codes, flat_map, option_map}
 use Rattle.std.specs.List.{list_all}
 use Rattle.std.specs.Io.KnownBytes.{Appends}
 use Rattle.sqlite.specs.Held.{Held}
@@ -15,7 +15,10 @@ use Rattle.prt_command.specs.declared.request.Command.{Command}
 use Rattle.prt_command.specs.declared.request.Query.TheVariants.{Get}
 use Rattle.prt_diff.specs.Text.{changes_text}
 use Rattle.prt_diff.specs.declared.fence.Fence.{Fence}
-use Rattle.prt_import.specs.Accepted.{IsExecuted}
+use Rattle.prt_impact.specs.Groups.{AreGroups}
+use Rattle.prt_impact.specs.Text.{group_text}
+use Rattle.prt_impact.specs.declared.group.Group.{Group}
+use Rattle.prt_import.specs.Accepted.{IsExecuted, IsExecutedOver}
 use Rattle.prt_import.specs.Imported.{IsImportOf}
 use Rattle.prt_import.specs.Naming.{with_names}
 use Rattle.prt_import.specs.TableNames.{KnownNames, TableNames, names_of}
@@ -26,21 +29,20 @@ use Rattle.prt_import.specs.declared.naming.Text.{Text}
 use Rattle.prt_import.specs.declared.naming.Text.TheVariants as forms
 use Rattle.prt_import.specs.declared.reason.Reason.{Reason}
 use Rattle.prt_import.specs.declared.reason.Reason.TheVariants.{Kernel}
+use Rattle.prt_partition.specs.declared.sameness.Sameness.TheVariants.{Outcomes}
 use Rattle.prt_program.specs.Program.{RunsText}
 use Rattle.prt_refusals.specs.declared.refusal.Refusal.{Refusal}
 use Rattle.prt_publisher.specs.Openings.{HasOpened}
 use Rattle.prt_replies.specs.Written.{Written}
 use Rattle.prt_version.specs.Accepted.{IsAccepted}
 use Rattle.prt_version.specs.State.{State}
-use Rattle.prt_words.specs.declared.asking.Asked.{Asked}
-use Rattle.prt_words.specs.declared.asking.Asked.TheVariants.{Tables, Diff, Follow, Import, Wait}
 use Rattle.prt_words.specs.declared.asking.Asking.{Asking}
 use Rattle.prt_words.specs.declared.asking.Form.{Form}
 use Rattle.prt_words.specs.declared.asking.Form.TheVariants.{Json, Lines as InLines}
 use Rattle.prt_words.specs.declared.asking.Labels.{Labels}
 use Rattle.prt_words.specs.declared.asking.Labels.TheVariants.{Names, Numbers}
 use Rattle.prt_words.specs.declared.asking.Shown.{Shown}
-use Rattle.prt_words.specs.declared.asking.Shown.TheVariants.{Lines, Status}
+use Rattle.prt_words.specs.declared.asking.Shown.TheVariants.{Impact, Lines, Status}
 use Rattle.prt_words.specs.declared.asking.Source.{Source}
 use Rattle.prt_words.specs.declared.asking.Source.TheVariants.{Database, Server, Script}
 use Rattle.prt_words.specs.declared.fault.TheConstants.{DONE}
@@ -107,6 +109,27 @@ IsKept accepted listing = AreKernels listing.imported.left.items × AreKernels a
 -- a listing that is kept
 abbrev pub IsWholeListing : Accepted → Type 0
 IsWholeListing accepted = (listing : IsListing accepted) × IsKept accepted listing
+
+-- ---- the packets that a difference sends another way
+
+-- a line of a script that is a comment
+abbrev pub comment_of : Group → List ℕ
+comment_of group = codes "# " ++ group_text group ++ codes "\n"
+
+abbrev pub comments_of : List Group → List ℕ
+comments_of groups = flat_map comment_of groups
+
+-- Lines that are executed over a state, after comments that say which packets they send another way.
+pub record IsWithImpactOf (found : State) (lines text : List ℕ) : Type 0 where
+  pub made : Accepted
+  pub executed : IsExecutedOver found made lines
+  pub groups : List Group
+  pub are : AreGroups Outcomes found made.version groups
+  pub is : text ≡ comments_of groups ++ lines
+
+-- those that bring one state to another within a fence
+abbrev pub IsWithImpact : Fence → (found wanted : State) → List ℕ → Type 0
+IsWithImpact fence found wanted text = IsWithImpactOf found (changes_text fence found wanted) text
 
 -- ---- a server that is followed
 
@@ -187,6 +210,7 @@ module _ {M S : Type 0} (g : Ghosts S) (opens : M → M → List ℕ → Held S 
   -- what differs from the state of a listing was written, or nothing differs
   abbrev pub HasCompared : Reach → Shown → Source → Type 0
   HasCompared reach Lines source = (accepted : Accepted) × IsWholeListing accepted × (fence : Fence) × IsFenceOf reach fence × IsAnswered source (changes_text fence accepted.version)
+  HasCompared reach Impact source = (accepted : Accepted) × IsWholeListing accepted × (fence : Fence) × IsFenceOf reach fence × IsAskedOf g opens refuses closes old new source (λ state. (text : List ℕ) × IsWithImpact fence accepted.version state text × Appends writer0 writer text)
   HasCompared reach Status source = (accepted : Accepted) × IsWholeListing accepted × (fence : Fence) × IsFenceOf reach fence × (writer ≡ writer0) × IsAskedOf g opens refuses closes old new source (λ state. changes_text fence accepted.version state ≡ [])
 
   -- In any case: there was no listing, or a part at most was written of what differs from it. A status alone writes nothing.
@@ -194,6 +218,9 @@ module _ {M S : Type 0} (g : Ghosts S) (opens : M → M → List ℕ → Held S 
   HasComparedAtMost reach Lines source =
       (IsNotAsked g opens refuses closes old new source × (writer ≡ writer0))
       ⊎ ((accepted : Accepted) × IsListing accepted × (fence : Fence) × IsFenceOf reach fence × IsAnsweredAtMost source (changes_text fence accepted.version))
+  HasComparedAtMost reach Impact source =
+      (writer ≡ writer0) × (IsNotAsked g opens refuses closes old new source ⊎ IsAskedOf g opens refuses closes old new source (λ state. Unit {0}))
+      ⊎ ((accepted : Accepted) × IsListing accepted × (fence : Fence) × IsFenceOf reach fence × IsAskedOf g opens refuses closes old new source (λ state. (text : List ℕ) × IsWithImpact fence accepted.version state text × IsCutOff text writer0 writer))
   HasComparedAtMost reach Status source = (writer ≡ writer0) × (IsNotAsked g opens refuses closes old new source ⊎ IsAskedOf g opens refuses closes old new source (λ state. Unit {0}))
 
   -- the script of a listing was written, or run over the database at a path, with this status
@@ -214,19 +241,3 @@ module _ {M S : Type 0} (g : Ghosts S) (opens : M → M → List ℕ → Held S 
   -- in any case: there was no listing, and nothing was done, or it was imported in part
   abbrev pub HasImportedAtMost : Option Word → Type 0
   HasImportedAtMost database = ((new ≡ old) × (writer ≡ writer0)) ⊎ ((accepted : Accepted) × IsListing accepted × IsImportedInPart database accepted)
-
-  -- what was asked is done, where the exit status is 0
-  abbrev pub IsDone : Asked → Type 0
-  IsDone (Tables asking) = HasAnswered asking
-  IsDone (Diff diffing) = HasCompared diffing.reach diffing.shown diffing.source
-  IsDone (Follow following) = (new ≡ old) × HasFollowed writer0 writer following.reach
-  IsDone (Wait waiting) = (new ≡ old) × (writer ≡ writer0)
-  IsDone (Import importing) = HasImported (option_map (λ path. path.now) importing.database)
-
-  -- and what is left in any case
-  abbrev pub IsDoneAtMost : Asked → Type 0
-  IsDoneAtMost (Tables asking) = HasAnsweredAtMost asking
-  IsDoneAtMost (Diff diffing) = HasComparedAtMost diffing.reach diffing.shown diffing.source
-  IsDoneAtMost (Follow following) = (new ≡ old) × HasFollowedAtMost writer0 writer following.reach
-  IsDoneAtMost (Wait waiting) = (new ≡ old) × (writer ≡ writer0)
-  IsDoneAtMost (Import importing) = HasImportedAtMost (option_map (λ path. path.now) importing.database)

@@ -253,7 +253,7 @@ fn session_of(source: &Source<'_>, question: &Question<'_>) -> Option<SocketAddr
 /// # Errors
 ///
 /// The exit status, where memory is refused.
-fn run_over_new<W: Write, E: Write>(
+pub(crate) fn run_over_new<W: Write, E: Write>(
     alloc: Global,
     script: &[u8],
     output: &mut W,

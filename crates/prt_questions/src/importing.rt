@@ -8,6 +8,7 @@ ghost use Rattle.prt_words.specs.declared.asking.Shown.TheVariants as shows;
 use crate::asking::{REFUSED, ask_source, write_text};
 use crate::databases::DatabaseFiles;
 use crate::fencing::fence_beside;
+use crate::impact_of_diff::diff_with_impact;
 use crate::inquiry::Inquiry;
 use crate::left::tell_left;
 use crate::machine::Machine;
@@ -230,8 +231,8 @@ fn compare<
     }
 }
 
-/// Prints the lines that bring what `ip` printed to the tables at a source, within a fence, and gives the exit status; or, if
-/// that alone is to be shown, whether anything differs.
+/// Prints the lines that bring what `ip` printed to the tables at a source, within a fence, and gives the exit status. Before
+/// them it may say which packets they send another way, as comments. Or it shows only whether anything differs.
 ///
 /// What stands in the place of a line that can't be kept is left alone. The status is 1 if anything differs of which the
 /// status alone is shown, if a line can't be kept, as of `import_listing`, and if a rule is left that should go. It is 3 as of
@@ -265,11 +266,12 @@ pub(crate) fn diff<
     let Ok(fence) = made else {
         return report_no_memory(output, errors);
     };
+    let comparison = Comparison {
+        fence: &fence,
+        found: &accepted.version,
+    };
     let inquiry = Inquiry {
-        question: Question::Diff(Comparison {
-            fence: &fence,
-            found: &accepted.version,
-        }),
+        question: Question::Diff(comparison),
         form: Form::Lines,
         labels: Labels::Numbers,
         names: &Names::new(alloc),
@@ -277,6 +279,9 @@ pub(crate) fn diff<
     let source = &diffing.source;
     let asked = match diffing.shown {
         Shown::Lines => ask_source(databases, alloc, source, &inquiry, input, output, errors),
+        Shown::Impact => {
+            diff_with_impact(databases, alloc, source, &comparison, input, output, errors)
+        }
         Shown::Status => compare(databases, alloc, source, &inquiry, input, errors),
     };
     if asked == DONE { left } else { asked }

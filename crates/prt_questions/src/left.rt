@@ -1,5 +1,5 @@
 //! What is told of lines that are left out.
-ghost use Rattle.std.specs.Prelude.{◌≡◌, ◌⊎◌};
+ghost use Rattle.std.specs.Prelude.{◌≡◌, ◌⊎◌, false};
 ghost use Rattle.std.specs.List.{list_all};
 ghost use Rattle.prt_questions.specs.Asking.{AreKernels, destination_of, is_kernels};
 
@@ -48,6 +48,7 @@ fn tell_others<E: Write>(alloc: Global, left: &[Left], errors: &mut E) {
 pub(crate) fn tell_left<E: Write>(alloc: Global, left: &[Left], errors: &mut E) -> u8
     ensures status { (result ≡ DONE) ⊎ (result ≡ REFUSED) }
     ensures kernels { result ≡ DONE → AreKernels left.now }
+    ensures others { result ≡ REFUSED → list_all is_kernels left.now ≡ false }
 {
     tell_others(alloc, left, errors);
     if are_kernels(left) { DONE } else { REFUSED }

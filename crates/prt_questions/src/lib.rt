@@ -2,10 +2,13 @@
 #![tactic(auto)]
 
 mod asking;
+mod asserting;
 mod cause;
 mod databases;
 mod fencing;
 mod following;
+mod impact;
+mod impact_of_diff;
 mod importing;
 mod inquiry;
 mod left;
@@ -14,9 +17,12 @@ mod opening;
 mod questions;
 mod reading;
 mod remote;
+mod searching;
+mod tables;
 mod telling;
 
 pub use asking::REFUSED;
+pub use asserting::UNREADABLE;
 pub use cause::Cause;
 pub use databases::DatabaseFiles;
 pub use machine::{Machine, Wanted};

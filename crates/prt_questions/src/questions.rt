@@ -1,12 +1,15 @@
 //! What is asked from outside a session.
 ghost use Rattle.std.specs.Prelude.{◌≡◌, ◌⊎◌};
-ghost use Rattle.prt_questions.specs.Asking.{IsDone, IsDoneAtMost};
+ghost use Rattle.prt_questions.specs.Done.{IsDone, IsDoneAtMost, IsFound};
 
 use crate::asking::{REFUSED, ask};
+use crate::asserting::{UNREADABLE, assert_claims};
 use crate::databases::DatabaseFiles;
 use crate::following::{follow_server, wait_for};
+use crate::impact::rehearse;
 use crate::importing::{diff, import_listing};
 use crate::machine::Machine;
+use crate::searching::search;
 use prt_words::{Asked, DONE, FAULT};
 use sqlite::{Alter, Connection};
 use std::alloc::{Alloc, Global};
@@ -16,7 +19,8 @@ use std::net::Net;
 use std::rt::Clock;
 use std::sync::Wait;
 
-/// Answers what is asked, and gives the exit status: that of `ask`, `diff`, `follow_server`, `wait_for` or `import_listing`.
+/// Answers what is asked, and gives the exit status: that of `ask`, `diff`, `follow_server`, `wait_for`, `import_listing`,
+/// `rehearse`, `assert_claims` or `search`.
 pub fn answer_question<
     S: Alter + Drop,
     M: Machine<Connection<S>> + Drop,
@@ -33,8 +37,9 @@ pub fn answer_question<
     output: &mut W,
     errors: &mut E,
 ) -> u8
-    ensures status { (result ≡ DONE) ⊎ ((result ≡ REFUSED) ⊎ (result ≡ FAULT)) }
+    ensures status { (result ≡ DONE) ⊎ ((result ≡ REFUSED) ⊎ ((result ≡ UNREADABLE) ⊎ (result ≡ FAULT))) }
     ensures whole { result ≡ DONE → IsDone S.Store M.opens M.refuses M.closes databases.old.machine databases.new.machine (W.contents output.old) (W.contents output.new) asked.now }
+    ensures found { result ≡ REFUSED → IsFound S.Store M.opens M.refuses M.closes databases.old.machine databases.new.machine (W.contents output.old) (W.contents output.new) asked.now }
     ensures at_most { IsDoneAtMost S.Store M.opens M.refuses M.closes databases.old.machine databases.new.machine (W.contents output.old) (W.contents output.new) asked.now }
 {
     match asked {
@@ -48,5 +53,12 @@ pub fn answer_question<
         Asked::Import(importing) => {
             import_listing(databases, alloc, importing, input, output, errors)
         }
+        Asked::Impact(rehearsing) => {
+            rehearse(databases, alloc, rehearsing, input, output, errors)
+        }
+        Asked::Assert(asserting) => {
+            assert_claims(databases, alloc, asserting, input, output, errors)
+        }
+        Asked::Unused(source) => search(databases, alloc, source, input, output, errors),
     }
 }

@@ -31,5 +31,5 @@ returns-in-Ask g c =
     let writer = contents c.answer_question-status.new.output.stream in
     let asked = c.answer_question-status in
     let same : mid ≡ old = same_at c.args.databases.now c.program-next.new.databases (λ d. d.machine) (said.unopened (ap database_of said.ask.0)) in
-    let ended : Asks g.S.Store g.M.Machine.opens g.M.Machine.refuses g.M.Machine.closes mid new writer_mid writer asked.result = record { question = c.in-Ask.asked; status_is = asked.ensures.status; whole = asked.ensures.whole; at_most = asked.ensures.at_most } in
+    let ended : Asks g.S.Store g.M.Machine.opens g.M.Machine.refuses g.M.Machine.closes mid new writer_mid writer asked.result = record { question = c.in-Ask.asked; status_is = asked.ensures.status; whole = asked.ensures.whole; found = asked.ensures.found; at_most = asked.ensures.at_most } in
     record { outcome = inr (inr (inr (said.ask.0, asks g.S.Store g.M.Machine.opens g.M.Machine.refuses g.M.Machine.closes mid old new same writer_mid writer0 writer said.ask.1 asked.result ended))) }

@@ -1,0 +1,44 @@
+-- What holds of tables that were read.
+use Rattle.std.proofs.Common.{◌≡◌, ◌⊎◌, Bor, IfOk, inl, inr, ℕ, List, Option, Result, Ok, Err, subst}
+use Rattle.sqlite.specs.Held.{Held}
+use Rattle.sqlite.specs.Store.{Ghosts}
+use Rattle.prt_diff.specs.declared.fence.Fence.{Fence}
+use Rattle.prt_import.specs.Accepted.{IsExecuted}
+use Rattle.prt_import.specs.declared.accepted.Accepted.{Accepted}
+use Rattle.prt_version.specs.State.{State}
+use Rattle.prt_words.specs.declared.asking.Source.{Source}
+use Rattle.prt_words.specs.declared.reach.Reach.{Reach}
+use Rattle.prt_words.specs.declared.asking.Source.TheVariants.{Script}
+use Rattle.prt_questions.specs.Analyses.{HaveTables, IsNotRead}
+use Rattle.prt_questions.specs.Asking.{IsAskedOf, IsListing}
+use Rattle.prt_questions.specs.Fencing.{IsFenceOf}
+use Rattle.prt_questions.specs.declared.tables.Tables.{Tables}
+use Rattle.prt_questions.proofs.Asked.{asked_more}
+
+module _ {M S : Type 0} (g : Ghosts S) (opens : M → M → List ℕ → Held S → Type 0) (refuses : M → M → List ℕ → Type 0) (closes : M → M → Held S → Type 0) (old new : M) where
+  -- it holds of their source
+  pub of_tables : (source : Source) (tables : State) (P : State → Type 0) → HaveTables g opens refuses closes old new source tables → P tables → IsAskedOf g opens refuses closes old new source P
+  of_tables source tables P read holds = asked_more g opens refuses closes old new source (λ state. tables ≡ state) P (λ state is. subst P is holds) read
+
+  -- or they were read for nothing
+  pub read_in_vain : (source : Source) (tables : State) → HaveTables g opens refuses closes old new source tables → IsNotRead g opens refuses closes old new source
+  read_in_vain source tables read = inr (asked_more g opens refuses closes old new source (λ state. tables ≡ state) (λ state. Unit {0}) (λ state is. tt) read)
+
+  -- a script's tables touch no database
+  pub of_script_tables : {E : Type 0} (file : Option (Bor (List ℕ))) (result : Result Tables E) → new ≡ old
+      → IfOk result (λ tables. (made : Accepted) × (text : List ℕ) × IsExecuted made text × (tables.version ≡ made.version))
+      → IfOk result (λ tables. HaveTables g opens refuses closes old new (Script file) tables.version)
+  of_script_tables file (Ok tables) same made = (same, made.0, made.1, made.2, made.3)
+  of_script_tables file (Err e) same made = tt
+
+  -- what was written of tables that were read, if anything was
+  pub of_tables_at_most : (source : Source) (tables : State) (Unwritten : Type 0) (P : State → Type 0) → HaveTables g opens refuses closes old new source tables → Unwritten ⊎ P tables
+      → (Unwritten × IsNotRead g opens refuses closes old new source) ⊎ IsAskedOf g opens refuses closes old new source P
+  of_tables_at_most source tables Unwritten P read (inl same) = inl (same, read_in_vain source tables read)
+  of_tables_at_most source tables Unwritten P read (inr holds) = inr (of_tables source tables P read holds)
+
+-- a listing, and what was written of it or not
+pub compared_at_most : {U : Type 0} {reach : Reach} (accepted : Accepted) → IsListing accepted → (fence : Fence) → IsFenceOf reach fence → {B : Accepted → Fence → Type 0} → U ⊎ B accepted fence
+    → U ⊎ ((accepted : Accepted) × IsListing accepted × (fence : Fence) × IsFenceOf reach fence × B accepted fence)
+compared_at_most accepted listing fence is (inl same) = inl same
+compared_at_most accepted listing fence is (inr asked) = inr (accepted, listing, fence, is, asked)

@@ -1,0 +1,26 @@
+-- What a rehearsal shows.
+use Rattle.std.proofs.Common.{◌≡◌, ◌≢◌, ◌⊎◌, inl, inr, ℕ, List, [], Option}
+use Rattle.std.specs.Io.KnownBytes.{Appends}
+use Rattle.prt_impact.specs.Groups.{AreGroups}
+use Rattle.prt_impact.specs.declared.group.Group.{Group}
+use Rattle.prt_import.specs.Accepted.{IsExecutedOver}
+use Rattle.prt_import.specs.declared.accepted.Accepted.{Accepted}
+use Rattle.prt_version.specs.State.{State}
+use Rattle.prt_words.specs.declared.analysis.Rehearsing.{Rehearsing}
+use Rattle.prt_words.specs.declared.fault.TheConstants.{DONE}
+use Rattle.prt_questions.specs.Analyses.{IsRehearsed, IsRehearsedAtMost, impact_text, sameness_of}
+use Rattle.prt_questions.specs.Asking.{IsCutOff}
+use Rattle.prt_questions.specs.declared.asking.TheConstants.{REFUSED}
+
+-- lines were refused
+pub are_refused : (left : ℕ) → (left ≡ DONE) ⊎ (left ≡ REFUSED) → left ≢ DONE → left ≡ REFUSED
+are_refused left (inl is) other = absurd (other is)
+are_refused left (inr is) other = is
+
+module _ (writer0 writer : Option (List ℕ)) (rehearsing : Rehearsing) (state : State) (made : Accepted) (script : List ℕ) (executed : IsExecutedOver state made script) where
+  pub shows : (status : ℕ) (groups : List Group) → AreGroups (sameness_of rehearsing.exactness) state made.version groups → Appends writer0 writer (impact_text rehearsing.form groups) → (status ≡ DONE → groups ≡ []) → IsRehearsed writer0 writer rehearsing status state
+  shows status groups are appended none = inr (record { made = made; script = script; executed = executed; groups = groups; are = are }, appended, none)
+
+  pub shows_at_most : (writer ≡ writer0) ⊎ ((groups : List Group) × AreGroups (sameness_of rehearsing.exactness) state made.version groups × IsCutOff (impact_text rehearsing.form groups) writer0 writer) → IsRehearsedAtMost writer0 writer rehearsing state
+  shows_at_most (inl same) = inl same
+  shows_at_most (inr (groups, are, cut)) = inr (record { made = made; script = script; executed = executed; groups = groups; are = are }, cut)

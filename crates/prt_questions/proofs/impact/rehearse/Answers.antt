@@ -1,0 +1,18 @@
+use Rattle.std.proofs.Common.{inr, subst}
+use Rattle.prt_questions.specs.Analyses.{IsRehearsed, IsRehearsedAtMost}
+use Rattle.prt_questions.proofs.ReadTables.{of_tables}
+use Rattle.prt_questions.proofs.impact.rehearse.Goals as goal
+
+pub returns-clause-found : goal.returns-clause-found
+returns-clause-found g c = λ status.
+    let writer = g.W.Write.contents c.rehearse_over.new.output in
+    let writer0 = g.W.Write.contents c.args.output.now in
+    of_tables g.S.Store g.M.Machine.opens g.M.Machine.refuses g.M.Machine.closes c.args.databases.now.machine c.tables_at.new.databases.machine c.args.rehearsing.now.source c.in-Ok.tables.version (IsRehearsed writer0 writer c.args.rehearsing.now c.rehearse_over.result) c.in-Ok.ensures.read
+    (subst (λ first. IsRehearsed first writer c.args.rehearsing.now c.rehearse_over.result c.in-Ok.tables.version) c.in-Ok.ensures.unwritten (c.rehearse_over.ensures.found status))
+
+pub returns-clause-at_most : goal.returns-clause-at_most
+returns-clause-at_most g c =
+    let writer = g.W.Write.contents c.rehearse_over.new.output in
+    let writer0 = g.W.Write.contents c.args.output.now in
+    inr (of_tables g.S.Store g.M.Machine.opens g.M.Machine.refuses g.M.Machine.closes c.args.databases.now.machine c.tables_at.new.databases.machine c.args.rehearsing.now.source c.in-Ok.tables.version (IsRehearsedAtMost writer0 writer c.args.rehearsing.now) c.in-Ok.ensures.read
+    (subst (λ first. IsRehearsedAtMost first writer c.args.rehearsing.now c.in-Ok.tables.version) c.in-Ok.ensures.unwritten c.rehearse_over.ensures.at_most))

@@ -1,0 +1,15 @@
+use Rattle.std.proofs.Common.{◌++◌, ◌∙◌, ap}
+use Rattle.prt_questions.specs.Asking.{comments_of}
+use Rattle.prt_questions.proofs.impact_of_diff.with_impact.Goals as goal
+
+pub returns : goal.returns
+returns c = record {
+  made = c.in_ok-made.made;
+  executed = c.in_ok-made.ensures.ok;
+  groups = c.in_ok-groups.groups.items;
+  are = c.in_ok-groups.ensures.value;
+  is =
+      c.in_ok-extend_from_slice.ensures.items
+      ∙ ap (λ xs. xs ++ c.args.lines.now)
+      (c.in_ok-push_comments.ensures ∙ ap (λ xs. xs ++ comments_of c.deref.result.now) c.new-text.ensures.items ∙ ap (λ groups. comments_of groups) c.deref.ensures.value);
+}

@@ -1,0 +1,136 @@
+-- What comes of questions about all packets: what a script changes, which claims don't hold, and what no packet needs.
+use Rattle.std.specs.Prelude.{◌≡◌, ◌⊎◌, ℕ, List, [], ◌++◌, Bool, false, if◌then◌else◌, flat_map, Option}
+use Rattle.std.specs.List.{list_all}
+use Rattle.std.specs.Io.KnownBytes.{Appends}
+use Rattle.sqlite.specs.Held.{Held}
+use Rattle.sqlite.specs.Store.{Ghosts}
+use Rattle.prt_claims.specs.Checking.{IsChecked, breach_line}
+use Rattle.prt_claims.specs.declared.checking.Breach.{Breach}
+use Rattle.prt_claims.specs.declared.checking.Checked.{Checked}
+use Rattle.prt_diff.specs.Text.{changes_text}
+use Rattle.prt_diff.specs.declared.fence.Fence.{Fence}
+use Rattle.prt_impact.specs.Groups.{AreGroups}
+use Rattle.prt_impact.specs.Text.{groups_text}
+use Rattle.prt_impact.specs.GroupsJson.{groups_json}
+use Rattle.prt_impact.specs.declared.group.Group.{Group}
+use Rattle.prt_import.specs.Accepted.{IsExecutedOver}
+use Rattle.prt_import.specs.declared.accepted.Accepted.{Accepted}
+use Rattle.prt_explain.specs.Explanation.{explanation_text}
+use Rattle.prt_json.specs.Fields.{json_line}
+use Rattle.prt_partition.specs.declared.sameness.Sameness.{Sameness}
+use Rattle.prt_partition.specs.declared.sameness.Sameness.TheVariants.{Outcomes, Verdicts}
+use Rattle.prt_refusals.specs.declared.on_refusal.OnRefusal.TheVariants.{Stop}
+use Rattle.prt_unused.specs.Text.{unused_text}
+use Rattle.prt_unused.specs.Unused.{AreUnused}
+use Rattle.prt_unused.specs.declared.report.Unused.{Unused}
+use Rattle.prt_version.specs.State.{State}
+use Rattle.prt_words.specs.declared.analysis.Asserting.{Asserting}
+use Rattle.prt_words.specs.declared.analysis.Exactness.{Exactness}
+use Rattle.prt_words.specs.declared.analysis.Exactness.TheVariants as exactness
+use Rattle.prt_words.specs.declared.analysis.Rehearsing.{Rehearsing}
+use Rattle.prt_words.specs.declared.asking.Form.{Form}
+use Rattle.prt_words.specs.declared.asking.Form.TheVariants.{Json, Lines}
+use Rattle.prt_words.specs.declared.asking.Source.{Source}
+use Rattle.prt_words.specs.declared.fault.TheConstants.{DONE}
+use Rattle.prt_questions.specs.Asking.{IsAskedOf, IsCutOff, IsNotAsked, is_kernels}
+use Rattle.prt_questions.specs.declared.asking.TheConstants.{REFUSED}
+
+-- ---- a change
+
+abbrev pub sameness_of : Exactness → Sameness
+sameness_of exactness.Outcomes = Outcomes
+sameness_of exactness.Verdicts = Verdicts
+
+-- the groups of packets, a line each, or as JSON
+abbrev pub impact_text : Form → List Group → List ℕ
+impact_text Lines groups = groups_text groups
+impact_text Json groups = json_line (groups_json groups)
+
+-- a script was executed over a state, and these are the packets that go another way after it
+pub record Rehearsed (sameness : Sameness) (state : State) : Type 0 where
+  pub made : Accepted
+  pub script : List ℕ
+  pub executed : IsExecutedOver state made script
+  pub groups : List Group
+  pub are : AreGroups sameness state made.version groups
+
+-- a line of the script is refused, and nothing was compared
+pub record IsStopped (rehearsing : Rehearsing) (state : State) : Type 0 where
+  pub stops : rehearsing.on_refusal ≡ Stop
+  pub made : Accepted
+  pub script : List ℕ
+  pub executed : IsExecutedOver state made script
+  pub refused : list_all is_kernels made.left.items ≡ false
+
+-- ---- claims
+
+-- the packet of a claim that doesn't hold, with its answer; and why it gets that, if asked for
+abbrev pub breach_lines : Bool → State → Breach → List ℕ
+breach_lines explained state breach = breach_line state breach ++ (if explained then explanation_text state breach.packet else [])
+
+abbrev pub breaches_text : Bool → State → List Breach → List ℕ
+breaches_text explained state breaches = flat_map (breach_lines explained state) breaches
+
+-- ---- what is written
+
+module _ (writer0 writer : Option (List ℕ)) where
+  -- all groups were written; with status 0 there are none
+  abbrev pub ShowsImpact : Rehearsing → (status : ℕ) → State → Type 0
+  ShowsImpact rehearsing status state =
+      (rehearsed : Rehearsed (sameness_of rehearsing.exactness) state)
+      × Appends writer0 writer (impact_text rehearsing.form rehearsed.groups)
+      × (status ≡ DONE → rehearsed.groups ≡ [])
+
+  -- or nothing was written, since a line of the script is refused; then the status is 1
+  abbrev pub IsRehearsed : Rehearsing → (status : ℕ) → State → Type 0
+  IsRehearsed rehearsing status state =
+      (IsStopped rehearsing state × (writer ≡ writer0) × (status ≡ REFUSED))
+      ⊎ ShowsImpact rehearsing status state
+
+  -- in any case: nothing was written, or a part at most
+  abbrev pub IsRehearsedAtMost : Rehearsing → State → Type 0
+  IsRehearsedAtMost rehearsing state =
+      (writer ≡ writer0)
+      ⊎ ((rehearsed : Rehearsed (sameness_of rehearsing.exactness) state) × IsCutOff (impact_text rehearsing.form rehearsed.groups) writer0 writer)
+
+  -- each claim of a text that doesn't hold was written, with a packet; with status 0 there are none
+  abbrev pub IsAsserted : Asserting → (status : ℕ) → State → Type 0
+  IsAsserted asserting status state =
+      (text : List ℕ) × (checked : Checked) × IsChecked state text checked × (checked.bad.items ≡ [])
+      × Appends writer0 writer (breaches_text asserting.is_explained state checked.breaches.items)
+      × (status ≡ DONE → checked.breaches.items ≡ [])
+
+  abbrev pub IsAssertedAtMost : Asserting → State → Type 0
+  IsAssertedAtMost asserting state =
+      (writer ≡ writer0)
+      ⊎ ((text : List ℕ) × (checked : Checked) × IsChecked state text checked × IsCutOff (breaches_text asserting.is_explained state checked.breaches.items) writer0 writer)
+
+  -- all unused rules and routes were written; with status 0 there are none
+  abbrev pub IsSearched : (status : ℕ) → State → Type 0
+  IsSearched status state =
+      (unused : Unused) × AreUnused state unused × Appends writer0 writer (unused_text unused)
+      × (status ≡ DONE → (unused.rules.items ≡ []) × (unused.routes.items ≡ []))
+
+  abbrev pub IsSearchedAtMost : State → Type 0
+  IsSearchedAtMost state =
+      (writer ≡ writer0)
+      ⊎ ((unused : Unused) × AreUnused state unused × IsCutOff (unused_text unused) writer0 writer)
+
+-- ---- of the tables of a source
+
+module _ {M S : Type 0} (g : Ghosts S) (opens : M → M → List ℕ → Held S → Type 0) (refuses : M → M → List ℕ → Type 0) (closes : M → M → Held S → Type 0) (old new : M) where
+  -- the tables of a source were read
+  abbrev pub HaveTables : Source → State → Type 0
+  HaveTables source tables = IsAskedOf g opens refuses closes old new source (λ state. tables ≡ state)
+
+  -- they were not, or memory was refused after that
+  abbrev pub IsNotRead : Source → Type 0
+  IsNotRead source = IsNotAsked g opens refuses closes old new source ⊎ IsAskedOf g opens refuses closes old new source (λ state. Unit {0})
+
+  -- this holds of them and of what was written
+  abbrev pub IsFoundOf : Source → (State → Type 0) → Type 0
+  IsFoundOf source Holds = IsAskedOf g opens refuses closes old new source Holds
+
+  -- in any case: they were not read, and nothing was written; or this holds
+  abbrev pub IsFoundAtMost : (writer0 writer : Option (List ℕ)) → Source → (State → Type 0) → Type 0
+  IsFoundAtMost writer0 writer source Holds = (IsNotRead source × (writer ≡ writer0)) ⊎ IsAskedOf g opens refuses closes old new source Holds

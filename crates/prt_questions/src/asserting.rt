@@ -1,0 +1,186 @@
+//! Whether claims about all packets hold.
+ghost use Rattle.std.specs.Prelude.{◌≡◌, ◌⊎◌, ◌++◌, [], IfOk, OnOk, true};
+ghost use Rattle.prt_questions.specs.Analyses.{IsAsserted, IsAssertedAtMost, IsFoundAtMost, IsFoundOf, breach_lines, breaches_text};
+
+use crate::asking::{REFUSED, write_text};
+use crate::databases::DatabaseFiles;
+use crate::impact::report_undivided;
+use crate::machine::Machine;
+use crate::reading::{read_whole, report_no_memory};
+use crate::tables::{Tables, tables_at};
+use crate::telling::tell;
+use prt_claims::{BadClaim, BadLine, Breach, Checked, ClaimFault, check_claims, push_breach_line};
+use prt_explain::explanation_text;
+use prt_program::Refusal;
+use prt_version::Version;
+use prt_words::{Asserting, DONE, FAULT, STANDARD_INPUT};
+use sqlite::{Alter, Connection};
+use std::alloc::{AllocError, Global};
+use std::fs::Files;
+use std::io::{Read, Write};
+use std::net::Net;
+use std::sync::Wait;
+
+/// The exit status if a claim can't be read.
+pub const UNREADABLE: u8 = 2;
+
+/// Makes the message of a line that is no claim.
+fn bad_message(alloc: Global, file: &str, bad: &BadLine) -> Result<String, AllocError> {
+    let line = bad.number;
+    let BadClaim { word, fault } = bad.reason;
+    match fault {
+        ClaimFault::NoOutcome => {
+            format!(in alloc; "prt: {file}:{line}: word {word}: an outcome is missing\n")
+        }
+        ClaimFault::Refused(refusal) if word == 0 => {
+            format!(in alloc; "prt: {file}:{line}: {refusal}\n")
+        }
+        ClaimFault::Refused(refusal) => {
+            format!(in alloc; "prt: {file}:{line}: word {word}: {refusal}\n")
+        }
+    }
+}
+
+/// Reports each line that is no claim.
+fn report_bad<E: Write>(alloc: Global, file: &str, bad: &[BadLine], errors: &mut E) {
+    for line in bad {
+        tell(bad_message(alloc, file, line), errors);
+    }
+}
+
+/// Appends a packet for which a claim doesn't hold, and why it gets its answer, if that is to be explained.
+fn push_lines(
+    out: &mut Vec<u8>,
+    version: &Version,
+    is_explained: bool,
+    breach: &Breach,
+) -> Result<(), Refusal>
+    ensures { OnOk result (out.new.items ≡ out.old.items ++ breach_lines is_explained version.now breach.now) }
+{
+    push_breach_line(out, version, breach)?;
+    if is_explained {
+        explanation_text(out, version, &breach.packet)?;
+    }
+    Ok(())
+}
+
+/// Appends the lines of each claim that doesn't hold.
+fn push_all(
+    out: &mut Vec<u8>,
+    version: &Version,
+    is_explained: bool,
+    breaches: &[Breach],
+) -> Result<(), Refusal>
+    ensures { OnOk result (out.new.items ≡ out.old.items ++ breaches_text is_explained version.now breaches.now) }
+{
+    for breach in breaches {
+        push_lines(out, version, is_explained, breach)?;
+    }
+    Ok(())
+}
+
+/// Makes the text of the claims that don't hold.
+fn text_of(
+    alloc: Global,
+    version: &Version,
+    is_explained: bool,
+    breaches: &[Breach],
+) -> Result<Vec<u8>, Refusal>
+    ensures { IfOk result (λ text. text.items ≡ breaches_text is_explained version.now breaches.now) }
+{
+    let mut text = Vec::new(alloc);
+    push_all(&mut text, version, is_explained, breaches)?;
+    Ok(text)
+}
+
+/// Tells whether each line is a claim, or none at all.
+fn is_readable(checked: &Checked) -> bool
+    ensures { result ≡ true → checked.now.bad.items ≡ [] }
+{
+    checked.bad.is_empty()
+}
+
+/// Tells whether all claims hold.
+fn holds(checked: &Checked) -> bool
+    ensures { result ≡ true → checked.now.breaches.items ≡ [] }
+{
+    checked.breaches.is_empty()
+}
+
+/// Checks the claims of a file over tables, and writes each that doesn't hold with a packet. The exit status is `REFUSED` if
+/// there is one, and `UNREADABLE` if a line is no claim, which standard error names: then nothing is written.
+fn assert_over<F: Files, R: Read, W: Write, E: Write>(
+    files: &F,
+    alloc: Global,
+    tables: &Tables,
+    asserting: &Asserting<'_>,
+    input: &mut R,
+    output: &mut W,
+    errors: &mut E,
+) -> u8
+    requires { (tables.now.left ≡ DONE) ⊎ (tables.now.left ≡ REFUSED) }
+    ensures status { (result ≡ DONE) ⊎ ((result ≡ REFUSED) ⊎ ((result ≡ UNREADABLE) ⊎ (result ≡ FAULT))) }
+    ensures found { (result ≡ DONE) ⊎ (result ≡ REFUSED) → IsAsserted (W.contents output.old) (W.contents output.new) asserting.now result tables.now.version }
+    ensures at_most { IsAssertedAtMost (W.contents output.old) (W.contents output.new) asserting.now tables.now.version }
+{
+    let text = match read_whole(files, alloc, asserting.file, input, output, errors) {
+        Ok(text) => text,
+        Err(status) => return status,
+    };
+    let checked = match check_claims(alloc, &tables.version, &text) {
+        Ok(checked) => checked,
+        Err(reason) => return report_undivided(alloc, reason, output, errors),
+    };
+    if !is_readable(&checked) {
+        let file = asserting.file.unwrap_or(STANDARD_INPUT);
+        report_bad(alloc, file, &checked.bad, errors);
+        return UNREADABLE;
+    }
+    let breaches = &checked.breaches;
+    let Ok(shown) = text_of(alloc, &tables.version, asserting.is_explained, breaches) else {
+        return report_no_memory(output, errors);
+    };
+    let written = write_text(shown, output);
+    if written != DONE {
+        return written;
+    }
+    if holds(&checked) {
+        tables.left
+    } else {
+        REFUSED
+    }
+}
+
+/// Checks claims about all packets over the tables at a source, and gives the exit status.
+///
+/// The status is 0 if all hold. It is 1 if one doesn't, which is written with a packet that shows it, or if a line of the
+/// script is refused. It is 2 if a claim can't be read, and 3 as of `ask`, and if the rules divide packets into too many
+/// kinds. No rule and no route changes.
+pub(crate) fn assert_claims<
+    S: Alter + Drop,
+    M: Machine<Connection<S>> + Drop,
+    F: Files,
+    N: Net + Wait + Copy + Drop,
+    R: Read,
+    W: Write,
+    E: Write,
+>(
+    databases: &mut DatabaseFiles<'_, S, M, F, N>,
+    alloc: Global,
+    asserting: &Asserting<'_>,
+    input: &mut R,
+    output: &mut W,
+    errors: &mut E,
+) -> u8
+    ensures status { (result ≡ DONE) ⊎ ((result ≡ REFUSED) ⊎ ((result ≡ UNREADABLE) ⊎ (result ≡ FAULT))) }
+    ensures found { (result ≡ DONE) ⊎ (result ≡ REFUSED) → IsFoundOf S.Store M.opens M.refuses M.closes databases.old.machine databases.new.machine asserting.now.source (IsAsserted (W.contents output.old) (W.contents output.new) asserting.now result) }
+    ensures at_most { IsFoundAtMost S.Store M.opens M.refuses M.closes databases.old.machine databases.new.machine (W.contents output.old) (W.contents output.new) asserting.now.source (IsAssertedAtMost (W.contents output.old) (W.contents output.new) asserting.now) }
+{
+    let source = &asserting.source;
+    let tables = match tables_at(databases, alloc, source, input, output, errors) {
+        Ok(tables) => tables,
+        Err(status) => return status,
+    };
+    let files = databases.files;
+    assert_over(files, alloc, &tables, asserting, input, output, errors)
+}

@@ -1,0 +1,180 @@
+//! Which packets a script sends another way.
+ghost use Rattle.std.specs.Prelude.{◌≡◌, ◌≢◌, ◌⊎◌, IfOk, List, [], true};
+ghost use Rattle.prt_refusals.specs.declared.on_refusal.OnRefusal.TheVariants.{Stop};
+ghost use Rattle.prt_impact.specs.Groups.{AreGroups};
+ghost use Rattle.prt_impact.specs.declared.group.Group.{Group as GroupOf};
+ghost use Rattle.std.specs.Io.KnownBytes.{Appends};
+ghost use Rattle.prt_questions.specs.Analyses.{IsFoundAtMost, IsFoundOf, IsRehearsed, IsRehearsedAtMost, impact_text, sameness_of};
+ghost use Rattle.prt_questions.specs.Asking.{IsCutOff};
+
+use crate::asking::{REFUSED, write_text};
+use crate::databases::DatabaseFiles;
+use crate::left::tell_left;
+use crate::machine::Machine;
+use crate::reading::{read_whole, report_no_memory};
+use crate::tables::{Tables, tables_at};
+use crate::telling::tell;
+use prt_impact::{Group, impact, impact_json, impact_text};
+use prt_import::accept_over;
+use prt_partition::{MOST_BOXES, Sameness};
+use prt_program::Refusal;
+use prt_refusals::OnRefusal;
+use prt_version::Version;
+use prt_words::{DONE, Exactness, FAULT, Form, Rehearsing};
+use sqlite::{Alter, Connection};
+use std::alloc::Global;
+use std::fs::Files;
+use std::io::{Read, Write};
+use std::net::Net;
+use std::sync::Wait;
+
+/// Chooses which verdicts count as the same.
+fn sameness_of(exactness: Exactness) -> Sameness
+    ensures { result ≡ sameness_of exactness }
+{
+    match exactness {
+        Exactness::Outcomes => Sameness::Outcomes,
+        Exactness::Verdicts => Sameness::Verdicts,
+    }
+}
+
+/// Reports why packets can't be divided: the rules are too many for it, or memory is refused. It gives the exit status.
+pub(crate) fn report_undivided<W: Write, E: Write>(
+    alloc: Global,
+    reason: Refusal,
+    output: &mut W,
+    errors: &mut E,
+) -> u8
+    ensures status { result ≡ FAULT }
+    ensures unwritten { W.contents output.new ≡ W.contents output.old }
+{
+    let Refusal::Full = reason else {
+        return report_no_memory(output, errors);
+    };
+    let message = format!(in alloc;
+        "prt: the rules divide packets into more than {MOST_BOXES} kinds\n"
+    );
+    tell(message, errors);
+    FAULT
+}
+
+/// Makes the text of groups of packets.
+fn text_of(alloc: Global, form: Form, groups: &[Group]) -> Result<Vec<u8>, Refusal>
+    ensures { IfOk result (λ text. text.items ≡ impact_text form groups.now) }
+{
+    let mut text = Vec::new(alloc);
+    let pushed = match form {
+        Form::Lines => impact_text(&mut text, groups),
+        Form::Json => impact_json(&mut text, groups),
+    };
+    match pushed {
+        Ok(()) => Ok(text),
+        Err(_) => Err(Refusal::NoMemory),
+    }
+}
+
+/// Compares tables with those after a change, and writes which packets go another way. The exit status is `REFUSED` if any
+/// does.
+fn write_impact<W: Write, E: Write>(
+    alloc: Global,
+    before: &Version,
+    after: &Version,
+    rehearsing: &Rehearsing<'_>,
+    output: &mut W,
+    errors: &mut E,
+) -> u8
+    ensures status { (result ≡ DONE) ⊎ ((result ≡ REFUSED) ⊎ (result ≡ FAULT)) }
+    ensures whole { (result ≡ DONE) ⊎ (result ≡ REFUSED) → (groups : List GroupOf) × AreGroups (sameness_of rehearsing.now.exactness) before.now after.now groups
+        × Appends (W.contents output.old) (W.contents output.new) (impact_text rehearsing.now.form groups) × (result ≡ DONE → groups ≡ []) }
+    ensures part { (W.contents output.new ≡ W.contents output.old)
+        ⊎ ((groups : List GroupOf) × AreGroups (sameness_of rehearsing.now.exactness) before.now after.now groups × IsCutOff (impact_text rehearsing.now.form groups) (W.contents output.old) (W.contents output.new)) }
+{
+    let groups = match impact(alloc, before, after, sameness_of(rehearsing.exactness)) {
+        Ok(groups) => groups,
+        Err(reason) => return report_undivided(alloc, reason, output, errors),
+    };
+    let Ok(text) = text_of(alloc, rehearsing.form, &groups) else {
+        return report_no_memory(output, errors);
+    };
+    let written = write_text(text, output);
+    if written == DONE && !groups.is_empty() {
+        return REFUSED;
+    }
+    written
+}
+
+/// Tells whether refused lines stop a rehearsal.
+fn is_stopped(left: u8, on_refusal: OnRefusal) -> bool
+    ensures { result ≡ true → (left ≢ DONE) × (on_refusal ≡ Stop) }
+{
+    left != DONE && matches!(on_refusal, OnRefusal::Stop)
+}
+
+/// Executes a script over tables, reports its refused lines, and writes which packets go another way after it. If a refused
+/// line stops that, nothing is written.
+fn rehearse_over<F: Files, R: Read, W: Write, E: Write>(
+    files: &F,
+    alloc: Global,
+    tables: &Tables,
+    rehearsing: &Rehearsing<'_>,
+    input: &mut R,
+    output: &mut W,
+    errors: &mut E,
+) -> u8
+    requires { (tables.now.left ≡ DONE) ⊎ (tables.now.left ≡ REFUSED) }
+    ensures status { (result ≡ DONE) ⊎ ((result ≡ REFUSED) ⊎ (result ≡ FAULT)) }
+    ensures found { (result ≡ DONE) ⊎ (result ≡ REFUSED) → IsRehearsed (W.contents output.old) (W.contents output.new) rehearsing.now result tables.now.version }
+    ensures at_most { IsRehearsedAtMost (W.contents output.old) (W.contents output.new) rehearsing.now tables.now.version }
+{
+    let script = match read_whole(files, alloc, rehearsing.file, input, output, errors) {
+        Ok(script) => script,
+        Err(status) => return status,
+    };
+    let Ok(made) = accept_over(alloc, &tables.version, &script) else {
+        return report_no_memory(output, errors);
+    };
+    let left = tell_left(alloc, &made.left, errors);
+    if is_stopped(left, rehearsing.on_refusal) {
+        return REFUSED;
+    }
+    let before = &tables.version;
+    let shown = write_impact(alloc, before, &made.version, rehearsing, output, errors);
+    if shown != DONE {
+        return shown;
+    }
+    if left == DONE { tables.left } else { REFUSED }
+}
+
+/// Writes which packets get another answer once a script was executed over the tables at a source, and gives the exit status.
+///
+/// The status is 0 if none does, and 1 if any does or a line is refused, which standard error names. After a refused line
+/// nothing is compared, unless the words say to go on. The status is 3 as of `ask`, and if the rules divide packets into
+/// too many kinds. No rule and no route changes.
+pub(crate) fn rehearse<
+    S: Alter + Drop,
+    M: Machine<Connection<S>> + Drop,
+    F: Files,
+    N: Net + Wait + Copy + Drop,
+    R: Read,
+    W: Write,
+    E: Write,
+>(
+    databases: &mut DatabaseFiles<'_, S, M, F, N>,
+    alloc: Global,
+    rehearsing: &Rehearsing<'_>,
+    input: &mut R,
+    output: &mut W,
+    errors: &mut E,
+) -> u8
+    ensures status { (result ≡ DONE) ⊎ ((result ≡ REFUSED) ⊎ (result ≡ FAULT)) }
+    ensures found { (result ≡ DONE) ⊎ (result ≡ REFUSED) → IsFoundOf S.Store M.opens M.refuses M.closes databases.old.machine databases.new.machine rehearsing.now.source (IsRehearsed (W.contents output.old) (W.contents output.new) rehearsing.now result) }
+    ensures at_most { IsFoundAtMost S.Store M.opens M.refuses M.closes databases.old.machine databases.new.machine (W.contents output.old) (W.contents output.new) rehearsing.now.source (IsRehearsedAtMost (W.contents output.old) (W.contents output.new) rehearsing.now) }
+{
+    let source = &rehearsing.source;
+    let tables = match tables_at(databases, alloc, source, input, output, errors) {
+        Ok(tables) => tables,
+        Err(status) => return status,
+    };
+    let files = databases.files;
+    rehearse_over(files, alloc, &tables, rehearsing, input, output, errors)
+}

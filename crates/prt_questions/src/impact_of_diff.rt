@@ -1,0 +1,121 @@
+//! The packets that a difference sends another way.
+ghost use Rattle.std.specs.Prelude.{◌≡◌, ◌⊎◌, ◌++◌, IfOk, List, OnOk, ℕ};
+ghost use Rattle.std.specs.Io.KnownBytes.{Appends};
+ghost use Rattle.prt_questions.specs.Analyses.{IsNotRead};
+ghost use Rattle.prt_questions.specs.Asking.{IsAskedOf, IsCutOff, IsWithImpact, IsWithImpactOf, comment_of, comments_of};
+
+use crate::asking::{REFUSED, report_none, write_made};
+use crate::databases::DatabaseFiles;
+use crate::impact::report_undivided;
+use crate::machine::Machine;
+use crate::reading::report_no_memory;
+use crate::tables::tables_at;
+use prt_ask::{Answered, Comparison, Question, answer};
+use prt_impact::{Group, impact, push_group_line};
+use prt_import::accept_over;
+use prt_partition::Sameness;
+use prt_program::Refusal;
+use prt_version::Version;
+use prt_words::{DONE, FAULT, Source};
+use sqlite::{Alter, Connection};
+use std::alloc::{AllocError, Global};
+use std::fs::Files;
+use std::io::{Read, Write};
+use std::net::Net;
+use std::sync::Wait;
+
+/// Appends a comment with the line of a group.
+fn push_comment(out: &mut Vec<u8>, group: &Group) -> Result<(), AllocError>
+    ensures { OnOk result (out.new.items ≡ out.old.items ++ comment_of group.now) }
+{
+    out.extend_from_slice(b"# ")?;
+    push_group_line(out, group)
+}
+
+/// Appends a comment for each group of packets.
+fn push_comments(out: &mut Vec<u8>, groups: &[Group]) -> Result<(), AllocError>
+    ensures { OnOk result (out.new.items ≡ out.old.items ++ comments_of groups.now) }
+{
+    for group in groups {
+        push_comment(out, group)?;
+    }
+    Ok(())
+}
+
+/// Makes the text of a difference: the packets that its lines send another way, as comments, and then the lines.
+///
+/// # Errors
+///
+/// As of `impact`.
+fn with_impact(alloc: Global, found: &Version, lines: &[u8]) -> Result<Vec<u8>, Refusal>
+    ensures { IfOk result (λ text. IsWithImpactOf found.now lines.now text.items) }
+{
+    let made = accept_over(alloc, found, lines)?;
+    let groups = impact(alloc, found, &made.version, Sameness::Outcomes)?;
+    let mut text = Vec::new(alloc);
+    push_comments(&mut text, &groups)?;
+    text.extend_from_slice(lines)?;
+    Ok(text)
+}
+
+/// Compares what was found with tables within a fence, and writes the packets that the difference sends another way, and
+/// its lines. It gives the exit status, as of `write_made`.
+fn write_difference<W: Write, E: Write>(
+    alloc: Global,
+    place: &str,
+    comparison: &Comparison<'_>,
+    wanted: &Version,
+    output: &mut W,
+    errors: &mut E,
+) -> u8
+    ensures status { (result ≡ DONE) ⊎ ((result ≡ REFUSED) ⊎ (result ≡ FAULT)) }
+    ensures whole { result ≡ DONE → (text : List ℕ) × IsWithImpact comparison.now.fence.now comparison.now.found.now wanted.now text × Appends (W.contents output.old) (W.contents output.new) text }
+    ensures part { (W.contents output.new ≡ W.contents output.old) ⊎ ((text : List ℕ) × IsWithImpact comparison.now.fence.now comparison.now.found.now wanted.now text × IsCutOff text (W.contents output.old) (W.contents output.new)) }
+{
+    let Answered { text, notes } = match answer(alloc, wanted, &Question::Diff(*comparison)) {
+        Ok(made) => made,
+        Err(reason) => return report_none(alloc, &place, reason, output, errors),
+    };
+    match with_impact(alloc, comparison.found, &text) {
+        Ok(text) => write_made(Answered { text, notes }, output, errors),
+        Err(reason) => report_undivided(alloc, reason, output, errors),
+    }
+}
+
+/// Writes the lines that bring what was found to the tables at a source, after the packets that they send another way. It
+/// gives the exit status.
+pub(crate) fn diff_with_impact<
+    S: Alter + Drop,
+    M: Machine<Connection<S>> + Drop,
+    F: Files,
+    N: Net + Wait + Copy + Drop,
+    R: Read,
+    W: Write,
+    E: Write,
+>(
+    databases: &mut DatabaseFiles<'_, S, M, F, N>,
+    alloc: Global,
+    source: &Source<'_>,
+    comparison: &Comparison<'_>,
+    input: &mut R,
+    output: &mut W,
+    errors: &mut E,
+) -> u8
+    ensures status { (result ≡ DONE) ⊎ ((result ≡ REFUSED) ⊎ (result ≡ FAULT)) }
+    ensures whole { result ≡ DONE → IsAskedOf S.Store M.opens M.refuses M.closes databases.old.machine databases.new.machine source.now (λ state. (text : List ℕ) × IsWithImpact comparison.now.fence.now comparison.now.found.now state text × Appends (W.contents output.old) (W.contents output.new) text) }
+    ensures at_most { ((W.contents output.new ≡ W.contents output.old) × IsNotRead S.Store M.opens M.refuses M.closes databases.old.machine databases.new.machine source.now)
+        ⊎ IsAskedOf S.Store M.opens M.refuses M.closes databases.old.machine databases.new.machine source.now (λ state. (text : List ℕ) × IsWithImpact comparison.now.fence.now comparison.now.found.now state text × IsCutOff text (W.contents output.old) (W.contents output.new)) }
+{
+    let tables = match tables_at(databases, alloc, source, input, output, errors) {
+        Ok(tables) => tables,
+        Err(status) => return status,
+    };
+    write_difference(
+        alloc,
+        "the tables",
+        comparison,
+        &tables.version,
+        output,
+        errors,
+    )
+}

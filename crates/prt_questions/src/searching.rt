@@ -1,0 +1,99 @@
+//! Rules and routes that no packet needs.
+ghost use Rattle.std.specs.Prelude.{◌≡◌, ◌⊎◌, [], IfOk, true};
+ghost use Rattle.prt_unused.specs.Text.{unused_text};
+ghost use Rattle.prt_questions.specs.Analyses.{IsFoundAtMost, IsFoundOf, IsSearched, IsSearchedAtMost};
+
+use crate::asking::{REFUSED, write_text};
+use crate::databases::DatabaseFiles;
+use crate::impact::report_undivided;
+use crate::machine::Machine;
+use crate::reading::report_no_memory;
+use crate::tables::{Tables, tables_at};
+use prt_program::Refusal;
+use prt_unused::{Unused, unused, unused_text};
+use prt_words::{DONE, FAULT, Source};
+use sqlite::{Alter, Connection};
+use std::alloc::Global;
+use std::fs::Files;
+use std::io::{Read, Write};
+use std::net::Net;
+use std::sync::Wait;
+
+/// Makes the text of unused rules and routes.
+fn text_of(alloc: Global, found: &Unused) -> Result<Vec<u8>, Refusal>
+    ensures { IfOk result (λ text. text.items ≡ unused_text found.now) }
+{
+    let mut text = Vec::new(alloc);
+    match unused_text(&mut text, found) {
+        Ok(()) => Ok(text),
+        Err(_) => Err(Refusal::NoMemory),
+    }
+}
+
+/// Tells whether nothing is unused.
+fn is_nothing(found: &Unused) -> bool
+    ensures { result ≡ true → (found.now.rules.items ≡ []) × (found.now.routes.items ≡ []) }
+{
+    found.rules.is_empty() && found.routes.is_empty()
+}
+
+/// Writes the unused rules and routes of tables. The exit status is `REFUSED` if there are any.
+fn search_over<W: Write, E: Write>(
+    alloc: Global,
+    tables: &Tables,
+    output: &mut W,
+    errors: &mut E,
+) -> u8
+    requires { (tables.now.left ≡ DONE) ⊎ (tables.now.left ≡ REFUSED) }
+    ensures status { (result ≡ DONE) ⊎ ((result ≡ REFUSED) ⊎ (result ≡ FAULT)) }
+    ensures found { (result ≡ DONE) ⊎ (result ≡ REFUSED) → IsSearched (W.contents output.old) (W.contents output.new) result tables.now.version }
+    ensures at_most { IsSearchedAtMost (W.contents output.old) (W.contents output.new) tables.now.version }
+{
+    let found = match unused(alloc, &tables.version) {
+        Ok(found) => found,
+        Err(reason) => return report_undivided(alloc, reason, output, errors),
+    };
+    let Ok(text) = text_of(alloc, &found) else {
+        return report_no_memory(output, errors);
+    };
+    let written = write_text(text, output);
+    if written != DONE {
+        return written;
+    }
+    if is_nothing(&found) {
+        tables.left
+    } else {
+        REFUSED
+    }
+}
+
+/// Writes the rules at a source that decide no packet, and the routes that no packet gets, and gives the exit status.
+///
+/// The status is 0 if there are none, and 1 if there are any or a line of the script is refused. It is 3 as of `ask`, and if
+/// the rules divide packets into too many kinds. No rule and no route changes.
+pub(crate) fn search<
+    S: Alter + Drop,
+    M: Machine<Connection<S>> + Drop,
+    F: Files,
+    N: Net + Wait + Copy + Drop,
+    R: Read,
+    W: Write,
+    E: Write,
+>(
+    databases: &mut DatabaseFiles<'_, S, M, F, N>,
+    alloc: Global,
+    source: &Source<'_>,
+    input: &mut R,
+    output: &mut W,
+    errors: &mut E,
+) -> u8
+    ensures status { (result ≡ DONE) ⊎ ((result ≡ REFUSED) ⊎ (result ≡ FAULT)) }
+    ensures found { (result ≡ DONE) ⊎ (result ≡ REFUSED) → IsFoundOf S.Store M.opens M.refuses M.closes databases.old.machine databases.new.machine source.now (IsSearched (W.contents output.old) (W.contents output.new) result) }
+    ensures at_most { IsFoundAtMost S.Store M.opens M.refuses M.closes databases.old.machine databases.new.machine (W.contents output.old) (W.contents output.new) source.now (IsSearchedAtMost (W.contents output.old) (W.contents output.new)) }
+{
+    let tables = match tables_at(databases, alloc, source, input, output, errors) {
+        Ok(tables) => tables,
+        Err(status) => return status,
+    };
+    search_over(alloc, &tables, output, errors)
+}

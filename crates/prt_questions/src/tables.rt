@@ -1,0 +1,171 @@
+//! The tables of a source, read once for a question about all packets.
+ghost use Rattle.std.specs.Prelude.{◌≡◌, ◌⊎◌, IfErr, IfOk, List, ℕ};
+ghost use Rattle.prt_import.specs.Accepted.{IsExecuted};
+ghost use Rattle.prt_import.specs.declared.accepted.Accepted.{Accepted as AcceptedOf};
+ghost use Rattle.prt_questions.specs.Analyses.{HaveTables, IsNotRead};
+ghost use Rattle.prt_questions.specs.Asking.{IsAskedAt, IsNotOpened};
+
+use crate::asking::{REFUSED, run_over_new};
+use crate::databases::DatabaseFiles;
+use crate::left::tell_left;
+use crate::machine::{Machine, Wanted};
+use crate::opening::open_desk;
+use crate::reading::{read_whole, report_no_memory};
+use crate::remote::read_tables;
+use crate::telling::tell;
+use prt_program::{cause_message, log_message};
+use prt_version::Version;
+use prt_words::{DONE, FAULT, Fault, Source, report};
+use sqlite::{Alter, Connection};
+use std::alloc::Global;
+use std::fs::Files;
+use std::io::{Read, Write};
+use std::net::{Net, SocketAddrV4};
+use std::sync::Wait;
+
+/// The tables of a source.
+#[derive(Drop)]
+pub(crate) struct Tables {
+    pub(crate) version: Version,
+    /// The exit status for what was left out of them: `REFUSED` if a line of their script was refused, otherwise `DONE`.
+    pub(crate) left: u8,
+}
+
+/// Reads the tables of the database at a path, which is opened and closed.
+///
+/// # Errors
+///
+/// The exit status: there is no such database, it can't be opened, or memory is refused. Standard error has the cause.
+fn database_tables<
+    S: Alter + Drop,
+    M: Machine<Connection<S>> + Drop,
+    F: Files,
+    H: Wait + Copy + Drop,
+    W: Write,
+    E: Write,
+>(
+    databases: &mut DatabaseFiles<'_, S, M, F, H>,
+    alloc: Global,
+    path: &str,
+    output: &mut W,
+    errors: &mut E,
+) -> Result<Tables, u8>
+    ensures read { IfOk result (λ tables. IsAskedAt S.Store M.opens M.refuses M.closes databases.old.machine databases.new.machine path.now (λ state. tables.version ≡ state)) }
+    ensures unread { IfErr result (λ status. IsNotOpened S.Store M.opens M.refuses M.closes databases.old.machine databases.new.machine path.now ⊎ IsAskedAt S.Store M.opens M.refuses M.closes databases.old.machine databases.new.machine path.now (λ state. Unit {0})) }
+    ensures left { IfOk result (λ tables. (tables.left ≡ DONE) ⊎ (tables.left ≡ REFUSED)) }
+    ensures fault { IfErr result (λ status. status ≡ FAULT) }
+    ensures unwritten { W.contents output.new ≡ W.contents output.old }
+{
+    let (files, rt) = (databases.files, databases.rt);
+    let opened = open_desk(&mut databases.machine, files, rt, alloc, path, Wanted::Ours);
+    let desk = match opened {
+        Ok(desk) => desk,
+        Err((refusal, cause)) => {
+            let status = report(&Fault::Opening(refusal), output, errors);
+            if let Some(cause) = cause {
+                tell(cause_message(alloc, &path, &cause), errors);
+            }
+            return Err(status);
+        }
+    };
+    let shared = desk.version().share();
+    if let Err(reason) = databases.machine.close(desk.end()) {
+        tell(log_message(alloc, path, &reason), errors);
+    }
+    match shared {
+        Ok(version) => Ok(Tables {
+            version,
+            left: DONE,
+        }),
+        Err(_) => Err(report_no_memory(output, errors)),
+    }
+}
+
+/// Reads the tables of the server whose feed is at a place.
+///
+/// # Errors
+///
+/// The exit status: the server doesn't send its tables. Standard error has the cause.
+fn server_tables<N: Net, E: Write>(
+    rt: &N,
+    alloc: Global,
+    place: SocketAddrV4,
+    errors: &mut E,
+) -> Result<Tables, u8>
+    ensures left { IfOk result (λ tables. (tables.left ≡ DONE) ⊎ (tables.left ≡ REFUSED)) }
+    ensures fault { IfErr result (λ status. status ≡ FAULT) }
+{
+    match read_tables(rt, alloc, place) {
+        Ok(version) => Ok(Tables {
+            version,
+            left: DONE,
+        }),
+        Err(reason) => {
+            tell(cause_message(alloc, &place, &reason), errors);
+            Err(FAULT)
+        }
+    }
+}
+
+/// Reads the tables that a script makes of a new database, and reports its refused lines.
+///
+/// # Errors
+///
+/// The exit status: the script can't be read, or memory is refused. Standard error has the cause.
+fn script_tables<F: Files, R: Read, W: Write, E: Write>(
+    files: &F,
+    alloc: Global,
+    file: Option<&str>,
+    input: &mut R,
+    output: &mut W,
+    errors: &mut E,
+) -> Result<Tables, u8>
+    ensures read { IfOk result (λ tables. (made : AcceptedOf) × (text : List ℕ) × IsExecuted made text × (tables.version ≡ made.version)) }
+    ensures left { IfOk result (λ tables. (tables.left ≡ DONE) ⊎ (tables.left ≡ REFUSED)) }
+    ensures fault { IfErr result (λ status. status ≡ FAULT) }
+    ensures unwritten { W.contents output.new ≡ W.contents output.old }
+{
+    let script = read_whole(files, alloc, file, input, output, errors)?;
+    let made = run_over_new(alloc, &script, output, errors)?;
+    let left = tell_left(alloc, &made.left, errors);
+    Ok(Tables {
+        version: made.version,
+        left,
+    })
+}
+
+/// Reads the tables of a source. A database is opened and closed, and of a server or a script none is touched.
+///
+/// # Errors
+///
+/// The exit status: there are no such tables, they can't be read, or memory is refused. Standard error has the cause.
+pub(crate) fn tables_at<
+    S: Alter + Drop,
+    M: Machine<Connection<S>> + Drop,
+    F: Files,
+    N: Net + Wait + Copy + Drop,
+    R: Read,
+    W: Write,
+    E: Write,
+>(
+    databases: &mut DatabaseFiles<'_, S, M, F, N>,
+    alloc: Global,
+    source: &Source<'_>,
+    input: &mut R,
+    output: &mut W,
+    errors: &mut E,
+) -> Result<Tables, u8>
+    ensures read { IfOk result (λ tables. HaveTables S.Store M.opens M.refuses M.closes databases.old.machine databases.new.machine source.now tables.version) }
+    ensures unread { IfErr result (λ status. IsNotRead S.Store M.opens M.refuses M.closes databases.old.machine databases.new.machine source.now) }
+    ensures left { IfOk result (λ tables. (tables.left ≡ DONE) ⊎ (tables.left ≡ REFUSED)) }
+    ensures fault { IfErr result (λ status. status ≡ FAULT) }
+    ensures unwritten { W.contents output.new ≡ W.contents output.old }
+{
+    match source {
+        Source::Database(path) => database_tables(databases, alloc, path, output, errors),
+        Source::Server(place) => server_tables(&databases.rt, alloc, *place, errors),
+        Source::Script(file) => {
+            script_tables(databases.files, alloc, *file, input, output, errors)
+        }
+    }
+}
