@@ -3,4 +3,6 @@
 mod answers;
 mod changes;
 mod grids;
+mod impacts;
 mod tables;
+mod without_need;

@@ -25,3 +25,12 @@ for force in "" --force; do
   shown second.db | cmp - listings
   "$prt" dump --db second.db | cmp - dump
 done
+# Lines for a kernel: databases with other rules at first accept each of them, and no rule of theirs is left.
+"$prt" dump --db first.db --replace >replacing
+printf 'rule\n' | "$prt" batch --db first.db >rules
+for lines in '' 'rule add priority 100 table local\nrule del priority 0' 'rule flush\nrule del priority 0'; do
+  rm -f third.db*
+  printf "$lines\n" | "$prt" batch --db third.db >/dev/null
+  "$prt" batch --db third.db replacing | uniq -c -w 2
+  printf 'rule\n' | "$prt" batch --db third.db | cmp - rules
+done

@@ -1,6 +1,7 @@
 """Configurations of real programs: the kernel is brought from each to each other by `prt diff`, and takes the dump of each.
 
 Two passes have to do it. The kernel then lists what it lists where `ip` made the configuration, unless import told of a loss.
+A dump is taken to its end, over hosts with other rules too, and leaves nothing but routes that only the host had.
 """
 
 import itertools
@@ -113,6 +114,9 @@ CONFIGURATIONS = {
     ],
 }
 
+# Hosts whose rule for main or local has another priority than the kernel gives it.
+MOVED = ("shorewall", "cilium")
+
 
 def configured(name):
     """A host that has this configuration."""
@@ -141,11 +145,14 @@ class Target:
         self.seen = told_of(import_tables(space.listed(), f"{name}.db"))
         self.is_whole = not self.seen
         self.seen = [f"{name}: {told}" for told in self.seen]
+        self.dump = prt("dump", *self.tables[:2], "--replace").stdout
         self.put_back(space, "itself")
         self.put_back(Space(), "a new host")
         for other in CONFIGURATIONS:
             if other != name:
                 self.bring_from(other)
+                if other in MOVED:
+                    self.put_back(configured(other), other, has_others=True)
 
     def bring_from(self, name):
         """Brings a host there that has another configuration."""
@@ -163,15 +170,15 @@ class Target:
             self.seen += [f"from {name} to {self.name} is other: {line}" for line in sorted(others)]
         space.close()
 
-    def put_back(self, space, where):
-        """Has the kernel take the dump of the tables."""
-        lines = prt("dump", *self.tables[:2], "--replace").stdout
-        done = space.ip("-batch", "-", input=lines)
+    def put_back(self, space, where, has_others=False):
+        """Has the kernel take the dump of the tables, on a host that may have routes of its own."""
+        done = space.ip("-batch", "-", input=self.dump)
         if done.returncode:
-            self.seen.append(f"the dump of {self.name} over {where} stops: {clean(done.stderr)[-1]}")
-            space.ip("-force", "-batch", "-", input=lines)
-        left = differs(space, *self.tables)
-        self.seen += [f"the dump of {self.name} over {where} leaves: {line}" for line in left.splitlines()]
+            self.seen.append(f"the dump of {self.name} over {where} stops: {' '.join(clean(done.stderr))}")
+        left = differs(space, *self.tables).splitlines()
+        if has_others:
+            left = [line for line in left if not line.startswith("route del ")]
+        self.seen += [f"the dump of {self.name} over {where} leaves: {line}" for line in left]
         space.close()
 
 
@@ -183,6 +190,7 @@ def main():
         for line in target.seen:
             print(line)
     print(f"{len(names) * (len(names) - 1)} ways, {sum(target.twice for target in targets)} of them in two passes")
+    print(f"{len(names) * (len(names) + 1)} dumps")
 
 
 main()

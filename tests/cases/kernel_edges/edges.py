@@ -178,8 +178,32 @@ def other_listings():
     space.close()
 
 
+def rules_of_priority_0():
+    """A dump is taken to its end by hosts whose first rules are others, or of another priority, and leaves none of theirs."""
+    marked, local = "rule add priority 0 fwmark 7 table 51", "rule add priority 0 table local"
+    hosts = {
+        "the opening rules": [],
+        "local later": ["rule add priority 100 table local", "rule del priority 0"],
+        "local and a mark": [marked],
+        "a mark and local": ["rule del priority 0", marked, local],
+        "a mark alone": ["rule del priority 0", marked],
+    }
+    for name, lines in hosts.items():
+        tables_of(DEFAULT, *lines)
+        dump = prt("dump", "--db", DATABASE, "--replace").stdout
+        wanted = host_of(*lines)
+        rules = wanted.ip("rule", "show").stdout
+        wanted.close()
+        for other, others in {**hosts, "no rule": ["rule flush", "rule del priority 0"]}.items():
+            space = host_of(DEFAULT, *others)
+            space.do(dump.splitlines())
+            if space.ip("rule", "show").stdout != rules or differs(space, *ALL):
+                print(f"{name} over {other}: others are left")
+            space.close()
+
+
 EDGES = [
-    mark_of_zero, unknown_selectors, copied_connected_routes, gateway_without_device, names_of_protocols, names_with_quotes,
+    rules_of_priority_0, mark_of_zero, unknown_selectors, copied_connected_routes, gateway_without_device, names_of_protocols, names_with_quotes,
     several_next_hops, place_that_is_taken, network_of_an_address, beside_what_cannot_be_kept, other_listings,
 ]
 for edge in EDGES:

@@ -8,6 +8,19 @@ dpkg-deb --field "$package" Package Architecture
 dpkg-deb --extract "$package" root
 (cd root && find . -type f | sort)
 
+# What is run when it comes and goes, where systemd is at work: its words to that are shown.
+dpkg-deb --control "$package" control
+ls control
+mkdir systemd bin
+printf '#!/bin/sh\necho "  systemctl $*"\n' >bin/systemctl
+chmod 755 bin/systemctl
+for step in 'postinst configure' 'postinst configure 0.0.1' 'prerm upgrade 0.0.2' 'prerm remove' 'postrm remove'; do
+  read -ra words <<<"$step"
+  sed "s|/run/systemd/system|$PWD/systemd|" "control/${words[0]}" >step
+  echo "$step:"
+  PATH=$PWD/bin:$PATH sh step "${words[@]:1}" || echo "  status $?"
+done
+
 # The links of the installed documents lead to what is installed.
 grep -rnoE '\]\([^)#]+[^)]*\)' --include='*.md' root/usr/share/doc | grep -v http | while IFS=: read -r document _ link; do
   link=${link:2:-1}
@@ -47,12 +60,30 @@ offered serve ''
 offered replay root/usr/share/doc/prt/examples/g
 offered follow --server x:1 --
 offered wait ''
+offered get --server ''
+offered serve --listen ''
 offered dump --r
 offered diff root/usr/share/doc/prt/examples/g
 offered explain root/usr/share/doc/prt/examples/g
 offered get --db routes.db 10.0.0.1 f
 offered show --db routes.db type b
 offered get 10.0.0.1 iif l | grep -ow lo
+offered impact --
+offered assert root/usr/share/doc/prt/examples/g
+
+# Each completion knows the subcommands of the help, and the options of each.
+share=root/usr/share
+root/usr/bin/prt help | sed -nE 's/^  ([a-z]+) .*/\1/p' | grep -vx help | while read -r command; do
+  root/usr/bin/prt "$command" --help | sed -nE 's/^ +(-., )?(--[a-z]+).*/\2/p' | sort >options
+  offered "$command" -- | tr ' ' '\n' | sort | diff options - || echo "bash: the options of $command"
+  grep -q "^    '$command:" $share/zsh/vendor-completions/_prt || echo "zsh: $command"
+  grep -q -- "-a $command " $share/fish/vendor_completions.d/prt.fish || echo "fish: $command"
+  while read -r option; do
+    grep -qF -- "${option}[" $share/zsh/vendor-completions/_prt || echo "zsh: $option"
+    grep -qE -- "^complete -c prt (-n '__prt_runs .*\b$command\b.*' )?-l ${option#--} " $share/fish/vendor_completions.d/prt.fish ||
+      echo "fish: $option of $command"
+  done <options
+done
 
 # What systemd finds wrong with the units, where the program stands here.
 if command -v systemd-analyze >/dev/null; then

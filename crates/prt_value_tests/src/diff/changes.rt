@@ -594,7 +594,11 @@ route add throw 10.4/16 table 7",
     };
     assert_eq!(rt;
         text.as_slice(),
-        "rule del priority 0
+        "rule flush
+rule add priority 1 from all lookup local
+rule add priority 2 from all lookup local
+rule del lookup local
+rule del from all
 rule flush
 rule add priority 0 from all lookup local
 rule add priority 500 from 10.0.0.0/8 lookup 7

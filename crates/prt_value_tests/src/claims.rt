@@ -1,0 +1,4 @@
+//! Tests of claims about packets.
+
+mod holding;
+mod reading;
