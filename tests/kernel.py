@@ -87,6 +87,10 @@ class Space:
     def ip(self, *words, input=None):
         return run("ip", "-n", self.name, *words, input=input)
 
+    def run(self, *words):
+        """Runs a program within the namespace."""
+        return run("ip", "netns", "exec", self.name, *words)
+
     def do(self, lines):
         """Has `ip` do all these lines, which the kernel has to take."""
         done = self.ip("-batch", "-", input=text_of(lines))

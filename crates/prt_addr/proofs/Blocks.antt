@@ -1,4 +1,4 @@
--- The block that a word spells, from its first part and what stands after the separator.
+-- The block that a word expresses, from its first part and what comes after the separator.
 use Rattle.std.proofs.Common.{◌≡◌, ℕ, ◌+◌, ◌*◌, Bool, true, false, cond, List, [], ◌∷◌, Option, Some, None, refl, sym, ap, ◌∙◌, arith, length, option_and_then, option_map, nat_le, nat_lt, ◌==◌, ◌||◌, inl, inr}
 use Rattle.std.specs.List.{onto_first, join_with_byte}
 use Rattle.std.proofs.lemmas.Option.{none-some, cond_some}
@@ -12,7 +12,7 @@ use Rattle.prt_addr.specs.Prefix.{block, block_of, everything_words}
 use Rattle.prt_addr.specs.Steps.{block_from}
 use Rattle.prt_addr.specs.declared.addr.Addr.{Addr}
 
--- a word that names no block spells its parts
+-- a word that names no block expresses its parts
 block_of_parts : (w : Word) → is_one_of w everything_words ≡ false → block w ≡ block_of (parts_at 47 w)
 block_of_parts w named = simp named refl
 
@@ -21,7 +21,7 @@ no_length : (bits len : Word) (o : Option Addr) → decimal_within 2 32 len ≡ 
 no_length bits len None bad = refl
 no_length bits len (Some addr) bad = ap (option_map (λ n. block_from (addr, n))) bad
 
--- whatever stands after the separator, if it is no length
+-- whatever comes after the separator, if it is no length
 bad_rest : (bits len : Word) (parts : List Word) → parts_at 47 len ≡ parts → decimal_within 2 32 len ≡ None → block_of (bits ∷ parts) ≡ None
 bad_rest bits len [] split bad = absurd (omega (arith, ap length split, length-slice_split (λ b. b == 47) len))
 bad_rest bits len (part ∷ []) split bad =
@@ -29,7 +29,7 @@ bad_rest bits len (part ∷ []) split bad =
     ap (λ part. block_of (bits ∷ part ∷ [])) same ∙ no_length bits len (address bits) bad
 bad_rest bits len (part ∷ more ∷ others) split bad = refl
 
--- what stands after the separator is no length
+-- what comes after the separator is no length
 pub bad_length : (w bits len : Word) (rest : Option Word) → is_one_of w everything_words ≡ false → parts_at 47 w ≡ bits ∷ parts_of_rest 47 rest → rest ≡ Some len → decimal_within 2 32 len ≡ None → block w ≡ None
 bad_length w bits len rest named parts after bad =
     block_of_parts w named ∙ ap block_of parts ∙ ap (λ rest. block_of (bits ∷ parts_of_rest 47 rest)) after ∙ bad_rest bits len (parts_at 47 len) refl bad

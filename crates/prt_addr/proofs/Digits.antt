@@ -18,7 +18,7 @@ grows : (base : ℕ) (value_of : ℕ → Option ℕ) → 0 < base → (w : Word)
 grows base value_of some [] n m e = omega (arith, same_Some n m e)
 grows base value_of some (b ∷ w) n m e = grows_by base value_of w n m some (value_of b) (grows base value_of some w) e
 
--- a number of at least n, where n is over the limit
+-- a number of at least n, if n is over the limit
 over_limit_by : (limit n : ℕ) (number : Option ℕ) → limit < n → ((m : ℕ) → number ≡ Some m → n ≤ m) → at_most limit number ≡ None
 over_limit_by limit n None over least = refl
 over_limit_by limit n (Some m) over least = let past : nat_le m limit ≡ false = grind (arith, least m refl) in simp past refl

@@ -16,7 +16,7 @@ each_kept : {X : Type 0} (P Q : X → Type 0) (x : X) (xs : List X) (b : Bool) �
 each_kept P Q x xs true first others = (first refl, others)
 each_kept P Q x xs false first others = others
 
--- what holds of each and of those that pass a test gives of each that passes
+-- what P and passing a test imply holds of each that passes
 pub each_passing : {X : Type 0} (P Q : X → Type 0) (p : X → Bool) → ((x : X) → P x → p x ≡ true → Q x) → (xs : List X) → Each P xs → Each Q (filter p xs)
 each_passing P Q p gives [] h = tt
 each_passing P Q p gives (x ∷ xs) h = each_kept P Q x (filter p xs) (p x) (λ passes. gives x h.0 passes) (each_passing P Q p gives xs h.1)
@@ -34,7 +34,7 @@ neither : (b c : Bool) → (b || c) ≡ false → (b ≡ false) × (c ≡ false)
 neither true c h = absurd cc
 neither false c h = (refl, h)
 
--- where none passes, each fails
+-- if none passes, each fails
 pub each_fails : {X : Type 0} (p : X → Bool) (xs : List X) → list_any p xs ≡ false → Each (λ x. p x ≡ false) xs
 each_fails p [] h = tt
 each_fails p (x ∷ xs) h =
@@ -69,7 +69,7 @@ one_less_by : {X : Type 0} (p : X → Bool) (x : X) (xs : List X) (b : Bool) →
 one_less_by p x xs true is rest any = let h : length (filter (λ y. not (p y)) xs) ≤ length xs = filtered_fit (λ y. not (p y)) xs (length xs) (omega arith) in omega arith
 one_less_by p x xs false is rest any = let h : length (filter (λ y. not (p y)) xs) < length xs = rest any in omega arith
 
--- at least one less is left without those that pass, where one passes
+-- at least one less is left without those that pass, if one passes
 pub one_less : {X : Type 0} (p : X → Bool) (xs : List X) → list_any p xs ≡ true → length (filter (λ x. not (p x)) xs) < length xs
 one_less p [] any = absurd cc
 one_less p (x ∷ xs) any = one_less_by p x xs (p x) refl (one_less p xs) any

@@ -107,7 +107,7 @@ module _ {X : Type 0} (before same : X → X → Bool) where
   distinct_inserted_by x y ys true unlike turned h placed = (unlike, h)
   distinct_inserted_by x y ys false unlike turned h placed = (each_inserted (λ other. same y other ≡ false) before x ys turned h.0, placed)
 
-  -- one that is the same as none of the others, whichever of the two is asked
+  -- one that is the same as none of the others, whichever of the two comes first
   pub distinct_inserted : (x : X) (xs : List X) → Each (λ other. same x other ≡ false) xs → Each (λ other. same other x ≡ false) xs → IsDistinct same xs → IsDistinct same (insert_by before x xs)
   unfolding IsDistinct
   distinct_inserted x [] unlike turned h = (tt, tt)
@@ -124,7 +124,7 @@ finds : {X : Type 0} (p : X → Bool) (front back : List X) (k : X) → Each (λ
 finds p [] back k h good = simp good refl
 finds p (x ∷ front) back k h good = simp h.0 (finds p front back k h.1 good)
 
--- the first of those so far, or the next one where that comes before it
+-- the first of those so far, or the next one if that comes before it
 abbrev leader : {X : Type 0} → (X → X → Bool) → Option X → X → X
 leader before None next = next
 leader before (Some first) next = if before next first then next else first
@@ -133,7 +133,7 @@ leader before (Some first) next = if before next first then next else first
 abbrev pub is_first : {X : Type 0} → (X → X → Bool) → List X → X → Bool
 is_first before xs x = not (list_any (λ other. before other x) xs)
 
--- the head, where nothing comes before it
+-- the head, if nothing comes before it
 pub first_is_head : {X : Type 0} (before : X → X → Bool) (x : X) (xs : List X) → before x x ≡ false → Each (λ other. before other x ≡ false) xs → first_by before (x ∷ xs) ≡ Some x
 first_is_head before x xs itself others =
     finds (is_first before (x ∷ xs)) [] xs x tt
@@ -146,7 +146,7 @@ module _ {X : Type 0} (before : X → X → Bool) (order : IsStrictWeakOrder bef
   abbrev Withstands : X → List X → Type 0
   Withstands k xs = Each (λ x. before x k ≡ false) xs
 
-  -- k stands in the list, comes before those ahead of it there, and no later one comes before it
+  -- k is in the list, comes before those ahead of it there, and no later one comes before it
   record IsLeader (xs : List X) (k : X) : Type 0 where
     front : List X
     back : List X
@@ -226,13 +226,13 @@ module _ {X : Type 0} (before : X → X → Bool) (order : IsStrictWeakOrder bef
       let all : LeaderOf xs (fold next_leader None xs) = leader_all [] xs None refl in
       subst (LeaderOf xs) (sym (first_is_leader xs (fold next_leader None xs) all)) all
 
-  -- there is a first, where there is any
+  -- there is a first, if there is any
   pub none_first : (xs : List X) → first_by before xs ≡ None → xs ≡ []
   none_first xs none = subst (LeaderOf xs) none (first_of_all xs)
 
 -- ---- lists that rise and have the same members
 
--- what holds of each in one list holds of each in another, where no member of that is missing in it
+-- what holds of each in one list holds of each in another, if no member of that is missing in it
 each_member : {X : Type 0} (xs ys : List X) → ((x : X) → Contains ys x → Contains xs x) → (P : X → Type 0) → Each P xs → Each P ys
 each_member xs ys within P h = recursion_from_All P ys (λ k d inside. All-contains P xs (get_or ys k d) (All-from_recursion P xs h) (within (get_or ys k d) (Contains-get_or ys k d inside)))
 

@@ -11,7 +11,7 @@ use Rattle.prt_addr.specs.Sound.{IsPrefix}
 use Rattle.prt_addr.specs.Prefix.{contains}
 use Rattle.prt_addr.specs.declared.addr.Addr.{Addr}
 
--- how many addresses begin with the same so many bits
+-- how many addresses begin with the same number of bits
 abbrev size : ℕ → ℕ
 size len = 2 ^ (32 - len)
 
@@ -48,7 +48,7 @@ contains_from block a p from to =
     let clear : block.bits % g ≡ 0 = p.clear in
     eq-eqb (a / g) (block.bits / g) (div-eq_of_lt-le {k = block.bits / g} g {m = a} (omega arith) (omega arith))
 
--- an address is one of a prefix where it is no further from the first, counted round, than the last is
+-- an address is one of a prefix if it is no further from the first, counted round, than the last is
 pub is_in_reach : (block : Block) (mask : ℕ) (addr : Addr) → IsPrefix block → mask + 1 ≡ size block.len → addr.0 < 2 ^ 32 → nat_le ((addr.0 + (4294967296 - block.bits)) % 4294967296) mask ≡ contains block addr
 is_in_reach block mask addr p whole fits =
     let g : ℕ = size block.len in

@@ -21,7 +21,7 @@ parts_around s w n e =
 some_none : (n : ℕ) → Some n ≡ None → ⊥
 some_none n e = cc
 
--- where no place is given the test failed
+-- if no place is given, the test failed
 no_place : (b : Bool) (n : ℕ) → cond b (Some n) None ≡ None → b ≡ false
 no_place true n e = absurd (some_none n e)
 no_place false n e = refl

@@ -12,11 +12,11 @@ octet part = decimal_within 3 255 part
 abbrev pub address_of : List ℕ → Addr
 address_of octets = record { 0 = slice_index octets 0 * 2 ^ 24 + slice_index octets 1 * 2 ^ 16 + slice_index octets 2 * 2 ^ 8 + slice_index octets 3 }
 
--- the octets that the dotted parts of a word spell: one to four
+-- the octets that the dotted parts of a word express: one to four
 abbrev pub octets_of : Word → Option (List ℕ)
 octets_of w = keep (λ octets. nat_le (length octets) 4) (all_of (map octet (parts_at 46 w)))
 
--- the address that a word spells
+-- the address that a word expresses
 abbrev pub address : Word → Option Addr
 address w = option_map address_of (octets_of w)
 

@@ -15,7 +15,7 @@ followed_by base value_of n (b ∷ bs) = option_and_then (λ digit. followed_by 
 abbrev pub has_leading_zero : Word → Bool
 has_leading_zero w = nat_lt 1 (length w) && slice_index w 0 == 48
 
--- the number that one or more digits spell; two or more don't begin with 0
+-- the number that one or more digits express; two or more don't begin with 0
 abbrev pub decimal_value : Word → Option ℕ
 decimal_value w = if length w == 0 || has_leading_zero w then None else followed_by 10 digit_of 0 w
 
@@ -23,6 +23,6 @@ decimal_value w = if length w == 0 || has_leading_zero w then None else followed
 abbrev pub at_most : ℕ → Option ℕ → Option ℕ
 at_most limit number = keep (λ n. nat_le n limit) number
 
--- the number, if the word has at most so many digits and the number is at most the limit
+-- the number, if the word has at most this many digits and the number is at most the limit
 abbrev pub decimal_within : ℕ → ℕ → Word → Option ℕ
 decimal_within digits limit w = if nat_lt digits (length w) then None else at_most limit (decimal_value w)

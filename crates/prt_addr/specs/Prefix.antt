@@ -37,7 +37,7 @@ block_of (bits ∷ []) = option_map (λ addr. record { bits = addr.0; len = 32 }
 block_of (bits ∷ len ∷ []) = option_and_then (λ addr. option_map (λ n. record { bits = addr.0; len = n }) (decimal_within 2 32 len)) (address bits)
 block_of (bits ∷ len ∷ more ∷ others) = None
 
--- the block that a word spells, with its host bits
+-- the block that a word expresses, with its host bits
 abbrev pub block : Word → Option Block
 block w = if is_one_of w everything_words then Some everything else block_of (parts_at 47 w)
 
@@ -46,11 +46,11 @@ abbrev pub without_host_bits : Option Block → Result Block Refusal
 without_host_bits None = Err BadPrefix
 without_host_bits (Some b) = if host_bits b == 0 then Ok b else Err HostBits
 
--- the prefix that a word spells, or the refusal
+-- the prefix that a word expresses, or the refusal
 abbrev pub prefix : Word → Result Block Refusal
 prefix w = without_host_bits (block w)
 
--- the block that a word spells, host bits cleared
+-- the block that a word expresses, host bits cleared
 abbrev pub net : Word → Option Block
 net w = option_map masked (block w)
 

@@ -1,4 +1,4 @@
--- Lists that stand in an order.
+-- Lists that are in an order.
 use Rattle.std.specs.Prelude.{◌≡◌, Bool, true, List, [], ◌∷◌}
 use Rattle.std.specs.List.{AllByRecursion as Each}
 

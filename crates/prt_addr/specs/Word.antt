@@ -1,4 +1,4 @@
--- Words, and values that a word may spell.
+-- Words, and values that a word may express.
 use Rattle.std.specs.Prelude.{ℕ, Bool, ◌||◌, ◌==◌, if◌then◌else◌, List, [], ◌∷◌, Option, Some, None, bytes_eq}
 use Rattle.std.specs.List.{list_any, slice_split}
 

@@ -20,14 +20,14 @@ pub struct Addr(pub u32);
 ///
 /// # Errors
 ///
-/// `BadAddress` where the word spells no address.
+/// `BadAddress` if the word is not an address.
 pub fn read_addr(word: &[u8]) -> Result<Addr, Refusal>
     ensures { result ≡ ok_or (address word.now) BadAddress }
 {
     parse_addr(word).ok_or(Refusal::BadAddress)
 }
 
-/// Reads an address, where the word spells one.
+/// Reads an address, if the word is one.
 pub(crate) fn parse_addr(word: &[u8]) -> Option<Addr>
     ensures { result ≡ address word.now }
 {
@@ -50,7 +50,7 @@ fn read_octets(word: &[u8]) -> Option<[u8; 4]>
     if rest.is_some() { None } else { Some(octets) }
 }
 
-/// Gives the address as four decimal parts joined by dots.
+/// Formats the address as four decimal parts joined by dots.
 pub fn addr_text(addr: Addr) -> ArrayString<15>
     ensures { result.bytes ≡ addr_text addr }
 {

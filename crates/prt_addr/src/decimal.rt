@@ -1,7 +1,7 @@
 ghost use Rattle.std.specs.Prelude.{◌≡◌, ◌≤◌};
 ghost use Rattle.prt_addr.specs.Decimal.{decimal_within};
 
-/// Reads a number of at most `digits` decimal digits, where it is at most `limit`.
+/// Reads a number of at most `digits` decimal digits, if it is at most `limit`.
 ///
 /// A number of two digits or more does not begin with 0.
 pub(crate) fn read_decimal(word: &[u8], digits: usize, limit: u8) -> Option<u8>
@@ -11,7 +11,7 @@ pub(crate) fn read_decimal(word: &[u8], digits: usize, limit: u8) -> Option<u8>
     Some(number as u8)
 }
 
-/// Reads a number as `read_decimal` does, where it is at most a `limit` of up to 2^32 - 1.
+/// Reads a number as `read_decimal` does, if it is at most a `limit` of up to 2^32 - 1.
 pub(crate) fn read_number(word: &[u8], digits: usize, limit: u32) -> Option<u32>
     ensures { result ≡ decimal_within digits limit word.now }
 {

@@ -13,7 +13,7 @@ use prt_refusals::Refusal;
 ///
 /// # Errors
 ///
-/// `BadNumber` where the word spells no such number.
+/// `BadNumber` if the word is not such a number.
 pub fn read_number(word: &[u8]) -> Result<u32, Refusal>
     ensures { result ≡ ok_or (number word.now) BadNumber }
 {
@@ -24,7 +24,7 @@ pub fn read_number(word: &[u8]) -> Result<u32, Refusal>
     number.ok_or(Refusal::BadNumber)
 }
 
-/// Reads one or more hexadecimal digits, where their number is at most 2^32 - 1.
+/// Reads one or more hexadecimal digits, if their number is at most 2^32 - 1.
 fn read_hex(digits: &[u8]) -> Option<u32>
     ensures { result ≡ at_most 4294967295 (hex_value digits.now) }
 {
@@ -42,7 +42,7 @@ fn read_hex(digits: &[u8]) -> Option<u32>
     Some(number as u32)
 }
 
-/// Gives the value of a hexadecimal digit of either case.
+/// Computes the value of a hexadecimal digit of either case.
 fn hex_digit(byte: u8) -> Option<u8>
     ensures value { result ≡ hex_digit_of byte }
     ensures below { IfSome result (λ digit. digit < 16) }

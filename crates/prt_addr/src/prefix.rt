@@ -57,7 +57,7 @@ impl PartialEq for Prefix {
 }
 
 impl Prefix {
-    /// Makes the prefix of these bits and this length, where the length is at most 32 and no host bit is set.
+    /// Makes the prefix of these bits and this length, if the length is at most 32 and no host bit is set.
     pub fn new(bits: u32, len: u8) -> Option<Prefix>
         ensures { SomeIff result (IsPrefix (record { bits = bits; len = len })) (record { bits = bits; len = len }) }
     {
@@ -72,7 +72,7 @@ impl Prefix {
         }
     }
 
-    /// Gives the prefix of this length, at most 32, with the host bits of `bits` cleared.
+    /// Builds the prefix of this length, at most 32, with the host bits of `bits` cleared.
     pub fn masked(bits: u32, len: u8) -> Prefix
         requires { len ≤ 32 }
         ensures { result ≡ masked (record { bits = bits; len = len }) }
@@ -85,7 +85,7 @@ impl Prefix {
         }
     }
 
-    /// Gives the bits of the prefix, as those of an address.
+    /// Returns the bits of the prefix, as those of an address.
     pub fn bits(&self) -> u32
         ensures value { result ≡ self.now.bits }
         ensures prefix { IsPrefix self.now }
@@ -93,7 +93,7 @@ impl Prefix {
         self.bits
     }
 
-    /// Gives the length in bits, 0 to 32.
+    /// Returns the length in bits, 0 to 32.
     pub fn len(&self) -> u8
         ensures value { result ≡ self.now.len }
         ensures short { result ≤ 32 }
@@ -101,7 +101,7 @@ impl Prefix {
         self.len
     }
 
-    /// Tells whether the address begins with the prefix's bits (Basic Match of RFC 1812, section 5.2.4.3).
+    /// Checks whether the address begins with the prefix's bits (Basic Match of RFC 1812, section 5.2.4.3).
     #[tactic(auto, using(crate::proofs::Ranges::is_in_reach))]
     pub fn contains(&self, addr: Addr) -> bool
         ensures { result ≡ contains self.now addr }
@@ -109,7 +109,7 @@ impl Prefix {
         addr.0.wrapping_sub(self.bits) <= self.host_mask
     }
 
-    /// Tells whether every address of this prefix is one of the other's.
+    /// Checks whether every address of this prefix is one of the other's.
     pub fn within(&self, other: &Prefix) -> bool
         ensures { result ≡ within self.now other.now }
     {
@@ -123,7 +123,7 @@ impl Prefix {
 ///
 /// # Errors
 ///
-/// `BadPrefix` where the word spells no prefix, and otherwise `HostBits` where a bit after the length is set.
+/// `BadPrefix` if the word is not a prefix, and otherwise `HostBits` if a bit after the length is set.
 pub fn read_prefix(word: &[u8]) -> Result<Prefix, Refusal>
     ensures { result ≡ prefix word.now }
 {
@@ -135,7 +135,7 @@ pub fn read_prefix(word: &[u8]) -> Result<Prefix, Refusal>
 ///
 /// # Errors
 ///
-/// `BadPrefix` where the word spells no prefix.
+/// `BadPrefix` if the word is not a prefix.
 pub fn read_net(word: &[u8]) -> Result<Prefix, Refusal>
     ensures { result ≡ ok_or (net word.now) BadPrefix }
 {
@@ -143,7 +143,7 @@ pub fn read_net(word: &[u8]) -> Result<Prefix, Refusal>
     Ok(Prefix::masked(addr.0, len))
 }
 
-/// Tells whether the word stands for every address.
+/// Checks whether the word represents every address.
 fn is_everything(word: &[u8]) -> bool
     ensures { result ≡ is_one_of word.now everything_words }
 {
@@ -167,7 +167,7 @@ fn read_block(word: &[u8]) -> Option<(Addr, u8)>
     Some((addr, len))
 }
 
-/// Gives the prefix as four decimal parts, with `/` and the length unless that is 32.
+/// Formats the prefix as four decimal parts, with `/` and the length unless that is 32.
 #[tactic(auto, using(crate::proofs::Digits::two_digits))]
 pub fn prefix_text(prefix: &Prefix) -> ArrayString<18>
     ensures { result.bytes ≡ prefix_text prefix.now }

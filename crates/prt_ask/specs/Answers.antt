@@ -5,7 +5,7 @@ use Rattle.prt_command.specs.declared.request.Query.TheVariants.{Get, RouteShow,
 use Rattle.prt_diff.specs.Fence.{routes_outside, rules_outside}
 use Rattle.prt_diff.specs.Held.{AreHeld, is_nothing_held}
 use Rattle.prt_diff.specs.Plan.{plan}
-use Rattle.prt_diff.specs.Replacing.{replacing_text}
+use Rattle.prt_diff.specs.Replacing.{AreLeftOut, replacing_text}
 use Rattle.prt_diff.specs.Text.{changes_text}
 use Rattle.prt_diff.specs.declared.fence.Fence.{Fence}
 use Rattle.prt_dump.specs.PutBack.{IsWhyNot, dump_text}
@@ -31,7 +31,7 @@ query_json (RouteShow selector) state = routes_json state selector
 query_json RuleShow state = rules_json state
 query_json (Get packet) state = answer_json state packet
 
--- of a dump the lines that make the state anew, or all tables, or the lines that put it in the place of another; of an explanation the reasons and the answer; of a difference what brings the found state to this one within a fence
+-- of a dump the lines that recreate the state, or all tables, or the lines that put it in the place of another; of an explanation the reasons and the answer; of a difference what brings the found state to this one within a fence
 abbrev pub answer : Question → State → List ℕ
 answer (questions.Dump Lines) state = dump_text state
 answer (questions.Dump InJson) state = json_line (tables_json state)
@@ -59,7 +59,7 @@ IsNotAnswered questions.Replace state reason = IsOfChange reason
 IsNotAnswered (questions.Diff comparison) state reason = IsOfChange reason
 IsNotAnswered question state reason = reason ≡ NoMemory
 
--- ---- what is told
+-- ---- what is reported
 
 -- nothing
 abbrev pub AreNone : Notes → Type 0
@@ -79,9 +79,14 @@ AreNotesOf fence found wanted notes =
 abbrev pub is_whole_change : Notes → Bool
 is_whole_change notes = length notes.left.items == 0 && is_nothing_held notes.held
 
--- what is told of an answer
+-- of lines that put a state back: the rules and routes that are left out
+abbrev pub AreNotesOfReplacing : State → Notes → Type 0
+AreNotesOfReplacing state notes = (notes.early.items ≡ []) × (notes.moved.items ≡ []) × (notes.left.items ≡ []) × AreLeftOut state notes.held × (notes.outside.rules ≡ 0) × (notes.outside.routes ≡ 0)
+
+-- what is reported of an answer
 abbrev pub AreNotes : Question → State → Notes → Type 0
 AreNotes (questions.Diff comparison) state notes = AreNotesOf comparison.fence.now comparison.found.now state notes
+AreNotes questions.Replace state notes = AreNotesOfReplacing state notes
 AreNotes question state notes = AreNone notes
 
 -- it asks for no difference

@@ -31,7 +31,7 @@ abbrev pub steps_text : Mirror → List Command → List ℕ
 steps_text mirror [] = []
 steps_text mirror (command ∷ commands) = step_text mirror command ++ steps_text (after_change mirror command) commands
 
--- Commands were published one after the other, and the lines for them were written in turn; where not all of it went well, a part of the lines.
+-- Commands were published one after the other, and the lines for them were written in turn; if not all of it went well, a part of the lines.
 pub record Follows (old new : Mirror) (whole : Bool) (writer0 writer : Option (List ℕ)) : Type 0 where
   pub commands : List Command
   pub accepted : IsAccepted old.wanted commands

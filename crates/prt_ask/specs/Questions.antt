@@ -19,7 +19,7 @@ question_by verbs.Explain form _ = Err UnknownVerb
 question_by verb form (Some (requests.Query query)) = Ok (questions.Query query form)
 question_by verb form _ = Err UnknownVerb
 
--- where the line has a first fault, that
+-- if the line has a first fault, that
 abbrev pub question_in : Verb → Form → Result (Option Request) Refusal → Result Question Refusal
 question_in verb form (Ok asked) = question_by verb form asked
 question_in verb form (Err reason) = Err reason

@@ -9,7 +9,7 @@ use crate::notes::Notes;
 use crate::question::{Comparison, Question};
 use crate::refusal::NotAnswered;
 use prt_command::{Query, Refusal};
-use prt_diff::replacing_text;
+use prt_diff::{left_out_of_replacing, replacing_text};
 use prt_dump::dump_text;
 use prt_explain::explanation_text;
 use prt_json::{answer_json, explanation_json, routes_json, rules_json, tables_json};
@@ -34,15 +34,15 @@ fn push_query_json(out: &mut Vec<u8>, version: &Version, query: &Query) -> Resul
 pub struct Answered {
     /// What is written.
     pub text: Vec<u8>,
-    /// What a person is told.
+    /// What is reported to a person.
     pub notes: Notes,
 }
 
-/// Gives the lines that bring what was found to tables, and what is to be told of them.
+/// Writes the lines that bring what was found to tables, and collects what is to be reported of them.
 ///
 /// # Errors
 ///
-/// `Change` where no line can spell a change, and `NoMemory`.
+/// `Change` if no line can express a change, and `NoMemory`.
 fn compared(
     alloc: Global,
     comparison: &Comparison<'_>,
@@ -56,7 +56,7 @@ fn compared(
     Ok(difference.answer)
 }
 
-/// Gives the text of an answer that is no difference.
+/// Writes an answer that is no difference.
 fn answer_text(
     alloc: Global,
     version: &Version,
@@ -83,11 +83,11 @@ fn answer_text(
     }
 }
 
-/// Gives what a version answers to a question, and what a person is told of it.
+/// Answers a question from a version, and collects what is to be reported with the answer.
 ///
 /// # Errors
 ///
-/// Of a dump in lines, and of a difference, a rule or a route that no line can spell. `NoMemory` of any.
+/// Of a dump in lines, and of a difference, a rule or a route that no line can express. `NoMemory` of any.
 pub fn answer(
     alloc: Global,
     version: &Version,
@@ -101,8 +101,9 @@ pub fn answer(
         return compared(alloc, comparison, version);
     }
     let text = answer_text(alloc, version, question)?;
-    Ok(Answered {
-        text,
-        notes: Notes::none(alloc),
-    })
+    let mut notes = Notes::none(alloc);
+    if let Question::Replace = question {
+        notes.held = left_out_of_replacing(alloc, version)?;
+    }
+    Ok(Answered { text, notes })
 }

@@ -23,7 +23,7 @@ pub(crate) struct Difference {
 ///
 /// # Errors
 ///
-/// `Change` where no line can spell a change, and `NoMemory`.
+/// `Change` if no line can express a change, and `NoMemory`.
 pub(crate) fn find_difference(
     alloc: Global,
     fence: &Fence,

@@ -22,8 +22,8 @@ pub enum FollowEnd {
     Unwritten,
 }
 
-/// Writes what a person is told of lines, if anything is; nobody misses it where that fails. What stays and what isn't
-/// brought is told if that isn't what was told last.
+/// Reports what is to be reported of lines, if anything is; nobody misses it if that fails. What stays and what isn't brought
+/// is reported unless it was the last report.
 fn tell<E: Write>(notes: &Notes, told: &mut String, errors: &mut E) {
     if let Ok(text) = notes.steps() {
         let _told = errors.write_all(text.as_bytes()).is_ok();
@@ -40,8 +40,7 @@ fn tell<E: Write>(notes: &Notes, told: &mut String, errors: &mut E) {
 ///
 /// # Errors
 ///
-/// `NoLines` where there are none: nothing was written, and the mirror is as it was. `Unwritten` where a part of them was
-/// written.
+/// `NoLines` if there are none: nothing was written, and the mirror is as it was. `Unwritten` if a part of them was written.
 fn write_lines<W: Write, E: Write>(
     alloc: Global,
     mirror: &mut Mirror,
@@ -65,11 +64,11 @@ fn write_lines<W: Write, E: Write>(
     }
 }
 
-/// Writes the lines that bring a listing to the tables of a feed, after each of its changes, and flushes each. Returns where
-/// the feed ends, where a change isn't the next one or has no lines, and where the lines can't be written.
+/// Writes the lines that bring a listing to the tables of a feed, after each of its changes, and flushes each. Returns when
+/// the feed ends, when a change isn't the next one or has no lines, and when the lines can't be written.
 ///
-/// The reader stands behind the opening of the feed, and should have a buffer. What was told last of what stays and what isn't
-/// brought is told once more only after something else.
+/// The reader is behind the opening of the feed, and should have a buffer. The last report of what stays and what isn't brought
+/// is repeated only after another one.
 pub fn follow<R: Read, W: Write, E: Write>(
     alloc: Global,
     mirror: &mut Mirror,

@@ -25,7 +25,7 @@ pub struct Mirror {
     pub wanted: Version,
 }
 
-/// Gives the version after commands.
+/// Makes the version after commands.
 ///
 /// # Errors
 ///
@@ -44,7 +44,7 @@ fn after_commands(version: &Version, commands: &[Command]) -> Result<Version, No
     Ok(after)
 }
 
-/// Gives the version after a command.
+/// Makes the version after a command.
 ///
 /// # Errors
 ///
@@ -68,7 +68,7 @@ impl Mirror {
     ///
     /// # Errors
     ///
-    /// `Change` where no line can spell a change, `Refused` where there is no room for one, `NoMemory`.
+    /// `Change` if no line can express a change, `Refused` if there is no room for one, `NoMemory`.
     pub fn begin(
         alloc: Global,
         fence: Fence,
@@ -91,12 +91,12 @@ impl Mirror {
         ))
     }
 
-    /// Takes the next change of the tables, and gives the lines that bring the listing to the tables after it.
+    /// Takes the next change of the tables, and writes the lines that bring the listing to the tables after it.
     ///
     /// # Errors
     ///
-    /// `Gap` where it isn't the next one; `Change` where no line can spell a change; `Refused` where the change is refused
-    /// or there is no room for one of the lines; `NoMemory`. Then nothing has changed.
+    /// `Gap` if it isn't the next one; `Change` if no line can express a change; `Refused` if the change is refused or there is
+    /// no room for one of the lines; `NoMemory`. Then nothing has changed.
     pub fn follow(&mut self, alloc: Global, change: &Change) -> Result<Answered, NotAnswered>
         ensures number { OnOk result (change.now.number ≡ self.old.wanted.count + 1) }
         ensures accepted { OnOk result (refusal self.old.wanted change.now.command ≡ None) }

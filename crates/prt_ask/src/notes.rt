@@ -1,16 +1,16 @@
-//! What is told of a difference beside its lines.
+//! What is reported of an answer beside its text.
 ghost use Rattle.std.specs.Prelude.{◌≡◌, []};
 ghost use Rattle.prt_ask.specs.Answers.{AreNone, is_whole_change};
 
 use prt_addr::prefix_text;
-use prt_diff::{Held, Outside};
+use prt_diff::{Held, Outside, Unreadable};
 use prt_listing::is_everything;
 use prt_route::{Prefix, Route, table_name};
 use prt_rule::Rule;
 use std::alloc::{AllocError, Global};
 use std::fmt::Write;
 
-/// What is told of a difference beside its lines. Of any other answer there is nothing to tell.
+/// What is reported of a difference, or of a dump whose commands replace, beside its lines. Of any other answer nothing is.
 #[derive(Drop)]
 pub struct Notes {
     /// The rules that go before others come, since the kernel would refuse those beside them.
@@ -42,7 +42,7 @@ impl Notes {
         }
     }
 
-    /// Tells whether the lines bring all that the fence names: no rule is left, and nothing is held back.
+    /// Checks whether the lines bring all that the fence names: no rule is left, and nothing is held back.
     pub fn is_whole_change(&self) -> bool
         ensures { result ≡ is_whole_change self.now }
     {
@@ -94,7 +94,8 @@ fn push_rest(text: &mut String, notes: &Notes) -> Result<(), AllocError> {
     let taken = "stays, since `ip` would delete another one in its place";
     push_rules(text, &notes.left, taken)?;
     push_held_rules(text, &notes.held)?;
-    push_held_routes(text, &notes.held)
+    push_held_routes(text, &notes.held)?;
+    push_unreadable(text, &notes.held.unreadable)
 }
 
 /// Appends the messages of the rules that are held back.
@@ -113,6 +114,16 @@ fn push_held_routes(text: &mut String, held: &Held) -> Result<(), AllocError> {
     push_routes(text, &held.hindered_routes, hindered)?;
     let stays = "stays, since a line that can't be kept is in the same place";
     push_routes(text, &held.staying_routes, stays)
+}
+
+/// Appends the messages of what `ip -batch` can't read.
+fn push_unreadable(text: &mut String, unreadable: &Unreadable) -> Result<(), AllocError> {
+    let left_out = "is left out, since `ip -batch` can't read its interface's name";
+    push_rules(text, &unreadable.missing_rules, left_out)?;
+    push_routes(text, &unreadable.missing_routes, left_out)?;
+    let stays = "stays, since `ip -batch` can't read its interface's name";
+    push_rules(text, &unreadable.staying_rules, stays)?;
+    push_routes(text, &unreadable.staying_routes, stays)
 }
 
 /// Appends a message for each rule.

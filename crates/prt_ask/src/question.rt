@@ -17,10 +17,10 @@ pub struct Comparison<'a> {
     pub found: &'a Version,
 }
 
-/// What is asked of tables.
+/// A question to tables.
 #[derive(Clone, Copy)]
 pub enum Question<'a> {
-    /// Which commands make them anew.
+    /// Which commands recreate them.
     Dump(Form),
     /// Which commands put them in the place of what is there.
     Replace,
@@ -32,7 +32,7 @@ pub enum Question<'a> {
     Diff(Comparison<'a>),
 }
 
-/// Gives the question of what a line asks for.
+/// Makes the question of what a line asks for.
 fn question_by<'a>(verb: Verb, form: Form, asked: &Option<Request>) -> Result<Question<'a>, Refusal>
     ensures { result ≡ question_by verb form asked.now }
 {
@@ -61,8 +61,8 @@ fn question_in<'a>(verb: Verb, line: &[u8], form: Form) -> Result<Question<'a>, 
 ///
 /// # Errors
 ///
-/// The first fault of the line, as of `read_line`; `UnknownVerb` where it asks nothing, or where an explanation is asked
-/// of what is no `route get`.
+/// The first fault of the line, as of `read_line`; `UnknownVerb` if it asks nothing, or if an explanation is wanted of what is
+/// no `route get`.
 pub fn question_of<'a>(verb: Verb, line: &[u8], form: Form) -> Result<Question<'a>, Refusal>
     ensures { result ≡ question verb line.now form }
 {

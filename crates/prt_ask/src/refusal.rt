@@ -6,11 +6,11 @@ use std::alloc::AllocError;
 /// Why tables don't answer a question.
 #[derive(Clone, Copy, Debug, PartialEq, Eq)]
 pub enum NotAnswered {
-    /// No line can spell the rule at this place of the listing, from 0 on.
+    /// No line can express the rule at this place of the listing, from 0 on.
     Rule(usize),
-    /// No line can spell the route at this place of the listing of all tables, from 0 on.
+    /// No line can express the route at this place of the listing of all tables, from 0 on.
     Route(usize),
-    /// No line can spell a change.
+    /// No line can express a change.
     Change,
     /// A change is refused over what was found: there is no room for it.
     Refused(Refusal),

@@ -29,7 +29,7 @@ module _ (E : Bx) where
   Pair = Tuple (RawPtr ∷ P E ∷ [])
 
 module _ (E : Bx) {M : Type 1} {𝓤 : Ura M} {𝓛 : Logic 𝓤} {K : Type 0} {Γ : List (Item 𝓤)} {G : Goal 𝓤 𝓛.H} where
-  -- what a box owns lies at one word
+  -- what a box owns is at one word
   pub box_word : K → (v : D E) (vs : List Val)
       → ((b o : ℕ) (hv : Val) → vs ≡ word E hv b o ∷ [] → Fits E.al hv → Seq K 𝓛 (‵ ((B E).own_val v (word E hv b o ∷ [])) ∷ Γ) G)
       → Seq K 𝓛 (‵ ((B E).own_val v vs) ∷ Γ) G

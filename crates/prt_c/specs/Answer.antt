@@ -76,7 +76,7 @@ by_route number priority route = record {
   device = name_bytes route.dev;
 }
 
--- the answer after so many commands
+-- the answer after this many commands
 abbrev pub answer_of : ℕ → Verdict → AnswerC
 answer_of number (verdicts.Route priority route) = by_route number priority route
 answer_of number (verdicts.RuleSays priority action) = without_route number (action_number action) priority

@@ -18,7 +18,7 @@ Holds state before after result =
     (result ≡ DONE) × (held_state after ≡ Some state)
     ⊎ (result ≡ code_of NoMemory) × (after ≡ before)
 
--- what was made is held afterwards, or the reason is told and what was held stays
+-- what was made is held afterwards, or the reason is reported and what was held stays
 abbrev pub Puts : Option Owner → Result Held Refusal → Option Owner → ℕ → Type 0
 Puts before (Ok made) after result = (result ≡ DONE) × (after ≡ made.home)
 Puts before (Err reason) after result = (result ≡ code_of reason) × (after ≡ before)

@@ -26,7 +26,7 @@ status None = EMPTY
 status (Some (Ok answer)) = DONE
 status (Some (Err reason)) = code_of reason
 
--- what a lookup leaves in the place of the answer, where this was there
+-- what a lookup leaves in the place of the answer, if this was there
 abbrev pub written : Option (Result AnswerC Refusal) → AnswerC → AnswerC
 written (Some (Ok answer)) before = answer
 written (Some (Err reason)) before = before

@@ -13,7 +13,7 @@ use Rattle.prt_c.specs.declared.packet.PacketC.{PacketC}
 abbrev pub name_in : List ℕ → List ℕ
 name_in bytes = before_first (λ b. b == 0) bytes
 
--- the interface of this name; `lo` where there is none
+-- the interface of this name; `lo` if there is none
 abbrev pub interface_named : List ℕ → Result (List ℕ) Refusal
 interface_named [] = Ok (codes "lo")
 interface_named (b ∷ bs) = ok_or (device (b ∷ bs)) BadName

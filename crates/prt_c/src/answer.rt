@@ -14,27 +14,27 @@ use prt_version::{Answer, Verdict};
 pub struct AnswerC {
     /// The number of commands that had been accepted.
     pub number: u64,
-    /// What becomes of it: 0 where no rule decides, 1 for a unicast route, 2 to 4 where it is dropped.
+    /// What becomes of it: 0 if no rule decides, 1 for a unicast route, 2 to 4 if it is dropped.
     pub kind: u32,
-    /// The table whose route decides; 0 where a rule decides without one, or none does.
+    /// The table whose route decides; 0 if a rule decides without one, or none does.
     pub table: u32,
-    /// The priority of the rule that decides; 0 where none does.
+    /// The priority of the rule that decides; 0 if none does.
     pub priority: u32,
-    /// The address of the route's prefix; 0 where no route decides.
+    /// The address of the route's prefix; 0 if no route decides.
     pub destination: u32,
-    /// The length of the route's prefix, 0 to 32; 0 where no route decides.
+    /// The length of the route's prefix, 0 to 32; 0 if no route decides.
     pub prefix_length: u32,
-    /// The route's metric; 0 where no route decides.
+    /// The route's metric; 0 if no route decides.
     pub metric: u32,
-    /// 1 where the route has a gateway, and 0 otherwise.
+    /// 1 if the route has a gateway, and 0 otherwise.
     pub has_gateway: u32,
-    /// The route's gateway; 0 where it has none.
+    /// The route's gateway; 0 if it has none.
     pub gateway: u32,
-    /// 1 where the route has a source to prefer, and 0 otherwise.
+    /// 1 if the route has a source to prefer, and 0 otherwise.
     pub has_source: u32,
-    /// The source to prefer; 0 where there is none.
+    /// The source to prefer; 0 if there is none.
     pub source: u32,
-    /// The name of the route's interface, with zeros after it; all zeros where it has none.
+    /// The name of the route's interface, with zeros after it; all zeros if it has none.
     pub device: [u8; NAME_BYTES],
 }
 
@@ -63,7 +63,7 @@ fn action_number(action: Action) -> u32
     }
 }
 
-/// Gives 1 where there is an address, and 0 otherwise.
+/// Returns 1 if there is an address, and 0 otherwise.
 fn has(addr: Option<Addr>) -> u32
     ensures { result ≡ has addr }
 {
@@ -73,7 +73,7 @@ fn has(addr: Option<Addr>) -> u32
     }
 }
 
-/// Gives the number of an address; 0 where there is none.
+/// Returns the number of an address; 0 if there is none.
 fn addr_number(addr: Option<Addr>) -> u32
     ensures { result ≡ addr_number addr }
 {
@@ -105,7 +105,7 @@ fn write_dev(dev: Dev, bytes: &mut [u8; NAME_BYTES])
     write_zero_ended(dev.as_bytes(), bytes);
 }
 
-/// Writes the bytes of an interface's name; all zeros where there is none.
+/// Writes the bytes of an interface's name; all zeros if there is none.
 fn write_name(dev: Option<Dev>, bytes: &mut [u8; NAME_BYTES])
     ensures { bytes.new ≡ name_bytes dev }
 {

@@ -45,7 +45,7 @@ impl Held {
         }
     }
 
-    /// Gives the parts of the owner's box; None where nothing is held.
+    /// Returns the parts of the owner's box; None if nothing is held.
     pub fn into_parts(self) -> Option<Parts<Owner, Global>>
         ensures { option_map (λ parts. parts.value) result ≡ self.home }
     {

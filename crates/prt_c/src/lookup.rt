@@ -17,7 +17,7 @@ use std::mem::replace;
 ///
 /// # Errors
 ///
-/// `BadName` where its interface has no such name; the answer is then as it was.
+/// `BadName` if its interface has no such name; the answer is then as it was.
 pub(crate) fn look_up(
     version: &Version,
     packet: &PacketC,
@@ -35,7 +35,7 @@ pub(crate) fn look_up(
 
 /// Looks a packet up in the version that is held.
 ///
-/// It takes no memory, and waits for nothing. Returns 0, 13 where the packet's interface has no such name, or 100 where
+/// It takes no memory, and waits for nothing. Returns 0, 13 if the packet's interface has no such name, or 100 if
 /// `version` holds nothing; the answer is then as it was. `version` holds the same afterwards.
 #[unsafe(no_mangle)]
 pub extern "C" fn prt_lookup(

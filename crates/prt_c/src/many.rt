@@ -18,11 +18,11 @@ use std::mem::replace;
 pub(crate) struct LookedUp {
     /// The packets that were looked up, from the first on.
     pub(crate) count: usize,
-    /// Why the packet after them has no answer; None where there is none, or no room for its answer.
+    /// Why the packet after them has no answer; None if there is none, or no room for its answer.
     pub(crate) refused: Option<Refusal>,
 }
 
-/// Gives the smaller of two numbers.
+/// Returns the smaller of two numbers.
 fn smaller(one: usize, other: usize) -> usize
     ensures first { result ≤ one }
     ensures second { result ≤ other }
@@ -61,7 +61,7 @@ fn answer_all(version: &Version, packets: &[PacketC], answers: &mut [AnswerC]) -
 /// It takes no memory, and waits for nothing. `count` is how many were looked up. Each of `answers` before it is that of
 /// the packet at its place, and the others are as they were. `version` holds the same afterwards.
 ///
-/// Returns 0, or 13 where the interface of the packet at `count` has no such name. Where `version` holds nothing it returns
+/// Returns 0, or 13 if the interface of the packet at `count` has no such name. If `version` holds nothing it returns
 /// 100, and all is as it was.
 #[unsafe(no_mangle)]
 pub extern "C" fn prt_lookup_many(

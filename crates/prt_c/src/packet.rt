@@ -13,11 +13,11 @@ pub const NAME_BYTES: usize = 16;
 #[repr(C)]
 #[derive(Clone, Copy)]
 pub struct PacketC {
-    /// The source; 0 where none is named.
+    /// The source; 0 if none is named.
     pub source: u32,
     /// The destination.
     pub destination: u32,
-    /// The firewall mark; 0 where none is named.
+    /// The firewall mark; 0 if none is named.
     pub mark: u32,
     /// The name of the interface that it came in by, with a zero after it; all zeros for `lo`.
     pub interface: [u8; NAME_BYTES],
@@ -30,7 +30,7 @@ fn first_zero(bytes: &[u8]) -> Option<usize>
     bytes.iter().position(|byte| *byte == 0)
 }
 
-/// Gives the bytes before the first zero.
+/// Returns the bytes before the first zero.
 fn name_in(bytes: &[u8]) -> &[u8]
     ensures { result.now ≡ name_in bytes.now }
 {
@@ -52,11 +52,11 @@ pub(crate) fn packet_by(packet: &PacketC, iif: Dev) -> Packet
     }
 }
 
-/// Reads the name of an interface over `lo`, which stays where none stands there.
+/// Reads the name of an interface over `lo`, which stays if none is there.
 ///
 /// # Errors
 ///
-/// `BadName` where the bytes before the first zero are no such name.
+/// `BadName` if the bytes before the first zero are no such name.
 // In place: a copy of what is read would wait until the name is written.
 pub(crate) fn read_interface(bytes: &[u8], iif: &mut Dev) -> Result<(), Refusal>
     requires { iif.old ≡ codes "lo" }

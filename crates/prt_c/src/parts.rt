@@ -1,4 +1,4 @@
-//! A box taken apart: where its value lies, and the memory that it comes from.
+//! A box taken apart: where its value is, and the memory that it comes from.
 ghost use Rattle.std.specs.Prelude.{◌≡◌};
 ghost use Rattle.std.specs.Box.Ownership.{box_owns};
 

@@ -40,7 +40,7 @@ fn release(held: Held) {
     }
 }
 
-/// Puts what was made in the place of what is held, which is released; gives the status.
+/// Puts what was made in the place of what is held, which is released; returns the status.
 fn put(held: &mut Held, made: Result<Held, Refusal>) -> u32
     ensures { Puts held.old.home made held.new.home result }
 {
@@ -55,7 +55,7 @@ fn put(held: &mut Held, made: Result<Held, Refusal>) -> u32
 
 /// Makes tables of a new database: no routes, and the rules for local, main and default.
 ///
-/// What `tables` held is released. Returns 0, or 26 where memory is refused; `tables` then holds what it did.
+/// What `tables` held is released. Returns 0, or 26 if memory is refused; `tables` then holds what it did.
 #[unsafe(no_mangle)]
 pub extern "C" fn prt_tables_new(alloc: Global, tables: &mut Held) -> u32
     ensures { AreMade tables.old.home tables.new.home result }
@@ -63,12 +63,12 @@ pub extern "C" fn prt_tables_new(alloc: Global, tables: &mut Held) -> u32
     put(tables, hold_opening(alloc))
 }
 
-/// Executes a line of the command language, which stands without its newline. A blank line, a comment and a question
+/// Executes a line of the command language, which comes without its newline. A blank line, a comment and a question
 /// change nothing.
 ///
 /// Returns 0, and `number` is the number of commands that were accepted so far. Otherwise the tables and `number` are as
 /// they were. Then it returns 1 to 18 for the line's first fault, and 21 to 24 for what the tables refuse the command for.
-/// Where memory is refused that is 26, and 100 where `tables` holds nothing.
+/// If memory is refused that is 26, and 100 if `tables` holds nothing.
 #[unsafe(no_mangle)]
 pub extern "C" fn prt_tables_line(
     alloc: Global,
@@ -97,8 +97,8 @@ pub extern "C" fn prt_tables_line(
 /// Executes the lines of a text that a newline ends, one after the other, up to the first that is refused.
 ///
 /// `bytes` is how many bytes they have with their newlines, and `number` how many commands were accepted so far. Returns 0
-/// where no whole line is left. Otherwise it returns what `prt_tables_line` does for the line after them, which changed
-/// nothing. Where `tables` holds nothing, that is 100, and all is as it was.
+/// if no whole line is left. Otherwise it returns what `prt_tables_line` does for the line after them, which changed
+/// nothing. If `tables` holds nothing, that is 100, and all is as it was.
 #[unsafe(no_mangle)]
 pub extern "C" fn prt_tables_lines(
     alloc: Global,
@@ -123,9 +123,9 @@ pub extern "C" fn prt_tables_lines(
     }
 }
 
-/// Gives one owner more of the version that the tables are at. Later lines leave that version as it is.
+/// Makes one more owner of the version that the tables are at. Later lines leave that version as it is.
 ///
-/// What `version` held is released. Returns 0, 26 where memory is refused, or 100 where `tables` holds nothing; `version`
+/// What `version` held is released. Returns 0, 26 if memory is refused, or 100 if `tables` holds nothing; `version`
 /// then holds what it did. `tables` holds the same afterwards.
 #[unsafe(no_mangle)]
 pub extern "C" fn prt_tables_version(alloc: Global, tables: &mut Held, version: &mut Held) -> u32

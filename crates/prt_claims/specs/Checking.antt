@@ -43,7 +43,8 @@ abbrev pub AreFound : State → ℕ → List (List ℕ) → List Breach → Type
 AreFound state number [] found = found ≡ []
 AreFound state number (line ∷ lines) found = (first others : List Breach) × IsFoundAt state number (reading line) first × AreFound state (number + 1) lines others × (found ≡ first ++ others)
 
--- Each line of the text that is no claim is among the bad ones. Each claim that doesn't hold of the state is among the breaches, with a packet that shows it.
+-- Each line of the text that is no claim is among the bad ones. Each claim that doesn't hold of the state is among the
+-- breaches, with a packet that shows it.
 pub record IsChecked (state : State) (text : List ℕ) (checked : Checked) : Type 0 where
   pub bad : checked.bad.items ≡ bad_lines 1 (lines_of text)
   pub breaches : AreFound state 1 (lines_of text) checked.breaches.items

@@ -32,7 +32,7 @@ pub struct Claim {
     pub selector: PacketSelector,
     /// Whether they have none of the outcomes.
     pub is_negated: bool,
-    /// The outcomes; [`read_claim`](crate::read_claim) gives at least one.
+    /// The outcomes; [`read_claim`](crate::read_claim) returns at least one.
     pub outcomes: Vec<Expected>,
 }
 

@@ -79,7 +79,7 @@ module _ (line : LineKind) (given : Items) where
   fault_is place w ws e (bad_value p w2 ws2 slot b f is g v) = goes (here place) w ws None (ended slot b w place (is_last ws) false is g ∙ ap (λ r. value_step r given) v)
   fault_is place w ws e (further p next w2 v vs slot f is g deeper) = goes (here place) w (v ∷ vs) (Some (here next, given)) (opened slot w place next false false is g) ∙ fault_is next v vs e deeper
 
-  -- it passes the words of an item that is spelled and was not given
+  -- it passes the words of an item that is written and was not given
   item_passes : (place : ItemPlace) (w : Word) (own rest : List Word) (x : Item) → IsItem line place w own x → has (slot_of x) given ≡ false → items_fault line (here place) given (w ∷ (own ++ rest)) ≡ items_fault line Start (put x given) rest
   item_passes place w own rest x (alone w2 x2 e) new = goes Start w rest (Some (Start, put x given)) (said w x (is_last rest) false e new)
   item_passes place w own rest x (valued p w2 slot b x2 is v) new =

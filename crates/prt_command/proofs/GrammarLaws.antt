@@ -43,7 +43,7 @@ good_of_items line [] (suc n) given items h l = absurd (omega (arith, l))
 good_of_items line (w ∷ ws) zero given items h l = good_step line given items w ws (λ n k. good_of_items line ws n k items) (item_or_fault line given w ws) refl h
 good_of_items line (w ∷ ws) (suc n) given items h l = good_of_items line ws n given items h (omega (arith, l))
 
--- the words of an item are own_words_skipped
+-- the words of an item are skipped
 own_words_skipped : (line : LineKind) (given : Items) (own ws : List Word) → items_after line (length own) given (own ++ ws) ≡ items_of line given ws
 own_words_skipped line given [] ws = refl
 own_words_skipped line given (w ∷ own) ws = own_words_skipped line given own ws
@@ -130,7 +130,7 @@ not_longer line given front ahead taken others w rest after e (more w1 own1 rest
 pub longest : (line : LineKind) (given : Items) (ws ahead after : List Word) (taken : List Item) (e : Refusal) → (first : FirstFault line given ws e) → Good line given ahead taken → ws ≡ ahead ++ after → length ahead ≤ length first.front
 longest line given ws ahead after taken e d good s = not_longer line given d.front ahead d.taken taken d.w d.rest after e d.good.spelled d.good.once (fault_back line (put_all d.taken given) start d.w d.rest e d.first) good.spelled good.once (sym d.splits ∙ s)
 
--- ---- an item is one item alone
+-- ---- an item is only one item
 
 none_given : (slot : Slot) → has slot no_items ≡ false
 none_given Destination = refl

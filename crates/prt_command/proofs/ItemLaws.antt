@@ -1,4 +1,4 @@
--- One item: what is read is what is spelled, and its fault is the first.
+-- One item: what is read is what is written, and its fault is the first.
 use Rattle.std.proofs.Common.{◌≡◌, ℕ, ◌≤◌, List, [], ◌∷◌, ◌++◌, Bool, true, false, Some, None, Option, Result, Ok, Err, refl, length, take, ◌∙◌, ap, sym, subst, arith}
 use Rattle.std.specs.Prelude.{if◌then◌else◌}
 use Rattle.prt_addr.specs.Word.{Word}
@@ -74,7 +74,7 @@ module _ (line : LineKind) (given : Items) where
   lone_form : (w : Word) (ws : List Word) (x : Item) (is_given : Bool) → word_in line.entries w ≡ Some (Alone x) → has (slot_of x) given ≡ is_given → item_or_fault line given w ws ≡ (if is_given then Err Repeated else Ok (x, 0))
   lone_form w ws x is_given e g = entry_form w ws (Some (Alone x)) e ∙ ap (λ i. if i then Err Repeated else Ok (x, 0)) g
 
-  -- ---- what is spelled is read
+  -- ---- what is written is read
 
   pub of_next : (slot s : Slot) (w : Word) (place next : ItemPlace) → MustBeFollowed line w slot place next → IsOf next s → s ≡ slot
   of_next slot s w place next (keyword e) is = is
@@ -93,7 +93,7 @@ module _ (line : LineKind) (given : Items) where
   of_place place w own x (followed p next w2 v own2 slot x2 (to_word is none to) i) = tt
   of_place place w own x (followed p next w2 v own2 slot x2 (before_prefix p2 b plain e) i) = of_plain slot (slot_of x2) w2 p2 plain (of_place next v own2 x2 i)
 
-  -- an item that is spelled and was not given is read, whatever stands after it
+  -- an item that is written and was not given is read, whatever comes after it
   pub read_back : (place : ItemPlace) (w : Word) (own rest : List Word) (x : Item) → IsItem line place w own x → has (slot_of x) given ≡ false → read_at line given place w (own ++ rest) ≡ Ok (x, length own)
   read_back place w own rest x (alone w2 x2 e) g = lone_form w rest x false e g
   read_back place w own rest x (valued p w2 slot b x2 is e) g = value_form slot b w place rest is (ap (λ s. has s given) (sym (slot_kept slot b w x e)) ∙ g) ∙ ap item_ends e
@@ -114,7 +114,7 @@ module _ (line : LineKind) (given : Items) where
   fault_back place w ws e (further p next w2 v vs slot f is g more) =
       followed_form slot w place next (v ∷ vs) is ∙ ap (λ b. what_follows b (λ v vs. read_at line given next v vs) (v ∷ vs)) g ∙ ap one_more (fault_back next v vs e more)
 
--- ---- what is read is spelled
+-- ---- what is read is written
 
 -- What a word is at a place.
 data View (line : LineKind) (w : Word) : ItemPlace → Type 0 where

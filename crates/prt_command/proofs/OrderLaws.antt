@@ -78,7 +78,7 @@ same_in_any_order given (item ∷ front) rest a b once = same_in_any_order (put 
 
 -- ---- words
 
--- Where the words of a line begin with these items, so do its items.
+-- If the words of a line begin with these items, so do its items.
 record Split (line : LineKind) (zs : List Word) (front all : List Item) : Type 0 where
   others : List Item
   is : all ≡ front ++ others

@@ -67,7 +67,7 @@ filter-onto_twice : (b c : ℕ) (ps : List Word) → filter has_bytes (onto_firs
 filter-onto_twice b c [] = refl
 filter-onto_twice b c (w ∷ ws) = refl
 
--- a byte of a word: the bytes before the first white space, and what stands from there on
+-- a byte of a word: the bytes before the first white space, and what comes from there on
 word_front : (b : ℕ) (u : List ℕ) → filter has_bytes (onto_first b (slice_split is_white u)) ≡ (b ∷ take (position_or_len is_white u) u) ∷ words (drop (position_or_len is_white u) u)
 word_front b [] = refl
 word_front b (c ∷ cs) = elim (sides (is_white c)) [
@@ -78,7 +78,7 @@ word_front b (c ∷ cs) = elim (sides (is_white c)) [
 first_word : (b : ℕ) (bs : List ℕ) → is_white b ≡ false → words (b ∷ bs) ≡ take (position_or_len is_white (b ∷ bs)) (b ∷ bs) ∷ words (drop (position_or_len is_white (b ∷ bs)) (b ∷ bs))
 first_word b bs h = simp (h, one_plus) (word_front b bs)
 
--- what stands after white space begins with none
+-- what comes after white space begins with none
 begins_black : (t u : List ℕ) (b : ℕ) → drop (position_or_len is_black t) t ≡ b ∷ u → is_white b ≡ false
 begins_black [] u b h = absurd cc
 begins_black (c ∷ cs) u b h = elim (sides (is_white c)) [
@@ -119,7 +119,7 @@ place_is p xs = elim (sides (nat_lt (position_or_len p xs) (length xs))) [
 pub place_within : (p : ℕ → Bool) (xs : List ℕ) (n : ℕ) → n ≡ place p xs → n ≤ length xs
 place_within p xs n e = let i = position_or_len-le p xs in let j = place_is p xs in omega (arith, i, j, e)
 
--- the text from a place on, as a slice gives it
+-- the text from a place on, as a slice returns it
 abbrev pub from : List ℕ → ℕ → List ℕ
 from xs n = take (length xs - n) (drop n xs)
 

@@ -232,7 +232,7 @@ length_for : (o : Option ℕ) → IfSome o (λ len. IsTrue (nat_le len 32)) → 
 length_for None is = refl
 length_for (Some len) is = is
 
--- a length stands with a lookup alone
+-- a length comes only with a lookup
 rule_for : (action : rule.Action) (suppress : Option ℕ) → IsStorableAction action → IfSome suppress (λ len. IsTrue (nat_le len 32)) → is_some suppress && not (is_lookup action) ≡ false → IsTrue (is_storable_rule action suppress)
 rule_for (Lookup table) suppress is length apart = and_from _ _ (and_parts _ _ is).0 (length_for suppress length)
 rule_for _ None is length apart = refl

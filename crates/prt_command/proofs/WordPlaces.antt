@@ -1,4 +1,4 @@
--- Where a word stands in a text.
+-- Where a word is in a text.
 use Rattle.std.proofs.Common.{◌≡◌, ℕ, ◌+◌, ◌<◌, ◌≤◌, List, [], ◌∷◌, ◌++◌, Option, Some, None, refl, length, take, drop, IfSome, MatchOption, length-append, ◌∙◌, ap, sym, subst, arith}
 use Rattle.std.specs.Prelude.{◌-◌, ◌==◌}
 use Rattle.std.specs.List.{position_or_len}
@@ -57,9 +57,9 @@ module _ (text : List ℕ) (at start : ℕ) (l : at ≤ length text) (is : start
       ∙ ap (λ t. take len (drop start text) ∷ words t) rest
       ∙ ap (λ n. take n (drop start text) ∷ words (drop (start + len) text)) (sym count)
 
--- ---- a line and what stands before its comment
+-- ---- a line and what comes before its comment
 
--- what stands at a place in a text, where more follows
+-- what is at a place in a text, if more follows
 in_front : (text rest : List ℕ) (at : WordPlace) → IsIn text at → bytes_at (text ++ rest) at ≡ bytes_at text at
 in_front text rest at is =
     let begins : at.start ≤ length text = omega (arith, is.0, is.1) in

@@ -32,9 +32,9 @@ about w ws other = w ∷ ws
 abbrev pub from_object : List Word → List Word
 from_object ws = skip_word (codes "-4") (skip_word (codes "ip") ws)
 
--- The first fault of a line is about the first of these words, which stand from there to its end.
+-- The first fault of a line is about the first of these words, which run from there to its end.
 pub data IsAbout (ws : List Word) : List Word → Type 0 where
-  -- The word where an object has to stand is none,
+  -- The word where an object has to come is none,
   of_object : (w : Word) (rest : List Word) → from_object ws ≡ w ∷ rest → object_of w ≡ None → IsAbout ws (w ∷ rest)
   -- or the word after an object is none of its verbs,
   of_verb : (o w : Word) (rest : List Word) (object : Object) → from_object ws ≡ o ∷ w ∷ rest → object_of o ≡ Some object → verb_of object w ≡ None → IsAbout ws (w ∷ rest)
@@ -78,7 +78,7 @@ abbrev pub value_step : Result Item Refusal → Items → Step
 value_step (Ok item) given = Some (Start, put item given)
 value_step (Err fault) given = None
 
--- after a word that is the last of the line or not; none where the fault is about it
+-- after a word that is the last of the line or not; none if the fault is about it
 abbrev pub step : Items → Word → Bool → WordRole → Step
 step given w last (Opens slot next) = if last || has slot given then None else Some (next, given)
 step given w last (Ends slot b) = if has slot given then None else value_step (value slot b w) given
@@ -89,12 +89,12 @@ abbrev pub is_last : List Word → Bool
 is_last [] = true
 is_last (v ∷ vs) = false
 
--- the words from the one on that a step stopped at, or what the words after it give
+-- the words from the one on that a step stopped at, or what the words after it return
 abbrev pub stop_or : Step → List Word → (Place → Items → List Word) → List Word
 stop_or None ws more = ws
 stop_or (Some t) ws more = more t.0 t.1
 
--- the words from the one on that the first fault of the items is about; none where each item is good
+-- the words from the one on that the first fault of the items is about; none if each item is good
 abbrev pub items_fault : LineKind → Place → Items → List Word → List Word
 items_fault line place given [] = []
 items_fault line place given (w ∷ ws) = stop_or (step given w (is_last ws) (role_of line place w)) (w ∷ ws) (λ next more. items_fault line next more ws)
@@ -115,7 +115,7 @@ abbrev pub object_fault : List Word → List Word
 object_fault [] = []
 object_fault (w ∷ ws) = object_fault_by (object_of w) w ws
 
--- the words of a line from the one on that its first fault is about; none where it is about none
+-- the words of a line from the one on that its first fault is about; none if it is about none
 abbrev pub words_fault : List Word → List Word
 words_fault ws = object_fault (from_object ws)
 
@@ -125,7 +125,7 @@ words_fault ws = object_fault (from_object ws)
 abbrev pub bytes_at : List ℕ → WordPlace → List ℕ
 bytes_at text at = take (at.end - at.start) (drop at.start text)
 
--- the place stands within the text
+-- the place is within the text
 abbrev pub IsIn : List ℕ → WordPlace → Type 0
 IsIn text at = (at.start ≤ at.end) × (at.end ≤ length text)
 

@@ -14,18 +14,18 @@ use Rattle.prt_command.specs.declared.item.Slot.{Slot}
 
 -- ---- words at their places
 
--- Where a word stands: at the start of an item, after `to`, or where the value of an item has to stand, after the word before its prefix if there is one.
+-- Where a word is: at the start of an item, after `to`, or where the value of an item has to come. The value comes after the word before its prefix if there is one.
 pub data ItemPlace : Type 0 where
   start : ItemPlace
   after_to : Slot → ItemPlace
   at_value : Slot → Option PrefixWord → ItemPlace
 
--- At this place the item needs no word of its own: the word w is no keyword of the line and not `to`, or stands after `to`.
+-- At this place the item needs no word of its own. The word w is no keyword of the line and not `to`, or comes after `to`.
 pub data IsPlain (line : LineKind) (w : Word) (slot : Slot) : ItemPlace → Type 0 where
   no_word : line.plain ≡ Some slot → word_in line.entries w ≡ None → is_to w ≡ false → IsPlain line w slot start
   word_after_to : IsPlain line w slot (after_to slot)
 
--- The word w, at the first place, is one of this item that something must follow, which stands at the second place.
+-- The word w, at the first place, is one of this item that something must follow, which comes at the second place.
 pub data MustBeFollowed (line : LineKind) (w : Word) (slot : Slot) : ItemPlace → ItemPlace → Type 0 where
   -- a keyword
   keyword : word_in line.entries w ≡ Some (Keyword slot) → MustBeFollowed line w slot start (at_value slot None)
@@ -41,9 +41,9 @@ pub data IsValue (line : LineKind) (w : Word) (slot : Slot) : ItemPlace → Opti
   -- whatever word it is, after one that a value must follow
   any_word : (b : Option PrefixWord) → IsValue line w slot (at_value slot b) b
 
--- ---- how an item is spelled
+-- ---- how an item is written
 
--- An item of the line stands from the word w at this place on, with the words own after it, and this is what it says.
+-- An item of the line extends from the word w at this place on, with the words own after it. This is what it says.
 pub data IsItem (line : LineKind) : ItemPlace → Word → List Word → Item → Type 0 where
   -- a word that says the item alone
   alone : (w : Word) (x : Item) → word_in line.entries w ≡ Some (Alone x) → IsItem line start w [] x
@@ -74,11 +74,11 @@ pub record Good (line : LineKind) (given : Items) (ws : List Word) (taken : List
 
 -- ---- the first fault
 
--- After items that were given, an item stands from the word w at this place on, before the words ws, and this is its first fault.
+-- After items that were given, an item extends from the word w at this place on, before the words ws. This is its first fault.
 pub data IsFault (line : LineKind) (given : Items) : ItemPlace → Word → List Word → Refusal → Type 0 where
-  -- A word that is none of the line's item words, where the line has no item without a word of its own,
+  -- A word that is none of the line's item words, if the line has no item without a word of its own,
   unknown_word : (w : Word) (ws : List Word) → line.plain ≡ None → word_in line.entries w ≡ None → IsFault line given start w ws UnknownWord
-  -- or where that item was given: a second bare prefix or address.
+  -- or if that item was given: a second bare prefix or address.
   second_bare : (w : Word) (ws : List Word) (slot : Slot) → IsValue line w slot start None → has slot given ≡ true → IsFault line given start w ws UnknownWord
   -- Nothing after a keyword, `to`, a kind, `root`, `match` or `exact`, whether its item was given or not.
   nothing_after : (place next : ItemPlace) (w : Word) (slot : Slot) → MustBeFollowed line w slot place next → IsFault line given place w [] MissingValue
@@ -91,7 +91,7 @@ pub data IsFault (line : LineKind) (given : Items) : ItemPlace → Word → List
   -- The words are looked at from left to right: the fault of what follows, after a word of an item that was not given.
   further : (place next : ItemPlace) (w v : Word) (ws : List Word) (slot : Slot) (fault : Refusal) → MustBeFollowed line w slot place next → has slot given ≡ false → IsFault line given next v ws fault → IsFault line given place w (v ∷ ws) fault
 
--- After good words stands an item with this fault; there is one such place alone (the law `first_faults`).
+-- After good words comes an item with this fault; there is only one such place (the law `first_faults`).
 pub record FirstFault (line : LineKind) (given : Items) (ws : List Word) (fault : Refusal) : Type 0 where
   pub front : List Word
   pub taken : List Item

@@ -1,4 +1,4 @@
--- The items of each kind of line, with the words that spell them.
+-- The items of each kind of line, with the words that express them.
 use Rattle.std.specs.Prelude.{Bool, if◌then◌else◌, List, [], ◌∷◌, ◌++◌, Option, Some, None, bytes_eq, codes}
 use Rattle.prt_addr.specs.Word.{Word, is_one_of}
 use Rattle.prt_rule.specs.declared.rule.Action.TheVariants as actions
@@ -56,7 +56,7 @@ route_get_words =
     ∷ (codes "mark" ∷ [], Keyword Mark)
     ∷ []
 
--- which packets a rule matches, and when it is asked
+-- which packets a rule matches, and when it is tried
 abbrev pub selector_words : List Entry
 selector_words =
     (codes "not" ∷ [], Alone item.Inverted)

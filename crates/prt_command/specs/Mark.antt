@@ -11,11 +11,11 @@ use Rattle.prt_command.specs.Then.{◌>>=◌}
 abbrev pub is_slash : ℕ → Bool
 is_slash b = b == 47
 
--- the number that a word spells, or the refusal
+-- the number that a word expresses, or the refusal
 abbrev pub part : Word → Result ℕ Refusal
 part w = ok_or (number w) BadNumber
 
--- by the place of the first `/`, after which the mask stands; without one it has all bits
+-- by the place of the first `/`, after which the mask comes; without one it has all bits
 abbrev pub mark_at : Option ℕ → Word → Result Mark Refusal
 mark_at None w = part w >>= λ mark. Ok (record { mark = mark; mask = 0xffffffff })
 mark_at (Some place) w = part (take place w) >>= λ mark. part (drop (place + 1) w) >>= λ mask. Ok (record { mark = mark; mask = mask })

@@ -22,7 +22,7 @@ use Rattle.prt_command.specs.declared.verb.ObjectVerb.TheVariants.{RouteAdd, Rou
 
 -- ---- words
 
--- what stands before the first `#`, also inside a word
+-- what comes before the first `#`, also inside a word
 abbrev pub before_comment : List ℕ → List ℕ
 before_comment line = before_first (λ b. b == 35) line
 
@@ -30,7 +30,7 @@ abbrev pub has_bytes : Word → Bool
 has_bytes [] = false
 has_bytes (b ∷ w) = true
 
--- the parts between white space, but for empty ones
+-- the parts between white space, except empty ones
 abbrev pub words : List ℕ → List Word
 words text = filter has_bytes (slice_split is_white text)
 
@@ -40,7 +40,7 @@ is_text_byte b = b == 9 || b == 13 || (nat_le 32 b && nat_le b 126)
 
 -- ---- objects and verbs
 
--- What a verb means: the words that spell it, the items of its line, and what they ask for.
+-- What a verb means: the words that express it, the items of its line, and what they ask for.
 pub record Meaning : Type 0 where
   pub spellings : List Word
   pub line : LineKind
@@ -72,7 +72,7 @@ abbrev pub verbs_of : Object → List ObjectVerb
 verbs_of Route = RouteAdd ∷ RouteChange ∷ RouteReplace ∷ RouteDel ∷ RouteFlush ∷ RouteShow ∷ RouteGet ∷ []
 verbs_of Rule = RuleAdd ∷ RuleDel ∷ RuleFlush ∷ RuleShow ∷ []
 
--- the verb that is meant where none follows the object
+-- the verb that is meant if none follows the object
 abbrev pub lone_verb : Object → ObjectVerb
 lone_verb Route = RouteShow
 lone_verb Rule = RuleShow
@@ -81,11 +81,11 @@ abbrev pub object_words : Object → List Word
 object_words Route = codes "route" ∷ codes "ro" ∷ codes "r" ∷ []
 object_words Rule = codes "rule" ∷ codes "ru" ∷ []
 
--- the verb of this object that the word spells
+-- the verb of this object that the word expresses
 abbrev pub verb_of : Object → Word → Option ObjectVerb
 verb_of object w = find (λ verb. is_one_of w (meaning_of verb).spellings) (verbs_of object)
 
--- the object that the word spells
+-- the object that the word expresses
 abbrev pub object_of : Word → Option Object
 object_of w = find (λ object. is_one_of w (object_words object)) (Route ∷ Rule ∷ [])
 
@@ -103,7 +103,7 @@ abbrev pub object_request : List Word → Result Request Refusal
 object_request [] = Err UnknownObject
 object_request (w ∷ ws) = ok_or (object_of w) UnknownObject >>= λ object. verb_request object ws
 
--- the words, without this one if it stands in front
+-- the words, without this one if it is in front
 abbrev pub skip_word : Word → List Word → List Word
 skip_word x [] = []
 skip_word x (w ∷ ws) = if bytes_eq x w then ws else w ∷ ws
@@ -113,7 +113,7 @@ abbrev pub words_request : List Word → Result (Option Request) Refusal
 words_request [] = Ok None
 words_request (w ∷ ws) = object_request (skip_word (codes "-4") (skip_word (codes "ip") (w ∷ ws))) >>= λ request. Ok (Some request)
 
--- the words of a line, which is not too long and has text alone before its comment
+-- the words of a line, which is not too long and has only text before its comment
 abbrev pub line_words : List ℕ → Result (List Word) Refusal
 line_words line =
     refuse_if (nat_lt longest_line (length line)) LineTooLong >>= λ _.

@@ -56,7 +56,7 @@ has_next_hop items = is_some items.via || is_some items.dev
 abbrev pub scope_of : Kind → Option Addr → Option ℕ → ℕ
 scope_of kind via scope = if is_unicast kind then unwrap_or scope (if is_some via then global_scope else link_scope) else global_scope
 
--- a route of protocol boot, in table main with metric 0 where none are given
+-- a route of protocol boot, in table main with metric 0 if none are given
 abbrev pub route_of : Items → Kind → Block → Route
 route_of items kind prefix = record {
   table = unwrap_or items.table main_table;
@@ -77,7 +77,7 @@ route_by items kind prefix =
     refuse_if (not (is_unicast kind) && (has_next_hop items || is_some items.src)) NextHopNotAllowed >>= λ _.
     Ok (route_of items kind prefix)
 
--- the kind is unicast where none is given
+-- the kind is unicast if none is given
 abbrev pub new_route : Items → Result Route Refusal
 new_route items = ok_or items.destination MissingDestination >>= λ target. route_by items (unwrap_or target.kind Unicast) target.prefix
 
@@ -87,7 +87,7 @@ route_request command items = new_route items >>= λ route. Ok (requests.Command
 
 -- ---- routes that are there
 
--- the table is main where none is given, and a metric of 0 counts as not given
+-- the table is main if none is given, and a metric of 0 counts as not given
 abbrev pub route_choice : Items → Target → RouteChoice
 route_choice items target = record {
   table = unwrap_or items.table main_table;
@@ -104,7 +104,7 @@ route_choice items target = record {
 abbrev pub route_del_request : Asks
 route_del_request items = ok_or items.destination MissingDestination >>= λ target. Ok (requests.Command (RouteDel (route_choice items target)))
 
--- main where none is given
+-- main if none is given
 abbrev pub selected_table : Option WhichTables → Option ℕ
 selected_table None = Some main_table
 selected_table (Some All) = None
@@ -128,7 +128,7 @@ route_show_request items = Ok (requests.Query (RouteShow (selector_of items)))
 
 -- ---- a packet
 
--- a packet from 0.0.0.0 that came in by lo without a mark (0), where nothing else is given
+-- a packet from 0.0.0.0 that came in by lo without a mark (0), if nothing else is given
 abbrev pub packet_of : Items → Addr → Packet
 packet_of items dst = record {
   dst = dst;
@@ -142,7 +142,7 @@ route_get_request items = ok_or items.address MissingDestination >>= λ dst. Ok 
 
 -- ---- rules
 
--- a rule for all sources and destinations that looks up table main, where nothing else is given
+-- a rule for all sources and destinations that looks up table main, if nothing else is given
 abbrev pub rule_of : Items → NewRule
 rule_of items = record {
   priority = items.priority;
@@ -160,7 +160,7 @@ abbrev pub is_lookup : Action → Bool
 is_lookup (Lookup table) = true
 is_lookup _ = false
 
--- prefixes are suppressed in a lookup alone
+-- prefixes are suppressed only in a lookup
 abbrev pub suppresses_without_lookup : NewRule → Bool
 suppresses_without_lookup rule = is_some rule.suppress && not (is_lookup rule.action)
 

@@ -1,4 +1,4 @@
--- The items of a line, or its first fault, as a function; what it gives is said by the definitions of the grammar (the laws `first_faults` and `readings`).
+-- The items of a line, or its first fault, as a function. What it returns is said by the definitions of the grammar (the laws `first_faults` and `readings`).
 use Rattle.std.specs.Prelude.{ℕ, zero, suc, Bool, true, false, if◌then◌else◌, List, [], ◌∷◌, Option, Some, None, Result, Ok, Err}
 use Rattle.prt_addr.specs.Word.{Word}
 use Rattle.prt_refusals.specs.declared.refusal.Refusal.{Refusal}
@@ -46,7 +46,7 @@ abbrev pub plain_by : Slot → Option PrefixWord → Items → Word → List Wor
 plain_by slot (Some b) given w ws = value_item slot (Some b) given ws
 plain_by slot None given w ws = if has slot given then Err UnknownWord else item_ends (value slot None w)
 
--- from the word after `to` on, or from the first where that isn't `to`
+-- from the word after `to` on, or from the first if that isn't `to`
 abbrev pub plain_from : Slot → Items → Word → List Word → Scanned
 plain_from slot given w ws = plain_by slot (prefix_word slot w) given w ws
 

@@ -1,4 +1,4 @@
--- What the steps of reading a line give.
+-- What the steps of reading a line return.
 use Rattle.std.specs.Prelude.{Bool, true, false, List, Result}
 use Rattle.prt_addr.specs.Word.{Word}
 use Rattle.prt_refusals.specs.declared.refusal.Refusal.{Refusal}

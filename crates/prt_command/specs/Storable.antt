@@ -7,7 +7,7 @@ use Rattle.prt_command.specs.declared.request.Command.TheVariants.{RouteAdd, Rou
 use Rattle.prt_command.specs.declared.request.Request.{Request}
 use Rattle.prt_command.specs.declared.request.Request.TheVariants as requests
 
--- a route or a rule that a command would put into a table may stand there
+-- a route or a rule that a command would put into a table may be there
 abbrev pub IsStorable : Command → Type 0
 IsStorable (RouteAdd route) = IsTrue (is_storable_route route)
 IsStorable (RouteChange route) = IsTrue (is_storable_route route)

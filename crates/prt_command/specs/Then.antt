@@ -2,7 +2,7 @@
 use Rattle.std.specs.Prelude.{Result, Ok, Err}
 use Rattle.prt_refusals.specs.declared.refusal.Refusal.{Refusal}
 
--- the second reading, of what the first gives, or the first's refusal
+-- the second reading, of what the first returns, or the first's refusal
 infixl 10 ◌>>=◌
 abbrev pub ◌>>=◌ : {A B : Type 0} → Result A Refusal → (A → Result B Refusal) → Result B Refusal
 (Ok x) >>= f = f x

@@ -1,4 +1,4 @@
--- The values of items, and the words that may stand before a prefix.
+-- The values of items, and the words that may come before a prefix.
 use Rattle.std.specs.Prelude.{ℕ, nat_le, if◌then◌else◌, List, [], ◌∷◌, map, find, Option, Some, None, Result, Ok, bytes_eq, codes}
 use Rattle.std.specs.Option.{ok_or}
 use Rattle.prt_addr.specs.Addr.{address}
@@ -44,13 +44,13 @@ spelling before.Root = codes "root"
 spelling before.Match = codes "match"
 spelling before.Exact = codes "exact"
 
--- the words that may stand before the prefix of each item
+-- the words that may come before the prefix of each item
 abbrev pub prefix_words : Slot → List PrefixWord
 prefix_words Destination = map before.Kind every_kind
 prefix_words Range = before.Root ∷ before.Match ∷ before.Exact ∷ []
 prefix_words slot = []
 
--- the word that w is, if one such may stand before the prefix of this item
+-- the word that w is, if one such may come before the prefix of this item
 abbrev pub prefix_word : Slot → Word → Option PrefixWord
 prefix_word slot w = find (λ b. bytes_eq (spelling b) w) (prefix_words slot)
 
@@ -60,7 +60,7 @@ abbrev pub kind_before : Option PrefixWord → Option Kind
 kind_before (Some (before.Kind kind)) = Some kind
 kind_before other = None
 
--- a prefix without host bits, and the kind that stands before it if one does
+-- a prefix without host bits, and the kind that comes before it if one does
 abbrev pub target : Option PrefixWord → Word → Result Target Refusal
 target b w = map_ok (λ prefix. record { kind = kind_before b; prefix = prefix }) (prefix w)
 
@@ -86,7 +86,7 @@ lookup w = map_ok actions.Lookup (ok_or (table w) BadTable)
 abbrev pub length_number : Word → Option ℕ
 length_number w = keep (λ n. nat_le n 32) (number w)
 
--- the item that a word spells as its value, after the word before its prefix if there is one; `not` has no value
+-- the item that a word expresses as its value, after the word before its prefix if there is one; `not` has no value
 abbrev pub value : Slot → Option PrefixWord → Word → Result Item Refusal
 value Destination b w = map_ok item.Destination (target b w)
 value Via b w = map_ok item.Via (ok_or (address w) BadAddress)

@@ -49,7 +49,7 @@ fn unless_empty(items: &Items, command: Command) -> Result<Request, Refusal>
     Ok(Request::Command(command))
 }
 
-/// Gives the scope of a route of this kind, by its gateway and the scope that is given.
+/// Chooses the scope of a route of this kind, by its gateway and the scope that is given.
 fn scope_of(kind: Kind, via: Option<Addr>, scope: Option<u8>) -> u8
     ensures { result ≡ scope_of kind via scope }
 {
@@ -77,14 +77,14 @@ fn route_of(items: &Items, kind: Kind, prefix: Prefix) -> Route
     }
 }
 
-/// Tells whether a gateway or an interface was given.
+/// Checks whether a gateway or an interface was given.
 fn has_next_hop(items: &Items) -> bool
     ensures { result ≡ has_next_hop items.now }
 {
     items.via.is_some() || items.dev.is_some()
 }
 
-/// Checks that a next hop was given where the route is unicast, and only then, and puts the route together.
+/// Checks that a next hop was given if the route is unicast, and only then, and puts the route together.
 fn route_by(items: &Items, kind: Kind, prefix: Prefix) -> Result<Route, Refusal>
     ensures { result ≡ route_by items.now kind prefix }
 {
@@ -96,7 +96,7 @@ fn route_by(items: &Items, kind: Kind, prefix: Prefix) -> Result<Route, Refusal>
     }
 }
 
-/// Puts together the route that the items say: its destination has to be given, and its kind is unicast where none is.
+/// Puts together the route that the items say: its destination has to be given, and its kind is unicast if none is.
 fn new_route(items: &Items) -> Result<Route, Refusal>
     ensures { result ≡ new_route items.now }
 {
@@ -140,7 +140,7 @@ fn route_del_request(items: &Items) -> Result<Request, Refusal>
     Ok(Request::Command(Command::RouteDel(choice)))
 }
 
-/// Gives the number of the table that is selected: main where none is given, None for all.
+/// Returns the number of the table that is selected: main if none is given, None for all.
 fn selected_table(tables: Option<WhichTables>) -> Option<u32>
     ensures { result ≡ selected_table tables }
 {
@@ -208,14 +208,14 @@ fn rule_of(items: &Items) -> NewRule
     }
 }
 
-/// Tells whether a rule that looks up no table would suppress prefixes.
+/// Checks whether a rule that looks up no table would suppress prefixes.
 fn suppresses_without_lookup(rule: &NewRule) -> bool
     ensures { result ≡ suppresses_without_lookup rule.now }
 {
     rule.suppress.is_some() && !matches!(&rule.action, Action::Lookup(_))
 }
 
-/// Asks for a rule; prefixes are suppressed in a lookup alone.
+/// Asks for a rule; prefixes are suppressed only in a lookup.
 fn rule_add_request(items: &Items) -> Result<Request, Refusal>
     ensures { result ≡ rule_add_request items.now }
 {

@@ -56,7 +56,7 @@ pub enum Slot {
     Suppress,
 }
 
-/// An item of a line, with its value; what each says stands at [`Slot`].
+/// An item of a line, with its value; [`Slot`] describes what each says.
 #[derive(Clone, Copy)]
 pub enum Item {
     Destination(Target),
@@ -92,7 +92,7 @@ pub enum ItemWord {
     Alone(Item),
 }
 
-/// A word that may stand before the prefix of an item.
+/// A word that may come before the prefix of an item.
 #[derive(Clone, Copy)]
 pub enum PrefixWord {
     /// The kind of a route, before its destination.
@@ -106,7 +106,7 @@ pub enum PrefixWord {
 }
 
 impl Item {
-    /// Tells which item it is.
+    /// Returns which item it is.
     pub fn slot(self) -> Slot
         ensures { result ≡ slot_of self }
     {
@@ -138,7 +138,7 @@ impl Item {
 }
 
 impl Slot {
-    /// Reads a word that may stand before the prefix of this item.
+    /// Reads a word that may come before the prefix of this item.
     pub(crate) fn prefix_word(self, word: &[u8]) -> Option<PrefixWord>
         ensures { result ≡ prefix_word self word.now }
     {
@@ -169,7 +169,7 @@ pub(crate) fn kind_of(word: &[u8]) -> Option<Kind>
     }
 }
 
-/// Reads a word that may stand before a destination.
+/// Reads a word that may come before a destination.
 #[tactic(auto, using(crate::proofs::Entries::kinds_before))]
 fn kind_word(word: &[u8]) -> Option<PrefixWord>
     ensures { result ≡ prefix_word Slot.Destination word.now }
@@ -180,7 +180,7 @@ fn kind_word(word: &[u8]) -> Option<PrefixWord>
     }
 }
 
-/// Reads a word that may stand before a range.
+/// Reads a word that may come before a range.
 fn range_word(word: &[u8]) -> Option<PrefixWord>
     ensures { result ≡ prefix_word Slot.Range word.now }
 {
@@ -206,12 +206,12 @@ pub enum WhichTables {
 /// The destination of a line on routes.
 #[derive(Clone, Copy)]
 pub struct Target {
-    /// The kind of the route, where one is named.
+    /// The kind of the route, if one is named.
     pub kind: Option<Kind>,
     pub prefix: Prefix,
 }
 
-/// The items that a line has given, each at most once; what each says stands at [`Slot`].
+/// The items that a line has given, each at most once; [`Slot`] describes what each says.
 #[derive(Clone, Copy)]
 pub struct Items {
     pub destination: Option<Target>,
@@ -269,7 +269,7 @@ impl Items {
         }
     }
 
-    /// Tells whether the item was given.
+    /// Returns whether the item was given.
     pub fn has(&self, slot: Slot) -> bool
         ensures { result ≡ has slot self.now }
     {
@@ -299,14 +299,14 @@ impl Items {
         }
     }
 
-    /// Tells whether one of these items was given.
+    /// Checks whether one of these items was given.
     fn has_any(&self, slots: &[Slot]) -> bool
         ensures { result ≡ list_any (λ slot. has slot self.now) slots.now }
     {
         slots.iter().any(|slot| self.has(*slot))
     }
 
-    /// Tells whether no item was given.
+    /// Checks whether no item was given.
     pub fn is_empty(&self) -> bool
         ensures test { result ≡ is_empty self.now }
         ensures none { (result ≡ true) ↔ (self.now ≡ no_items) }

@@ -60,7 +60,7 @@ fn read_words(word: &[u8], rest: &[u8]) -> Result<Request, Refusal>
     read_object(word, rest)
 }
 
-/// Reads the text of a line: what it asks for, or None where it has no words.
+/// Reads the text of a line: what it asks for, or None if it has no words.
 ///
 /// # Errors
 ///
@@ -74,12 +74,12 @@ pub fn read_text(text: &[u8]) -> Result<Option<Request>, Refusal>
     }
 }
 
-/// Takes the text of a line, which stands without its newline: all before the first `#`.
+/// Takes the text of a line, which comes without its newline: all before the first `#`.
 ///
 /// # Errors
 ///
-/// `LineTooLong` where the line has more than [`LONGEST_LINE`] bytes, then `NotAscii` where a byte of its text is neither
-/// white space nor a printable ASCII character.
+/// `LineTooLong` if the line has more than [`LONGEST_LINE`] bytes. Then `NotAscii` if a byte of its text is neither white space
+/// nor a printable ASCII character.
 pub fn line_text(line: &[u8]) -> Result<&[u8], Refusal>
     ensures { MatchResult result
         (λ text. line_words line.now ≡ Ok (words text.now))
@@ -91,11 +91,11 @@ pub fn line_text(line: &[u8]) -> Result<&[u8], Refusal>
     text_of(line).ok_or(Refusal::NotAscii)
 }
 
-/// Reads a line of the command language, which has the words of ip-route(8) and ip-rule(8): what it asks for, or None
-/// where it is blank or a comment.
+/// Reads a line of the command language, which has the words of ip-route(8) and ip-rule(8). Returns what it asks for, or None
+/// if it is blank or a comment.
 ///
-/// The line stands without its newline. A table that it names is 1 or more, and a route that it asks for has a next hop
-/// where it is unicast, and only then.
+/// The line comes without its newline. A table that it names is 1 or more. A route that it asks for has a next hop if it is
+/// unicast, and only then.
 ///
 /// # Errors
 ///

@@ -18,7 +18,7 @@ fn slash_place(word: &[u8]) -> Option<usize>
 ///
 /// # Errors
 ///
-/// `BadNumber` where the word spells no mark.
+/// `BadNumber` if the word is not a mark.
 pub(crate) fn read_mark(word: &[u8]) -> Result<Mark, Refusal>
     ensures { result ≡ mark word.now }
 {

@@ -48,7 +48,7 @@ fn read_value<'a>(
     }
 }
 
-/// Reads a value before whose prefix a word may stand, from this word on, and adds the item: the text after it.
+/// Reads a value before whose prefix a word may come, from this word on, and adds the item: the text after it.
 fn read_qualified<'a>(
     items: &mut Items,
     slot: Slot,

@@ -1,10 +1,10 @@
 use prt_route::{Dev, Prefix, Route, RouteChoice, Selector};
 use prt_rule::{Action, Mark, Packet, RuleChoice};
 
-/// A rule to be added, which gets its id, and where it names none its priority, when it is.
+/// A rule to be added, which gets its id, and if it names none its priority, when it is.
 #[derive(Clone, Copy, PartialEq)]
 pub struct NewRule {
-    /// The lower, the earlier it is asked; where none is named, that of the second rule less one, or 0.
+    /// The lower, the earlier it is tried; if none is named, that of the second rule less one, or 0.
     pub priority: Option<u32>,
     /// Whether it matches the packets that its selector does not.
     pub inverted: bool,
@@ -12,12 +12,12 @@ pub struct NewRule {
     pub from: Prefix,
     /// The destinations; 0.0.0.0/0 for any.
     pub to: Prefix,
-    /// The incoming interface, where it matters.
+    /// The incoming interface, if it matters.
     pub iif: Option<Dev>,
-    /// The mark, where it matters.
+    /// The mark, if it matters.
     pub mark: Option<Mark>,
     pub action: Action,
-    /// The length up to which prefixes are suppressed, 0 to 32, where some are.
+    /// The length up to which prefixes are suppressed, 0 to 32, if some are.
     pub suppress: Option<u8>,
 }
 
@@ -28,7 +28,7 @@ pub enum Command {
     RouteAdd(Route),
     /// `route change`: a route in the place of the one with its key, which is there.
     RouteChange(Route),
-    /// `route replace`: a route, in the place of the one with its key where that is there.
+    /// `route replace`: a route, in the place of the one with its key if that is there.
     RouteReplace(Route),
     /// `route del`: without the route of lowest metric among those that agree.
     RouteDel(RouteChoice),

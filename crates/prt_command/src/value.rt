@@ -24,7 +24,7 @@ fn kind_before(before: Option<PrefixWord>) -> Option<Kind>
     }
 }
 
-/// Reads the prefix of a destination, after the kind that stands before it.
+/// Reads the prefix of a destination, after the kind that comes before it.
 fn read_target(before: Option<PrefixWord>, word: &[u8]) -> Result<Target, Refusal>
     ensures { result ≡ target before word.now }
 {
@@ -33,7 +33,7 @@ fn read_target(before: Option<PrefixWord>, word: &[u8]) -> Result<Target, Refusa
     Ok(Target { kind, prefix })
 }
 
-/// Reads the prefix of a range, after the word that stands before it.
+/// Reads the prefix of a range, after the word that comes before it.
 fn read_range(before: Option<PrefixWord>, word: &[u8]) -> Result<Range, Refusal>
     ensures { result ≡ range before word.now }
 {
@@ -80,7 +80,7 @@ fn read_length(word: &[u8]) -> Result<u8, Refusal>
     Ok(length as u8)
 }
 
-/// Tells whether it is an item of rules.
+/// Checks whether it is an item of rules.
 fn is_of_rules(slot: Slot) -> bool
     ensures { result ≡ is_of_rules slot }
 {
@@ -112,7 +112,7 @@ fn rule_value(slot: Slot, word: &[u8]) -> Result<Item, Refusal>
     }
 }
 
-/// Tells whether it is an item of lines that list or flush routes, or ask for one.
+/// Checks whether it is an item of lines that list or flush routes, or ask for one.
 fn is_of_queries(slot: Slot) -> bool
     ensures { result ≡ is_of_queries slot }
 {
@@ -128,7 +128,7 @@ fn is_of_queries(slot: Slot) -> bool
     )
 }
 
-/// Reads a word as the value of an item of such lines, after the word that stands before its prefix.
+/// Reads a word as the value of an item of such lines, after the word that comes before its prefix.
 fn query_value(slot: Slot, before: Option<PrefixWord>, word: &[u8]) -> Result<Item, Refusal>
     requires { is_of_queries slot ≡ true }
     ensures { result ≡ value slot before word.now }
@@ -144,7 +144,7 @@ fn query_value(slot: Slot, before: Option<PrefixWord>, word: &[u8]) -> Result<It
     }
 }
 
-/// Reads a word as the value of an item of routes, after the word that stands before its prefix.
+/// Reads a word as the value of an item of routes, after the word that comes before its prefix.
 fn route_value(slot: Slot, before: Option<PrefixWord>, word: &[u8]) -> Result<Item, Refusal>
     requires rules { is_of_rules slot ≡ false }
     requires queries { is_of_queries slot ≡ false }
@@ -162,7 +162,7 @@ fn route_value(slot: Slot, before: Option<PrefixWord>, word: &[u8]) -> Result<It
     }
 }
 
-/// Reads a word as the value of an item, after the word that stands before its prefix.
+/// Reads a word as the value of an item, after the word that comes before its prefix.
 ///
 /// # Errors
 ///

@@ -54,7 +54,7 @@ impl Object {
         }
     }
 
-    /// Gives the verb that is meant where none follows.
+    /// Returns the verb that is meant if none follows.
     pub(crate) fn lone_verb(self) -> ObjectVerb
         ensures { result ≡ lone_verb self }
     {
@@ -65,21 +65,21 @@ impl Object {
     }
 }
 
-/// Tells whether the word means `add`.
+/// Checks whether the word means `add`.
 fn is_add(word: &[u8]) -> bool
     ensures { result ≡ is_one_of word.now add_words }
 {
     is(word, b"add") || is(word, b"a")
 }
 
-/// Tells whether the word means `del`.
+/// Checks whether the word means `del`.
 fn is_del(word: &[u8]) -> bool
     ensures { result ≡ is_one_of word.now del_words }
 {
     is(word, b"del") || is(word, b"delete") || is(word, b"d")
 }
 
-/// Tells whether the word means `show`.
+/// Checks whether the word means `show`.
 fn is_show(word: &[u8]) -> bool
     ensures { result ≡ is_one_of word.now show_words }
 {
@@ -127,7 +127,7 @@ fn rule_verb(word: &[u8]) -> Option<ObjectVerb>
 }
 
 impl ObjectVerb {
-    /// Tells what the word begins, as one of the item words of this verb's line.
+    /// Looks up what the word begins, as one of the item words of this verb's line.
     pub(crate) fn item_word(self, word: &[u8]) -> Option<ItemWord>
         ensures { result ≡ word_in (meaning_of self).line.entries word.now }
     {
@@ -143,7 +143,7 @@ impl ObjectVerb {
         }
     }
 
-    /// Tells which item of this verb's line needs no word of its own.
+    /// Finds which item of this verb's line needs no word of its own.
     pub(crate) fn plain_slot(self) -> Option<Slot>
         ensures { result ≡ (meaning_of self).line.plain }
     {
@@ -162,7 +162,7 @@ impl ObjectVerb {
     }
 }
 
-/// Tells what the word begins on the lines of `route add`, `change`, `replace` and `del`.
+/// Looks up what the word begins on the lines of `route add`, `change`, `replace` and `del`.
 fn route_edit_word(word: &[u8]) -> Option<ItemWord>
     ensures { result ≡ word_in route_edit_words word.now }
 {
@@ -185,7 +185,7 @@ fn route_edit_word(word: &[u8]) -> Option<ItemWord>
     }
 }
 
-/// Tells what the word begins on the lines of `route show` and `flush`.
+/// Looks up what the word begins on the lines of `route show` and `flush`.
 fn route_list_word(word: &[u8]) -> Option<ItemWord>
     ensures { result ≡ word_in route_list_words word.now }
 {
@@ -204,7 +204,7 @@ fn route_list_word(word: &[u8]) -> Option<ItemWord>
     }
 }
 
-/// Tells what the word begins on the line of `route get`.
+/// Looks up what the word begins on the line of `route get`.
 fn route_get_word(word: &[u8]) -> Option<ItemWord>
     ensures { result ≡ word_in route_get_words word.now }
 {
@@ -219,7 +219,7 @@ fn route_get_word(word: &[u8]) -> Option<ItemWord>
     }
 }
 
-/// Tells what the word begins, as one of those that say which packets a rule matches, and when it is asked.
+/// Looks up what the word begins, as one of those that say which packets a rule matches, and when it is tried.
 fn selector_word(word: &[u8]) -> Option<ItemWord>
     ensures { result ≡ word_in selector_words word.now }
 {
@@ -244,7 +244,7 @@ fn selector_word(word: &[u8]) -> Option<ItemWord>
     }
 }
 
-/// Tells what the word begins, as one of those that say what a rule does.
+/// Looks up what the word begins, as one of those that say what a rule does.
 fn action_word(word: &[u8]) -> Option<ItemWord>
     ensures { result ≡ word_in action_words word.now }
 {
@@ -261,7 +261,7 @@ fn action_word(word: &[u8]) -> Option<ItemWord>
     }
 }
 
-/// Tells what the word begins, as the one that says which prefixes the lookup of a rule suppresses.
+/// Looks up what the word begins, as the one that says which prefixes the lookup of a rule suppresses.
 fn suppress_word(word: &[u8]) -> Option<ItemWord>
     ensures { result ≡ word_in suppress_words word.now }
 {
@@ -272,7 +272,7 @@ fn suppress_word(word: &[u8]) -> Option<ItemWord>
     }
 }
 
-/// Tells what the word begins, as one of those that say what becomes of the packets that a rule matches.
+/// Looks up what the word begins, as one of those that say what becomes of the packets that a rule matches.
 fn outcome_word(word: &[u8]) -> Option<ItemWord>
     ensures { result ≡ word_in outcome_words word.now }
 {
@@ -282,7 +282,7 @@ fn outcome_word(word: &[u8]) -> Option<ItemWord>
     }
 }
 
-/// Tells what the word begins on the lines of `rule add` and `del`.
+/// Looks up what the word begins on the lines of `rule add` and `del`.
 fn rule_edit_word(word: &[u8]) -> Option<ItemWord>
     ensures { result ≡ word_in rule_edit_line.entries word.now }
 {

@@ -19,21 +19,21 @@ pub struct WordPlace {
     pub end: usize,
 }
 
-/// Where a word stands in an item.
+/// Where a word is in an item.
 #[derive(Clone, Copy)]
 pub enum Place {
     /// At the start of one.
     Start,
     /// After `to`.
     AfterTo(Slot),
-    /// Where a value has to stand, after the word before its prefix if there is one.
+    /// Where a value has to come, after the word before its prefix if there is one.
     AtValue(Slot, Option<PrefixWord>),
 }
 
 /// What a word is in an item.
 #[derive(Clone, Copy)]
 pub enum WordRole {
-    /// A word of this item that something must follow, which stands at this place.
+    /// A word of this item that something must follow, which comes at this place.
     Opens(Slot, Place),
     /// The value of this item, after the word before its prefix if there is one.
     Ends(Slot, Option<PrefixWord>),
@@ -43,7 +43,7 @@ pub enum WordRole {
     Unknown,
 }
 
-/// Tells what a word is that needs no word of its item's own before it.
+/// Determines what a word is that needs no word of its item's own before it.
 fn plain_role(slot: Slot, word: &[u8]) -> WordRole
     ensures { result ≡ plain_role slot word.now }
 {
@@ -53,7 +53,7 @@ fn plain_role(slot: Slot, word: &[u8]) -> WordRole
     }
 }
 
-/// Tells what a word is at the start of an item.
+/// Determines what a word is at the start of an item.
 fn first_role(verb: ObjectVerb, word: &[u8]) -> WordRole
     ensures { result ≡ role_of (meaning_of verb).line Start word.now }
 {
@@ -68,7 +68,7 @@ fn first_role(verb: ObjectVerb, word: &[u8]) -> WordRole
     }
 }
 
-/// Tells what a word is at its place.
+/// Determines what a word is at its place.
 fn role_of(verb: ObjectVerb, place: Place, word: &[u8]) -> WordRole
     ensures { result ≡ role_of (meaning_of verb).line place word.now }
 {
@@ -79,8 +79,8 @@ fn role_of(verb: ObjectVerb, place: Place, word: &[u8]) -> WordRole
     }
 }
 
-/// Takes a word, and adds the item that it ends: the place of the next word, or None where the first fault is about
-/// this one.
+/// Takes a word, and adds the item that it ends. Returns the place of the next word, or None if the first fault is about this
+/// one.
 fn step(items: &mut Items, word: &[u8], is_last: bool, role: WordRole) -> Option<Place>
     ensures { MatchOption result (step items.old word.now is_last role ≡ None)
         (λ next. step items.old word.now is_last role ≡ Some (next, items.new)) }
@@ -203,8 +203,8 @@ fn fault_in_line(line: &[u8]) -> Option<WordPlace>
 
 /// Finds the word that the first fault of a line is about.
 ///
-/// None where the line has no fault, or one that is about no word: it is too long, has a byte that is no text, has no
-/// words but `ip` and `-4`, or its items lack something together.
+/// None if the line has no fault, or one that is about no word. A fault is about no word if the line is too long, or has a
+/// byte that is no text. The same holds if it has no words except `ip` and `-4`, or its items lack something together.
 pub fn fault_word(line: &[u8]) -> Option<WordPlace>
     ensures words { words_from (before_comment line.now) result ≡ line_fault line.now }
     ensures place { IfSome result (IsIn line.now) }

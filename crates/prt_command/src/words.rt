@@ -3,28 +3,28 @@ ghost use Rattle.std.specs.List.{list_all};
 ghost use Rattle.prt_addr.specs.Word.{is_white};
 ghost use Rattle.prt_command.specs.Reading.{before_comment, is_text_byte, words};
 
-/// Tells whether the byte is white space: space, tab or carriage return.
+/// Checks whether the byte is white space: space, tab or carriage return.
 fn is_white(byte: u8) -> bool
     ensures { result ≡ is_white byte }
 {
     byte == b' ' || byte == b'\t' || byte == b'\r'
 }
 
-/// Tells whether the byte may stand before a comment: white space or a printable ASCII character.
+/// Checks whether the byte may come before a comment: white space or a printable ASCII character.
 fn is_text(byte: u8) -> bool
     ensures { result ≡ is_text_byte byte }
 {
     byte == b'\t' || byte == b'\r' || (b' '..=b'~').contains(&byte)
 }
 
-/// Tells whether a text has no byte but white space and printable ASCII characters.
+/// Checks whether a text has only white space and printable ASCII characters.
 fn is_ascii_text(text: &[u8]) -> bool
     ensures { result ≡ list_all is_text_byte text.now }
 {
     text.iter().all(|byte| is_text(*byte))
 }
 
-/// Tells whether a line is such a text and has no comment.
+/// Checks whether a line is such a text and has no comment.
 ///
 /// The loop has no early end, so that it can look at many bytes at once.
 fn is_plain(line: &[u8]) -> bool
@@ -54,7 +54,7 @@ fn before_comment(line: &[u8]) -> &[u8]
     }
 }
 
-/// Takes the text of a line before its comment; None where that has a byte which is neither white space nor printable
+/// Takes the text of a line before its comment; None if that has a byte which is neither white space nor printable
 /// ASCII.
 pub fn text_of(line: &[u8]) -> Option<&[u8]>
     ensures { MatchOption result (list_all is_text_byte (before_comment line.now) ≡ false)
@@ -71,7 +71,7 @@ pub fn text_of(line: &[u8]) -> Option<&[u8]>
     }
 }
 
-/// Tells whether the word is this text.
+/// Checks whether the word is this text.
 pub fn is(word: &[u8], text: &[u8]) -> bool
     ensures { result ≡ bytes_eq text.now word.now }
 {

@@ -14,7 +14,7 @@ pub(crate) struct ThisMachine<'a> {
     pub(crate) host: &'a HostRuntime,
 }
 
-/// Opens the database file at a path, where it is there and has a table of ours.
+/// Opens the database file at a path, if it is there and has a table of ours.
 fn open_ours(host: &HostRuntime, path: &str) -> Result<Connection<FileStore<File>>, Error>
     ensures { IfOk result (λ conn. HasCleanDisk (file_state conn) → IsOpened conn) }
 {
@@ -41,6 +41,8 @@ impl<'a> Machine<Connection<FileStore<File>>> for ThisMachine<'a> {
     ghost refuses = { λ _ _ _. ⊤ };
 
     ghost closes = { λ _ _ _. ⊤ };
+
+    ghost is_there = { λ _ _. ⊤ };
 
     fn open(&mut self, path: &str, wanted: Wanted) -> Result<Connection<FileStore<File>>, Error> {
         match wanted {

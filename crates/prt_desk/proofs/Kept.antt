@@ -1,4 +1,4 @@
--- What a crash leaves of a desk over a publisher, and what an opening of it gives.
+-- What a crash leaves of a desk over a publisher, and what an opening of it yields.
 use Rattle.std.proofs.Common.{◌≡◌, inr, Bool, true, false, List, [], ◌∷◌, refl, sym, ap, subst}
 use Rattle.sqlite.specs.Held.{Held, state}
 use Rattle.sqlite.specs.Store.{Ghosts}
@@ -37,7 +37,7 @@ module _ {S : Type 0} (g : Ghosts S) (desk : Standing (Held S)) where
   pub shows : (stood : DeskState) → StandsFor g desk stood → stood.published ≡ published desk
   shows stood stands = published_by g desk.ours_first desk.tables (published desk) desk.phase desk.commands stood stands
 
-  -- whatever a crash leaves spells a state that may be stored
+  -- whatever a crash leaves encodes a state that may be stored
   pub durable_is : IsKept g desk → IsKnown g desk.ours_first desk.tables → (trees : Trees) → (state g desk.tables).may_leave trees → (stored : State) × Spells trees stored × MayBeStored g desk stored
   durable_is kept known = durable_by g desk.ours_first desk.tables (published desk) desk.phase desk.commands kept.0 known (kept.1 known)
 

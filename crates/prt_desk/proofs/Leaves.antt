@@ -40,7 +40,7 @@ all_other state commands why (inl (inr (is, several))) = ap is_unpublished is
 all_other state commands why (inr (accepted, inl is)) = ap is_unpublished is
 all_other state commands why (inr (accepted, inr is)) = ap is_unpublished is
 
--- so what is left may be told by the reason
+-- so what is left may be determined by the reason
 other_leaves : (why : Refusal) (before after left : State) → is_unpublished why ≡ false → (left ≡ before) ⊎ ((why ≡ StoreFailed Commit) × (left ≡ after)) → LeavesEither (Err why) before after left
 other_leaves NotPublished before after left other either = absurd (let both : true ≡ false = other in cc)
 other_leaves _ before after left other either = either
@@ -55,7 +55,7 @@ module _ {S : Type 0} (g : Ghosts S) (old : Standing (Held S)) (commands : List 
   left_stored stored holds left may = spelled_once may.0 left stored may.2 (holds.durable may.0 may.1)
 
   module _ (known : IsKnown g new.ours_first new.tables) (left : State) (may : MayLeave g new.tables left) where
-    -- the state before, where they are not prepared
+    -- the state before, if they are not prepared
     as_before : IsQuiet old.phase → is_shut old ≡ false → (why : Refusal) → new ≡ old → AreNotPrepared old.phase (published old) commands why → LeavesEither (Err why) (published old) after left
     as_before quiet open_is why same refuses =
         let other = all_other (published old) commands why (subst (λ (p : Phase). AreNotPrepared p (published old) commands why) (ready_by old.phase quiet open_is) refuses) in
@@ -66,7 +66,7 @@ module _ {S : Type 0} (g : Ghosts S) (old : Standing (Held S)) (commands : List 
     not_stored : (why : Refusal) → AreNotStored g old commands why new → LeavesEither (Err why) (published old) after left
     not_stored why fails = other_leaves why (published old) after left (ap is_unpublished fails.why_is) (fails.leaves known left may)
 
-    -- the state after, where only the publication was refused
+    -- the state after, if only the publication was refused
     not_published : 1 ≤ length commands → (why : Refusal) → AreNotPublished g old commands why new → LeavesEither (Err why) (published old) after left
     not_published some why fails =
         let Agreed = λ (d : Standing (Held S)). Agrees g d.phase d.commands (line_state d.line) new.tables in

@@ -21,7 +21,7 @@ use Rattle.prt_version.specs.Change.{fold, refusal}
 use Rattle.prt_version.specs.State.{State}
 use Rattle.prt_desk.specs.StoreDesk.{IsPerhapsStored, IsStoreMishap, StandsBy, StandsFor, published}
 
--- What a desk gives for commands that are made together, by what comes of them.
+-- What a desk returns for commands that are made together, by what comes of them.
 pub record Turns (commands : List Command) (Gives : DeskState → Result ℕ Refusal → DeskState → Type 0) (state : State) : Type 0 where
   pub refused : (why : Refusal) → refusal_all state commands ≡ Some why → Gives (settled state) (Err why) (settled state)
   -- memory was refused on the way to a refusal
@@ -156,7 +156,7 @@ module _ {S : Type 0} (g : Ghosts S) (old : Standing (Held S)) {commands : List 
   abbrev Fits : Refusal → DeskState → Type 0
   Fits why desk = GivesAt before (Err why) desk
 
-  -- a failed commit leaves the state before or, only where the commit call failed, possibly the one after the commands
+  -- a failed commit leaves the state before or, only if the commit call failed, possibly the one after the commands
   module _ (why : Refusal) (new : Standing (Held S)) (fails : AreNotStored g old commands why new) where
     either : (stored : State) → IsPerhapsStored g old.ours_first new.tables (published old) stored → (stored ≡ published old) ⊎ ((why ≡ reasons.StoreFailed Commit) × (stored ≡ fold (published old) commands))
     either stored (inl is) = inl is

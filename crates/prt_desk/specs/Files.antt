@@ -14,7 +14,8 @@ use Rattle.sqlite_wal.specs.Reads.{AreClean}
 abbrev pub IsWhatWasLeft : {S : Type 0} → Ghosts S → Held S → Held S → Type 0
 IsWhatWasLeft g tables found = IsDatabase (state g found).now × (state g tables).may_leave (state g found).now.trees
 
--- Files that a connection was closed to, and from which another one was opened, show what was left, where the disk returns what was written.
+-- Files that a connection was closed to, and from which another one was opened, show what was left, if the disk returns
+-- what was written.
 abbrev pub FilesKeep : {D : Type 0} → disk.Ghosts D → Type 0
 FilesKeep {D} g = (tables found : Held (FileStore D g)) (files : Files D) → (AreClean g files.log files.db → IsCopied tables files) → (HasCleanDisk (file_state found) → Finds files found × IsOpened found)
     → HasCleanDisk (file_state found) → IsWhatWasLeft over_files tables found

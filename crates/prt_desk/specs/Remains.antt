@@ -15,7 +15,8 @@ use Rattle.prt_session.specs.Preorder.{IsPreorder}
 use Rattle.prt_store.specs.Exits.{IsKnown, SparesOthers}
 use Rattle.prt_desk.specs.StoreDesk.{is_closed_at, is_shut}
 
--- whether our tables are the first of the file, that its disk has failed, all of a desk that is closed, and the other tables of the file, where that can be seen: while the desk is open, or at least its connection
+-- whether our tables are the first of the file, that its disk has failed, all of a desk that is closed, and the other
+-- tables of the file, if that can be seen: while the desk is open, or at least its connection
 pub record Remains {S : Type 0} (g : Ghosts S) (old new : Standing (Held S)) : Type 0 where
   pub format : new.ours_first ≡ old.ours_first
   pub clean : HasCleanDisk (state g new.tables) → HasCleanDisk (state g old.tables)

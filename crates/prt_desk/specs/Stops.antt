@@ -19,7 +19,9 @@ abbrev pub StopsIn : {S : Type 0} → Ghosts S → Standing (Held S) → List Co
 StopsIn g desk commands call now =
     IsAccepted (published desk) commands × AllStoppedIn g (changes_of (published desk) commands) ((published desk).count + length commands) desk.tables call now
 
--- Whichever store call of commands a stop falls into, of one or of those of a file, a crash leaves the state before them or, only where it fell into the call that commits, the one after all of them. Where it falls into none, a crash leaves the published state.
+-- Whichever store call of commands a stop falls into, of one or of those of a file, a crash leaves the state before them,
+-- or the one after all of them. The latter it leaves only if the stop fell into the call that commits. If it falls into
+-- none, a crash leaves the published state.
 abbrev pub LeavesAState : {S : Type 0} → Ghosts S → Type 0
 LeavesAState {S = S} g = (desk : Standing (Held S)) → IsKept g desk → is_shut desk ≡ false → IsKnown g desk.ours_first desk.tables → (left : State) →
     (MayLeave g desk.tables left → left ≡ published desk)

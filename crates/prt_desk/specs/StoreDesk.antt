@@ -28,7 +28,8 @@ is_closed_at phase = false
 abbrev pub is_shut : {T : Type 0} → Standing T → Bool
 is_shut desk = is_closed_at desk.phase
 
--- No command is under way. Of a known file: while a desk is open, its state is stored; once it is closed, whatever a crash leaves spells that state or the one after one submission more, always the same submission.
+-- No command is under way. Of a known file: while a desk is open, its state is stored; once it is closed, whatever a crash
+-- leaves encodes that state or the one after one submission more, always the same submission.
 abbrev pub IsKept : {S : Type 0} → Ghosts S → Standing (Held S) → Type 0
 IsKept g desk = IsQuiet desk.phase × Stands g desk
 
@@ -66,7 +67,8 @@ pub record LeavesFound {S : Type 0} (g : Ghosts S) (desk : Standing (Held S)) (f
 abbrev pub IsStoreMishap : Mishap → Type 0
 IsStoreMishap mishap = ⊤
 
--- what a crash leaves once commands have this result: the state after them where they were acknowledged, or only their publication was refused; else the state before them or, only where the call that commits failed, the state after them
+-- what a crash leaves once commands have this result: the state after them if they were acknowledged, or only their
+-- publication was refused; else the state before them or, only if the call that commits failed, the state after them
 abbrev pub LeavesEither : Result ℕ Refusal → State → State → State → Type 0
 LeavesEither (Ok number) before after left = left ≡ after
 LeavesEither (Err NotPublished) before after left = left ≡ after

@@ -12,9 +12,9 @@ pub fn files_keep<D: Disk>()
     ensures { FilesKeep D.Disk }
 {}
 
-/// Whichever store call of commands a stop falls into, of one or of those of a file, a crash leaves the state before them or,
-/// only where it fell into the call that commits, the one after all of them. Between the calls of commands it leaves the
-/// published state.
+/// Whichever store call of commands a stop falls into, of one or of those of a file, a crash leaves the state before
+/// them, or the one after all of them. The latter it leaves only if the stop fell into the call that commits. Between
+/// the calls of commands it leaves the published state.
 pub fn stops_leave_a_state<S: Alter>()
     ensures { LeavesAState S.Store }
 {}

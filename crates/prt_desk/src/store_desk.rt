@@ -28,7 +28,7 @@ use std::sync::Wait;
 ///
 /// A command is checked, committed, published and noted, and only then acknowledged. After a failed commit or
 /// publication the desk is closed: it refuses each command, and goes on answering queries from the version that was
-/// published last. End it by `end`: the drop of the publisher's front gives no memory back.
+/// published last. End it by `end`: the drop of the publisher's front frees no memory.
 #[derive(Drop)]
 pub struct StoreDesk<S: Alter + Drop, H: Drop> {
     publisher: Publisher<S>,
@@ -62,19 +62,19 @@ impl<S: Alter + Drop, H: Drop> StoreDesk<S, H> {
         }
     }
 
-    /// Gives the library's error of the commit that closed it, if one did.
+    /// Returns the library's error of the commit that closed it, if one did.
     pub fn failure(&self) -> Option<Error> {
         self.publisher.failure()
     }
 
-    /// Gives the version that was published last.
+    /// Returns the version that was published last.
     pub fn version(&self) -> &Version
         ensures { result.now ≡ published self.now }
     {
         self.publisher.published()
     }
 
-    /// Gives the connection back, with its tables as they are. It waits for nobody, as `Publisher::release`.
+    /// Returns the connection, with its tables as they are. It waits for nobody, as `Publisher::release`.
     pub fn release(self) -> Connection<S>
         ensures tables { result ≡ self.tables }
         ensures kept { IsKept S.Store self }
@@ -84,7 +84,7 @@ impl<S: Alter + Drop, H: Drop> StoreDesk<S, H> {
 }
 
 impl<S: Alter + Drop, H: Wait + Drop> StoreDesk<S, H> {
-    /// Ends the publisher's front, which waits for readers that are inside, and gives the connection back, with its tables
+    /// Ends the publisher's front, which waits for readers that are inside, and returns the connection, with its tables
     /// as they are.
     pub fn end(self) -> Connection<S>
         ensures tables { result ≡ self.tables }
@@ -93,15 +93,16 @@ impl<S: Alter + Drop, H: Wait + Drop> StoreDesk<S, H> {
         self.publisher.end(&self.rt)
     }
 
-    /// Makes an open desk over the database of a connection on which nothing is pending. Its tables are made where they
+    /// Makes an open desk over the database of a connection on which nothing is pending. Its tables are made if they
     /// are missing; four empty tables become those of a new database.
     ///
     /// # Errors
     ///
-    /// With the connection: `OpenFailed` where one of the tables has other columns, and the connection is as it was then; or
-    /// where a store call fails. `Damaged`: never of a file that is new, or whose first tables spell a state. `NoMemory`.
-    /// Some or all of the missing tables were then made, and four empty ones perhaps filled. Each other row is as it was,
-    /// and a crash leaves no more than that. The connection is to be closed and opened again before it is used.
+    /// With the connection: `OpenFailed` if one of the tables has other columns, and the connection is as it was then;
+    /// or if a store call fails. `Damaged`: never of a file that is new, or whose first tables encode a state.
+    /// `NoMemory`. Some or all of the missing tables were then made, and four empty ones perhaps filled. Each other row
+    /// is as it was, and a crash leaves no more than that. The connection is to be closed and opened again before it is
+    /// used.
     ///
     /// Of a file whose first tables are others the clauses on tables and crashes say nothing. The statements which read
     /// them show the published state.

@@ -68,7 +68,7 @@ clear_filtered p (rule ∷ rules) plan apart =
     clear_filtered p rules (cleared rule plan) apart.1
     ∙ cleared_cases (λ q. filter p q.rules ≡ filter p plan.rules) rule plan (λ first. filtered_without p (λ other. is_same_rule other rule) plan.rules (λ other other_in passes. apart.0 other passes)) refl
 
--- ---- those that pass a test that reads no id are the same but for ids
+-- ---- those that pass a test that reads no id are the same except for ids
 
 filter_shape_by : (p : Rule → Bool) (rule : Rule) (rules : List Rule) (b : Bool) → map without_id (filter p rules) ≡ filter p (map without_id rules) → map without_id (cond b (rule ∷ filter p rules) (filter p rules)) ≡ cond b (without_id rule ∷ filter p (map without_id rules)) (filter p (map without_id rules))
 filter_shape_by p rule rules true rest = ap (λ xs. without_id rule ∷ xs) rest

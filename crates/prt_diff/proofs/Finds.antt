@@ -17,8 +17,8 @@ use Rattle.prt_route.proofs.Edits.{listing_order}
 use Rattle.prt_trie.specs.Table.{has_same_key}
 use Rattle.prt_trie.proofs.Order.{rises_far}
 use Rattle.prt_version.proofs.RowOrder.{key_differs, keys_both_ways}
-use Rattle.prt_diff.specs.Held.{has_serving, serves}
 use Rattle.prt_diff.specs.Routes.{agrees, has_agreeing, is_kept, kept_routes, managed_routes, missing_routes, unwanted_routes, wanted_routes}
+use Rattle.prt_diff.specs.Serving.{has_serving, serves}
 use Rattle.prt_diff.specs.declared.fence.Fence.{Fence}
 use Rattle.prt_diff.proofs.Members.{IsIn, contains_in, differ, each_in, filtered_twice}
 
@@ -45,7 +45,7 @@ parted route routes rises i j d upto inside after =
 same_place : (route a b : Route) → is_listed_before a b ≡ true → has_same_key b route ≡ true → is_listed_before a route ≡ true
 same_place route a b ahead same = grind (arith, nat_tests, ahead, same)
 
--- no route has the key, where the one at that place hasn't
+-- no route has the key, if the one at that place hasn't
 pub none_has_key : (route : Route) (routes : List Route) (place : ℕ) → IsRising is_listed_before routes → IsPartitionPoint (λ y. IsBefore route y ≡ true) (λ y. IsBefore route y ≡ false) routes place → ((d : Route) → place < length routes → has_same_key (get_or routes place d) route ≡ false) → Each (λ other. has_same_key other route ≡ false) routes
 none_has_key route routes place rises point here = recursion_from_All (λ other. has_same_key other route ≡ false) routes at
   where
@@ -94,7 +94,7 @@ key_kept_by p route first routes true false is test none rest = none refl ∙ sy
 key_kept_by p route first routes false true is test none rest = ap (λ b. b || has_key (key_of route) (filter p routes)) is ∙ rest
 key_kept_by p route first routes false false is test none rest = rest
 
--- one of those that pass has the key, where the one that has it passes
+-- one of those that pass has the key, if the one that has it passes
 pub key_kept : (p : Route → Bool) (route : Route) (routes : List Route) → IsRising is_listed_before routes → has_key (key_of route) (filter p routes) ≡ passes p (find (λ one. has_same_key one route) routes)
 key_kept p route [] rises = refl
 key_kept p route (first ∷ routes) rises =
@@ -121,7 +121,7 @@ one_found_by : (p : Route → Bool) (route first : Route) (routes : List Route) 
 one_found_by p route first routes true is none unlike rest = ap (λ b. p first || b) (none refl) ∙ or_nothing (p first)
 one_found_by p route first routes false is none unlike rest = ap (λ b. b || list_any p routes) (unlike first is) ∙ rest
 
--- one passes that no route of another key does, where the one that has the key passes
+-- one passes that no route of another key does, if the one that has the key passes
 one_found : (p : Route → Bool) (route : Route) (routes : List Route) → ((one : Route) → has_same_key one route ≡ false → p one ≡ false) → IsRising is_listed_before routes → list_any p routes ≡ passes p (find (λ one. has_same_key one route) routes)
 one_found p route [] unlike rises = refl
 one_found p route (first ∷ routes) unlike rises =
@@ -130,14 +130,14 @@ one_found p route (first ∷ routes) unlike rises =
     unlike
     (one_found p route routes unlike rises.1)
 
--- the route is there, where the one that has its key is the same
+-- the route is there, if the one that has its key is the same
 pub route_found : (route : Route) (routes : List Route) → IsRising is_listed_before routes → has_agreeing route routes ≡ passes (agrees route) (find (λ one. has_same_key one route) routes)
 route_found route routes rises = one_found (agrees route) route routes (unlike_key route) rises
 
 serving_found : (route : Route) (routes : List Route) → IsRising is_listed_before routes → has_serving route routes ≡ passes (serves route) (find (λ one. has_same_key one route) routes)
 serving_found route routes rises = one_found (serves route) route routes (unlike_serving route) rises
 
--- ---- what the code asks
+-- ---- what the code checks
 
 found_any : {X : Type 0} (p : X → Bool) (xs : List X) → is_some (find p xs) ≡ list_any p xs
 found_any p [] = refl

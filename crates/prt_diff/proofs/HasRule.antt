@@ -1,4 +1,4 @@
--- Which rules a list has, but for ids, and what an addition and a deletion make of it.
+-- Which rules a list has, except for ids, and what an addition and a deletion make of it.
 use Rattle.std.proofs.Common.{◌≡◌, ℕ, ◌<◌, Bool, true, false, not, ◌&&◌, ◌||◌, List, [], ◌∷◌, ◌++◌, map, refl, sym, ap, ◌∙◌, arith, cond}
 use Rattle.std.specs.Prelude.{if◌then◌else◌}
 use Rattle.std.specs.List.{AllByRecursion as Each}
@@ -18,7 +18,7 @@ use Rattle.prt_diff.proofs.Members.{differ}
 abbrev pub numbered : ℕ → Rule → Rule
 numbered id rule = record rule { id = id }
 
--- ---- rules that are the same but for ids
+-- ---- rules that are the same except for ids
 
 pub same_itself : (rule : Rule) → is_same_rule rule rule ≡ true
 same_itself rule = (rules_same rule rule).1 refl
@@ -36,7 +36,7 @@ has_like a b rules same = ap (λ r. has_rule r rules) ((rules_same a b).0 same)
 pub same_within : (fence : Fence) (a b : Rule) → is_same_rule a b ≡ true → is_rule_within fence a ≡ is_rule_within fence b
 same_within fence a b same = ap (is_rule_within fence) ((rules_same a b).0 same)
 
--- ---- lists that are the same but for ids
+-- ---- lists that are the same except for ids
 
 has_shape : (rule : Rule) (rules : List Rule) → has_rule rule (map without_id rules) ≡ has_rule rule rules
 has_shape rule [] = refl

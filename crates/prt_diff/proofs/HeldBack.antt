@@ -7,9 +7,10 @@ use Rattle.prt_route.specs.declared.route.Route.{Route}
 use Rattle.prt_rule.specs.declared.rule.Rule.{Rule}
 use Rattle.prt_version.specs.Change.{has_rule}
 use Rattle.prt_diff.specs.Fence.{is_kernels, is_rule_within, is_unread_key, is_unread_priority, names_route, names_rule, rules_within}
-use Rattle.prt_diff.specs.Held.{blocked_routes, has_serving, hindered_routes, is_meant_route, is_meant_rule, is_unread_route, is_unread_rule, staying_routes, unread_rules}
+use Rattle.prt_diff.specs.Held.{blocked_routes, hindered_routes, is_meant_route, is_meant_rule, is_unread_route, is_unread_rule, staying_routes, unread_rules}
 use Rattle.prt_diff.specs.Names.{is_plain_name}
 use Rattle.prt_diff.specs.Routes.{is_kept, kept_routes, managed_routes, wanted_routes}
+use Rattle.prt_diff.specs.Serving.{has_serving}
 use Rattle.prt_diff.specs.declared.fence.Fence.{Fence}
 use Rattle.prt_diff.proofs.Members.{IsIn, contains_in, differ, in_contains, passing}
 

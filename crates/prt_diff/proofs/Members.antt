@@ -1,4 +1,4 @@
--- What stands in a list, and what a filter or an insert leaves of it.
+-- What is in a list, and what a filter or an insert leaves of it.
 use Rattle.std.proofs.Common.{◌≡◌, ◌⊎◌, inl, inr, Bool, true, false, not, ◌||◌, ◌&&◌, List, [], ◌∷◌, ◌++◌, refl, sym, ap, ◌∙◌, subst, cond}
 use Rattle.std.specs.Prelude.{filter}
 use Rattle.std.specs.List.{Contains, list_any, AllByRecursion as Each, IsDistinct}

@@ -55,7 +55,7 @@ without_minus rule todo rules =
 pub minus_nothing : (rules : List Rule) → minus [] rules ≡ rules
 minus_nothing rules = all_pass (λ x. not (has_rule x [])) rules (each_of (λ x. not (has_rule x []) ≡ true) (λ x. refl) rules)
 
--- ---- where no rule is left
+-- ---- if no rule is left
 
 abbrev pub place_all : List Rule → List Rule → List Rule
 place_all [] rules = rules
@@ -244,7 +244,7 @@ same_stays_by rule first found wanted true is rest has = by (is_same_rule first 
     by false h = rest h
 same_stays_by rule first found wanted false is rest has = differ (sym is)
 
--- where both have the same rules, each stays
+-- if both have the same rules, each stays
 pub same_stays : (rule : Rule) (found wanted : List Rule) → AreSame found wanted → has_rule rule wanted ≡ true → stays rule found wanted ≡ true
 same_stays rule [] [] same has = has
 same_stays rule [] (first ∷ wanted) same has = absurd cc

@@ -86,7 +86,7 @@ pub clear_fits : (rules : List Rule) (plan : Plan) → length (clear_all rules p
 clear_fits [] plan = omega arith
 clear_fits (rule ∷ rules) plan = omega (arith, cleared_fits rule plan, clear_fits rules (cleared rule plan))
 
--- ---- what is told stays told
+-- ---- what is reported stays reported
 
 or_later : (a b : Bool) → a ≡ true → (a || b) ≡ true
 or_later true b is = refl
@@ -224,7 +224,7 @@ clear_gone x (rule ∷ rules) plan absent =
 pub gone_itself : (rule : Rule) (rules : List Rule) → has_rule rule (without_rule rule rules) ≡ false
 gone_itself rule rules = has_without rule rule rules ∙ ap (λ b. not b && has_rule rule rules) (same_itself rule)
 
--- each is gone or told
+-- each is gone or reported
 pub remove_tells : (rules : List Rule) (plan : Plan) → Each (λ rule. (has_rule rule (remove_all rules plan).rules ≡ false) ⊎ (has_rule rule (remove_all rules plan).left ≡ true)) rules
 remove_tells [] plan = tt
 remove_tells (rule ∷ rules) plan = (

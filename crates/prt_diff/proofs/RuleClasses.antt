@@ -54,7 +54,7 @@ same_head a b rules others same = cc
 same_tail : (a b : Rule) (rules others : List Rule) → AreSame (a ∷ rules) (b ∷ others) → AreSame rules others
 same_tail a b rules others same = cc
 
--- where both have a first of the same priority, the others are the same too
+-- if both have a first of the same priority, the others are the same too
 others_by : (priority : ℕ) (a b : Rule) (rules others : List Rule) (p q : Bool) → p ≡ q → AreSame (cond p (a ∷ rules_at priority rules) (rules_at priority rules)) (cond q (b ∷ rules_at priority others) (rules_at priority others)) → AreSame (rules_at priority rules) (rules_at priority others)
 others_by priority a b rules others true true is same = same_tail a b (rules_at priority rules) (rules_at priority others) same
 others_by priority a b rules others true false is same = absurd cc

@@ -1,4 +1,4 @@
--- Where no rule is left, the changes bring all that is wanted, and nothing differs any more.
+-- If no rule is left, the changes bring all that is wanted, and nothing differs any more.
 use Rattle.std.proofs.Common.{◌≡◌, inl, inr, ℕ, Bool, true, false, not, ◌&&◌, List, [], ◌++◌, zero, suc, map, refl, sym, ap, ◌∙◌, subst}
 use Rattle.std.specs.Prelude.{filter, ◌==◌}
 use Rattle.std.specs.List.{AllByRecursion as Each, IsDistinct, list_any}

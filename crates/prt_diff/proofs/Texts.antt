@@ -25,7 +25,7 @@ first_at p (y ∷ ys) (suc i) x inside is before passes =
     let fails : p y ≡ false = before zero y (omega arith) (omega arith) in
     simp fails (first_at p ys i x (omega arith) is (λ k d low high. before (suc k) d (omega arith) (omega arith)) passes)
 
--- the first that no line can spell
+-- the first that no line can express
 pub first_unspelled : (commands : List Command) (i : ℕ) (command : Command) → i < length commands → command ≡ get_or commands i command → AllWithin IsAskedFor commands 0 i → is_spelled command ≡ false → find (λ other. not (is_spelled other)) commands ≡ Some command
 first_unspelled commands i command inside is asked unspelled =
     first_at (λ other. not (is_spelled other)) commands i command inside is

@@ -81,10 +81,10 @@ rules_within fence rules = filter (is_rule_within fence) rules
 
 -- ---- what is outside
 
--- how many rules may not be changed
+-- how many rules the fence doesn't name
 abbrev pub rules_outside : Fence → List Rule → ℕ
-rules_outside fence rules = length (filter (λ rule. not (is_rule_within fence rule)) rules)
+rules_outside fence rules = length (filter (λ rule. not (names_rule fence rule)) rules)
 
--- how many routes may not be changed, but for those that the kernel makes itself
+-- how many routes the fence doesn't name, without those that the kernel makes itself
 abbrev pub routes_outside : Fence → List Route → ℕ
-routes_outside fence routes = length (filter (λ route. not (is_kernels route) && not (is_in_fence fence route)) routes)
+routes_outside fence routes = length (filter (λ route. not (is_kernels route) && not (names_route fence route)) routes)

@@ -1,17 +1,16 @@
 -- What is wanted and not brought, and what is not wanted and stays: ip-route(8), ip-rule(8).
-use Rattle.std.specs.Prelude.{◌≡◌, Bool, not, ◌&&◌, ◌||◌, ◌==◌, List, filter, is_none, length}
-use Rattle.std.specs.List.{list_any}
-use Rattle.std.specs.Option.{option_eq}
+use Rattle.std.specs.Prelude.{◌≡◌, Bool, not, ◌&&◌, ◌==◌, List, filter, length}
 use Rattle.prt_route.specs.Edit.{has_key}
-use Rattle.prt_route.specs.Route.{is_same_key, key_of}
-use Rattle.prt_route.specs.RouteChoice.{is_same_addr, is_same_kind}
+use Rattle.prt_route.specs.Route.{key_of}
 use Rattle.prt_route.specs.declared.route.Route.{Route}
 use Rattle.prt_rule.specs.declared.rule.Rule.{Rule}
 use Rattle.prt_version.specs.Change.{has_rule}
 use Rattle.prt_version.specs.State.{State}
 use Rattle.prt_diff.specs.Fence.{is_kernels, is_unread_key, is_unread_priority, names_route, names_rule}
 use Rattle.prt_diff.specs.Names.{is_plain_name}
-use Rattle.prt_diff.specs.Routes.{agrees, agrees_on_dev, kept_routes, managed_routes}
+use Rattle.prt_diff.specs.Routes.{kept_routes, managed_routes}
+use Rattle.prt_diff.specs.Serving.{has_serving}
+use Rattle.prt_diff.specs.Unreadable.{AreUnreadable, is_nothing_unreadable}
 use Rattle.prt_diff.specs.declared.fence.Fence.{Fence}
 use Rattle.prt_diff.specs.declared.held.Held.{Held}
 
@@ -33,17 +32,6 @@ abbrev pub is_unread_rule : Fence → Rule → Bool
 is_unread_rule fence rule = is_unread_priority fence rule.priority && is_meant_rule fence rule
 
 -- ---- routes
-
--- The kernel made the route itself: as it is wanted, except for its protocol, and for a source that is not named.
-abbrev pub is_made_alike : Route → Route → Bool
-is_made_alike wanted found = is_same_key (key_of wanted) (key_of found) && is_kernels found && is_same_kind wanted.kind found.kind && option_eq is_same_addr wanted.via found.via && agrees_on_dev wanted found && (is_none wanted.src || option_eq is_same_addr wanted.src found.src) && wanted.scope == found.scope
-
--- the route that is found is as it is wanted, or the kernel made it so
-abbrev pub serves : Route → Route → Bool
-serves wanted found = agrees wanted found || is_made_alike wanted found
-
-abbrev pub has_serving : Route → List Route → Bool
-has_serving route routes = list_any (serves route) routes
 
 -- Routes that are wanted and not brought: one that may not be changed has their key, and doesn't serve for them.
 abbrev pub blocked_routes : Fence → List Route → List Route → List Route
@@ -80,6 +68,7 @@ pub record AreHeld (fence : Fence) (found wanted : State) (held : Held) : Type 0
   pub staying_routes : held.staying_routes.items ≡ staying_routes fence found.routes wanted.routes
   pub hindered_rules : held.hindered_rules.items ≡ hindered_rules fence found.rules wanted.rules
   pub staying_rules : held.staying_rules.items ≡ staying_rules fence found.rules wanted.rules
+  pub unreadable : AreUnreadable fence found.rules found.routes wanted.rules wanted.routes held.unreadable
 
 abbrev pub is_nothing_held : Held → Bool
 is_nothing_held held =
@@ -88,3 +77,4 @@ is_nothing_held held =
     && length held.staying_routes.items == 0
     && length held.hindered_rules.items == 0
     && length held.staying_rules.items == 0
+    && is_nothing_unreadable held.unreadable

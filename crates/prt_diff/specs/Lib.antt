@@ -3,6 +3,8 @@ pub mod Fence
 pub mod Routes
 pub mod Rules
 pub mod Plan
+pub mod Serving
+pub mod Unreadable
 pub mod Held
 pub mod Between
 pub mod Text

@@ -10,8 +10,8 @@ use Rattle.prt_diff.specs.Rules.{add_rule, barring_rules, coming_rules, delete_r
 use Rattle.prt_diff.specs.declared.plan.Changes.{Changes}
 use Rattle.prt_diff.specs.declared.fence.Fence.{Fence}
 
--- The commands so far, the rules after them except for ids, the rules that were moved, those that could not be deleted, and
--- those that went before others came.
+-- The commands so far, and the rules after them except for ids. Besides these, the rules that were moved, those that could not
+-- be deleted, and those that went before others came.
 pub record Plan : Type 0 where
   pub commands : List Command
   pub rules : List Rule

@@ -1,5 +1,5 @@
 -- The lines that put a state back on a host that has made some of its routes already: ip-rule(8), ip-route(8).
-use Rattle.std.specs.Prelude.{ℕ, Bool, false, not, ◌&&◌, is_none, is_some, List, [], ◌∷◌, ◌++◌, filter, map, Some, None}
+use Rattle.std.specs.Prelude.{◌≡◌, ℕ, Bool, false, not, ◌&&◌, is_none, is_some, List, [], ◌∷◌, ◌++◌, filter, map, Some, None}
 use Rattle.prt_addr.specs.Prefix.{everything}
 use Rattle.prt_route.specs.declared.route.Route.{Route}
 use Rattle.prt_route.specs.Names.{local_table}
@@ -14,6 +14,8 @@ use Rattle.prt_diff.specs.Names.{is_plain_name}
 use Rattle.prt_diff.specs.Routes.{replace_route}
 use Rattle.prt_diff.specs.Rules.{add_rule}
 use Rattle.prt_diff.specs.Text.{commands_text}
+use Rattle.prt_diff.specs.Unreadable.{is_unreadable_route, is_unreadable_rule}
+use Rattle.prt_diff.specs.declared.held.Held.{Held}
 
 -- a rule that looks up local, behind those of priority 0
 abbrev pub spare_rule : ℕ → Rule
@@ -54,3 +56,15 @@ replacing_commands state =
 -- a line for each
 abbrev pub replacing_text : State → List ℕ
 replacing_text state = commands_text (replacing_commands state)
+
+-- What of the state is left out: the rules and routes that `ip -batch` can't read. Nothing else is held back.
+pub record AreLeftOut (state : State) (held : Held) : Type 0 where
+  pub rules : held.unreadable.missing_rules.items ≡ filter is_unreadable_rule state.rules
+  pub routes : held.unreadable.missing_routes.items ≡ filter is_unreadable_route state.routes
+  pub no_staying_rules : held.unreadable.staying_rules.items ≡ []
+  pub no_staying_routes : held.unreadable.staying_routes.items ≡ []
+  pub none_blocked : held.blocked_routes.items ≡ []
+  pub no_hindered_routes : held.hindered_routes.items ≡ []
+  pub no_hindered_rules : held.hindered_rules.items ≡ []
+  pub no_held_routes : held.staying_routes.items ≡ []
+  pub no_held_rules : held.staying_rules.items ≡ []

@@ -77,7 +77,7 @@ is_first_taken rule (other ∷ others) = if takes rule other then is_same_rule o
 
 -- ---- which rules the kernel refuses
 
--- The kernel refuses a new rule beside the other one. It compares no `not`, and no prefix where the new rule has `all`.
+-- The kernel refuses a new rule beside the other one. It compares no `not`, and no prefix if the new rule has `all`.
 abbrev pub bars : Rule → Rule → Bool
 bars new other =
     new.priority == other.priority

@@ -23,7 +23,7 @@ changes_text fence found wanted = commands_text (changes fence found wanted)
 abbrev pub IsAskedFor : Command → Type 0
 IsAskedFor command = reading (command_line command) ≡ Ok (Some (requests.Command command))
 
--- the first command that no line can spell
+-- the first command that no line can express
 abbrev pub IsWhyNotWritten : List Command → NotWritten → Type 0
 IsWhyNotWritten commands (NoLine command) = find (λ other. not (is_spelled other)) commands ≡ Some command
 IsWhyNotWritten commands NoMemory = Unit {0}

@@ -23,14 +23,14 @@ fn whole_choice(rule: &Rule) -> RuleChoice
     }
 }
 
-/// Gives the command that deletes the rule.
+/// Builds the command that deletes the rule.
 pub(crate) fn delete_rule(rule: &Rule) -> Command
     ensures { result ≡ delete_rule rule.now }
 {
     Command::RuleDel(whole_choice(rule))
 }
 
-/// Gives the rule as one to be added.
+/// Converts the rule into one to be added.
 fn new_rule(rule: &Rule) -> NewRule
     ensures { result ≡ new_rule rule.now }
 {
@@ -46,14 +46,14 @@ fn new_rule(rule: &Rule) -> NewRule
     }
 }
 
-/// Gives the command that adds the rule.
+/// Builds the command that adds the rule.
 pub(crate) fn add_rule(rule: &Rule) -> Command
     ensures { result ≡ add_rule rule.now }
 {
     Command::RuleAdd(new_rule(rule))
 }
 
-/// Gives the metric as a line names it: 0 by none.
+/// Returns the metric as a line names it, or `None` if it is 0.
 fn named_metric(metric: u32) -> Option<u32>
     ensures { result ≡ named_metric metric }
 {
@@ -77,14 +77,14 @@ fn choice_of(route: &Route) -> RouteChoice
     }
 }
 
-/// Gives the command that deletes the route of this one's key.
+/// Builds the command that deletes the route of this one's key.
 pub(crate) fn delete_route(route: &Route) -> Command
     ensures { result ≡ delete_route route.now }
 {
     Command::RouteDel(choice_of(route))
 }
 
-/// Gives the command that puts the route in the place of the one of its key.
+/// Builds the command that puts the route in the place of the one of its key.
 pub(crate) fn replace_route(route: &Route) -> Command
     ensures { result ≡ replace_route route.now }
 {

@@ -12,7 +12,7 @@ use prt_route::{Range, Route, Selector};
 use prt_version::Version;
 use std::alloc::{AllocError, Global};
 
-/// Gives all routes of the version, in the order of listings.
+/// Collects all routes of the version, in the order of listings.
 pub(crate) fn every_route(version: &Version) -> Result<Vec<Route>, AllocError>
     ensures { IfOk result (λ routes. routes.items ≡ version.now.routes) }
 {
@@ -30,12 +30,12 @@ pub(crate) fn every_route(version: &Version) -> Result<Vec<Route>, AllocError>
     Ok(routes)
 }
 
-/// Gives the commands that bring one version to another within the fence: what differs, and nothing else.
+/// Computes the commands that bring one version to another within the fence: what differs, and nothing else.
 ///
 /// What is outside the fence stays as it is found. A wanted route counts for nothing if a route outside the fence has
 /// its key: it is held back. A rule that both have stays, unless it has to move behind another of its priority.
 ///
-/// Each is made before another is broken: first routes come whose table no rule looks up, then rules come, then other
+/// Each is made before another is broken. First routes come whose table no rule looks up, then rules come. Then other
 /// routes come or change, then rules go, and at last routes go. A rule that goes does so before rules come, if the kernel
 /// would refuse one of them beside it. Routes without a gateway come before those with one, and longer prefixes before
 /// shorter ones. Over the version that was found each command is accepted, if that has room for what is found and what

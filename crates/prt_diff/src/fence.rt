@@ -22,7 +22,7 @@ pub struct NumberRange {
 }
 
 impl NumberRange {
-    /// Tells whether the range has the number.
+    /// Checks whether the range has the number.
     fn has(&self, number: u32) -> bool
         ensures { result ≡ has_number number self.now }
     {
@@ -30,28 +30,28 @@ impl NumberRange {
     }
 }
 
-/// Tells whether one of these ranges has the number.
+/// Checks whether one of these ranges has the number.
 fn is_named(number: u32, ranges: &[NumberRange]) -> bool
     ensures { result ≡ is_named number ranges.now }
 {
     ranges.iter().any(|range| range.has(number))
 }
 
-/// Tells whether the number is named, or none is.
+/// Checks whether the number is named, or none is.
 fn is_allowed(number: u32, ranges: &[NumberRange]) -> bool
     ensures { result ≡ is_allowed number ranges.now }
 {
     ranges.is_empty() || is_named(number, ranges)
 }
 
-/// Tells whether the kernel makes the route itself.
+/// Checks whether the kernel makes the route itself.
 pub(crate) fn is_kernels(route: &Route) -> bool
     ensures { result ≡ is_kernels route.now }
 {
     route.table == LOCAL_TABLE || (route.table == MAIN_TABLE && route.proto == KERNEL_PROTOCOL)
 }
 
-/// Tells whether the keys are the same.
+/// Checks whether the keys are the same.
 fn is_same_key(key: &RouteKey, other: &RouteKey) -> bool
     ensures { result ≡ is_same_key key.now other.now }
 {
@@ -181,43 +181,43 @@ impl Fence {
         Ok(())
     }
 
-    /// Tells whether rules of this priority are kept out.
+    /// Checks whether rules of this priority are kept out.
     fn is_unread_priority(&self, priority: u32) -> bool
         ensures { result ≡ is_unread_priority self.now priority }
     {
         is_named(priority, &self.unread_priorities)
     }
 
-    /// Tells whether routes of this key are kept out.
+    /// Checks whether routes of this key are kept out.
     fn is_unread_key(&self, key: &RouteKey) -> bool
         ensures { result ≡ is_unread_key self.now key.now }
     {
         self.unread_keys.iter().any(|other| is_same_key(key, other))
     }
 
-    /// Tells whether a line names the rule, and no other by the same words.
+    /// Checks whether a line names the rule, and no other by the same words.
     fn is_safe_rule(&self, rule: &Rule) -> bool
         ensures { result ≡ is_safe_rule self.now rule.now }
     {
         !self.is_unread_priority(rule.priority) && is_plain_name(rule.iif)
     }
 
-    /// Tells whether a line names the route, and no other by the same key.
+    /// Checks whether a line names the route, and no other by the same key.
     fn is_safe_route(&self, route: &Route) -> bool
         ensures { result ≡ is_safe_route self.now route.now }
     {
         !self.is_unread_key(&route.key()) && is_plain_name(route.dev)
     }
 
-    /// Tells whether the fence names tables or protocols.
+    /// Checks whether the fence names tables or protocols.
     fn names_routes(&self) -> bool
         ensures { result ≡ names_routes self.now }
     {
         !(self.tables.is_empty() && self.protocols.is_empty())
     }
 
-    /// Tells whether the fence names everything, or the route's table and its protocol.
-    fn names_route(&self, route: &Route) -> bool
+    /// Checks whether the fence names everything, or the route's table and its protocol.
+    pub(crate) fn names_route(&self, route: &Route) -> bool
         ensures { result ≡ names_route self.now route.now }
     {
         self.all
@@ -226,21 +226,21 @@ impl Fence {
                 && is_allowed(u32::from(route.proto), &self.protocols))
     }
 
-    /// Tells whether the fence has the route, if the kernel doesn't make it.
+    /// Checks whether the fence has the route, if the kernel doesn't make it.
     pub(crate) fn has_route(&self, route: &Route) -> bool
         ensures { result ≡ is_in_fence self.now route.now }
     {
         self.names_route(route) && self.is_safe_route(route)
     }
 
-    /// Tells whether the route may be changed.
+    /// Checks whether the route may be changed.
     pub fn is_route_within(&self, route: &Route) -> bool
         ensures { result ≡ is_route_within self.now route.now }
     {
         !is_kernels(route) && self.has_route(route)
     }
 
-    /// Tells whether a line that can't be kept has the key of the route, which the fence would have without it.
+    /// Checks whether a line that can't be kept has the key of the route, which the fence would have without it.
     pub(crate) fn is_unread_route(&self, route: &Route) -> bool
         ensures { result ≡ is_unread_route self.now route.now }
     {
@@ -250,21 +250,21 @@ impl Fence {
             && is_plain_name(route.dev)
     }
 
-    /// Tells whether the fence names everything, or the rule's priority.
-    fn names_rule(&self, rule: &Rule) -> bool
+    /// Checks whether the fence names everything, or the rule's priority.
+    pub(crate) fn names_rule(&self, rule: &Rule) -> bool
         ensures { result ≡ names_rule self.now rule.now }
     {
         self.all || is_named(rule.priority, &self.priorities)
     }
 
-    /// Tells whether the rule may be changed.
+    /// Checks whether the rule may be changed.
     pub fn is_rule_within(&self, rule: &Rule) -> bool
         ensures { result ≡ is_rule_within self.now rule.now }
     {
         self.names_rule(rule) && self.is_safe_rule(rule)
     }
 
-    /// Tells whether a line that can't be kept has the priority of the rule, which the fence would have without it.
+    /// Checks whether a line that can't be kept has the priority of the rule, which the fence would have without it.
     pub(crate) fn is_unread_rule(&self, rule: &Rule) -> bool
         ensures { result ≡ is_unread_rule self.now rule.now }
     {

@@ -3,10 +3,12 @@ ghost use Rattle.std.specs.Prelude.{◌≡◌, IfOk, true};
 ghost use Rattle.prt_addr.specs.Rising.{IsRising};
 ghost use Rattle.prt_route.specs.Route.{is_listed_before};
 ghost use Rattle.prt_diff.specs.Held.{blocked_routes, hindered_routes, hindered_rules, is_nothing_held, staying_routes, staying_rules, unread_rules};
+ghost use Rattle.prt_diff.specs.Unreadable.{AreUnreadable};
 
 use crate::fence::Fence;
 use crate::routes::{has_key, has_serving, is_blocked, is_kept};
 use crate::rules::has_rule;
+use crate::unreadable::{Unreadable, find_unreadable};
 use prt_route::Route;
 use prt_rule::Rule;
 use std::alloc::{AllocError, Global};
@@ -24,6 +26,8 @@ pub struct Held {
     pub hindered_rules: Vec<Rule>,
     /// The rules that are not wanted and stay, since a line that can't be kept has their priority.
     pub staying_rules: Vec<Rule>,
+    /// What no line brings or deletes, since `ip -batch` can't read the name of its interface.
+    pub unreadable: Unreadable,
 }
 
 impl Held {
@@ -37,10 +41,11 @@ impl Held {
             staying_routes: Vec::new(alloc),
             hindered_rules: Vec::new(alloc),
             staying_rules: Vec::new(alloc),
+            unreadable: Unreadable::nothing(alloc),
         }
     }
 
-    /// Tells whether nothing is held back.
+    /// Checks whether nothing is held back.
     pub fn is_nothing(&self) -> bool
         ensures { result ≡ is_nothing_held self.now }
     {
@@ -49,6 +54,7 @@ impl Held {
             && self.staying_routes.is_empty()
             && self.hindered_rules.is_empty()
             && self.staying_rules.is_empty()
+            && self.unreadable.is_nothing()
     }
 }
 
@@ -136,6 +142,7 @@ pub(crate) fn find_held(
     ensures staying_routes { IfOk result (λ held. held.staying_routes.items ≡ staying_routes fence.now found_routes.now wanted_routes.now) }
     ensures hindered_rules { IfOk result (λ held. held.hindered_rules.items ≡ hindered_rules fence.now found_rules.now wanted_rules.now) }
     ensures staying_rules { IfOk result (λ held. held.staying_rules.items ≡ staying_rules fence.now found_rules.now wanted_rules.now) }
+    ensures unreadable { IfOk result (λ held. AreUnreadable fence.now found_rules.now found_routes.now wanted_rules.now wanted_routes.now held.unreadable) }
 {
     Ok(Held {
         blocked_routes: blocked_routes(alloc, fence, found_routes, wanted_routes)?,
@@ -143,5 +150,13 @@ pub(crate) fn find_held(
         staying_routes: staying_routes(alloc, fence, found_routes, wanted_routes)?,
         hindered_rules: unread_rules(alloc, fence, wanted_rules, found_rules)?,
         staying_rules: unread_rules(alloc, fence, found_rules, wanted_rules)?,
+        unreadable: find_unreadable(
+            alloc,
+            fence,
+            found_rules,
+            found_routes,
+            wanted_rules,
+            wanted_routes,
+        )?,
     })
 }

@@ -11,9 +11,10 @@ ghost use Rattle.prt_version.specs.Sound.{IsSound};
 ghost use Rattle.prt_version.specs.State.{State};
 ghost use Rattle.prt_diff.specs.Between.{CanBring, EachState, IsBetween, IsBrought, end_of};
 ghost use Rattle.prt_diff.specs.Fence.{rules_within};
-ghost use Rattle.prt_diff.specs.Held.{blocked_routes, has_serving, hindered_routes, hindered_rules, is_meant_route, is_meant_rule, staying_routes, staying_rules};
+ghost use Rattle.prt_diff.specs.Held.{blocked_routes, hindered_routes, hindered_rules, is_meant_route, is_meant_rule, staying_routes, staying_rules};
 ghost use Rattle.prt_diff.specs.Plan.{changes, plan};
 ghost use Rattle.prt_diff.specs.Routes.{managed_routes, wanted_routes};
+ghost use Rattle.prt_diff.specs.Serving.{has_serving};
 ghost use Rattle.prt_diff.specs.declared.fence.Fence.{Fence};
 
 /// The changes are each accepted over the state that was found. Before and after each of them, all that both ends have

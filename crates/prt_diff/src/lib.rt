@@ -14,6 +14,7 @@ mod replacing;
 mod routes;
 mod rules;
 mod text;
+mod unreadable;
 
 pub use diff::changes;
 pub use fence::{Fence, NumberRange};
@@ -22,5 +23,6 @@ pub use laws::{changes_bring, no_changes_where_same, no_gap_opens, nothing_is_pa
 pub use outside::{Outside, count_outside};
 pub use plan::Changes;
 pub use refusal::NotWritten;
-pub use replacing::replacing_text;
+pub use replacing::{left_out_of_replacing, replacing_text};
 pub use text::{changes_text, commands_text};
+pub use unreadable::Unreadable;

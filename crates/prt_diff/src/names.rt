@@ -5,21 +5,21 @@ ghost use Rattle.prt_diff.specs.Names.{is_option, is_plain_byte, is_plain_name, 
 
 use prt_route::Dev;
 
-/// Tells whether the byte quotes what follows, or hides the rest of the line.
+/// Checks whether the byte quotes what follows, or hides the rest of the line.
 fn is_quoting(byte: u8) -> bool
     ensures { result ≡ is_quoting byte }
 {
     matches!(byte, b'"' | b'\'' | b'\\' | b'#')
 }
 
-/// Tells whether the byte stands for itself in a word of a line.
+/// Checks whether the byte means itself in a word of a line.
 fn is_plain_byte(byte: u8) -> bool
     ensures { result ≡ is_plain_byte byte }
 {
     byte >= b'!' && byte <= b'~' && !is_quoting(byte)
 }
 
-/// Tells whether the word begins an option.
+/// Checks whether the word begins an option.
 fn is_option(word: &[u8]) -> bool
     ensures { result ≡ is_option word.now }
 {
@@ -29,14 +29,14 @@ fn is_option(word: &[u8]) -> bool
     }
 }
 
-/// Tells whether each byte of the word stands for itself.
+/// Checks whether each byte of the word means itself.
 fn has_plain_bytes(word: &[u8]) -> bool
     ensures { result ≡ list_all is_plain_byte word.now }
 {
     word.iter().all(|byte| is_plain_byte(*byte))
 }
 
-/// Tells whether `ip -batch` can read the name, if there is one.
+/// Checks whether `ip -batch` can read the name, if there is one.
 pub(crate) fn is_plain_name(name: Option<Dev>) -> bool
     ensures { result ≡ is_plain_name name }
 {

@@ -9,7 +9,7 @@ use prt_rule::Rule;
 use prt_version::Version;
 use std::alloc::AllocError;
 
-/// How many rules and routes may not be changed.
+/// How many rules and routes a fence doesn't name.
 #[derive(Clone, Copy, Debug, PartialEq, Eq)]
 pub struct Outside {
     /// The number of rules.
@@ -24,7 +24,7 @@ fn rules_outside(fence: &Fence, rules: &[Rule]) -> u64
 {
     let mut count: u64 = 0;
     for rule in rules {
-        if !fence.is_rule_within(rule) {
+        if !fence.names_rule(rule) {
             count += 1;
         }
     }
@@ -37,7 +37,7 @@ fn routes_outside(fence: &Fence, routes: &[Route]) -> u64
 {
     let mut count: u64 = 0;
     for route in routes {
-        if !is_kernels(route) && !fence.has_route(route) {
+        if !is_kernels(route) && !fence.names_route(route) {
             count += 1;
         }
     }

@@ -1,4 +1,4 @@
-//! The commands so far, and what is told of them.
+//! The commands so far, and what is reported of them.
 ghost use Rattle.std.specs.Prelude.{◌≡◌, IfOk, OnOk};
 ghost use Rattle.prt_addr.specs.Rising.{IsRising};
 ghost use Rattle.prt_route.specs.Route.{is_listed_before};
@@ -15,7 +15,7 @@ use prt_route::Route;
 use prt_rule::Rule;
 use std::alloc::{AllocError, Global};
 
-/// The commands that bring one version to another, and what has to be told of them.
+/// The commands that bring one version to another, and what has to be reported of them.
 #[derive(Drop)]
 pub struct Changes {
     /// The commands, in order.

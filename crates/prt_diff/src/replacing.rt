@@ -1,16 +1,19 @@
 //! The lines that put a version back on a host that has made some of its routes already.
-ghost use Rattle.std.specs.Prelude.{◌≡◌, ◌++◌, All, IfErr, IfOk, OnOk, map};
-ghost use Rattle.prt_diff.specs.Replacing.{clearing, direct_routes, first_local, first_rule, gateway_routes, is_put_back, plain_rules, replacing_commands, replacing_text, spare_rule};
+ghost use Rattle.std.specs.Prelude.{◌≡◌, ◌++◌, All, IfErr, IfOk, OnOk, filter, map};
+ghost use Rattle.prt_diff.specs.Replacing.{AreLeftOut, clearing, direct_routes, first_local, first_rule, gateway_routes, is_put_back, plain_rules, replacing_commands, replacing_text, spare_rule};
 ghost use Rattle.prt_diff.specs.Routes.{replace_route};
 ghost use Rattle.prt_diff.specs.Rules.{add_rule};
 ghost use Rattle.prt_diff.specs.Text.{IsAskedFor, IsWhyNotWritten};
+ghost use Rattle.prt_diff.specs.Unreadable.{is_unreadable_route, is_unreadable_rule};
 
 use crate::commands::{add_rule, replace_route};
 use crate::diff::every_route;
 use crate::fence::is_kernels;
+use crate::held::Held;
 use crate::names::is_plain_name;
 use crate::refusal::NotWritten;
 use crate::text::commands_text;
+use crate::unreadable::{Unreadable, is_unreadable_route, is_unreadable_rule};
 use prt_command::Command;
 use prt_route::{LOCAL_TABLE, Prefix, Route};
 use prt_rule::{Action, Rule, RuleChoice};
@@ -66,7 +69,7 @@ fn first_rule() -> RuleChoice
     }
 }
 
-/// Gives the commands that delete each rule of a host, none of which fails (`ip-rule(8)`, `flush`).
+/// Lists the commands that delete each rule of a host, none of which fails (`ip-rule(8)`, `flush`).
 ///
 /// A flush leaves the rules of priority 0. Of these local and one more are deleted. If they aren't there, a deletion takes one
 /// of the two that were added.
@@ -83,7 +86,7 @@ fn clearing() -> [Command; 6]
     ]
 }
 
-/// Tells whether the route is put back: `ip -batch` can read it, and the kernel doesn't make it itself.
+/// Checks whether the route is put back: `ip -batch` can read it, and the kernel doesn't make it itself.
 fn is_put_back(route: &Route) -> bool
     ensures { result ≡ is_put_back route.now }
 {
@@ -126,7 +129,7 @@ fn push_gateway_routes(commands: &mut Vec<Command>, routes: &[Route]) -> Result<
     Ok(())
 }
 
-/// Gives the commands that put the version back.
+/// Lists the commands that put the version back.
 fn replacing_commands(alloc: Global, version: &Version) -> Result<Vec<Command>, AllocError>
     ensures { IfOk result (λ commands. commands.items ≡ replacing_commands version.now) }
 {
@@ -139,12 +142,12 @@ fn replacing_commands(alloc: Global, version: &Version) -> Result<Vec<Command>, 
     Ok(commands)
 }
 
-/// Gives the lines that put the version back on a host whose addresses have made some of its routes already.
+/// Writes the lines that put the version back on a host whose addresses have made some of its routes already.
 ///
 /// First come six lines that delete each rule of the host, and don't fail if it has no rule of priority 0. Of priority 0 they
 /// delete local and one rule more. Then comes each rule with its priority, and each route in the place of one of its key, those
-/// by a gateway last. Left out are routes that the kernel makes itself, and what has an interface whose name `ip -batch`
-/// can't read. Each line asks for its command, and ends with a newline.
+/// by a gateway last. Left out are routes that the kernel makes itself, and what [`left_out_of_replacing`] finds. Each line asks
+/// for its command, and ends with a newline.
 ///
 /// # Errors
 ///
@@ -159,4 +162,51 @@ pub fn replacing_text(alloc: Global, version: &Version) -> Result<Vec<u8>, NotWr
         return Err(NotWritten::NoMemory);
     };
     commands_text(alloc, &commands)
+}
+
+/// Finds the rules that `ip -batch` can't read.
+fn unreadable_rules(alloc: Global, rules: &[Rule]) -> Result<Vec<Rule>, AllocError>
+    ensures { IfOk result (λ left. left.items ≡ filter is_unreadable_rule rules.now) }
+{
+    rules
+        .iter()
+        .filter(|rule| is_unreadable_rule(rule))
+        .copied()
+        .collect(alloc)
+}
+
+/// Finds the routes that `ip -batch` can't read, without those that the kernel makes.
+fn unreadable_routes(alloc: Global, routes: &[Route]) -> Result<Vec<Route>, AllocError>
+    ensures { IfOk result (λ left. left.items ≡ filter is_unreadable_route routes.now) }
+{
+    routes
+        .iter()
+        .filter(|route| is_unreadable_route(route))
+        .copied()
+        .collect(alloc)
+}
+
+/// Finds what the lines of [`replacing_text`] leave out, since `ip -batch` can't read the name of its interface.
+///
+/// # Errors
+///
+/// Memory is refused.
+pub fn left_out_of_replacing(alloc: Global, version: &Version) -> Result<Held, AllocError>
+    ensures { IfOk result (AreLeftOut version.now) }
+{
+    let routes = every_route(version)?;
+    let unreadable = Unreadable {
+        missing_rules: unreadable_rules(alloc, version.rules())?,
+        missing_routes: unreadable_routes(alloc, &routes)?,
+        staying_rules: Vec::new(alloc),
+        staying_routes: Vec::new(alloc),
+    };
+    Ok(Held {
+        blocked_routes: Vec::new(alloc),
+        hindered_routes: Vec::new(alloc),
+        staying_routes: Vec::new(alloc),
+        hindered_rules: Vec::new(alloc),
+        staying_rules: Vec::new(alloc),
+        unreadable,
+    })
 }

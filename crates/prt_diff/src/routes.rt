@@ -5,8 +5,8 @@ ghost use Rattle.prt_addr.specs.Rising.{IsRising};
 ghost use Rattle.prt_route.specs.Edit.{has_key};
 ghost use Rattle.prt_route.specs.Route.{is_listed_before, key_of};
 ghost use Rattle.prt_trie.specs.Table.{has_same_key};
-ghost use Rattle.prt_diff.specs.Held.{has_serving, is_made_alike, serves};
 ghost use Rattle.prt_diff.specs.Routes.{agrees, agrees_on_dev, agrees_on_src, delete_route, early_routes, gateways_are_found, has_agreeing, highest_first, in_turn, is_early, is_kept, is_late_link, is_looked_up, is_lookup_of, is_main_rule, kept_routes, late_routes, leaves_dev, missing_routes, rank, replace_route, unwanted_routes, wanted_routes};
+ghost use Rattle.prt_diff.specs.Serving.{has_serving, is_made_alike, serves};
 
 use crate::commands::{delete_route, replace_route};
 use crate::fence::{Fence, is_kernels};
@@ -15,35 +15,35 @@ use prt_route::{MAIN_TABLE, Route};
 use prt_rule::{Action, Rule};
 use std::alloc::{AllocError, Global};
 
-/// Tells whether the route may not be changed.
+/// Checks whether the route may not be changed.
 pub(crate) fn is_kept(fence: &Fence, route: &Route) -> bool
     ensures { result ≡ is_kept fence.now route.now }
 {
     !fence.is_route_within(route)
 }
 
-/// Tells whether the kernel finds the interface of the route by its gateway.
+/// Checks whether the kernel finds the interface of the route by its gateway.
 fn leaves_dev(route: &Route) -> bool
     ensures { result ≡ leaves_dev route.now }
 {
     route.via.is_some() && route.dev.is_none()
 }
 
-/// Tells whether the interface that is found is as it is wanted.
+/// Checks whether the interface that is found is as it is wanted.
 fn agrees_on_dev(wanted: &Route, found: &Route) -> bool
     ensures { result ≡ agrees_on_dev wanted.now found.now }
 {
     leaves_dev(wanted) || wanted.dev == found.dev
 }
 
-/// Tells whether the source that is found is as it is wanted.
+/// Checks whether the source that is found is as it is wanted.
 fn agrees_on_src(wanted: &Route, found: &Route) -> bool
     ensures { result ≡ agrees_on_src wanted.now found.now }
 {
     (leaves_dev(wanted) && wanted.src.is_none()) || wanted.src == found.src
 }
 
-/// Tells whether the route that is found is as it is wanted, except for what the kernel fills in.
+/// Checks whether the route that is found is as it is wanted, except for what the kernel fills in.
 fn agrees(wanted: &Route, found: &Route) -> bool
     ensures { result ≡ agrees wanted.now found.now }
 {
@@ -70,7 +70,7 @@ fn find_same_key(routes: &[Route], route: &Route) -> Option<Route>
     }
 }
 
-/// Tells whether one of the routes has the key.
+/// Checks whether one of the routes has the key.
 pub(crate) fn has_key(routes: &[Route], route: &Route) -> bool
     requires { IsRising is_listed_before routes.now }
     ensures { result ≡ has_key (key_of route.now) routes.now }
@@ -81,7 +81,7 @@ pub(crate) fn has_key(routes: &[Route], route: &Route) -> bool
     }
 }
 
-/// Tells whether the kernel made the route itself, as it is wanted except for its protocol and a source that isn't named.
+/// Checks whether the kernel made the route itself, as it is wanted except for its protocol and a source that isn't named.
 fn is_made_alike(wanted: &Route, found: &Route) -> bool
     ensures { result ≡ is_made_alike wanted.now found.now }
 {
@@ -94,28 +94,28 @@ fn is_made_alike(wanted: &Route, found: &Route) -> bool
         && wanted.scope == found.scope
 }
 
-/// Tells whether the route that is found is as it is wanted, or the kernel made it so.
+/// Checks whether the route that is found is as it is wanted, or the kernel made it so.
 fn serves(wanted: &Route, found: &Route) -> bool
     ensures { result ≡ serves wanted.now found.now }
 {
     agrees(wanted, found) || is_made_alike(wanted, found)
 }
 
-/// Tells whether the route that is found may not be changed, and doesn't serve for this one.
+/// Checks whether the route that is found may not be changed, and doesn't serve for this one.
 fn blocks(fence: &Fence, wanted: &Route, found: &Route) -> bool
     ensures { result ≡ is_kept fence.now found.now && not (serves wanted.now found.now) }
 {
     is_kept(fence, found) && !serves(wanted, found)
 }
 
-/// Tells whether the route that is found may be changed, and isn't as this one is wanted.
+/// Checks whether the route that is found may be changed, and isn't as this one is wanted.
 fn gives_way(fence: &Fence, wanted: &Route, found: &Route) -> bool
     ensures { result ≡ not (is_kept fence.now found.now) && not (agrees wanted.now found.now) }
 {
     !is_kept(fence, found) && !agrees(wanted, found)
 }
 
-/// Tells whether a kept route has the key, and none serves for this one.
+/// Checks whether a kept route has the key, and none serves for this one.
 pub(crate) fn is_blocked(fence: &Fence, found: &[Route], route: &Route) -> bool
     requires { IsRising is_listed_before found.now }
     ensures { result ≡ has_key (key_of route.now) (kept_routes fence.now found.now) && not (has_serving route.now found.now) }
@@ -126,7 +126,7 @@ pub(crate) fn is_blocked(fence: &Fence, found: &[Route], route: &Route) -> bool
     }
 }
 
-/// Tells whether no kept route has the key, and none is as this one is wanted.
+/// Checks whether no kept route has the key, and none is as this one is wanted.
 fn is_unmade(fence: &Fence, found: &[Route], route: &Route) -> bool
     requires { IsRising is_listed_before found.now }
     ensures { result ≡ not (has_key (key_of route.now) (kept_routes fence.now found.now)) && not (has_agreeing route.now found.now) }
@@ -137,7 +137,7 @@ fn is_unmade(fence: &Fence, found: &[Route], route: &Route) -> bool
     }
 }
 
-/// Tells whether no kept route has the key.
+/// Checks whether no kept route has the key.
 fn is_free(fence: &Fence, found: &[Route], route: &Route) -> bool
     requires { IsRising is_listed_before found.now }
     ensures { result ≡ not (has_key (key_of route.now) (kept_routes fence.now found.now)) }
@@ -148,7 +148,7 @@ fn is_free(fence: &Fence, found: &[Route], route: &Route) -> bool
     }
 }
 
-/// Tells whether a wanted route has the key.
+/// Checks whether a wanted route has the key.
 fn has_wanted_key(fence: &Fence, found: &[Route], wanted: &[Route], route: &Route) -> bool
     requires found { IsRising is_listed_before found.now }
     requires wanted { IsRising is_listed_before wanted.now }
@@ -160,7 +160,7 @@ fn has_wanted_key(fence: &Fence, found: &[Route], wanted: &[Route], route: &Rout
     }
 }
 
-/// Tells whether one of the routes serves for this one.
+/// Checks whether one of the routes serves for this one.
 pub(crate) fn has_serving(routes: &[Route], route: &Route) -> bool
     requires { IsRising is_listed_before routes.now }
     ensures { result ≡ has_serving route.now routes.now }
@@ -171,7 +171,7 @@ pub(crate) fn has_serving(routes: &[Route], route: &Route) -> bool
     }
 }
 
-/// Gives the wanted routes that are not found so.
+/// Collects the wanted routes that are not found so.
 pub(crate) fn missing_routes(
     alloc: Global,
     fence: &Fence,
@@ -210,7 +210,7 @@ pub(crate) fn push_unwanted_routes(
     Ok(())
 }
 
-/// Tells whether the rule looks up the table.
+/// Checks whether the rule looks up the table.
 fn is_lookup_of(table: u32, rule: &Rule) -> bool
     ensures { result ≡ is_lookup_of table rule.now }
 {
@@ -220,14 +220,14 @@ fn is_lookup_of(table: u32, rule: &Rule) -> bool
     }
 }
 
-/// Tells whether some rule looks up the table.
+/// Checks whether some rule looks up the table.
 fn is_looked_up(rules: &[Rule], table: u32) -> bool
     ensures { result ≡ is_looked_up rules.now table }
 {
     rules.iter().any(|rule| is_lookup_of(table, rule))
 }
 
-/// Tells whether the rule looks up main for every packet.
+/// Checks whether the rule looks up main for every packet.
 fn is_main_rule(rule: &Rule) -> bool
     ensures { result ≡ is_main_rule rule.now }
 {
@@ -240,42 +240,42 @@ fn is_main_rule(rule: &Rule) -> bool
         && is_lookup_of(MAIN_TABLE, rule)
 }
 
-/// Tells whether some rule looks up main for every packet.
+/// Checks whether some rule looks up main for every packet.
 fn looks_through_main(rules: &[Rule]) -> bool
     ensures { result ≡ list_any is_main_rule rules.now }
 {
     rules.iter().any(|rule| is_main_rule(rule))
 }
 
-/// Tells whether the route may reach a gateway of another, and a rule that is found looks up its table.
+/// Checks whether the route may reach a gateway of another, and a rule that is found looks up its table.
 fn is_late_link(rules: &[Rule], route: &Route) -> bool
     ensures { result ≡ is_late_link rules.now route.now }
 {
     route.via.is_none() && is_looked_up(rules, route.table)
 }
 
-/// Tells whether one of the routes is such a link.
+/// Checks whether one of the routes is such a link.
 fn has_late_link(rules: &[Rule], routes: &[Route]) -> bool
     ensures { result ≡ list_any (is_late_link rules.now) routes.now }
 {
     routes.iter().any(|route| is_late_link(rules, route))
 }
 
-/// Tells whether the kernel finds each gateway before the rules come.
+/// Checks whether the kernel finds each gateway before the rules come.
 fn gateways_are_found(rules: &[Rule], routes: &[Route]) -> bool
     ensures { result ≡ gateways_are_found rules.now routes.now }
 {
     looks_through_main(rules) && !has_late_link(rules, routes)
 }
 
-/// Tells whether the route comes before the rules: no rule looks up its table, and the kernel finds its gateway.
+/// Checks whether the route comes before the rules: no rule looks up its table, and the kernel finds its gateway.
 fn is_early(rules: &[Rule], gateways: bool, route: &Route) -> bool
     ensures { result ≡ is_early rules.now gateways route.now }
 {
     !is_looked_up(rules, route.table) && (route.via.is_none() || gateways)
 }
 
-/// Gives those of the routes that come before the rules.
+/// Collects those of the routes that come before the rules.
 pub(crate) fn early_routes(
     alloc: Global,
     rules: &[Rule],
@@ -293,7 +293,7 @@ pub(crate) fn early_routes(
     Ok(early)
 }
 
-/// Gives those of the routes that come after the rules.
+/// Collects those of the routes that come after the rules.
 pub(crate) fn late_routes(
     alloc: Global,
     rules: &[Rule],
@@ -311,7 +311,7 @@ pub(crate) fn late_routes(
     Ok(late)
 }
 
-/// Gives the rank of the route: those of higher rank come first.
+/// Computes the rank of the route: those of higher rank come first.
 fn rank(route: &Route) -> u32
     ensures { result ≡ rank route.now }
 {

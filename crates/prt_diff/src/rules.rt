@@ -12,14 +12,14 @@ use prt_route::Prefix;
 use prt_rule::{Mark, Rule, same};
 use std::alloc::{AllocError, Global};
 
-/// Tells whether the prefix agrees with the one that is given: 0.0.0.0/0 names nothing.
+/// Checks whether the prefix agrees with the one that is given: 0.0.0.0/0 names nothing.
 fn takes_prefix(given: &Prefix, prefix: &Prefix) -> bool
     ensures { result ≡ takes_prefix given.now prefix.now }
 {
     given.len() == 0 || given == prefix
 }
 
-/// Gives the mark, or 0.
+/// Returns the mark, or 0.
 fn mark_bits(mark: &Option<Mark>) -> u32
     ensures { result ≡ mark_bits mark.now }
 {
@@ -29,7 +29,7 @@ fn mark_bits(mark: &Option<Mark>) -> u32
     }
 }
 
-/// Gives the mask of the mark, or 0.
+/// Returns the mask of the mark, or 0.
 fn mask_bits(mark: &Option<Mark>) -> u32
     ensures { result ≡ mask_bits mark.now }
 {
@@ -39,14 +39,14 @@ fn mask_bits(mark: &Option<Mark>) -> u32
     }
 }
 
-/// Tells whether the number agrees with the one that is given: 0 names nothing.
+/// Checks whether the number agrees with the one that is given: 0 names nothing.
 fn takes_number(given: u32, number: u32) -> bool
     ensures { result ≡ takes_number given number }
 {
     given == 0 || given == number
 }
 
-/// Tells whether the other rule agrees with the words that name this one. The kernel compares no `not`.
+/// Checks whether the other rule agrees with the words that name this one. The kernel compares no `not`.
 fn takes(rule: &Rule, other: &Rule) -> bool
     ensures { result ≡ takes rule.now other.now }
 {
@@ -60,7 +60,7 @@ fn takes(rule: &Rule, other: &Rule) -> bool
         && agrees_there(&rule.suppress, &other.suppress)
 }
 
-/// Tells whether the kernel refuses the new rule beside the other one.
+/// Checks whether the kernel refuses the new rule beside the other one.
 fn bars(new: &Rule, other: &Rule) -> bool
     ensures { result ≡ bars new.now other.now }
 {
@@ -74,14 +74,14 @@ fn bars(new: &Rule, other: &Rule) -> bool
         && new.suppress == other.suppress
 }
 
-/// Tells whether the kernel refuses one of the new rules beside this one.
+/// Checks whether the kernel refuses one of the new rules beside this one.
 fn bars_one(new: &[Rule], rule: &Rule) -> bool
     ensures { result ≡ bars_one new.now rule.now }
 {
     new.iter().any(|one| bars(one, rule))
 }
 
-/// Tells whether the kernel takes this rule where its words are given: it is the first one that agrees.
+/// Checks whether the kernel takes this rule if its words are given: it is the first one that agrees.
 pub(crate) fn is_first_taken(rule: &Rule, rules: &[Rule]) -> bool
     ensures { result ≡ is_first_taken rule.now rules.now }
 {
@@ -97,14 +97,14 @@ pub(crate) fn is_first_taken(rule: &Rule, rules: &[Rule]) -> bool
     }
 }
 
-/// Tells whether one of the rules is the same but for its id.
+/// Checks whether one of the rules is the same except for its id.
 pub(crate) fn has_rule(rule: &Rule, rules: &[Rule]) -> bool
     ensures { result ≡ has_rule rule.now rules.now }
 {
     rules.iter().any(|other| same(other, rule))
 }
 
-/// Gives the rules of this priority. They stand side by side.
+/// Finds the rules of this priority. They lie side by side.
 fn rules_at(rules: &[Rule], priority: u32) -> &[Rule]
     requires { IsInOrder rules.now }
     ensures { result.now ≡ rules_at priority rules.now }
@@ -113,7 +113,7 @@ fn rules_at(rules: &[Rule], priority: u32) -> &[Rule]
     &rest[..rest.partition_point(|rule| rule.priority <= priority)]
 }
 
-/// Tells whether the rule stays among those of its priority: the wanted ones up to it are found in that order.
+/// Checks whether the rule stays among those of its priority: the wanted ones up to it are found in that order.
 fn stays(rule: &Rule, found: &[Rule], wanted: &[Rule]) -> bool
     ensures { result ≡ stays rule.now found.now wanted.now }
 {
@@ -130,7 +130,7 @@ fn stays(rule: &Rule, found: &[Rule], wanted: &[Rule]) -> bool
     }
 }
 
-/// Tells whether the rule stays.
+/// Checks whether the rule stays.
 fn is_kept_rule(found: &[Rule], wanted: &[Rule], rule: &Rule) -> bool
     requires found { IsInOrder found.now }
     requires wanted { IsInOrder wanted.now }
@@ -143,7 +143,7 @@ fn is_kept_rule(found: &[Rule], wanted: &[Rule], rule: &Rule) -> bool
     )
 }
 
-/// Gives those of the rules that may be changed.
+/// Collects those of the rules that may be changed.
 fn rules_within(alloc: Global, fence: &Fence, rules: &[Rule]) -> Result<Vec<Rule>, AllocError>
     requires { IsInOrder rules.now }
     ensures within { IfOk result (λ within. within.items ≡ rules_within fence.now rules.now) }
@@ -158,7 +158,7 @@ fn rules_within(alloc: Global, fence: &Fence, rules: &[Rule]) -> Result<Vec<Rule
     Ok(within)
 }
 
-/// Gives the wanted rules that are not found, or have to move.
+/// Collects the wanted rules that are not found, or have to move.
 #[tactic(auto, unfolding(crate::specs::Rules::new_rules))]
 fn new_rules(alloc: Global, found: &[Rule], wanted: &[Rule]) -> Result<Vec<Rule>, AllocError>
     requires found { IsInOrder found.now }
@@ -174,7 +174,7 @@ fn new_rules(alloc: Global, found: &[Rule], wanted: &[Rule]) -> Result<Vec<Rule>
     Ok(rules)
 }
 
-/// Gives the rules that come or move.
+/// Collects the rules that come or move.
 pub(crate) fn coming_rules(
     alloc: Global,
     fence: &Fence,
@@ -190,7 +190,7 @@ pub(crate) fn coming_rules(
     new_rules(alloc, &found_within, &wanted_within)
 }
 
-/// Gives the rules that go.
+/// Collects the rules that go.
 pub(crate) fn going_rules(
     alloc: Global,
     fence: &Fence,
@@ -208,7 +208,7 @@ pub(crate) fn going_rules(
     Ok(rules)
 }
 
-/// Gives the rules that go and bar one that comes.
+/// Collects the rules that go and bar one that comes.
 pub(crate) fn barring_rules(
     alloc: Global,
     coming: &[Rule],
@@ -225,14 +225,14 @@ pub(crate) fn barring_rules(
     Ok(rules)
 }
 
-/// Gives the place of the first rule of a higher priority number than the new one.
+/// Finds the place of the first rule of a higher priority number than the new one.
 fn rule_after(rules: &[Rule], new: &Rule) -> Option<usize>
     ensures { result ≡ position (λ rule. has_lower_priority new.now rule) rules.now }
 {
     rules.iter().position(|rule| new.priority < rule.priority)
 }
 
-/// Gives the place of a new rule, behind the others of its priority.
+/// Finds the place of a new rule, behind the others of its priority.
 #[tactic(auto, using(crate::proofs::RulePlaces::rule_within))]
 fn rule_place(rules: &[Rule], new: &Rule) -> usize
     ensures within { result ≤ length rules.now }
@@ -250,7 +250,7 @@ pub(crate) fn insert_rule(rules: &mut Vec<Rule>, new: &Rule) -> Result<(), Alloc
     Ok(())
 }
 
-/// Removes the rule that is the same but for its id.
+/// Removes the rule that is the same except for its id.
 pub(crate) fn remove_rule(rules: &mut Vec<Rule>, gone: &Rule)
     ensures { rules.new.items ≡ without_rule gone.now rules.old.items }
 {

@@ -35,7 +35,7 @@ fn push_command(alloc: Global, text: &mut Vec<u8>, command: &Command) -> Result<
     Ok(())
 }
 
-/// Gives the lines of the commands, as `ip -batch` reads them: each asks for its command, and ends with a newline.
+/// Formats the commands as lines, as `ip -batch` reads them: each asks for its command, and ends with a newline.
 ///
 /// # Errors
 ///
@@ -57,7 +57,7 @@ pub fn commands_text(alloc: Global, commands: &[Command]) -> Result<Vec<u8>, Not
     Ok(text)
 }
 
-/// Gives the lines of the commands that [`changes`] gives. If nothing differs there are none.
+/// Formats the commands that [`changes`] computes as lines. If nothing differs there are none.
 ///
 /// [`changes`]: crate::changes
 ///

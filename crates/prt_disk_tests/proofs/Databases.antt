@@ -1,4 +1,4 @@
--- A database is told by its rows.
+-- A database is determined by its rows.
 use Rattle.std.proofs.Common.{◌≡◌, subst}
 use Rattle.sqlite.specs.Effect.{Database, IsDatabase}
 use Rattle.sqlite_catalog.proofs.ReadLemmas.{lists_once}

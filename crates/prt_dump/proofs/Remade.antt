@@ -205,7 +205,7 @@ all_routes (route ∷ todo) placed count rules apart differ room counts =
     one_more _ _ _ (RouteAdd route) (map RouteAdd todo) made.0 (made.1 ∙ route_put count rules placed route differ.0)
     (subst (Remakes (state_of (count + 1) rules next) (map RouteAdd todo)) (ap (λ n. state_of n rules (placed_all next todo)) {x = count + 1 + length {A = Route} todo} {y = count + length {A = Route} (route ∷ todo)} (omega arith)) rest)
 
--- ---- where they stand
+-- ---- where they are
 
 placed_rise : (todo placed : List Route) → IsDistinct has_same_key todo → Each (λ route. Each (Differs route) placed) todo → IsRising is_listed_before placed → IsRising is_listed_before (placed_all placed todo)
 unfolding IsDistinct
@@ -304,7 +304,7 @@ shown_rules : (rules : List Rule) → map rule_text rules ≡ map rule_text (map
 shown_rules [] = refl
 shown_rules (rule ∷ rules) = ap (λ others. rule_text rule ∷ others) (shown_rules rules)
 
--- states that are the same but for ids have the same listings
+-- states that are the same except for ids have the same listings
 pub lists_same : (state other : State) → IsSameButForIds state other → ListsSame state other
 lists_same state other same (queries.RouteShow selector) is = ap (λ routes. listing_text (map (λ route. route_text route (table_shown selector.table)) (listing selector routes))) same.routes
 lists_same state other same queries.RuleShow is =

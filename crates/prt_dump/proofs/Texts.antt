@@ -73,7 +73,7 @@ pub every_listed : (routes : List Route) → listing every routes ≡ routes
 every_listed [] = refl
 every_listed (route ∷ routes) = ap (λ others. route ∷ others) (every_listed routes)
 
--- ---- where no row fails a test
+-- ---- if no row fails a test
 
 none_fails_by : {X : Type 0} (q : X → Bool) (x : X) (xs : List X) (b : Bool) → q x ≡ b → (length xs ≤ position_or_len q xs → Each (λ x. q x ≡ false) xs) → length (x ∷ xs) ≤ cond (not b) (1 + position_or_len q xs) 0 → Each (λ x. q x ≡ false) (x ∷ xs)
 none_fails_by q x xs true is rest over = absurd (omega (arith, over))

@@ -1,4 +1,4 @@
--- What a dump gives that is put back.
+-- What a dump that is put back yields.
 use Rattle.std.specs.Prelude.{◌≡◌, ℕ, ◌+◌, true, not, List, [], ◌∷◌, map, position, Option, Some, None}
 use Rattle.std.specs.List.{AllByRecursion as Each}
 use Rattle.prt_refusals.specs.declared.on_refusal.OnRefusal.{OnRefusal}
@@ -20,7 +20,7 @@ use Rattle.prt_dump.specs.declared.refusal.NotDumped.TheVariants as refusals
 
 -- ---- which states have a dump
 
--- a line can spell each rule and each route
+-- a line can express each rule and each route
 pub record IsPlainState (state : State) : Type 0 where
   pub rules : Each (λ rule. is_spelled (add_rule rule) ≡ true) state.rules
   pub routes : Each (λ route. is_spelled (add_route route) ≡ true) state.routes
@@ -36,7 +36,7 @@ first_unplain_rule state = position (λ rule. not (is_spelled (add_rule rule))) 
 abbrev pub first_unplain_route : State → Option ℕ
 first_unplain_route state = position (λ route. not (is_spelled (add_route route))) state.routes
 
--- the first rule that no line can spell, or, where a line can spell each rule, the first such route
+-- the first rule that no line can express, or, if a line can express each rule, the first such route
 abbrev pub IsWhyNot : State → NotDumped → Type 0
 IsWhyNot state (refusals.Rule place) = first_unplain_rule state ≡ Some place
 IsWhyNot state (refusals.Route place) = (first_unplain_rule state ≡ None) × (first_unplain_route state ≡ Some place)
@@ -47,7 +47,7 @@ IsWhyNot state refusals.NoMemory = Unit {0}
 abbrev pub without_id : Rule → Rule
 without_id rule = record rule { id = 0 }
 
--- the same routes and, but for ids, the same rules
+-- the same routes and, except for ids, the same rules
 pub record IsSameButForIds (state other : State) : Type 0 where
   pub rules : map without_id state.rules ≡ map without_id other.rules
   pub routes : state.routes ≡ other.routes
@@ -65,7 +65,7 @@ ListsSame state other = (query : Query) → IsListing query → query_text state
 abbrev pub dump_text : State → List ℕ
 dump_text state = lines_text (dump_lines state)
 
--- the session of a script over a new database, where nothing befalls a line
+-- the session of a script over a new database, if nothing befalls a line
 abbrev pub session_of : OnRefusal → List ℕ → Session DeskState Mishap
 session_of mode script = session request_turn (settled opening_state) (record { bytes = script; ending = end_of_input }) mode []
 

@@ -22,7 +22,7 @@ pub(crate) fn first_rule() -> RuleChoice
     }
 }
 
-/// Gives the rule as one to be added.
+/// Converts the rule into one to be added.
 fn new_rule(rule: &Rule) -> NewRule
     ensures { result ≡ new_rule rule.now }
 {
@@ -38,14 +38,14 @@ fn new_rule(rule: &Rule) -> NewRule
     }
 }
 
-/// Gives the command that adds the rule.
+/// Builds the command that adds the rule.
 pub(crate) fn add_rule(rule: &Rule) -> Command
     ensures { result ≡ add_rule rule.now }
 {
     Command::RuleAdd(new_rule(rule))
 }
 
-/// Gives the command that adds the route.
+/// Builds the command that adds the route.
 pub(crate) fn add_route(route: &Route) -> Command
     ensures { result ≡ add_route route.now }
 {

@@ -58,7 +58,7 @@ fn gateways_last(alloc: Global, routes: &[Route]) -> Result<Vec<Route>, AllocErr
     Ok(rows)
 }
 
-/// Gives the lines that put these rules and routes back.
+/// Builds the lines that put these rules and routes back.
 fn text_of(alloc: Global, rules: &[Rule], routes: &[Route]) -> Result<Vec<u8>, AllocError>
     ensures { IfOk result (λ text. text.items ≡ dump_text (record { count = 0; rules = rules.now; routes = routes.now })) }
 {
@@ -70,11 +70,11 @@ fn text_of(alloc: Global, rules: &[Rule], routes: &[Route]) -> Result<Vec<u8>, A
     Ok(text)
 }
 
-/// Gives all routes of the version, in the order of listings.
+/// Collects all routes of the version, in the order of listings.
 ///
 /// # Errors
 ///
-/// `AllocError` where memory is refused.
+/// `AllocError` if memory is refused.
 pub fn every_route(version: &Version) -> Result<Vec<Route>, AllocError>
     ensures { IfOk result (λ routes. routes.items ≡ version.now.routes) }
 {
@@ -92,16 +92,16 @@ pub fn every_route(version: &Version) -> Result<Vec<Route>, AllocError>
     Ok(routes)
 }
 
-/// Gives the lines of commands that make the rules and the routes of this version anew.
+/// Builds the lines of commands that recreate the rules and the routes of this version.
 ///
 /// First `rule flush` and `rule del priority 0`, which leave no rule of a new database; then each rule with its priority;
 /// then each route, those with a gateway last, since it may need a route to it. Each line ends with a newline. A session
-/// over a new database accepts each of them, and its version has the same routes and, but for ids, the same rules.
+/// over a new database accepts each of them, and its version has the same routes and, except for ids, the same rules.
 ///
 /// # Errors
 ///
-/// `Rule` or `Route` where no line can spell one: its interface has a name with `#`, a control byte or a byte above 0x7e,
-/// or a table may not hold it. It names the first rule or, where each rule can be spelled, the first route. `NoMemory`
+/// `Rule` or `Route` if no line can express one: its interface has a name with `#`, a control byte or a byte above 0x7e,
+/// or a table may not hold it. It names the first rule or, if each rule can be expressed, the first route. `NoMemory`
 /// may come instead.
 pub fn dump_text(alloc: Global, version: &Version) -> Result<Vec<u8>, NotDumped>
     ensures text { IfOk result (λ text. text.items ≡ dump_text version.now) }

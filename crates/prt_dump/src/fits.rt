@@ -1,4 +1,4 @@
-//! What the types of rules and routes tell of the numbers of each that is read.
+//! What the types of rules and routes say of the numbers of each that is read.
 ghost use Rattle.std.specs.Prelude.{All};
 ghost use Rattle.prt_spelling.specs.Fits.{CommandFits};
 ghost use Rattle.prt_dump.specs.Dump.{add_route, add_rule};
@@ -6,7 +6,7 @@ ghost use Rattle.prt_dump.specs.Dump.{add_route, add_rule};
 use prt_route::Route;
 use prt_rule::Rule;
 
-/// Recalls what the type of a rule says of its numbers. A rule that is passed as a value tells it, one behind a reference
+/// Recalls what the type of a rule says of its numbers. A rule that is passed as a value shows it, one behind a reference
 /// doesn't.
 fn recall_rule(rule: Rule)
     ensures { CommandFits (add_rule rule) }

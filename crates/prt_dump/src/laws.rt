@@ -7,7 +7,8 @@ ghost use Rattle.prt_version.specs.State.{State, opening_state};
 ghost use Rattle.prt_dump.specs.Dump.{dump_commands};
 ghost use Rattle.prt_dump.specs.PutBack.{IsPlainState, IsPutBack, IsSameButForIds, StateFits, dump_text, session_of};
 
-/// The commands of a dump are each accepted over a new database, and make the same routes and, but for ids, the same rules.
+/// The commands of a dump are each accepted over a new database. They make the same routes and, except for ids, the same
+/// rules.
 pub fn dump_remakes()
     ensures accepted { (state : State) → IsSound state → IsAccepted opening_state (dump_commands state) }
     ensures same { (state : State) → IsSound state → IsSameButForIds (fold opening_state (dump_commands state)) state }

@@ -1,4 +1,4 @@
--- The rules that are asked end with the one that decides.
+-- The rules that are tried end with the one that decides.
 use Rattle.std.proofs.Common.{◌≡◌, Bool, true, false, List, [], ◌∷◌, Option, Some, None, refl, sym, ap, subst, cond}
 use Rattle.std.specs.Prelude.{filter, is_some}
 use Rattle.std.specs.List.{AllByRecursion as Each}
@@ -15,7 +15,7 @@ use Rattle.prt_version.proofs.RuleOrder.{rule_order}
 use Rattle.prt_explain.specs.Asked.{AreAsked}
 use Rattle.prt_explain.specs.Explanation.{asked_rules}
 
--- one more rule that is asked before these
+-- one more rule that is tried before these
 after-one : (rule : Rule) (asked rules : List Rule) (first : Option Rule) → AreAsked first asked rules → AreAsked first (rule ∷ asked) (rule ∷ rules)
 after-one rule asked rules None all = ap (λ others. rule ∷ others) all
 after-one rule asked rules (Some last) ends = record {

@@ -22,7 +22,7 @@ use Rattle.prt_explain.specs.Steps.{found}
 
 -- ---- the first by an order
 
--- the first that passes stands at b
+-- the first that passes is at b
 finds_at : {X : Type 0} (p : X → Bool) (xs : List X) (b : ℕ) (d : X) → b < length xs → p (get_or xs b d) ≡ true → ((k : ℕ) → k < b → p (get_or xs k d) ≡ false) → find p xs ≡ Some (get_or xs b d)
 finds_at p [] b d within passes others = absurd (omega arith)
 finds_at p (x ∷ xs) zero d within passes others = simp passes refl

@@ -64,14 +64,14 @@ asked_by : (rule : Rule) (rules : List Rule) (routes : List Route) (packet : Pac
 asked_by rule rules routes packet true = lines_append (rule_lines rule routes packet) []
 asked_by rule rules routes packet false = lines_append (rule_lines rule routes packet) (flat_map (λ rule. rule_lines rule routes packet) (asked_rules rules routes packet))
 
--- the lines of the first rule, and those of the others where it doesn't decide
+-- the lines of the first rule, and those of the others if it doesn't decide
 asked-first : (rule : Rule) (rules : List Rule) (routes : List Route) (packet : Packet) → asked_text (rule ∷ rules) routes packet ≡ lines_text (rule_lines rule routes packet) ++ cond (is_some (decision rule routes packet)) [] (asked_text rules routes packet)
 asked-first rule rules routes packet = asked_by rule rules routes packet (is_some (decision rule routes packet))
 
 pub dropped : (rules : List Rule) (i : ℕ) (rule : Rule) → i < length rules → rule ≡ get_or rules i rule → drop i rules ≡ rule ∷ drop (i + 1) rules
 dropped rules i rule inside is = rw add-one (drop-cons rules i rule inside ∙ ap (λ r. r ∷ drop (suc i) rules) (sym is))
 
--- the rule at i is asked: its lines stand there, and those of the rules after it are still to come if it doesn't decide
+-- the rule at i is tried: its lines are there, and those of the rules after it are still to come if it doesn't decide
 pub asked_more : (rules : List Rule) (i : ℕ) (rule : Rule) (routes : List Route) (packet : Packet) (before old new : List ℕ) (decides : Bool) → i < length rules → rule ≡ get_or rules i rule → old ++ asked_text (drop i rules) routes packet ≡ before → new ≡ old ++ lines_text (rule_lines rule routes packet) → decides ≡ is_some (decision rule routes packet) → new ++ cond decides [] (asked_text (drop (i + 1) rules) routes packet) ≡ before
 asked_more rules i rule routes packet before old new decides inside is held pushed says =
     let rest : List ℕ = cond decides [] (asked_text (drop (i + 1) rules) routes packet) in

@@ -1,4 +1,4 @@
--- Why a packet goes where it goes: the rules that are asked, what each one finds, and the answer.
+-- Why a packet goes where it goes: the rules that are tried, what each one finds, and the answer.
 use Rattle.std.specs.Prelude.{ℕ, Bool, true, false, not, nat_lt, if◌then◌else◌, List, [], ◌∷◌, ◌++◌, map, filter, Option, Some, None, is_some, codes, decimal}
 use Rattle.std.specs.List.{flat_map}
 use Rattle.prt_addr.specs.Addr.{addr_text}
@@ -69,7 +69,7 @@ abbrev pub runner_up_notes : Route → Option Route → List Line
 runner_up_notes route None = []
 runner_up_notes route (Some other) = (codes "before " ++ route_text other LeftOut ++ codes ": " ++ advantage route other) ∷ []
 
--- why a rule says nothing where it finds the route
+-- why a rule says nothing if it finds the route
 abbrev pub silence_notes : Option ℕ → Route → List Line
 silence_notes suppress route =
     if is_throw route.kind then codes "throw: the lookup ends here, and the rule says nothing" ∷ [] else
@@ -104,12 +104,12 @@ rule_notes rule routes packet =
 abbrev pub rule_lines : Rule → List Route → Packet → List Line
 rule_lines rule routes packet = rule_text rule ∷ map (λ note. codes "\t" ++ note) (rule_notes rule routes packet)
 
--- the rules that are asked: up to the first that decides, and that one
+-- the rules that are tried: up to the first that decides, and that one
 abbrev pub asked_rules : List Rule → List Route → Packet → List Rule
 asked_rules [] routes packet = []
 asked_rules (rule ∷ rules) routes packet = rule ∷ (if is_some (decision rule routes packet) then [] else asked_rules rules routes packet)
 
--- the packet, the rules that are asked, and the answer
+-- the packet, the rules that are tried, and the answer
 abbrev pub explanation_lines : State → Packet → List Line
 explanation_lines state packet =
     packet_text packet

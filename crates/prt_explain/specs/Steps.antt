@@ -15,7 +15,7 @@ use Rattle.prt_explain.specs.declared.lookup.Found.{Found}
 abbrev pub notes_text : List Line → List ℕ
 notes_text notes = lines_text (map (λ note. codes "\t" ++ note) notes)
 
--- the lines of the rules that are asked of these
+-- the lines of the rules that are tried of these
 abbrev pub asked_text : List Rule → List Route → Packet → List ℕ
 asked_text rules routes packet = lines_text (flat_map (λ rule. rule_lines rule routes packet) (asked_rules rules routes packet))
 

@@ -42,7 +42,7 @@ fn push_rule_line(out: &mut Vec<u8>, rule: &Rule) -> Result<(), AllocError>
     push_text(out, "\n")
 }
 
-/// Appends the lines of a rule that is asked, and tells whether it decides.
+/// Appends the lines of a rule that is tried, and returns whether it decides.
 fn push_rule(
     out: &mut Vec<u8>,
     rule: &Rule,
@@ -60,7 +60,7 @@ fn push_rule(
     push_action_notes(out, rule, version, packet)
 }
 
-/// Appends the lines of the rules that are asked.
+/// Appends the lines of the rules that are tried.
 fn push_asked_rules(out: &mut Vec<u8>, version: &Version, packet: &Packet) -> Result<(), AllocError>
     ensures { OnOk result (out.new.items ≡ out.old.items ++ asked_text version.now.rules version.now.routes packet.now) }
 {
@@ -72,12 +72,12 @@ fn push_asked_rules(out: &mut Vec<u8>, version: &Version, packet: &Packet) -> Re
     Ok(())
 }
 
-/// Appends why the packet goes where it goes: what was asked, each rule up to the one that decides with what it found
-/// or why it didn't match, and the answer as `route get` gives it.
+/// Appends why the packet goes where it goes: what was asked, each rule up to the one that decides, and the answer
+/// as `route get` prints it. A rule comes with what it found or why it didn't match.
 ///
 /// # Errors
 ///
-/// `NoMemory` where memory is refused; `out` is as it was.
+/// `NoMemory` if memory is refused; `out` is as it was.
 pub fn explanation_text(
     out: &mut Vec<u8>,
     version: &Version,

@@ -18,30 +18,30 @@ ghost use Rattle.prt_explain.specs.Asked.{AreAsked};
 ghost use Rattle.prt_explain.specs.Explanation.{asked_rules, explanation_text, first_mismatch, packet_text, runner_up, silence_notes};
 ghost use Rattle.prt_explain.specs.Steps.{asked_text};
 
-/// An explanation ends with what `route get` answers. Before that stand the packet's line and those of the rules that are
-/// asked.
+/// An explanation ends with what `route get` answers. Before that come the packet's line and those of the rules that are
+/// tried.
 pub fn ends_with_answer()
     ensures { (state : State) (packet : Packet) → explanation_text state packet ≡ packet_text packet ++ codes "\n" ++ asked_text state.rules state.routes packet ++ query_text state (Get packet) }
 {}
 
-/// The rules that are told of are those up to the one that decides, and that one; or all of them where none decides.
+/// The rules that are reported are those up to the one that decides, and that one; or all of them if none decides.
 pub fn asks_up_to_decider()
     ensures { (state : State) (packet : Packet) → IsSound state → AreAsked (decider state.rules state.routes packet) (asked_rules state.rules state.routes packet) state.rules }
 {}
 
-/// A rule matches exactly where no part of its selector is told to differ, and an inverted one exactly where one is.
+/// A rule matches exactly if no part of its selector is reported to differ, and an inverted one exactly if one is.
 pub fn mismatch_is_told()
     ensures { (rule : Rule) (packet : Packet) → matches rule packet ≡ (if rule.inverted then is_some (first_mismatch rule packet) else is_none (first_mismatch rule packet)) }
 {}
 
-/// A matching rule that finds a route in its table decides exactly where nothing is told of why it says nothing.
+/// A matching rule that finds a route in its table decides exactly if nothing is reported of why it says nothing.
 pub fn silence_is_told()
     ensures { (rule : Rule) (table : ℕ) (routes : List Route) (packet : Packet) (route : Route) →
         rule.action ≡ Lookup table → matches rule packet ≡ true → best routes table packet.dst ≡ Some route →
         IsTrue (is_some (decision rule routes packet)) ↔ (silence_notes rule.suppress route ≡ []) }
 {}
 
-/// The runner-up is a candidate that the best route is better than, and no candidate stands between the two.
+/// The runner-up is a candidate that the best route is better than, and no candidate lies between the two.
 pub fn runner_up_is_next()
     ensures candidate { (route : Route) (routes : List Route) (table : ℕ) (addr : Addr) (other : Route) →
         runner_up route routes table addr ≡ Some other → Contains (candidates routes table addr) other }

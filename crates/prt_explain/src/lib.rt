@@ -1,4 +1,4 @@
-//! Why a packet goes where it goes, as a text for people: each rule that is asked, what it finds, and the answer. And the
+//! Why a packet goes where it goes, as a text for people: each rule that is tried, what it finds, and the answer. And the
 //! parts of that for other forms: the first mismatch of a rule, and what a lookup finds.
 #![tactic(auto)]
 

@@ -19,7 +19,7 @@ pub struct Found {
     pub runner_up: Option<Route>,
 }
 
-/// Gives the routes of the table whose prefixes contain the address.
+/// Collects the routes of the table whose prefixes contain the address.
 fn candidates(version: &Version, table: u32, addr: Addr) -> Result<Vec<Route>, AllocError>
     ensures { IfOk result (λ routes. routes.items ≡ candidates version.now.routes table addr) }
 {
@@ -38,7 +38,7 @@ fn candidates(version: &Version, table: u32, addr: Addr) -> Result<Vec<Route>, A
     Ok(routes)
 }
 
-/// Gives the best of the routes, and the first of them where several are equally good.
+/// Picks the best of the routes, and the first of them if several are equally good.
 fn best_of(routes: &[Route]) -> Option<Route>
     ensures { result ≡ first_by is_better routes.now }
 {
@@ -54,8 +54,8 @@ fn best_of(routes: &[Route]) -> Option<Route>
     Some(routes[best])
 }
 
-/// Gives the best route of the table for the address, and the one that comes next: the best of those that it is better than.
-/// `None` where no route of the table has the address. A throw route is found as any other.
+/// Finds the best route of the table for the address, and the one that comes next: the best of those that it is better than.
+/// `None` if no route of the table has the address. A throw route is found as any other.
 ///
 /// It goes through all routes of the table, and so takes longer than a lookup of the best route alone.
 ///

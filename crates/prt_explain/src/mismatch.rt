@@ -8,7 +8,7 @@ use prt_listing::{Part, Value, dev_part, mark_part};
 use prt_route::Dev;
 use prt_rule::{Mark, Packet, Rule};
 
-/// Tells whether the interface is the one that is given, if one is.
+/// Checks whether the interface is the one that is given, if one is.
 fn takes_interface(given: &Option<Dev>, iif: &Dev) -> bool
     ensures { result ≡ takes_interface given.now iif.now }
 {
@@ -18,7 +18,7 @@ fn takes_interface(given: &Option<Dev>, iif: &Dev) -> bool
     }
 }
 
-/// Tells whether the marks agree in the bits of the mask, if a mark is given.
+/// Checks whether the marks agree in the bits of the mask, if a mark is given.
 fn takes_mark(given: &Option<Mark>, mark: u32) -> bool
     ensures { result ≡ takes_mark given.now mark }
 {
@@ -28,9 +28,9 @@ fn takes_mark(given: &Option<Mark>, mark: u32) -> bool
     }
 }
 
-/// Gives the first part of the rule's selector that the packet doesn't agree with, in the order of a rule's text: `from`,
-/// `to`, `fwmark`, `iif`. `None` where it agrees with all of them. It doesn't look at `not`: a rule matches where there is no
-/// such part, and an inverted one where there is one.
+/// Finds the first part of the rule's selector that the packet doesn't agree with, in the order of a rule's text: `from`,
+/// `to`, `fwmark`, `iif`. `None` if it agrees with all of them. It doesn't look at `not`: a rule matches if there is no
+/// such part, and an inverted one if there is one.
 pub fn first_mismatch(rule: &Rule, packet: &Packet) -> Option<Part>
     ensures { part_of result ≡ first_mismatch rule.now packet.now }
 {

@@ -1,4 +1,4 @@
-//! The notes that stand under a rule.
+//! The notes that come under a rule.
 ghost use Rattle.std.specs.Prelude.{◌≡◌, ℕ, ◌++◌, IfOk, OnOk, [], ◌∷◌, codes, is_some};
 ghost use Rattle.prt_route.specs.Best.{best};
 ghost use Rattle.prt_listing.specs.Parts.{table_text};
@@ -82,15 +82,15 @@ fn push_runner_up_notes(
     push_text(out, "\n")
 }
 
-/// Tells whether the route ends the lookup in its table.
+/// Checks whether the route ends the lookup in its table.
 fn is_throw(kind: Kind) -> bool
     ensures { result ≡ is_throw kind }
 {
     matches!(kind, Kind::Throw)
 }
 
-/// Tells whether a rule says nothing where it finds this route: it suppresses unicast routes whose prefixes have this
-/// length, of 0 to 32 bits, or less (`ip-rule(8)`, `suppress_prefixlength`), and none where no length is given.
+/// Checks whether a rule says nothing if it finds this route: it suppresses unicast routes whose prefixes have this
+/// length, of 0 to 32 bits, or less (`ip-rule(8)`, `suppress_prefixlength`), and none if no length is given.
 pub fn suppresses(suppress: Option<u8>, route: &Route) -> bool
     ensures { result ≡ suppresses suppress route.now }
 {
@@ -100,7 +100,7 @@ pub fn suppresses(suppress: Option<u8>, route: &Route) -> bool
     }
 }
 
-/// Appends why a rule says nothing where it finds the route.
+/// Appends why a rule says nothing if it finds the route.
 fn push_silence_notes(
     out: &mut Vec<u8>,
     suppress: Option<u8>,
@@ -121,14 +121,14 @@ fn push_silence_notes(
     push_part_note(out, "suppressed: its prefix length is ", &Part::Alone(len))
 }
 
-/// Tells whether a rule that finds the route decides.
+/// Checks whether a rule that finds the route decides.
 fn speaks(suppress: Option<u8>, route: &Route) -> bool
     ensures { result ≡ speaks suppress route.now }
 {
     !is_throw(route.kind) && !suppresses(suppress, route)
 }
 
-/// Appends the name of a table, after which what is found there stands.
+/// Appends the name of a table, after which what is found there follows.
 fn push_table(out: &mut Vec<u8>, table: u32) -> Result<(), AllocError>
     ensures { OnOk result (out.new.items ≡ out.old.items ++ (codes "\ttable " ++ table_text table ++ codes ": ")) }
 {
@@ -136,7 +136,7 @@ fn push_table(out: &mut Vec<u8>, table: u32) -> Result<(), AllocError>
     push_text(out, ": ")
 }
 
-/// Appends the routes that a lookup in the table found, and why the rule says nothing where it doesn't decide.
+/// Appends the routes that a lookup in the table found, and why the rule says nothing if it doesn't decide.
 fn push_found_notes(
     out: &mut Vec<u8>,
     suppress: Option<u8>,
@@ -161,7 +161,7 @@ fn push_no_route(out: &mut Vec<u8>, table: u32) -> Result<(), AllocError>
     push_text(out, "no route\n")
 }
 
-/// Appends what a rule finds in the table, and tells whether it decides.
+/// Appends what a rule finds in the table, and returns whether it decides.
 fn push_lookup_notes(
     out: &mut Vec<u8>,
     suppress: Option<u8>,
@@ -184,7 +184,7 @@ fn push_lookup_notes(
     }
 }
 
-/// Appends what a rule that matches does with the packet, and tells whether it decides.
+/// Appends what a rule that matches does with the packet, and returns whether it decides.
 pub(crate) fn push_action_notes(
     out: &mut Vec<u8>,
     rule: &Rule,

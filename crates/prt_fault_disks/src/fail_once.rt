@@ -34,21 +34,21 @@ impl<D: Disk> FailOnce<D> {
         }
     }
 
-    /// Gives the disk that calls are passed on to.
+    /// Returns the disk that calls are passed on to.
     pub fn inner(&self) -> &D
         ensures { result.now ≡ inner_of self.now }
     {
         &self.inner
     }
 
-    /// Tells how many calls are still passed on before the one that fails.
+    /// Returns how many calls are still passed on before the one that fails.
     pub fn calls_left(&self) -> u64
         ensures { result ≡ calls_left self.now }
     {
         self.calls_left
     }
 
-    /// Tells whether that call has come.
+    /// Returns whether that call has come.
     pub fn has_failed(&self) -> bool
         ensures { result ≡ has_failed self.now }
     {

@@ -5,7 +5,7 @@
 //! - `session`: a session over a service, with the lines on standard input.
 //! - `quiet`: the calls that take no memory, before and after a mark on standard output.
 //!
-//! The status is 0, or 1 where a call was refused that isn't made again; the refusal is then the last line.
+//! The status is 0, or 1 if a call was refused that isn't made again; the refusal is then the last line.
 #![tactic(auto)]
 
 mod grace_period;

@@ -1,4 +1,4 @@
-//! The calls that take no memory: what they answer before the mark they answer after it, where none is given.
+//! The calls that take no memory: what they answer before the mark they answer after it, when none is granted.
 ghost use Rattle.std.specs.Prelude.{◌≡◌, IfOk};
 ghost use Rattle.prt_command.specs.Storable.{IsStorable};
 ghost use Rattle.prt_publisher.specs.Standing.{IsQuiet};
@@ -24,7 +24,7 @@ use std::marker::Brand;
 use std::sync::{Arc, Wait};
 use std::time::Clock;
 
-/// After this text no memory is given.
+/// After this text no memory is granted.
 const MARK: &[u8; 20] = b"no memory from here\n";
 
 /// The line that adds a route, and the one that removes it.
@@ -37,7 +37,7 @@ struct Versions {
     second: Arc<Version>,
 }
 
-/// Tells whether words, lines, versions, tables, registries and domains answer.
+/// Checks whether words, lines, versions, tables, registries and domains answer.
 fn answer<H: Wait>(rt: &H, versions: &Versions, remove: &Command) -> Result<bool, Refusal> {
     let (first, second) = (&versions.first, &versions.second);
     let are_made = are_read() && are_lines_read() && selects_route(second);
@@ -46,7 +46,7 @@ fn answer<H: Wait>(rt: &H, versions: &Versions, remove: &Command) -> Result<bool
     Ok(are_made && are_found && are_kept)
 }
 
-/// Commits a command to a store whose tables spell this version.
+/// Commits a command to a store whose tables encode this version.
 fn commit_one<S: Alter + Drop>(
     store: &mut Store<S>,
     version: &Version,
@@ -78,7 +78,7 @@ fn committed<S: Alter + Drop>(
     Ok((store, stamp, versions))
 }
 
-/// Tells whether a looker that learns a receipt sees its command, holds the version, and goes.
+/// Checks whether a looker that learns a receipt sees its command, holds the version, and goes.
 fn sees_command<S: Alter + Drop, J: Naming, H: Wait>(
     rt: &H,
     service: &Service<S, J>,
@@ -98,7 +98,7 @@ fn sees_command<S: Alter + Drop, J: Naming, H: Wait>(
     is_seen && is_held && is_resting
 }
 
-/// Tells whether a service is made of a publisher and its readers, gives a looker, and the connection back.
+/// Checks whether a service is made of a publisher and its readers, provides a looker, and returns the connection.
 fn is_served<J: Naming, S: Alter + Drop, H: Wait>(
     rt: &H,
     publisher: Publisher<S>,
@@ -146,7 +146,7 @@ fn made_to_end<S: Alter + Drop>(
     Ok((ended, versions))
 }
 
-/// Tells whether a publisher and a store show what they have, and give their connections back.
+/// Checks whether a publisher and a store show what they have, and return their connections.
 fn are_ended<S: Alter + Drop>(ended: Ended<S>) -> bool {
     let Ended {
         publisher,
@@ -159,7 +159,7 @@ fn are_ended<S: Alter + Drop>(ended: Ended<S>) -> bool {
     is_shown && stamp.number() == 1
 }
 
-/// Has a command accepted by a service, sets the mark, and tells whether its receipt is learned after it.
+/// Has a command accepted by a service, sets the mark, and checks whether its receipt is learned after it.
 fn serve<J: Naming, S: Alter + Drop, H: Wait + Clock + Copy + Drop, W: Write>(
     rt: H,
     publisher: Publisher<S>,
@@ -202,7 +202,7 @@ pub(crate) struct Databases<S: Alter + Drop> {
 ///
 /// # Errors
 ///
-/// Why a call was refused before the mark; `NoMemory` where one answered otherwise after it.
+/// Why a call was refused before the mark; `NoMemory` if one answered otherwise after it.
 pub(crate) fn run<S: Alter + Drop, H: Wait + Clock + Copy + Drop, W: Write>(
     rt: H,
     alloc: Global,

@@ -6,7 +6,7 @@ use prt_version::Version;
 use prt_version::owners::share;
 use std::sync::{Arc, Wait};
 
-/// Tells whether a registry holds the first version back until its looker announces the second, and gives it up then.
+/// Checks whether a registry holds the first version back until its looker announces the second, and gives it up then.
 pub(crate) fn registry_keeps(first: &Arc<Version>, second: &Arc<Version>) -> Result<bool, Refusal> {
     let mut registry = Registry::new(share(first)?);
     let Some(mut place) = registry.join() else {
@@ -27,7 +27,7 @@ pub(crate) fn registry_keeps(first: &Arc<Version>, second: &Arc<Version>) -> Res
     Ok(held == 0 && given_up == 1 && is_offline && registry.make_room())
 }
 
-/// Tells whether a domain does the same.
+/// Checks whether a domain does the same.
 pub(crate) fn domain_keeps<H: Wait>(
     rt: &H,
     first: &Arc<Version>,

@@ -58,7 +58,7 @@ pub(crate) fn command_of(line: &str) -> Result<Command, Refusal>
     }
 }
 
-/// Submits a command, and once more where memory was refused.
+/// Submits a command, and once more if memory was refused.
 pub(crate) fn submit<S: Alter + Drop, J: Naming, H: Wait + Clock>(
     rt: &H,
     service: &Service<S, J>,
@@ -73,7 +73,7 @@ pub(crate) fn submit<S: Alter + Drop, J: Naming, H: Wait + Clock>(
     }
 }
 
-/// Refreshes a looker, and once more where nothing was fetched, and gives the number of the version that it looks with.
+/// Refreshes a looker, and once more if nothing was fetched, and returns the number of the version that it looks with.
 pub(crate) fn look<S: Alter + Drop, J: Naming, H: Wait>(
     rt: &H,
     service: &Service<S, J>,

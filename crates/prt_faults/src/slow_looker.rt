@@ -1,7 +1,7 @@
 //! A looker that refreshes once, and then not until commands are refused for it; and more lookers than there are places.
 //!
-//! Written is, as a line `ok N`, the number of each version that the looker looks with, that of the last receipt, and
-//! how many lookers there were; and why the call after it was refused.
+//! What is written, as a line `ok N`, is the number of each version that the looker looks with, that of the last
+//! receipt, and how many lookers there were; and why the call after it was refused.
 ghost use Rattle.std.specs.Prelude.{◌≡◌};
 ghost use Rattle.prt_publisher.specs.Standing.{IsQuiet};
 ghost use Rattle.prt_service.specs.Named.{IsNamed};
@@ -40,7 +40,7 @@ impl<H: Wait + Clock + Copy + Drop> Clock for Hasty<H> {
     // Leaves `sleep` out, which returns at once.
 }
 
-/// Submits the command after so many: a route is added and removed in turn. Gives the number of its receipt.
+/// Submits the command after so many: a route is added and removed in turn. Returns the number of its receipt.
 fn submit_next<S: Alter + Drop, J: Naming, H: Wait + Clock>(
     rt: &H,
     service: &Service<S, J>,
@@ -59,7 +59,7 @@ fn submit_next<S: Alter + Drop, J: Naming, H: Wait + Clock>(
 }
 
 /// Submits commands after so many until one is refused, or the last of them was accepted. Writes the number of the last
-/// receipt, and why the next command was refused. Gives that number.
+/// receipt, and why the next command was refused. Returns that number.
 ///
 /// # Errors
 ///
@@ -118,7 +118,7 @@ fn submit_beside<S: Alter + Drop, J: Naming, H: Wait + Clock, W: Write>(
     Ok(())
 }
 
-/// Makes lookers until one is refused, or so many are there. Then all of them leave. How many there were.
+/// Makes lookers until one is refused, or so many are there. Then all of them leave. Returns how many there were.
 fn gather<S: Alter + Drop, J: Naming, H: Wait>(rt: &H, service: &Service<S, J>, most: u64) -> u64 {
     if most == 0 {
         return 0;
@@ -133,7 +133,7 @@ fn gather<S: Alter + Drop, J: Naming, H: Wait>(rt: &H, service: &Service<S, J>, 
     }
 }
 
-/// Goes on where the publisher was closed: a further command is refused, and the looker has the published version.
+/// Goes on if the publisher was closed: a further command is refused, and the looker has the published version.
 fn go_on_closed<S: Alter + Drop, J: Naming, H: Wait + Clock, W: Write>(
     rt: &H,
     service: &Service<S, J>,

@@ -5,7 +5,7 @@ use prt_command::Command;
 use prt_trie::{Table, Tree};
 use prt_version::{Verdict, Version};
 
-/// Tells whether a tree finds its one route for the packet, holds its key, and chooses it for this command.
+/// Checks whether a tree finds its one route for the packet, holds its key, and chooses it for this command.
 fn finds_in_tree(tree: &Tree, remove: &Command) -> bool {
     match (tree.find(packet().dst), remove) {
         (Some(route), Command::RouteDel(choice)) => {
@@ -16,7 +16,7 @@ fn finds_in_tree(tree: &Tree, remove: &Command) -> bool {
     }
 }
 
-/// Tells whether a table does the same.
+/// Checks whether a table does the same.
 fn finds_in_table(table: &Table, remove: &Command) -> bool {
     match (table.find(packet().dst), remove) {
         (Some(route), Command::RouteDel(choice)) => {
@@ -27,7 +27,7 @@ fn finds_in_table(table: &Table, remove: &Command) -> bool {
     }
 }
 
-/// Tells whether a table finds its route, and one of its pieces.
+/// Checks whether a table finds its route, and one of its pieces.
 fn finds(table: &Table, remove: &Command) -> bool {
     let mut is_found = false;
     for tree in table.pieces() {
@@ -36,7 +36,7 @@ fn finds(table: &Table, remove: &Command) -> bool {
     is_found && finds_in_table(table, remove)
 }
 
-/// Tells whether the main table of a version finds the route that this command removes.
+/// Checks whether the main table of a version finds the route that this command removes.
 pub(crate) fn finds_route(version: &Version, remove: &Command) -> bool {
     match version.shared_routes().shared_table(254) {
         Some(table) => finds(table, remove),
@@ -44,7 +44,7 @@ pub(crate) fn finds_route(version: &Version, remove: &Command) -> bool {
     }
 }
 
-/// Tells whether a version answers with a route, by its three rules.
+/// Checks whether a version answers with a route, by its three rules.
 pub(crate) fn selects_route(version: &Version) -> bool {
     let answer = version.select(&packet());
     matches!(answer.verdict, Verdict::Route(32766, _)) && version.rules().len() == 3

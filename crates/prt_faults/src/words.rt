@@ -5,32 +5,32 @@ use prt_command::read_line;
 use prt_refusals::Refusal;
 use prt_route::read_dev;
 
-/// Tells whether this is what comes of a word that is read as an address.
+/// Checks whether this is the result of reading a word as an address.
 fn reads_addr(word: &[u8], read: Result<Addr, Refusal>) -> bool {
     read_addr(word) == read
 }
 
-/// Tells whether this is what comes of a word that is read as a prefix.
+/// Checks whether this is the result of reading a word as a prefix.
 fn reads_prefix(word: &[u8], read: Result<Prefix, Refusal>) -> bool {
     read_prefix(word) == read
 }
 
-/// Tells whether this is what comes of a word that is read as the prefix of a rule.
+/// Checks whether this is the result of reading a word as the prefix of a rule.
 fn reads_net(word: &[u8], read: Result<Prefix, Refusal>) -> bool {
     read_net(word) == read
 }
 
-/// Tells whether this is what comes of a word that is read as a number.
+/// Checks whether this is the result of reading a word as a number.
 fn reads_number(word: &[u8], read: Result<u32, Refusal>) -> bool {
     read_number(word) == read
 }
 
-/// Tells whether a word is refused so as the name of an interface, or taken.
+/// Checks whether a word is refused for this reason as the name of an interface, or taken if there is none.
 fn reads_dev(word: &[u8], refused: Option<Refusal>) -> bool {
     read_dev(word).err() == refused
 }
 
-/// Tells whether words are read as they are spelled, or refused for what is wrong with them.
+/// Checks whether words are read as they are written, or refused for what is wrong with them.
 pub(crate) fn are_read() -> bool {
     let block = Prefix::masked(0x0a00_0000, 8);
     reads_addr(b"10.1.2.3", Ok(Addr(0x0a01_0203)))
@@ -43,7 +43,7 @@ pub(crate) fn are_read() -> bool {
         && reads_dev(b"a/b", Some(Refusal::BadName))
 }
 
-/// Tells whether lines are read, and refused for their first fault.
+/// Checks whether lines are read, and refused for their first fault.
 pub(crate) fn are_lines_read() -> bool {
     read_line(b"route get 10.1.2.3 iif eth0 mark 1").is_ok()
         && read_line(b"rule add not from 10/8 fwmark 7/0xff priority 5 table 100").is_ok()

@@ -1,4 +1,4 @@
--- Rules that are the same but for ids stay so, whatever a command does to both.
+-- Rules that are the same except for ids stay so, whatever a command does to both.
 use Rattle.std.proofs.Common.{◌≡◌, ℕ, ◌<◌, Bool, true, false, not, ◌||◌, List, [], ◌∷◌, Option, Some, None, map, refl, sym, ap, ◌∙◌, subst, arith, cond}
 use Rattle.std.specs.Prelude.{◌==◌, filter, find, nat_lt, option_map}
 use Rattle.std.specs.List.{list_any, AllByRecursion as Each, IsDistinct}
@@ -19,7 +19,7 @@ any_bare : (p q : Rule → Bool) → ((rule : Rule) → p rule ≡ q (without_id
 any_bare p q alike [] = refl
 any_bare p q alike (rule ∷ rules) = ap (λ b. b || list_any p rules) (alike rule) ∙ ap (λ b. q (without_id rule) || b) (any_bare p q alike rules)
 
--- the same tests pass among rules that are the same but for ids
+-- the same tests pass among rules that are the same except for ids
 pub any_same : (p q r : Rule → Bool) → ((rule : Rule) → p rule ≡ r (without_id rule)) → ((rule : Rule) → q rule ≡ r (without_id rule)) → (rules others : List Rule) → bare rules ≡ bare others → list_any p rules ≡ list_any q others
 any_same p q r alike alike_too rules others same = any_bare p r alike rules ∙ ap (list_any r) same ∙ sym (any_bare q r alike_too others)
 
@@ -43,7 +43,7 @@ found_one : (o : Option Rule) (rule : Rule) → option_map without_id o ≡ Some
 found_one None rule is = absurd cc
 found_one (Some other) rule is = record { rule = other; is = refl }
 
--- where one is found among the one rules, one is found among the others
+-- if one is found among the one rules, one is found among the others
 pub found_too : (p : Rule → Bool) → ((rule : Rule) → p rule ≡ p (without_id rule)) → (rules others : List Rule) → bare rules ≡ bare others → (rule : Rule) → find p others ≡ Some rule → IsFound (find p rules)
 found_too p alike rules others same rule is =
     found_one (find p rules) (without_id rule) (found_bare p alike rules ∙ ap (find p) same ∙ sym (found_bare p alike others) ∙ ap (option_map without_id) is)
@@ -127,7 +127,7 @@ dropped_by p rule rules found false others rest is =
     ap (λ b. cond (not b) (rule ∷ filter (has_other_id found.id) rules) (filter (has_other_id found.id) rules)) (of_found (λ (other : Rule). (rule.id == other.id) ≡ false) p rules found others is)
     ∙ ap (λ left. rule ∷ left) (rest is)
 
--- where ids are distinct, the rules without one that was found are those without the first that passes
+-- if ids are distinct, the rules without one that was found are those without the first that passes
 dropped : (p : Rule → Bool) (rules : List Rule) (found : Rule) → IsDistinct (λ (a : Rule) (b : Rule). a.id == b.id) rules → find p rules ≡ Some found → filter (has_other_id found.id) rules ≡ without_first p rules
 unfolding IsDistinct
 dropped p [] found apart is = refl
@@ -161,7 +161,7 @@ put_bare new (rule ∷ rules) older =
     ∙ ap (λ b. cond b (without_id new ∷ without_id rule ∷ bare rules) (without_id rule ∷ bare (insert_by is_before new rules))) (by_priority new rule older.0)
     ∙ ap (λ others. cond (comes_first (without_id new) (without_id rule)) (without_id new ∷ without_id rule ∷ bare rules) (without_id rule ∷ others)) (put_bare new rules older.1)
 
--- the same rule but for its id, put into each
+-- the same rule except for its id, put into each
 pub put_same : (new other : Rule) (rules others : List Rule) → without_id new ≡ without_id other → bare rules ≡ bare others → Each (λ (rule : Rule). rule.id < new.id) rules → Each (λ (rule : Rule). rule.id < other.id) others → bare (insert_by is_before new rules) ≡ bare (insert_by is_before other others)
 put_same new other rules others alike same older others_older =
     put_bare new rules older

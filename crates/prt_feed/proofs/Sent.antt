@@ -66,7 +66,7 @@ first_line whole rest line (Some left) whole_bare short taken = first_by whole r
 
 -- ---- lines of a dump
 
--- lines up to `now`, and what stands after it
+-- lines up to `now`, and what follows it
 abbrev up_to_now : List (List ℕ) → List ℕ → List ℕ
 up_to_now lines more = whole_lines (lines ++ now_line ∷ []) ++ more
 
@@ -142,7 +142,7 @@ are_sent state sound fits plain =
 up_split : (lines : List (List ℕ)) (more : List ℕ) → up_to_now lines more ≡ whole_lines lines ++ (codes "now\n" ++ more)
 up_split lines more = ap (λ t. t ++ more) (whole-append lines (now_line ∷ [])) ∙ append_assoc (whole_lines lines) (codes "now\n") more
 
--- the first line, and what stands after it
+-- the first line, and what follows it
 sent_parts : (state : State) (more : List ℕ) → opening_text state ++ more ≡ state_line state.count ++ 10 ∷ up_to_now (dump_lines state) more
 sent_parts state more =
     let first : List ℕ = state_line state.count in

@@ -1,4 +1,4 @@
--- A command makes of a state that is the same but for ids what it makes of the state.
+-- A command makes of a state that is the same except for ids what it makes of the state.
 use Rattle.std.proofs.Common.{◌≡◌, ℕ, ◌+◌, ◌<◌, ◌≤◌, Bool, true, false, List, [], ◌∷◌, Option, Some, None, Result, Ok, Err, IfOk, length, refl, sym, ap, ◌∙◌, subst, arith, cond}
 use Rattle.std.specs.Prelude.{◌==◌, if◌then◌else◌, nat_lt, ok_or, option_map, unwrap_or}
 use Rattle.std.specs.List.{AllByRecursion as Each}
@@ -65,7 +65,7 @@ made_of r made of is = subst OfRoutes is of
 
 -- ---- what a command asks for
 
--- What a command asks for where the same is known but for ids, and what that makes.
+-- What a command asks for if the same is known except for ids, and what that makes.
 pub record IsAskedToo (known state : State) (command : Command) (made : Change) : Type 0 where
   pub own : Change
   pub asked : change_of known command ≡ Ok own
@@ -78,7 +78,7 @@ routes_asked known state command made same alike of is = record {
   same = routes_put known state made (made_of (change_of state command) made of is) same;
 }
 
--- a change, where what it adds isn't there and there is room
+-- a change, if what it adds isn't there and there is room
 abbrev unless_there : Bool → Bool → Change → Result Change Refusal
 unless_there there room asked = if there then Err Exists else if room then Ok asked else Err Full
 
@@ -212,7 +212,7 @@ apply_sound state command sound allowed =
     (next_sound state state one.made (put state one.made).rules (put state one.made).routes refl sound (record { command = command; makes = one.checked }) refl refl) in
     subst IsSound (ap (put_if state) (sym one.checked)) whole
 
--- A command is accepted where the same is known but for ids, and the same is known after it.
+-- A command is accepted if the same is known except for ids, and the same is known after it.
 pub record IsFollowedBy (known state : State) (command : Command) : Type 0 where
   pub allowed : refusal known command ≡ None
   pub same : IsSameButForIds (apply known command) (apply state command)
@@ -229,7 +229,7 @@ followed_by known state command known_sound sound same room allowed =
 
 -- ---- commands one after another
 
--- Commands are accepted where the same is known but for ids, and the same is known after them.
+-- Commands are accepted if the same is known except for ids, and the same is known after them.
 pub record AreFollowed (known state : State) (commands : List Command) : Type 0 where
   pub accepted : IsAccepted known commands
   pub same : IsSameButForIds (fold known commands) (fold state commands)

@@ -17,11 +17,11 @@ IsChangeLine line change = (rest : List ℕ) × IsCutAt line (decimal change.num
 abbrev pub IsComment : List ℕ → Type 0
 IsComment line = (rest : List ℕ) × (line ≡ 35 ∷ rest)
 
--- the line tells a change, or is a comment
+-- the line reports a change, or is a comment
 abbrev pub IsLineOf : Option Change → List ℕ → Type 0
 IsLineOf None line = IsComment line
 IsLineOf (Some change) line = IsChangeLine line change
 
--- One line was read, and tells this.
+-- One line was read, and reports this.
 abbrev pub IsTold : (reader0 reader : Option (List ℕ)) → Option Change → Type 0
 IsTold reader0 reader told = (line : List ℕ) × AreTaken reader0 reader (line ∷ []) × IsLineOf told line

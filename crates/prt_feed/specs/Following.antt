@@ -14,7 +14,7 @@ use Rattle.prt_version.specs.State.{State, opening_state}
 
 -- ---- lines that are executed
 
--- Over what is known each of the lines is accepted, and they make this state, but for ids.
+-- Over what is known each of the lines is accepted, and they make this state, except for ids.
 pub record LeadTo (known : State) (lines : List (List ℕ)) (state : State) : Type 0 where
   pub accepted : AreAccepted known lines
   pub same : IsSameButForIds (lines_state known lines) state
@@ -40,7 +40,7 @@ now_line = codes "now"
 abbrev pub feed_lines : State → List Command → List (List ℕ)
 feed_lines state commands = state_line state.count ∷ (dump_lines state ++ (now_line ∷ change_lines state.count commands))
 
--- what stands in a change's line after its number and the space
+-- what comes in a change's line after its number and the space
 abbrev pub after_number : List ℕ → List ℕ
 after_number line = after_first (λ b. b == 32) line
 
@@ -52,7 +52,7 @@ executed_lines state commands = dump_lines state ++ map after_number (change_lin
 pub record IsFollowed (state : State) (commands : List Command) : Type 0 where
   -- the lines of the text
   pub lines : AreLinesOf (feed_text state commands) (feed_lines state commands)
-  -- the first `now` stands after the dump
+  -- the first `now` comes after the dump
   pub now : Each (λ line. line ≢ now_line) (dump_lines state)
   -- after its number a change's line is its command's
   pub changes : map after_number (change_lines state.count commands) ≡ map command_line commands
@@ -60,5 +60,5 @@ pub record IsFollowed (state : State) (commands : List Command) : Type 0 where
   pub numbers : (k : ℕ) → slice_get (change_lines state.count commands) k ≡ option_map (change_line (state.count + k + 1)) (slice_get commands k)
   -- the last number is that of the state after the commands
   pub number : (fold state commands).count ≡ state.count + length commands
-  -- each executed line is accepted, and they make the state after the commands, but for ids
+  -- each executed line is accepted, and they make the state after the commands, except for ids
   pub leads : LeadTo opening_state (executed_lines state commands) (fold state commands)

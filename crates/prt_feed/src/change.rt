@@ -9,7 +9,7 @@ use prt_command::{Command, LONGEST_LINE, Request, read_line};
 use prt_refusals::Refusal;
 use std::io::Read;
 
-/// A change that a feed tells.
+/// A change that a feed reports.
 #[derive(Clone, Copy)]
 pub struct Change {
     /// How many commands the server has accepted with this one.
@@ -25,7 +25,7 @@ fn first_space(line: &[u8]) -> Option<usize>
     line.iter().position(|byte| *byte == b' ')
 }
 
-/// Gives what stands before the first space of a line, and what stands after it. `None` where it has none.
+/// Splits a line into what comes before its first space, and what comes after it. `None` if it has none.
 fn at_space(line: &[u8]) -> Option<(&[u8], &[u8])>
     ensures { IfSome result (λ parts. IsCutAt line.now parts.0.now parts.1.now) }
 {
@@ -39,7 +39,7 @@ fn at_space(line: &[u8]) -> Option<(&[u8], &[u8])>
 ///
 /// # Errors
 ///
-/// `NoFeed` where it is not a number, a space and a command; `Refused` with the first fault of the command.
+/// `NoFeed` if it is not a number, a space and a command; `Refused` with the first fault of the command.
 fn change_of(line: &[u8]) -> Result<Change, NotRead>
     ensures { IfOk result (λ change. IsChangeLine line.now change) }
 {
@@ -56,7 +56,7 @@ fn change_of(line: &[u8]) -> Result<Change, NotRead>
     }
 }
 
-/// Reads a line that stands after the opening of a feed.
+/// Reads a line that comes after the opening of a feed.
 ///
 /// # Errors
 ///
@@ -78,7 +78,7 @@ fn told_by(line: &[u8]) -> Result<Option<Change>, NotRead>
 ///
 /// # Errors
 ///
-/// `CutOff` where the reader fails or ends before the line does; `NoFeed` where the line is no change; `Refused` with the
+/// `CutOff` if the reader fails or ends before the line does; `NoFeed` if the line is no change; `Refused` with the
 /// first fault of its command, or `LineTooLong`.
 pub fn read_change<R: Read>(reader: &mut R) -> Result<Option<Change>, NotRead>
     ensures { IfOk result (IsTold (R.remaining reader.old) (R.remaining reader.new)) }

@@ -17,21 +17,21 @@ ghost use Rattle.prt_version.specs.Sound.{IsSound};
 ghost use Rattle.prt_version.specs.State.{State, opening_state};
 ghost use Rattle.prt_version.specs.declared.limits.TheConstants.{MOST_COMMANDS};
 
-/// The lines of a dump are each accepted over a new database, and give the same routes and, but for ids, the same
+/// The lines of a dump are each accepted over a new database, and make the same routes and, except for ids, the same
 /// rules.
 pub fn opening_is_read()
     ensures { (state : State) → IsSound state → StateFits state → IsPlainState state → LeadTo opening_state (dump_lines state) state }
 {}
 
-/// The lines of accepted commands are each accepted where the same is known but for ids, and lead to what is the same
-/// as the state after them. The commands may be the first of more: so it holds at each number.
+/// The lines of accepted commands are each accepted if the same is known except for ids. Then they lead to what is the
+/// same as the state after them. The commands may be the first of more: so it holds at each number.
 pub fn changes_are_followed()
     ensures { (known state : State) (commands : List Command) → IsSound known → IsSound state → IsSameButForIds known state →
         IsAccepted state commands → Each HasLine commands → known.count + length commands ≤ MOST_COMMANDS →
         LeadTo known (map command_line commands) (fold state commands) }
 {}
 
-/// Who executes the lines of a feed over a new database has at each number the routes of the server and, but for ids,
+/// A client that executes a feed's lines over a new database has at each number the server's routes and, except for ids,
 /// its rules. The commands may be the first of more.
 pub fn feed_is_followed()
     ensures { (state : State) (commands : List Command) → IsSound state → StateFits state → IsPlainState state →
@@ -44,7 +44,7 @@ pub fn text_has_one_reading()
     ensures { (text : List ℕ) (lines others : List (List ℕ)) → AreLinesOf text lines → AreLinesOf text others → lines ≡ others }
 {}
 
-/// Who reads what a feed sent has the number and the tables of its opening, unless the stream fails or ends, or memory
+/// A client that reads what a feed sent has its opening's number and tables, unless the stream fails or ends, or memory
 /// is refused.
 pub fn sent_opening_is_read()
     ensures opening { (state : State) (more : List ℕ) (reader : Option (List ℕ)) (opening : Opening) → IsSound state → StateFits state → IsPlainState state →

@@ -15,7 +15,7 @@ use thiserror::Error;
 pub struct Opening {
     /// The number of the server's last command before them.
     pub number: u64,
-    /// The tables: the server's routes and, but for ids, its rules. Its own number counts the lines that made it.
+    /// The tables: the server's routes and, except for ids, its rules. Its own number counts the lines that made it.
     pub version: Version,
 }
 
@@ -36,7 +36,7 @@ pub enum NotRead {
     NoMemory,
 }
 
-/// Gives the rules with the numbers from 1 on for ids.
+/// Copies the rules, with the numbers from 1 on for ids.
 fn numbered(alloc: Global, rules: &[Rule]) -> Result<Vec<Rule>, AllocError>
     ensures { IfOk result (λ rows. rows.items ≡ numbered_from 1 rules.now) }
 {
@@ -49,11 +49,11 @@ fn numbered(alloc: Global, rules: &[Rule]) -> Result<Vec<Rule>, AllocError>
 }
 
 impl Opening {
-    /// Gives the tables with the server's number, under which they answer. Their rules have the ids 1, 2 and so on.
+    /// Builds the tables with the server's number, under which they answer. Their rules have the ids 1, 2 and so on.
     ///
     /// # Errors
     ///
-    /// `Damaged` where the number is less than what the tables need, which is so of no feed of a server; `NoMemory`.
+    /// `Damaged` if the number is less than what the tables need, which is so of no feed of a server; `NoMemory`.
     pub fn into_version(self, alloc: Global) -> Result<Version, Refusal>
         ensures { IfOk result (λ version. RowsSpell self.number (numbered_from 1 self.version.rules) self.version.routes version) }
     {

@@ -19,7 +19,7 @@ use std::io::Read;
 /// The bytes of the longest line, and one more, by which a line that is too long is known.
 pub(crate) const ROOM: usize = LONGEST_LINE + 1;
 
-/// Reads one byte. `None` where the reader fails or has ended.
+/// Reads one byte. `None` if the reader fails or has ended.
 fn next_byte<R: Read>(reader: &mut R) -> Option<u8>
     ensures { IfSome result (λ byte. Consumes (R.remaining reader.old) (R.remaining reader.new) (byte ∷ [])) }
 {
@@ -31,8 +31,8 @@ fn next_byte<R: Read>(reader: &mut R) -> Option<u8>
     }
 }
 
-/// Reads a line, and keeps it without its newline; of a line that is too long it reads what there is room for. Tells
-/// whether it did: it didn't where the reader fails or ends before that.
+/// Reads a line, and keeps it without its newline; of a line that is too long it reads what there is room for. Returns
+/// whether it did: it didn't if the reader fails or ends before that.
 pub(crate) fn next_line<R: Read>(reader: &mut R, line: &mut ArrayVec<u8, ROOM>) -> bool
     ensures { IsTrue result → IsTaken (R.remaining reader.old) (R.remaining reader.new) line.new.items }
 {
@@ -48,7 +48,7 @@ pub(crate) fn next_line<R: Read>(reader: &mut R, line: &mut ArrayVec<u8, ROOM>) 
     true
 }
 
-/// Tells whether the number is written so.
+/// Checks whether the number is written so.
 fn is_written(number: u64, digits: &[u8]) -> bool
     ensures { IsTrue result ↔ (digits.now ≡ decimal number) }
 {
@@ -72,7 +72,7 @@ pub(crate) fn number_of(digits: &[u8]) -> Option<u64>
     None
 }
 
-/// Reads the number of a feed's first line. `None` where it is not `state` and a number.
+/// Reads the number of a feed's first line. `None` if it is not `state` and a number.
 fn state_number(line: &[u8]) -> Option<u64>
     ensures { MatchOption result (IsNoState line.now) (λ number. line.now ≡ state_line number) }
 {
@@ -82,7 +82,7 @@ fn state_number(line: &[u8]) -> Option<u64>
     }
 }
 
-/// Tells whether the line says that the tables are whole.
+/// Checks whether the line says that the tables are whole.
 fn is_now(line: &[u8]) -> bool
     ensures { IsTrue result ↔ (line.now ≡ now_line) }
 {
@@ -141,11 +141,11 @@ fn read_number<R: Read>(reader: &mut R) -> Result<u64, NotRead>
 }
 
 /// Reads the opening of a feed: `state` and a number, lines that it executes over a new database, and `now`. What
-/// stands after `now` is still to be read. It reads byte by byte, so the reader should have a buffer.
+/// follows `now` is still to be read. It reads byte by byte, so the reader should have a buffer.
 ///
 /// # Errors
 ///
-/// `CutOff` where the reader fails or ends before `now`; `NoFeed` where the first line is not `state` and a number;
+/// `CutOff` if the reader fails or ends before `now`; `NoFeed` if the first line is not `state` and a number;
 /// `Refused` with the refusal of a line, or `TooManyLines` after 1,000,000 lines without a `now`; `NoMemory`.
 pub fn read_opening<R: Read>(alloc: Global, reader: &mut R) -> Result<Opening, NotRead>
     ensures opening { IfOk result (λ opening. IsOpening (R.remaining reader.old) (R.remaining reader.new) opening) }

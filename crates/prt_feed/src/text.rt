@@ -33,11 +33,11 @@ fn with_ends(alloc: Global, number: u64, dump: &[u8]) -> Result<Vec<u8>, AllocEr
     Ok(text)
 }
 
-/// Gives the text with which a feed begins: `state` and the number of the version, the lines of its dump, and `now`.
+/// Builds the text with which a feed begins: `state` and the number of the version, the lines of its dump, and `now`.
 ///
 /// # Errors
 ///
-/// Those of [`dump_text`]: `Rule` or `Route` where no line can spell one, `NoMemory` where memory is refused.
+/// Those of [`dump_text`]: `Rule` or `Route` if no line can express one, `NoMemory` if memory is refused.
 pub fn opening_text(alloc: Global, version: &Version) -> Result<Vec<u8>, NotDumped>
     ensures text { IfOk result (λ text. text.items ≡ opening_text version.now) }
     ensures plain { IfOk result (λ text. IsPlainState version.now) }
@@ -51,14 +51,14 @@ pub fn opening_text(alloc: Global, version: &Version) -> Result<Vec<u8>, NotDump
     Ok(text)
 }
 
-/// Recalls what the type of a command says of its numbers. One that is passed as a value tells it, one behind a
+/// Recalls what the type of a command says of its numbers. One that is passed as a value shows it, one behind a
 /// reference doesn't.
 fn recall_command(command: Command)
     ensures { CommandFits command }
 {}
 
-/// Gives the line of a change, with its newline: the number, a space, and the line of the command that was accepted
-/// under it. `None` where no line can spell the command, or where memory is refused.
+/// Builds the line of a change, with its newline: the number, a space, and the line of the command that was accepted
+/// under it. `None` if no line can express the command, or if memory is refused.
 pub fn change_line(alloc: Global, number: u64, command: &Command) -> Option<Vec<u8>>
     ensures text { IfSome result (λ text. text.items ≡ change_line number command.now ++ codes "\n") }
     ensures spelled { IfSome result (λ text. HasLine command.now) }

@@ -1,4 +1,4 @@
--- Histories, and the lists that they spell.
+-- Histories, and the lists that they encode.
 use Rattle.std.proofs.Common.{◌≡◌, ℕ, ◌≤◌, List, [], ◌∷◌, ◌++◌, length, map, refl, ap, subst, ◌∙◌, arith}
 use mathlib.Core.List.{IsPrefix}
 use Rattle.logbook.specs.Pages.{Book}
@@ -28,16 +28,16 @@ entries_length (command ∷ list) = let rest = entries_length list in omega (ari
 abbrev pub Spells : List Entry → ℕ → Type 0
 Spells log count = (log ≡ entries (base_of log) (commands_of log)) × (count ≡ length (commands_of log)) × IsAccepted (base_of log) (commands_of log)
 
--- a log of these entries spells its list
+-- a log of these entries encodes its list
 pub spells : (base : State) (list : List Command) (count : ℕ) → count ≡ length list → IsAccepted base list → (log : List Entry) → log ≡ entries base list → Spells log count
 spells base list count long accepted log is = rw is (rw (commands_back list) (refl, long, accepted))
 
 pub line_spelled : (book : Book) (base : State) (list : List Command) (log : List Entry) → log ≡ entries base list → line_of book log ≡ record { book = book; base = base; list = list }
 line_spelled book base list log is = rw is (ap (λ (back : List Command). (let line : Line = record { book = book; base = base; list = back } in line)) (commands_back list))
 
--- ---- beginnings
+-- ---- prefixes
 
--- what begins a history's entries begins its commands
+-- what is a prefix of a history's entries is a prefix of its commands
 pub commands_begin : (xs ys : List Command) → IsPrefix (map Accepted xs) (map Accepted ys) → IsPrefix xs ys
 commands_begin [] ys p = (ys, refl)
 commands_begin (x ∷ xs) [] p = absurd (cc (p.1))
@@ -46,7 +46,7 @@ commands_begin (x ∷ xs) (y ∷ ys) p =
     let rest = commands_begin xs ys (p.0, cc (p.1)) in
     (rest.0, cc (heads, rest.1))
 
--- of two beginnings of one history the shorter begins the longer
+-- of two prefixes of one history the shorter is a prefix of the longer
 pub shorter_spelled : (xs ys : List Command) (base other : State) (first second both : List Entry) → first ≡ entries base xs → second ≡ entries other ys → IsPrefix first both → IsPrefix second both → length xs ≤ length ys → (other ≡ base) × IsPrefix xs ys
 shorter_spelled xs ys base other first second both one two p q shorter =
     let one' : IsPrefix (entries base xs) both = subst (λ (log : List Entry). IsPrefix log both) one p in

@@ -12,7 +12,7 @@ origin_of book = record { known = true; number = book.number; log_name = book.lo
 abbrev pub unknown : Origin
 unknown = record { known = false; number = 0; log_name = 0; cells_name = 0 }
 
--- whoever knows an origin knows that of what is shown
+-- anyone who knows an origin knows that of what is shown
 abbrev pub AreOfOne : Line → List Origin → Type 0
 AreOfOne shown origins = (place : ℕ) (origin : Origin) → get_elem? origins place ≡ some origin → origin.known ≡ true → origin ≡ origin_of shown.book
 

@@ -52,6 +52,6 @@ pub record IsKept (cells : List Cell) (log : List Entry) : Type 0 where
 abbrev pub length_of : Book → Named
 length_of book = record { tracked = true; key = 0; book = book }
 
--- each command is added to all that was seen, where the word is as expected
+-- each command is added to all that was seen, if the word is as expected
 abbrev pub Adds : Step Entry → View Entry ℕ → ℕ → View Entry ℕ → Type 0
 Adds step before found after = MatchBool (found == step.old) (after.0 ≡ before.0 ++ map Accepted (asked_commands step.ask)) (Unit {0})

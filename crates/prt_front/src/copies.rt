@@ -16,7 +16,7 @@ use prt_version::{Refusal, Version};
 use std::alloc::AllocError;
 use std::sync::{Arc, Wait};
 
-/// Which front a place of the copies is of, where its holder knows. No value of it is made.
+/// Which front a place of the copies is of, if its holder knows. No value of it is made.
 pub struct Origin {
     pub known: bool,
     pub number: u64,
@@ -44,7 +44,7 @@ impl Outcome<Shown, Origin> for Reads {
     ghost then = { Finds };
 }
 
-/// Who shows something knows its front.
+/// Anyone who shows something knows its front.
 pub struct Shows;
 
 impl Outcome<Shown, Origin> for Shows {
@@ -53,7 +53,7 @@ impl Outcome<Shown, Origin> for Shows {
     ghost then = { Turns };
 }
 
-/// What the writer knows, a reader that it tells knows too.
+/// A reader that the writer informs knows what the writer knows, too.
 pub struct Same;
 
 impl Split<Origin> for Same {
@@ -74,7 +74,7 @@ pub(crate) type CopyReader = Reader<Shown, Origin, OneFront>;
 
 pub(crate) type CopyWriter = Writer<Shown, Shown, Origin, OneFront>;
 
-/// Makes a reader that knows the writer's front. `Err` where no place is free.
+/// Makes a reader that knows the writer's front. `Err` if no place is free.
 pub(crate) fn reader_of(writer: &mut CopyWriter) -> Result<CopyReader, AllocError>
     requires { view writer.old.desk.place ≡ origin_of writer.old.desk.shown.value.book }
     ensures writer { (writer.new.desk.shown.value ≡ writer.old.desk.shown.value) × (view writer.new.desk.place ≡ view writer.old.desk.place) }
@@ -85,8 +85,8 @@ pub(crate) fn reader_of(writer: &mut CopyWriter) -> Result<CopyReader, AllocErro
     Ok(reader)
 }
 
-/// Takes what is shown, for a reader that knows a beginning of it. `Err` where the reader can't enter, where the version
-/// can have no more owners, or where what is shown is no later than what is known.
+/// Takes what is shown, for a reader that knows a prefix of it. `Err` if the reader can't enter, the version can have
+/// no more owners, or what is shown is no later than what is known.
 pub(crate) fn read(
     reader: CopyReader,
     known: &Known,
@@ -114,7 +114,7 @@ pub(crate) fn read(
     }
 }
 
-/// Shows what is next, and tells whether it did. Where it did not, what was shown still is.
+/// Shows what is next, and returns whether it did. If it did not, what was shown still is.
 pub(crate) fn show<R: Wait>(rt: &R, mut writer: CopyWriter, next: Shown) -> (CopyWriter, bool)
     requires { next.book ≡ writer.desk.shown.value.book }
     ensures shown { MatchBool result.1 (result.0.desk.shown.value ≡ next) (result.0.desk.shown.value ≡ writer.desk.shown.value) }

@@ -21,7 +21,7 @@ use std::sync::{Arc, Wait};
 /// The writer of a front. Contracts see it as the published list.
 ///
 /// End it by `end`, which waits for readers that are inside. Its drop waits for nobody: readers go on with the version that
-/// is published, and the memory of the two copies is never given back.
+/// is published, and the memory of the two copies is never freed.
 pub struct Front {
     writer: CopyWriter,
     word: Length,
@@ -43,7 +43,7 @@ impl Model for Front {
 }
 
 impl Front {
-    /// Publishes a loaded version. Err(NoMemory) where memory is refused.
+    /// Publishes a loaded version. Err(NoMemory) if memory is refused.
     pub fn new(alloc: Global, version: Arc<Version>) -> Result<Front, Refusal>
         ensures front { IfOk result (λ front. (front.base ≡ arc_value version) × (front.list ≡ [])) }
         ensures reason { IfErr result (λ reason. reason ≡ Refusal.NoMemory) }
@@ -64,10 +64,10 @@ impl Front {
         }
     }
 
-    /// Makes all readers, which know the published list: once. Err(NoMemory) where memory is refused.
+    /// Makes all readers, which know the published list: once. Err(NoMemory) if memory is refused.
     ///
-    /// What is published is shown once more, by which the writer learns which front it is of, to tell each reader. It waits
-    /// for readers that are inside the other copy; at first there are none.
+    /// What is published is shown once more, by which the writer learns which front it is of, to inform each reader. It
+    /// waits for readers that are inside the other copy; at first there are none.
     pub fn readers<W: Wait>(&mut self, rt: &W, alloc: Global) -> Result<Vec<FrontReader>, Refusal>
         ensures same { self.new ≡ self.old }
         ensures readers { IfOk result (λ readers. (length readers.items ≡ 64) × All (λ reader. reader ≡ self.old) readers.items) }
@@ -89,7 +89,7 @@ impl Front {
     }
 
     /// Sees that the log of the copies has its memory: what is published is put there once more. From then on a publication
-    /// asks for none. Err(NoMemory) where memory is refused.
+    /// asks for none. Err(NoMemory) if memory is refused.
     pub fn make_room(&mut self) -> Result<(), Refusal>
         ensures same { self.new ≡ self.old }
         ensures reason { IfErr result (λ reason. reason ≡ Refusal.NoMemory) }
@@ -106,7 +106,7 @@ impl Front {
         Ok(())
     }
 
-    /// Gives the published list.
+    /// Returns the published list.
     pub fn known(&self) -> Known
         ensures { result ≡ self.now }
     {
@@ -114,9 +114,10 @@ impl Front {
     }
 
     /// Publishes a version in one swap: the one after the published one by these commands, whose commit gave the stamp.
-    /// It waits for readers that are inside the other copy. The list that is published then, to be told to readers.
+    /// It waits for readers that are inside the other copy. Returns the list that is published then, to be reported to
+    /// readers.
     ///
-    /// Err(NotPublished) where the swap is refused; then readers go on with the version that they had.
+    /// Err(NotPublished) if the swap is refused; then readers go on with the version that they had.
     pub fn publish_all<W: Wait>(
         &mut self,
         rt: &W,

@@ -10,7 +10,7 @@ use prt_version::{Command, Version};
 use std::marker::Model;
 use std::snapshot::Snapshot;
 
-/// A beginning of the published list. Contracts see it as a line; of its list it keeps the length alone.
+/// A prefix of the published list. Contracts see it as a line; of its list it keeps the length alone.
 #[derive(Drop)]
 pub struct Known {
     count: u64,
@@ -31,7 +31,7 @@ impl Model for Known {
 }
 
 impl Known {
-    /// Begins a history with a loaded version. The empty list since then, and the word of its length.
+    /// Begins a history with a loaded version. Returns the empty list since then, and the word of its length.
     pub(crate) fn open(version: &Version) -> (Known, Length)
         ensures known { (result.0.base ≡ version.now) × (result.0.list ≡ []) }
         ensures word { result.1 ≡ length_of result.0.book }
@@ -42,14 +42,14 @@ impl Known {
         (Known { count: 0, seen }, word)
     }
 
-    /// Tells how many commands it has.
+    /// Returns how many commands it has.
     pub fn count(&self) -> u64
         ensures { result ≡ length self.now.list }
     {
         self.count
     }
 
-    /// Gives the same knowledge once more.
+    /// Returns the same knowledge once more.
     pub fn again(&self) -> Known
         ensures same { result ≡ self.now }
         ensures accepted { IsAccepted result.base result.list }
@@ -60,7 +60,8 @@ impl Known {
         }
     }
 
-    /// Tells whether this list begins the other. Otherwise the other begins this one: both are of one front.
+    /// Checks whether this list is a prefix of the other. Otherwise the other is a prefix of this one: both are of one
+    /// front.
     pub fn is_before(&self, other: &Known) -> bool
         requires { self.now.book ≡ other.now.book }
         ensures { MatchBool result (Begins self.now other.now) (Begins other.now self.now) }
@@ -70,7 +71,7 @@ impl Known {
         self.count <= other.count
     }
 
-    /// Adds commands to the history of which this is all. `None` where the history has another command there, and then it
+    /// Adds commands to the history of which this is all. `None` if the history has another command there, and then it
     /// stays as it was.
     pub(crate) fn accept(&self, word: &Length, commands: &Vec<Command>) -> Option<Known>
         requires word { word.now ≡ length_of self.now.book }

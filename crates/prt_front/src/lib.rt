@@ -1,8 +1,8 @@
 //! The front: the published version, which one writer replaces and readers take without a lock.
 //!
-//! Two copies of what is shown stand side by side (`left_right`, after Ramalhete and Correia 2015): readers enter the one
-//! that is shown while the writer changes the other, and one step swaps them. Each copy carries the list of the commands
-//! that led to its version, in tokens without bytes, which contracts alone see.
+//! Two copies of what is shown lie side by side (`left_right`, after Ramalhete and Correia 2015): readers enter the one
+//! that is shown while the writer changes the other, and one step swaps them. Each copy carries the list of the
+//! commands that led to its version, in tokens without bytes, which contracts alone see.
 #![tactic(auto)]
 
 mod copies;

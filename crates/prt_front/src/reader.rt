@@ -37,7 +37,8 @@ impl Model for FrontReader {
 }
 
 impl FrontReader {
-    /// Gives the list that it knows: each list that it was told, and that of each version that it fetched, begins it.
+    /// Returns the list that it knows: each list that was reported to it, and that of each version that it fetched, is
+    /// a prefix of it.
     pub fn known(&self) -> Known
         ensures { result ≡ self.now }
     {
@@ -45,7 +46,7 @@ impl FrontReader {
     }
 
     /// Fetches the published version, without a lock and without waiting; its list is known from then on. Err(NotFetched)
-    /// where the copy can't be entered, or where the version can have no more owners; then the reader is as it was.
+    /// if the copy can't be entered, or if the version can have no more owners; then the reader is as it was.
     pub fn fetch(&mut self) -> Result<Arc<Version>, Refusal>
         ensures value { MatchResult result (λ version. Begins self.old self.new × (arc_value version ≡ line_state self.new)) (λ _. self.new ≡ self.old) }
         ensures accepted { OnOk result (IsAccepted self.new.base self.new.list) }
@@ -58,8 +59,8 @@ impl FrontReader {
         Ok(version)
     }
 
-    /// Learns a list that it is told: it knows the longer one from then on of its own and of the whole list that it is told
-    /// a beginning of. Of two lists of one front the shorter begins the longer.
+    /// Learns a list that is reported to it. From then on it knows the longer one of its own list and the whole list of
+    /// which a prefix is reported. Of two lists of one front the shorter is a prefix of the longer.
     pub fn learn(&mut self, told: &Told)
         requires { told.now.book ≡ self.old.book }
         ensures mine { Begins self.old self.new }
@@ -72,7 +73,7 @@ impl FrontReader {
     }
 }
 
-/// Makes all readers, which know the published list. `None` where memory is refused.
+/// Makes all readers, which know the published list. `None` if memory is refused.
 pub(crate) fn readers_of(
     alloc: Global,
     writer: &mut CopyWriter,

@@ -37,21 +37,21 @@ impl Shown {
         Shown { version, known }
     }
 
-    /// Gives the list.
+    /// Returns the list.
     pub(crate) fn known(&self) -> &Known
         ensures { result.now ≡ self.now }
     {
         &self.known
     }
 
-    /// Gives one more owner of the version. `Err` where an `Arc` can count no more.
+    /// Returns one more owner of the version. `Err` if an `Arc` can count no more.
     pub(crate) fn version(&self) -> Result<Arc<Version>, AllocError>
         ensures { IfOk result (λ version. arc_value version ≡ line_state self.now) }
     {
         Arc::try_clone(&self.version)
     }
 
-    /// Gives the same once more, for the other copy. `Err` where an `Arc` can count no more.
+    /// Returns the same once more, for the other copy. `Err` if an `Arc` can count no more.
     pub(crate) fn again(&self) -> Result<Shown, AllocError>
         ensures { IfOk result (λ shown. shown ≡ self.now) }
     {

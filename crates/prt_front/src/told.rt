@@ -1,4 +1,4 @@
-//! What is told of the published list.
+//! What is reported of the published list.
 ghost use Rattle.std.specs.Prelude.{◌≡◌, ◌-◌, ◌≤◌, length, take};
 ghost use Rattle.prt_version.specs.Accepted.{IsAccepted};
 ghost use Rattle.prt_front.specs.Line.{Begins};
@@ -6,8 +6,8 @@ ghost use Rattle.prt_front.specs.Line.{Begins};
 use crate::Known;
 use std::marker::Model;
 
-/// A beginning of the published list, which its publisher tells readers: the first commands of a known list. Contracts see
-/// it as a line; of its list it keeps the length alone.
+/// A prefix of the published list, which its publisher reports to readers: the first commands of a known list.
+/// Contracts see it as a line; of its list it keeps the length alone.
 #[derive(Drop)]
 pub struct Told {
     known: Known,
@@ -27,7 +27,7 @@ impl Model for Told {
 }
 
 impl Told {
-    /// Tells all of a list.
+    /// Reports all of a list.
     pub fn whole(known: &Known) -> Told
         ensures { result ≡ known.now }
     {
@@ -37,7 +37,7 @@ impl Told {
         }
     }
 
-    /// Tells the same list without its last commands, as many as are named.
+    /// Reports the same list without its last commands, as many as are named.
     pub fn without_last(&self, count: u64) -> Told
         requires { count ≤ length self.now.list }
         ensures told { result ≡ record self.now { list = take (length self.now.list - count) self.now.list } }
@@ -49,7 +49,7 @@ impl Told {
         }
     }
 
-    /// Gives the list that is known, which begins with it.
+    /// Returns the list that is known, which begins with it.
     pub fn known(&self) -> &Known
         ensures { Begins self.now result.now }
     {

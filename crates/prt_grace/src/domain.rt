@@ -8,7 +8,7 @@ use std::sync::{Arc, Mutex, MutexGuard, Wait};
 /// A registry under a lock, shared by lookers and the publisher. Each call takes the lock once, for the registry's call
 /// of the same name; none of them publishes or fetches under it.
 ///
-/// A caller can't know what lies behind the lock. So what a call needs there is tested under the lock, and where it does
+/// A caller can't know what is behind the lock. So what a call needs there is tested under the lock, and if it does
 /// not hold, the registry stays as it was.
 #[derive(Drop)]
 pub struct Domain {
@@ -30,7 +30,7 @@ impl Domain {
         self.registry.lock(rt)
     }
 
-    /// Gives a new looker a place, offline. `None` where all are taken, and then nothing changes.
+    /// Takes a place for a new looker, offline. `None` if all are taken, and then nothing changes.
     pub fn join<H: Wait>(&self, rt: &H) -> Option<Place>
         ensures { IfSome result (λ place. place.announced ≡ None) }
     {
@@ -45,8 +45,8 @@ impl Domain {
         }
     }
 
-    /// Brings a looker online: it announces the noted number, unless it is online already. The number that it has
-    /// announced then. Where the place is of another registry, this one stays as it is.
+    /// Brings a looker online: it announces the noted number, unless it is online already. Returns the number that it has
+    /// announced then. If the place is of another registry, this one stays as it is.
     pub fn online<H: Wait>(&self, rt: &H, place: &mut Place) -> u64
         ensures place { place.new ≡ record place.old { announced = Some result } }
         ensures kept { IfSome place.old.announced (λ number. result ≡ number) }
@@ -61,7 +61,7 @@ impl Domain {
     }
 
     /// Announces that the looker holds no version below this number. The looker is online, and the number is at least
-    /// the one that it has announced. Where the place is of another registry, this one stays as it is.
+    /// the one that it has announced. If the place is of another registry, this one stays as it is.
     pub fn announce<H: Wait>(&self, rt: &H, place: &mut Place, number: u64)
         requires online { IsSome place.old.announced }
         requires later { IfSome place.old.announced (λ before. before ≤ number) }
@@ -75,7 +75,7 @@ impl Domain {
         }
     }
 
-    /// Takes a looker offline: it holds no version. Where the place is of another registry, this one stays as it is.
+    /// Takes a looker offline: it holds no version. If the place is of another registry, this one stays as it is.
     pub fn offline<H: Wait>(&self, rt: &H, place: &mut Place)
         ensures { place.new ≡ record place.old { announced = None } }
     {
@@ -87,12 +87,12 @@ impl Domain {
         }
     }
 
-    /// Tells whether one more version can be retired.
+    /// Checks whether one more version can be retired.
     pub fn has_room<H: Wait>(&self, rt: &H) -> bool {
         self.lock(rt).has_room()
     }
 
-    /// Notes a version, and retires the one that was noted before. Where there is no room, or a later version is noted,
+    /// Notes a version, and retires the one that was noted before. If there is no room, or a later version is noted,
     /// the registry stays as it was.
     pub fn note<H: Wait>(&self, rt: &H, keeper: &mut Keeper, version: Arc<Version>)
         requires { keeper.old.noted < (arc_value version).count }
@@ -101,7 +101,7 @@ impl Domain {
         keeper.note(&mut self.lock(rt), version);
     }
 
-    /// Gives up each retired version that no looker can hold any more. How many went.
+    /// Gives up each retired version that no looker can hold any more. Returns how many went.
     pub fn reclaim<H: Wait>(&self, rt: &H) -> usize {
         self.lock(rt).reclaim()
     }

@@ -6,7 +6,7 @@ ghost use Rattle.prt_grace.specs.Registry.{noted_by};
 use crate::{Registry, Version};
 use std::sync::Arc;
 
-/// The right to note versions, of which a domain has one. [`Domain::new`] alone makes one.
+/// The right to note versions, of which a domain has one. Only [`Domain::new`] makes one.
 ///
 /// [`Domain::new`]: crate::Domain::new
 #[derive(Drop)]
@@ -15,14 +15,14 @@ pub struct Keeper {
 }
 
 impl Keeper {
-    /// Gives the number of the version that it noted last, and at first that of the loaded one.
+    /// Returns the number of the version that it noted last, and at first that of the loaded one.
     pub fn noted(&self) -> u64
         ensures { result ≡ self.now.noted }
     {
         self.noted
     }
 
-    /// Notes a version in the locked registry. Where this has no room, or has noted a later version, it stays as it was.
+    /// Notes a version in the locked registry. If this has no room, or has noted a later version, it stays as it was.
     pub fn note(&mut self, registry: &mut Registry, version: Arc<Version>)
         requires { self.old.noted < (arc_value version).count }
         ensures keeper { self.new.noted ≡ (arc_value version).count }

@@ -45,7 +45,7 @@ impl Registry {
         }
     }
 
-    /// Gives the number of the version noted last.
+    /// Returns the number of the version noted last.
     pub fn noted(&self) -> u64
         ensures { result ≡ self.now.noted.count }
     {
@@ -77,7 +77,7 @@ impl Registry {
         );
     }
 
-    /// Gives a new looker a place, offline. `None` where all [`PLACES`] are taken, and then nothing changes.
+    /// Takes a place for a new looker, offline. `None` if all [`PLACES`] are taken, and then nothing changes.
     pub fn join(&mut self) -> Option<Place>
         ensures taken { IfNone result ((position is_free self.old.places ≡ None) × (self.new ≡ self.old)) }
         ensures place { IfSome result (λ place. (position is_free self.old.places ≡ Some place.index) × (place.announced ≡ None)) }
@@ -100,7 +100,7 @@ impl Registry {
         self.put(place.index, PlaceState::Free);
     }
 
-    /// Brings a looker online: it announces the noted number, unless it is online already. The number that it has
+    /// Brings a looker online: it announces the noted number, unless it is online already. Returns the number that it has
     /// announced then.
     pub fn online(&mut self, place: &mut Place) -> u64
         requires { HasPlace self.old place.old }
@@ -137,15 +137,15 @@ impl Registry {
         self.set_announced(place, None);
     }
 
-    /// Tells whether the place is one of this registry's, with what its looker has announced. A place of another registry
-    /// passes where this one has the same entry.
+    /// Checks whether the place is one of this registry's, with what its looker has announced. A place of another registry
+    /// passes if this one has the same entry.
     pub fn has(&self, place: &Place) -> bool
         ensures { IsTrue result ↔ HasPlace self.now place.now }
     {
         place.index < PLACES && is_announcing(&self.places[place.index], place.announced)
     }
 
-    /// Tells whether one more version can be retired: false exactly where [`MOST_RETIRED`] are.
+    /// Checks whether one more version can be retired: false exactly when [`MOST_RETIRED`] are.
     pub fn has_room(&self) -> bool
         ensures { IsTrue result ↔ (length self.now.retired < MOST_RETIRED) }
     {
@@ -163,7 +163,7 @@ impl Registry {
         self.retired.push(before);
     }
 
-    /// Notes a version where there is room and it is later than the noted one. Otherwise nothing changes.
+    /// Notes a version if there is room and it is later than the noted one. Otherwise nothing changes.
     pub fn note_later(&mut self, version: Arc<Version>)
         ensures { self.new ≡ noted_by self.old (arc_value version) }
     {
@@ -173,7 +173,7 @@ impl Registry {
     }
 
     /// Gives up each retired version that no looker can hold any more: no online one has announced its number or less
-    /// (Desnoyers et al. 2012). How many went.
+    /// (Desnoyers et al. 2012). Returns how many went.
     pub fn reclaim(&mut self) -> usize
         ensures registry { self.new ≡ reclaimed self.old }
         ensures number { result + length self.new.retired ≡ length self.old.retired }
@@ -183,7 +183,7 @@ impl Registry {
         before - self.retired.len()
     }
 
-    /// Reclaims, and tells whether one more version can be retired then.
+    /// Reclaims, and returns whether one more version can be retired then.
     pub fn make_room(&mut self) -> bool
         ensures registry { self.new ≡ reclaimed self.old }
         ensures room { IsTrue result ↔ (length self.new.retired < MOST_RETIRED) }
@@ -193,7 +193,7 @@ impl Registry {
     }
 }
 
-/// Tells whether a registry's entry says that the looker there has announced this.
+/// Checks whether a registry's entry says that the looker there has announced this.
 fn is_announcing(state: &PlaceState, announced: Option<u64>) -> bool
     ensures { IsTrue result ↔ (state.now ≡ announcing announced) }
 {
@@ -204,7 +204,7 @@ fn is_announcing(state: &PlaceState, announced: Option<u64>) -> bool
     }
 }
 
-/// Gives the index of the first free place.
+/// Finds the index of the first free place.
 fn first_free(places: &[PlaceState]) -> Option<usize>
     ensures value { result ≡ position is_free places.now }
     ensures within { IfSome result (λ index. index < length places.now) }
@@ -212,7 +212,7 @@ fn first_free(places: &[PlaceState]) -> Option<usize>
     places.iter().position(|place| place.is_free())
 }
 
-/// Gives the lowest number that an online looker has announced: it holds back exactly the versions that some place
+/// Finds the lowest number that an online looker has announced: it holds back exactly the versions that some place
 /// does.
 fn lowest_announced(places: &[PlaceState]) -> Option<u64>
     ensures { (n : ℕ) → may_hold n result ≡ list_any (may_hold n) (map announced places.now) }
@@ -224,7 +224,7 @@ fn lowest_announced(places: &[PlaceState]) -> Option<u64>
     lowest
 }
 
-/// Gives the lower of two announced numbers, or the only one.
+/// Chooses the lower of two announced numbers, or the only one.
 fn lower(first: Option<u64>, second: Option<u64>) -> Option<u64>
     ensures { (n : ℕ) → may_hold n result ≡ (may_hold n first || may_hold n second) }
 {

@@ -73,7 +73,7 @@ module _ {S : Type 0} (g : Ghosts S) where
       let adopted = found.opens.adopts found.clean begins in
       found_is was opened stored ((state g found.made).now, adopted.0, adopted.1.now) found.left.0 spells
 
-  -- where a publisher is at rest, one that it may have stored
+  -- if a publisher is at rest, one that it may have stored
   found_stored : (last : Standing (Held S)) → IsKept g last → IsKnown g last.ours_first last.tables → (opened : State) → FindsAgain g last.tables opened → MayBeStored g last opened
   found_stored last kept known opened found =
       let left = durable_is g last kept known (state g found.was).now.trees found.left.1 in

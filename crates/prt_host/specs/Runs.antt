@@ -41,7 +41,7 @@ module _ {M S : Type 0} (g : Ghosts S) (opens : M → M → List ℕ → Held S 
     pub found : status ≡ REFUSED → IsFound g opens refuses closes old new writer0 writer question
     pub at_most : IsDoneAtMost g opens refuses closes old new writer0 writer question
 
-  -- What becomes of a run, with its exit status. A script, a check or a replay was run, and no database was touched where none was asked for. Or nothing was run. Or sessions were served, or a question was answered, as the words ask.
+  -- What becomes of a run, with its exit status. A script, a check or a replay was run, and no database was touched if none was asked for. Or nothing was run. Or sessions were served, or a question was answered, as the words ask.
   pub record RunsPrt {File : Type 0} (bytes : File → Option (List ℕ)) (asked : Invocation) (streams : Streams) (status : ℕ) : Type 0 where
     pub outcome :
         (Runs bytes (RunsOverMachine g opens closes old new) asked streams status × LeavesDatabases asked old new)
@@ -75,6 +75,6 @@ RunIsFound {M} {S} g opens closes =
 abbrev pub ServiceIsFound : {S : Type 0} → Ghosts S → Type 0
 ServiceIsFound {S} g = (first last : Held S) (served : HasServed g first last) (opened : State) → IsKnown g served.begun.ours_first last → FindsAgain g last opened → MayBeStored g served.released.last opened
 
--- after a question it makes the one that was asked
+-- after a question it makes the one that was queried
 abbrev pub AskedIsFound : {S : Type 0} → Ghosts S → Type 0
 AskedIsFound {S} g = (first last : Held S) (stored opened : State) → HasOpened g first last stored → HasCleanDisk (state g last) → BeginsFormat2 (state g first).now.schema → FindsAgain g last opened → opened ≡ stored

@@ -16,14 +16,14 @@ use std::rt::Clock;
 use std::sync::Wait;
 use std::thread::Threads;
 
-/// Runs the program with these words over the databases of a machine, or serves, or answers a question, and gives its exit
+/// Runs the program with these words over the databases of a machine, or serves, or answers a question, and returns its exit
 /// status.
 ///
-/// A script, a check or a replay is run as `program` says, and no database is touched where none is asked for. Over a
+/// A script, a check or a replay is run as `program` says, and no database is touched if none is asked for. Over a
 /// database the run begins with what its opening made of the connection that was found. Each state that a later opening
 /// may make of what was left then is one that the session left stored (`runs_go_on` has the premises).
 ///
-/// On `errors` stands in the end why the input or the output failed, if one did.
+/// At the end `errors` says why the input or the output failed, if one did.
 pub fn run<
     S: Alter + Drop + Send,
     M: Machine<Connection<S>> + Drop,

@@ -6,10 +6,10 @@ use sqlite::{Alter, Connection};
 
 /// A run begins with the state that its opening made (`begins`). An opening after a run makes a state that the session of
 /// that run left (`run`); after serving, one that the publisher may have stored at its end (`served`); after a question,
-/// the one that was asked (`asked`).
+/// the one that was queried (`asked`).
 ///
-/// Premises: the later opening is handed what was left, as it was when it was given to its closing, or as a crash left it
-/// then (of files that are handed on `prt_desk::files_keep` says so). The disk returns what was written, and our tables
+/// Premises: the later opening is handed what was left, as it was when it was handed to its closing, or as a crash left it
+/// then. Of files that are handed on `prt_desk::files_keep` says so. The disk returns what was written, and our tables
 /// are the first of the file.
 pub fn runs_go_on<S: Alter, M: Machine<Connection<S>>>()
     ensures begins { RunBegins S.Store M.opens M.closes }

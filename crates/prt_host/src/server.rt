@@ -29,12 +29,12 @@ struct NotServed {
     fault: Fault,
     /// What failed besides.
     further: Option<Fault>,
-    /// What a person is told of the cause, if one is known.
+    /// What is reported to a person of the cause, if one is known.
     message: Option<String>,
 }
 
 impl NotServed {
-    /// Gives a fault with its cause, which befell what stands at this place.
+    /// Makes a fault with its cause, which befell what is at this place.
     fn new<P: Display, D: Display>(
         alloc: Global,
         fault: Fault,
@@ -55,7 +55,7 @@ impl NotServed {
     }
 }
 
-/// Listens, and serves what comes over a publisher. Gives why not all that was asked for was served, and the connection.
+/// Listens, and serves what comes over a publisher. Returns why not all that was asked for was served, and the connection.
 fn serve_over<
     S: Alter + Drop + Send,
     N: Net + Threads + Wait + Clock + Drop + Send + Sync,
@@ -113,7 +113,7 @@ where
 ///
 /// # Errors
 ///
-/// The fault that ended it, with its cause where one is known. The database is closed then too.
+/// The fault that ended it, with its cause if one is known. The database is closed then too.
 fn serve_database<
     S: Alter + Drop + Send,
     M: Machine<Connection<S>> + Drop,
@@ -159,9 +159,9 @@ where
     }
 }
 
-/// Serves the database that is asked for, and gives the exit status. Listens once the database is open.
+/// Serves the database that is asked for, and returns the exit status. Listens once the database is open.
 ///
-/// The status is 0 where as many sessions as were asked for have ended, and 3 for a fault: of opening, of the listener and
+/// The status is 0 if as many sessions as were asked for have ended, and 3 for a fault: of opening, of the listener and
 /// what brings its connections to the workers, or of a worker that got no looker. The database is closed at the end.
 pub(crate) fn serve<
     S: Alter + Drop + Send,

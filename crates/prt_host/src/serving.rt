@@ -78,7 +78,7 @@ pub(crate) fn listen<N: Net, W: Write>(
     Ok(Listeners { sessions, feed })
 }
 
-/// Gives how long a client may send nothing or take nothing; 0 seconds are without end.
+/// Computes how long a client may send nothing or take nothing; 0 seconds are without end.
 fn idle_of(seconds: u64) -> Option<Duration> {
     if seconds == 0 {
         None
@@ -87,7 +87,7 @@ fn idle_of(seconds: u64) -> Option<Duration> {
     }
 }
 
-/// Gives how much is to be served.
+/// Computes how much is to be served.
 fn limits_of(asked: &Serving<'_>) -> Limits {
     Limits {
         workers: asked.workers as usize,
@@ -96,7 +96,7 @@ fn limits_of(asked: &Serving<'_>) -> Limits {
     }
 }
 
-/// Serves what listeners accept by a service, and tells on `errors` why a commit failed, and why nothing is accepted.
+/// Serves what listeners accept by a service, and reports on `errors` why a commit failed, and why nothing is accepted.
 fn serve_telling<
     'a,
     J: Naming + Send,
@@ -130,7 +130,7 @@ fn serve_telling<
     }
 }
 
-/// Serves what listeners accept, by a service that is named here. Gives how that ended, and the connection.
+/// Serves what listeners accept, by a service that is named here. Returns how that ended, and the connection.
 pub(crate) fn serve_named<
     J: Naming + Send,
     S: Alter + Drop + Send,
@@ -167,7 +167,7 @@ pub(crate) fn serve_named<
     (end, service.end(rt))
 }
 
-/// Tells whether accepting failed.
+/// Returns whether accepting failed.
 fn is_failed(accepting: Accepting) -> bool
     ensures { result ≡ is_failed accepting }
 {
@@ -177,7 +177,7 @@ fn is_failed(accepting: Accepting) -> bool
     }
 }
 
-/// Tells whether no worker is left, though none was refused its looker.
+/// Checks whether no worker is left, though none was refused its looker.
 fn lacks_workers(end: ServeEnd) -> bool
     ensures { result ≡ lacks_workers end.accepting end.refused }
 {
@@ -187,14 +187,14 @@ fn lacks_workers(end: ServeEnd) -> bool
     }
 }
 
-/// Tells whether a listener is to blame: that of the sessions, or that of the feed.
+/// Checks whether a listener is to blame: that of the sessions, or that of the feed.
 fn is_listeners(end: ServeEnd) -> bool
     ensures { result ≡ is_listeners end }
 {
     is_failed(end.accepting) || is_failed(end.feeding) || lacks_workers(end)
 }
 
-/// Gives the fault of a worker that was refused its looker.
+/// Returns the fault of a worker that was refused its looker.
 fn looker_fault(refused: Option<Refusal>) -> Option<Fault>
     ensures { result ≡ looker_fault refused }
 {
@@ -204,7 +204,7 @@ fn looker_fault(refused: Option<Refusal>) -> Option<Fault>
     }
 }
 
-/// Gives why not all that was asked for was served, and what failed besides.
+/// Finds why not all that was asked for was served, and what failed besides.
 pub(crate) fn faults_of(end: ServeEnd) -> (Option<Fault>, Option<Fault>)
     ensures first { result.0 ≡ fault_of end }
     ensures further { result.1 ≡ further_of end }

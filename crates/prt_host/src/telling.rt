@@ -1,4 +1,4 @@
-//! What is told on standard error beside a session.
+//! What is reported on standard error beside a session.
 use prt_program::{Noting, Refusal, cause_message};
 use prt_questions::tell;
 use prt_serve::Gate;
@@ -23,7 +23,7 @@ pub(crate) fn tell_shared<H: Wait, E: Write + Drop>(
     }
 }
 
-/// Tells why a stream of this name failed, if it did.
+/// Reports why a stream of this name failed, if it did.
 pub(crate) fn tell_failure<S, E: Write>(
     alloc: Global,
     name: &str,
@@ -35,10 +35,10 @@ pub(crate) fn tell_failure<S, E: Write>(
     }
 }
 
-/// For how many seconds a failed acceptance is told once.
+/// For how many seconds a failed acceptance is reported once.
 const TELLING_PAUSE: u64 = 60;
 
-/// Lets every line pass, and tells why a commit failed: once, since no command is taken after it. It tells why no
+/// Lets every line pass, and reports why a commit failed: once, since no command is taken after it. It reports why no
 /// connection could be accepted, too, at most once a minute.
 #[derive(Drop)]
 pub(crate) struct Telling<'a, H: Wait + Clock, S: Alter + Drop, J: Naming, E: Write + Drop> {
@@ -48,14 +48,14 @@ pub(crate) struct Telling<'a, H: Wait + Clock, S: Alter + Drop, J: Naming, E: Wr
     /// The path of the database.
     pub(crate) path: &'a str,
     pub(crate) errors: &'a Mutex<E>,
-    /// Whether the failed commit was told.
+    /// Whether the failed commit was reported.
     pub(crate) is_failure_told: AtomicBool,
-    /// When a failed acceptance was told last, by the clock.
+    /// When a failed acceptance was last reported, by the clock.
     pub(crate) accept_told: Mutex<Option<Duration>>,
 }
 
 impl<'a, H: Wait + Clock, S: Alter + Drop, J: Naming, E: Write + Drop> Telling<'a, H, S, J, E> {
-    /// Decides whether a failed acceptance is told now, and notes that it is. Without a clock it is told once.
+    /// Decides whether a failed acceptance is reported now, and notes that it is. Without a clock it is reported once.
     fn is_due(&self) -> bool {
         let now = self.rt.monotonic().unwrap_or(Duration::from_secs(0));
         let mut told = self.accept_told.lock(self.rt);

@@ -21,7 +21,7 @@ cut_before (b ∷ bs) (suc at) within ends before =
     let later = cut_before bs at (omega arith) ends (λ k h. before (suc k) (omega (arith, h))) in
     simp none (ap (onto_first b) later)
 
--- what stands behind a place
+-- what comes after a place
 pub rest_after : (bs : List ℕ) (at : ℕ) → at < length bs → (from bs (at + 1) ≡ drop (suc at) bs) × (length (from bs (at + 1)) < length bs)
 rest_after bs at within =
     let rest : from bs (at + 1) ≡ drop (at + 1) bs = take_all (length bs - (at + 1)) (drop (at + 1) bs) (let e = length-drop (at + 1) bs in omega (arith, e)) in
@@ -29,7 +29,7 @@ rest_after bs at within =
     let n : length (from bs (at + 1)) ≡ length bs - (at + 1) = ap length rest ∙ length-drop (at + 1) bs in
     (rest ∙ ap (λ n. drop n bs) e, omega (arith, n, within))
 
--- the first line, where a newline ends it
+-- the first line, if a newline ends it
 pub cut_at : (bs : List ℕ) (at : ℕ) → position is_newline bs ≡ Some at → (lines_of bs ≡ take at bs ∷ lines_of (from bs (at + 1))) × (length (from bs (at + 1)) < length bs)
 cut_at bs at h =
     let found = position-Some is_newline bs at 0 h in

@@ -27,7 +27,7 @@ cut_before form (b ∷ bs) (suc at) within ends before =
     let later = cut_before form bs at (omega arith) ends (λ k h. before (suc k) (omega (arith, h))) in
     simp none (ap (onto_piece b) later)
 
--- the first piece, where a separator ends it
+-- the first piece, if a separator ends it
 pub cut_at : (form : Text) (bs : List ℕ) (at : ℕ) → position (is_separator form) bs ≡ Some at → (pieces form bs ≡ piece_of (take at bs) (get_or bs at 0 ∷ []) ∷ pieces form (from bs (at + 1))) × (length (from bs (at + 1)) < length bs)
 cut_at form bs at h =
     let found = position-Some (is_separator form) bs at 0 h in
@@ -62,7 +62,7 @@ ends form names all out new before rest so_far cut more =
     ∙ ap (λ xs. out ++ xs) (sym (append-nil (shown form names before rest)) ∙ sym (append-nil (shown form names before rest ++ [])))
     ∙ sym (so_far ∙ ap (λ ps. out ++ shown_from form names before ps) cut)
 
--- ---- texts that stand as they were
+-- ---- texts that stay as they were
 
 abbrev joined : List Piece → List ℕ
 joined ps = flat_map (λ p. p.word ++ p.ended) ps
@@ -87,7 +87,7 @@ shown_by : (form : Text) (w : Word) (b : Bool) (name : Option Word) → name ≡
 shown_by form w true name e = ap (or_name form w) e
 shown_by form w false name e = refl
 
--- a piece that stands as it was, before others that do
+-- a piece that stays as it was, before others that do
 same_piece : (shown w ended rest others : List ℕ) → shown ≡ w → rest ≡ others → shown ++ ended ++ rest ≡ w ++ ended ++ others
 same_piece shown w ended rest others e h = cc
 

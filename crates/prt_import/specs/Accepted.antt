@@ -9,7 +9,7 @@ use Rattle.prt_import.specs.Told.{Numbered, Remark, remark, remark_of}
 use Rattle.prt_import.specs.declared.accepted.Accepted.{Accepted}
 use Rattle.prt_import.specs.declared.reason.Reason.TheVariants as reasons
 
--- What lines leave: those that are accepted, the state after them, and what is told of the others.
+-- What lines leave: those that are accepted, the state after them, and what is reported of the others.
 pub record Executed : Type 0 where
   pub script : List ℕ
   pub state : State
@@ -20,7 +20,7 @@ abbrev pub accepted_line : List ℕ → Option Refusal → List ℕ
 accepted_line line None = line ++ codes "\n"
 accepted_line line (Some refusal) = []
 
--- what is told of a line that is refused
+-- what is reported of a line that is refused
 abbrev pub refused_line : Numbered → Option Refusal → List Remark
 refused_line line None = []
 refused_line line (Some refusal) = remark line [] (reasons.Refused refusal) ∷ []
@@ -29,12 +29,12 @@ refused_line line (Some refusal) = remark line [] (reasons.Refused refusal) ∷ 
 abbrev pub onto : Numbered → Option Refusal → Executed → Executed
 onto line refusal others = record { script = accepted_line line.content refusal ++ others.script; state = others.state; left = refused_line line refusal ++ others.left }
 
--- the lines from this number on, over this state, which stays where one is refused
+-- the lines from this number on, over this state, which stays if one is refused
 abbrev pub executed : State → ℕ → List (List ℕ) → Executed
 executed state number [] = record { script = []; state = state; left = [] }
 executed state number (line ∷ lines) = onto (record { number = number; content = line }) (line_refusal state line) (executed (line_state state line) (number + 1) lines)
 
--- these lines were added, this is the version then, and this was told
+-- these lines were added, this is the version then, and this was reported
 pub record Extends (old new : Accepted) (added : List ℕ) (after : State) (told : List Remark) : Type 0 where
   pub script : new.script.items ≡ old.script.items ++ added
   pub version : new.version ≡ after

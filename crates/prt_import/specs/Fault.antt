@@ -1,4 +1,4 @@
--- Why a step gives nothing.
+-- Why a step yields nothing.
 use Rattle.std.specs.Prelude.{◌≡◌, Result, Err}
 use Rattle.prt_import.specs.declared.fault.Fault.{Fault}
 use Rattle.prt_import.specs.declared.fault.Fault.TheVariants.{Left, NoMemory}

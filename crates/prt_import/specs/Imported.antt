@@ -6,7 +6,7 @@ use Rattle.prt_import.specs.TableNames.{KnownNames}
 use Rattle.prt_import.specs.Told.{remark_of}
 use Rattle.prt_import.specs.declared.imported.Imported.{Imported}
 
--- Its script has these parts, and this is told of it.
+-- Its script has these parts, and this is reported of it.
 pub record IsImported (imported : Imported) (any : Bool) (parts : Parts) : Type 0 where
   pub script : imported.script.items ≡ script_of any parts
   pub left : map remark_of imported.left.items ≡ parts.left

@@ -1,4 +1,4 @@
--- What a line that `ip` prints is about, also where it can't be kept: the key of its route, or the priority of its rule.
+-- What a line that `ip` prints is about, also if it can't be kept: the key of its route, or the priority of its rule.
 use Rattle.std.specs.Prelude.{ℕ, Bool, ◌||◌, if◌then◌else◌, List, [], ◌∷◌, Option, Some, None, Result, Ok, Err, option_and_then, option_map, bytes_eq, codes}
 use Rattle.std.specs.Option.{option_or}
 use Rattle.prt_addr.specs.Block.{Block}
@@ -38,12 +38,12 @@ value_after name before (w ∷ ws) = if bytes_eq name before then Some w else va
 abbrev pub value_of : Word → List Word → Option Word
 value_of name ws = value_after name [] ws
 
--- main where none is said
+-- main if none is said
 abbrev pub table_in : KnownNames → Option Word → Option ℕ
 table_in names None = Some main_table
 table_in names (Some w) = option_or (number_in names.tables w) (table w)
 
--- 0 where none is said
+-- 0 if none is said
 abbrev pub metric_in : Option Word → Option ℕ
 metric_in None = Some 0
 metric_in (Some w) = number w

@@ -16,7 +16,7 @@ abbrev pub is_separator : Text → ℕ → Bool
 is_separator Lines b = b == 32 || b == 9 || b == 10 || b == 58
 is_separator Json b = b == 34 || b == 58
 
--- What stands between two separators, and the separator that ends it, or nothing at the end of the text.
+-- What is between two separators, and the separator that ends it, or nothing at the end of the text.
 pub record Piece : Type 0 where
   pub word : Word
   pub ended : List ℕ
@@ -38,11 +38,11 @@ abbrev pub last_name : TableNames → ℕ → Option Word
 last_name [] n = None
 last_name (row ∷ rows) n = option_or (last_name rows n) (if row.1 == n then Some row.0 else None)
 
--- the name of the table whose number a word spells in decimal digits
+-- the name of the table whose number a word is in decimal digits
 abbrev pub name_of : TableNames → Word → Option Word
 name_of names w = option_and_then (last_name names) (at_most 4294967295 (decimal_value w))
 
--- in JSON `\` stands before `"` and `\`: RFC 8259
+-- in JSON `\` comes before `"` and `\`: RFC 8259
 abbrev pub escaped : ℕ → List ℕ
 escaped b = if b == 34 || b == 92 then codes "\\" ++ b ∷ [] else b ∷ []
 
@@ -61,7 +61,7 @@ abbrev pub or_name : Text → Word → Option Word → List ℕ
 or_name form w None = w
 or_name form w (Some name) = name_text form name
 
--- after such a word the name of the table, if it has one; all else stands as it was
+-- after such a word the name of the table, if it has one; all else stays as it was
 abbrev pub shown : Text → TableNames → Word → Word → List ℕ
 shown form names before w = if is_one_of before (table_words form) then or_name form w (name_of names w) else w
 

@@ -1,4 +1,4 @@
--- The script of what `ip` printed, and what is told of it, line by line.
+-- The script of what `ip` printed, and what is reported of it, line by line.
 use Rattle.std.specs.Prelude.{ℕ, ◌+◌, Bool, true, false, is_some, if◌then◌else◌, List, [], ◌∷◌, ◌++◌, Option, Some, None, Result, Ok, Err, codes}
 use Rattle.std.specs.List.{list_any}
 use Rattle.prt_addr.specs.Word.{Word}
@@ -12,7 +12,7 @@ use Rattle.prt_import.specs.declared.reason.Reason.{Reason}
 use Rattle.prt_import.specs.declared.reason.Reason.TheVariants as reasons
 use Rattle.prt_import.specs.declared.step.Place.TheVariants.{Destination, Item}
 
--- What lines add: to the rules, to the routes without a gateway and with one, and to what is told.
+-- What lines add: to the rules, to the routes without a gateway and with one, and to what is reported.
 pub record Parts : Type 0 where
   pub rules : List ℕ
   pub direct : List ℕ
@@ -59,7 +59,7 @@ route_by names line ws (Err reason) = left_route names line ws reason
 abbrev pub route_part : KnownNames → Numbered → List Word → Parts
 route_part names line ws = route_by names line ws (route_line names ws)
 
--- by what the first word says of the route before, and the next line of this one. A line that goes on with a route was told with it.
+-- by what the first word says of the route before, and the next line of this one. A line that goes on with a route was reported with it.
 abbrev pub route_or_more : KnownNames → Bool → Numbered → Word → List Word → Option Reason → Option Reason → Parts
 route_or_more names in_route line w ws None None = route_part names line (w ∷ ws)
 route_or_more names in_route line w ws None (Some reason) = left_out line [] reason
@@ -105,6 +105,6 @@ head false = []
 abbrev pub commands_of : Bool → Parts → List ℕ
 commands_of any parts = head any ++ parts.rules ++ parts.direct ++ parts.through
 
--- comments that say what is left out stand before them
+-- comments that say what is left out come before them
 abbrev pub script_of : Bool → Parts → List ℕ
 script_of any parts = comments parts.left ++ head any ++ parts.rules ++ parts.direct ++ parts.through

@@ -32,7 +32,7 @@ pub record AreCommands (script : List ℕ) : Type 0 where
   pub are_rules : Each (λ line. adds_rule line ≡ true) rules
   pub are_routes : Each (λ line. adds_route line ≡ true) routes
 
--- Lines that ask for nothing stand before those commands.
+-- Lines that ask for nothing come before those commands.
 pub record IsScript (script : List ℕ) : Type 0 where
   pub comments : List (List ℕ)
   pub commands : List ℕ

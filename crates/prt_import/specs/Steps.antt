@@ -31,7 +31,7 @@ before next written = record { written = written; next = next; settles_scope = f
 abbrev pub ends_item : Written → Step
 ends_item written = before Item written
 
--- the scope goes without saying from there on: it was said, or is global here as it is there
+-- the scope is implied from there on: it was said, or is global here as it is there
 abbrev pub settles_scope : Place → Written → Step
 settles_scope next written = record { written = written; next = next; settles_scope = true }
 

@@ -1,4 +1,4 @@
--- What is told of lines.
+-- What is reported of lines.
 use Rattle.std.specs.Prelude.{ℕ, Bool, true, false, ◌||◌, ◌&&◌, List, [], ◌∷◌, ◌++◌, take, Option, Some, None, Result, Ok, Err, bytes_eq, codes}
 use Rattle.prt_addr.specs.Word.{Word}
 use Rattle.prt_command.specs.Lines.{longest_line}
@@ -66,7 +66,7 @@ note_by Item (Some (Told reason)) = Some reason
 note_by Item (Some (Before roles.Metric)) = Some reasons.Metric
 note_by place meaning = None
 
--- why a word is left off, where that is told
+-- why a word is left off, if that is reported
 abbrev pub note_of : Object → Place → Word → Option Reason
 note_of object place w = note_by place (meaning_of object w)
 
@@ -78,7 +78,7 @@ abbrev pub then_notes : List Remark → Result Step Reason → (Step → List Re
 then_notes first (Err reason) next = []
 then_notes first (Ok step) next = first ++ next step
 
--- what is told of the words from this place of a line on
+-- what is reported of the words from this place of a line on
 abbrev pub notes_of : KnownNames → Object → Numbered → Place → List Word → List Remark
 notes_of names object line place [] = []
 notes_of names object line place (w ∷ ws) = then_notes (noted line w (note_of object place w)) (step_of names object place w) (λ step. notes_of names object line step.next ws)

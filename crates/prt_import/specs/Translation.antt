@@ -10,7 +10,7 @@ use Rattle.prt_import.specs.declared.step.Place.{Place}
 use Rattle.prt_import.specs.declared.step.Written.{Written}
 use Rattle.prt_import.specs.declared.step.Written.TheVariants.{Nothing, Same, WithMask, Number}
 
--- What is written for words, and whether the scope of a route goes without saying after them.
+-- What is written for words, and whether the scope of a route is implied after them.
 pub record Translated : Type 0 where
   pub text : List ℕ
   pub is_scope_settled : Bool

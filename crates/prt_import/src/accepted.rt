@@ -51,7 +51,7 @@ impl Accepted {
         Ok(())
     }
 
-    /// Tells of a line that is refused, unless memory is.
+    /// Records a line that is refused, unless memory is.
     fn take_refused(
         &mut self,
         alloc: Global,

@@ -23,7 +23,7 @@ const LONGEST_SHOWN: usize = 900;
 /// How many bytes a comment has at most after its beginning, so that the lines of a script have room for it.
 const LONGEST_BODY: usize = 1000;
 
-/// Gives the words of a line, each after a space.
+/// Collects the words of a line, each after a space.
 fn spaced_words(alloc: Global, line: &[u8]) -> Result<Vec<u8>, AllocError>
     ensures { IfOk result (λ made. made.items ≡ spaced_words (words line.now)) }
 {
@@ -37,7 +37,7 @@ fn spaced_words(alloc: Global, line: &[u8]) -> Result<Vec<u8>, AllocError>
     Ok(made)
 }
 
-/// Gives what the comment for a line says: its words, and why it is left out.
+/// Builds what the comment for a line says: its words, and why it is left out.
 fn remark_body(alloc: Global, left: &Left) -> Result<Vec<u8>, AllocError>
     ensures { IfOk result (λ made. made.items ≡ remark_body (remark_of left.now)) }
 {
@@ -48,21 +48,21 @@ fn remark_body(alloc: Global, left: &Left) -> Result<Vec<u8>, AllocError>
     Ok(made)
 }
 
-/// Gives the first bytes of a text, as many as this.
+/// Returns the first bytes of a text, as many as this.
 fn first_bytes(count: usize, text: &[u8]) -> &[u8]
     ensures { result.now ≡ take count text.now }
 {
     &text[..count.min(text.len())]
 }
 
-/// Gives what stands in a line after the beginning of a comment.
+/// Returns what follows the beginning of a comment in a line.
 fn after_start(line: &[u8]) -> &[u8]
     ensures { result.now ≡ drop 11 line.now }
 {
     &line[START.len().min(line.len())..]
 }
 
-/// Gives what is shown for a byte.
+/// Chooses what is shown for a byte.
 fn shown_byte(byte: u8) -> u8
     ensures { result ≡ shown_byte byte }
 {
@@ -113,7 +113,7 @@ pub fn kernel_routes(left: &[Left]) -> usize
     left.iter().filter(|line| line.is_kernel_made()).count()
 }
 
-/// Gives what the comment that counts the routes of the kernel says.
+/// Builds what the comment that counts the routes of the kernel says.
 fn count_body(alloc: Global, count: usize) -> Result<Vec<u8>, AllocError>
     ensures { IfOk result (λ made. made.items ≡ count_body count) }
 {
@@ -158,14 +158,14 @@ pub(crate) fn push_comments(
     push_count(out, alloc, kernel_routes(left))
 }
 
-/// Tells whether a line of a script is a comment that says what was left out.
+/// Checks whether a line of a script is a comment that says what was left out.
 fn is_left_out(line: &[u8]) -> bool
     ensures { result ≡ is_left_out line.now }
 {
     is(START, first_bytes(START.len(), line))
 }
 
-/// Tells whether what a comment says after its beginning may be about this destination: it is not about a route for others.
+/// Checks whether what a comment says after its beginning may be about this destination: it is not about a route for others.
 fn may_be_for(destination: Addr, text: &[u8]) -> bool
     ensures { result ≡ may_be_for destination (destination_of (words text.now)) }
 {
@@ -178,7 +178,7 @@ fn may_be_for(destination: Addr, text: &[u8]) -> bool
     }
 }
 
-/// Tells whether a line of a script is a comment that says what was left out, perhaps for this destination.
+/// Checks whether a line of a script is a comment that says what was left out, perhaps for this destination.
 fn concerns(destination: Option<Addr>, line: &[u8]) -> bool
     ensures { result ≡ concerns destination line.now }
 {
@@ -188,7 +188,7 @@ fn concerns(destination: Option<Addr>, line: &[u8]) -> bool
     }
 }
 
-/// Gives the lines of a script that say what was left out of it when it was made of a listing, each with a newline. With a
+/// Collects the lines of a script that say what was left out of it when it was made of a listing, each with a newline. With a
 /// destination these are the ones that could have decided what becomes of a packet to it: those about a rule, about a route
 /// for this destination, and about the routes that the kernel makes itself.
 ///

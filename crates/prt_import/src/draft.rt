@@ -52,7 +52,7 @@ pub(crate) fn push_line(out: &mut Vec<u8>, line: &[u8]) -> Result<(), AllocError
     push_text(out, "\n")
 }
 
-/// Appends the lines that leave no rule of a new database, where there are others.
+/// Appends the lines that leave no rule of a new database, if there are others.
 fn push_head(out: &mut Vec<u8>, has_rules: bool) -> Result<(), AllocError>
     ensures { OnOk result (out.new.items ≡ out.old.items ++ head has_rules) }
 {
@@ -63,7 +63,7 @@ fn push_head(out: &mut Vec<u8>, has_rules: bool) -> Result<(), AllocError>
     }
 }
 
-/// Tells what the first line of a text says of the route in the line before it.
+/// Finds what the first line of a text says of the route in the line before it.
 fn continuation(text: &[u8]) -> Option<Reason>
     ensures { result ≡ continuation (lines_of text.now) }
 {
@@ -91,7 +91,7 @@ impl Draft {
         }
     }
 
-    /// Tells of a line that is left out.
+    /// Records a line that is left out.
     fn leave(&mut self, source: Source<'_>, word: &[u8], reason: Reason) -> Result<(), AllocError>
         ensures { OnOk result (Adds self.old self.new (left_out (numbered source.entry) word.now reason)) }
     {
@@ -100,7 +100,7 @@ impl Draft {
         Ok(())
     }
 
-    /// Adds a rule by its line, and tells what is left out of these items.
+    /// Adds a rule by its line, and records what is left out of these items.
     fn add_rule(
         &mut self,
         names: &HostNames,
@@ -154,7 +154,7 @@ impl Draft {
         }
     }
 
-    /// Tells of a route's line that is left out for this reason, or since the kernel makes the route.
+    /// Records a route's line that is left out for this reason, or since the kernel makes the route.
     fn leave_route(
         &mut self,
         names: &HostNames,
@@ -174,7 +174,7 @@ impl Draft {
         }
     }
 
-    /// Adds a route, and tells what is left out of its line.
+    /// Adds a route, and records what is left out of its line.
     fn add_route(
         &mut self,
         names: &HostNames,

@@ -25,19 +25,20 @@ pub struct Imported {
 
 /// Reads what `ip -4 route show table all` and `ip -4 rule` print, in any order, one after the other.
 ///
-/// The script makes the rules and routes over a new database. Where the text has rules, its commands begin with
-/// `rule flush` and `rule del priority 0`, and then there is a `rule add` for each rule in order. Then there is a `route add`
+/// The script makes the rules and routes over a new database. If the text has rules, its commands begin with
+/// `rule flush` and `rule del priority 0`. Then there is a `rule add` for each rule in order. Then there is a `route add`
 /// for each route, those without a gateway first. Each line is one that [`read_line`](prt_command::read_line) reads as such.
 ///
-/// A line that no line here can say is left out and told: never in silence, and never as another rule or route. So is a
+/// A line that no line here can say is left out and reported: never in silence, and never as another rule or route. So is a
 /// route that is `dead`, which the kernel passes over, and one with `onlink`, which it would refuse without. The script
 /// begins with a comment for each such line, `# left out: LINE: why`, and with a count of the routes that the kernel
 /// makes itself; [`left_out`](crate::left_out) finds them again. Of a line that is kept, what does not change which route a
-/// packet gets is left off, and told as a note: `linkdown`, the protocol of a rule, and the metrics of a connection, as
-/// `mtu`. States such as `offload` and `[detached]` are left off without a note. The scope of a route that drops its packets stands in its line, where it counts as global.
+/// packet gets is left off, and reported as a note: `linkdown`, the protocol of a rule, and the metrics of a connection, as
+/// `mtu`. States such as `offload` and `[detached]` are left off without a note. The scope of a route that drops its packets
+/// is in its line, where it counts as global.
 ///
 /// Two lines of the script may ask for the same rule, or for routes with the same table, prefix and metric: the kernel
-/// tells such by what is not kept here. [`accept`](crate::accept) leaves the later ones out.
+/// distinguishes such by what is not kept here. [`accept`](crate::accept) leaves the later ones out.
 ///
 /// # Errors
 ///

@@ -1,4 +1,4 @@
-//! What a line that `ip` prints is about, also where it can't be kept.
+//! What a line that `ip` prints is about, also if it can't be kept.
 ghost use Rattle.std.specs.Prelude.{◌≡◌, [], option_map};
 ghost use Rattle.prt_command.specs.Reading.{words};
 ghost use Rattle.prt_import.specs.Keys.{destination_of, is_type, metric_in, naming, prefix_in, route_key, rule_priority, table_in, value_of};
@@ -13,7 +13,7 @@ use prt_addr::{Prefix, read_number, read_prefix};
 use prt_command::{is, next_word};
 use prt_route::{MAIN_TABLE, RouteKey, read_table};
 
-/// Tells whether the word is a type of routes.
+/// Checks whether the word is a type of routes.
 fn is_type(word: &[u8]) -> bool
     ensures { result ≡ is_type word.now }
 {
@@ -32,7 +32,7 @@ pub(crate) fn destination_of(line: &[u8]) -> Option<&[u8]>
     Some(destination)
 }
 
-/// Gives a word that may name an item: the name of an interface names none.
+/// Returns a word that may name an item: the name of an interface names none.
 fn naming<'a>(before: &[u8], word: &'a [u8]) -> &'a [u8]
     ensures { result.now ≡ naming before.now word.now }
 {
@@ -62,7 +62,7 @@ fn table_of(word: &[u8]) -> Option<u32>
     read_table(word).ok()
 }
 
-/// Gives the number of a table by its name or its number, main if none is said.
+/// Finds the number of a table by its name or its number, main if none is said.
 fn table_in(names: &HostNames, value: Option<&[u8]>) -> Option<u32>
     ensures { result ≡ table_in (known_names names.now) (option_map (λ word. word.now) value.entry) }
 {
@@ -75,7 +75,7 @@ fn table_in(names: &HostNames, value: Option<&[u8]>) -> Option<u32>
     }
 }
 
-/// Gives a metric, 0 if none is said.
+/// Parses a metric, 0 if none is said.
 fn metric_in(value: Option<&[u8]>) -> Option<u32>
     ensures { result ≡ metric_in (option_map (λ word. word.now) value.entry) }
 {
@@ -95,7 +95,7 @@ fn prefix_of(destination: &[u8]) -> Option<Prefix>
 /// Finds the key of the route that a line of `ip -4 route show table all` is about, whatever else the line says: also of one
 /// that [`import`](crate::import) leaves out. Another route of this key would take its place in the kernel, or be refused.
 ///
-/// There is none where the line has no destination of IPv4, or a table or a metric that can't be read.
+/// There is none if the line has no destination of IPv4, or a table or a metric that can't be read.
 pub fn route_key(names: &HostNames, line: &[u8]) -> Option<RouteKey>
     ensures { result ≡ route_key (known_names names.now) (words line.now) }
 {
@@ -111,7 +111,7 @@ pub fn route_key(names: &HostNames, line: &[u8]) -> Option<RouteKey>
 
 /// Finds the priority of the rule that a line of `ip -4 rule` is about, whatever else the line says.
 ///
-/// There is none where the line is not a rule's, or its priority is over 2^32 - 1.
+/// There is none if the line is not a rule's, or its priority is over 2^32 - 1.
 pub fn rule_priority(line: &[u8]) -> Option<u32>
     ensures { result ≡ rule_priority (words line.now) }
 {

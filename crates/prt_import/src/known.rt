@@ -5,7 +5,7 @@ ghost use Rattle.prt_import.specs.Known.{meaning_in, meaning_of};
 use crate::reason::Reason;
 use prt_command::is;
 
-/// What a line tells.
+/// What a line describes.
 #[derive(Clone, Copy)]
 pub enum Object {
     /// A rule, by `ip rule`.
@@ -33,7 +33,7 @@ pub enum Role {
     Scope,
     /// A routing protocol of a rule, which is left off with its word.
     RuleProtocol,
-    /// What is left off with its word; `lock` may stand before it.
+    /// What is left off with its word; `lock` may come before it.
     Metric,
 }
 
@@ -46,7 +46,7 @@ pub enum Meaning {
     Before(Role),
     /// A state of a device, which is left off.
     State,
-    /// Something that is left off, and is told.
+    /// Something that is left off, and is reported.
     Told(Reason),
     /// Something without which the line would mean something else.
     Out(Reason),
@@ -152,7 +152,7 @@ fn meaning_in(known: &[Known], word: &[u8]) -> Option<Meaning>
     None
 }
 
-/// Tells what a word says at the start of an item.
+/// Looks up what a word says at the start of an item.
 pub(crate) fn meaning_of(object: Object, word: &[u8]) -> Option<Meaning>
     ensures { result ≡ meaning_of object word.now }
 {

@@ -1,4 +1,4 @@
-//! What is told of a line.
+//! What is reported of a line.
 ghost use Rattle.std.specs.Prelude.{◌≡◌, IfOk};
 ghost use Rattle.prt_import.specs.Told.{first_bytes, is_kernel_made, numbered, remark, remark_of};
 
@@ -10,13 +10,13 @@ use std::fmt::Write;
 
 /// A line that is left out of the script, or a part of a line that is kept.
 ///
-/// It is shown as `line 3: nexthop: several next hops: default proto static`, without the word where there is none. A byte
+/// It is shown as `line 3: nexthop: several next hops: default proto static`, without the word if there is none. A byte
 /// that is not printable is shown as `?`.
 #[derive(Debug, Drop)]
 pub struct Left {
     /// The line of the input, counted from 1.
     pub line: u64,
-    /// The word that it is about; empty where it is about the line as a whole.
+    /// The word that it is about; empty if it is about the line as a whole.
     pub word: Vec<u8>,
     pub reason: Reason,
     /// The first 1,024 bytes of the line.
@@ -32,14 +32,14 @@ pub(crate) struct Source<'a> {
 }
 
 impl Left {
-    /// Tells whether it is about a route that the kernel makes itself.
+    /// Checks whether it is about a route that the kernel makes itself.
     pub(crate) fn is_kernel_made(&self) -> bool
         ensures { result ≡ is_kernel_made self.now.reason }
     {
         matches!(self.reason, Reason::Kernel)
     }
 
-    /// Copies what is told of a line.
+    /// Copies what is reported of a line.
     pub(crate) fn new(
         alloc: Global,
         source: Source<'_>,
@@ -64,7 +64,7 @@ fn first_bytes(text: &[u8]) -> &[u8]
     &text[..LONGEST_LINE.min(text.len())]
 }
 
-/// Gives the character that stands for a byte: what can't be printed could be a command to the terminal.
+/// Chooses the character that is shown for a byte: what can't be printed could be a command to the terminal.
 fn shown(byte: u8) -> char {
     if byte == b'\t' || (byte > 31 && byte < 127) {
         char::from(byte)

@@ -36,7 +36,7 @@ pub enum NoListing {
     OneLine,
     /// `ip -d`: the type of a route that is `unicast`, or the protocol of a rule that has none of its own.
     Details,
-    /// The `ip` of busybox, which does not print `not`: a rule would be kept turned round.
+    /// The `ip` of busybox, which does not print `not`: a rule would be kept inverted.
     Busybox,
 }
 
@@ -77,49 +77,49 @@ enum Feature {
     HasProtocol,
 }
 
-/// Tells whether an address of IPv6 may be in the word.
+/// Checks whether an address of IPv6 may be in the word.
 fn has_colon(word: &[u8]) -> bool
     ensures { result ≡ has_colon word.now }
 {
     word.contains(&b':')
 }
 
-/// Tells whether the word is decimal digits.
+/// Checks whether the word is decimal digits.
 fn is_number(word: &[u8]) -> bool
     ensures { result ≡ is_number word.now }
 {
     !word.is_empty() && are_digits(word)
 }
 
-/// Tells whether the byte may stand in an address or a prefix of IPv4.
+/// Checks whether the byte may be in an address or a prefix of IPv4.
 fn is_address_byte(byte: u8) -> bool
     ensures { result ≡ is_address_byte byte }
 {
     byte.is_ascii_digit() || byte == b'.' || byte == b'/'
 }
 
-/// Tells whether each byte may stand in an address or a prefix of IPv4.
+/// Checks whether each byte may be in an address or a prefix of IPv4.
 fn are_address_bytes(word: &[u8]) -> bool
     ensures { result ≡ list_all is_address_byte word.now }
 {
     word.iter().all(|byte| is_address_byte(*byte))
 }
 
-/// Tells whether the word is written as an address or a prefix of IPv4.
+/// Checks whether the word is written as an address or a prefix of IPv4.
 fn is_address(word: &[u8]) -> bool
     ensures { result ≡ is_address word.now }
 {
     !word.is_empty() && are_address_bytes(word)
 }
 
-/// Tells whether the word is the number of a table that has a name on each host.
+/// Checks whether the word is the number of a table that has a name on each host.
 fn is_numbered_table(word: &[u8]) -> bool
     ensures { result ≡ is_one_of word.now numbered_tables }
 {
     is(word, b"253") || is(word, b"254") || is(word, b"255")
 }
 
-/// Tells whether a value of a route stands as a number, though it has a name on each host.
+/// Checks whether a value of a route is written as a number, though it has a name on each host.
 fn is_numeric_item(before: &[u8], word: &[u8]) -> bool
     ensures { result ≡ is_numeric_item before.now word.now }
 {
@@ -143,7 +143,7 @@ fn rule_sign(before: &[u8], word: &[u8]) -> Option<NoListing>
     }
 }
 
-/// Tells whether the word is a preference of a route of IPv6.
+/// Checks whether the word is a preference of a route of IPv6.
 fn is_preference(word: &[u8]) -> bool
     ensures { result ≡ is_one_of word.now preferences }
 {
@@ -238,7 +238,7 @@ fn lines_sign(text: &[u8]) -> Option<NoListing>
     None
 }
 
-/// Tells whether a text ends with the byte.
+/// Checks whether a text ends with the byte.
 fn ends_with(byte: u8, text: &[u8]) -> bool
     ensures { result ≡ ends_with byte text.now }
 {
@@ -248,7 +248,7 @@ fn ends_with(byte: u8, text: &[u8]) -> bool
     }
 }
 
-/// Tells whether a line begins a rule.
+/// Checks whether a line begins a rule.
 fn is_rule(line: &[u8]) -> bool
     ensures { result ≡ is_rule (words line.now) }
 {
@@ -258,7 +258,7 @@ fn is_rule(line: &[u8]) -> bool
     }
 }
 
-/// Tells whether a line begins as that of a rule or of a route.
+/// Checks whether a line begins as that of a rule or of a route.
 fn begins(line: &[u8]) -> bool
     ensures { result ≡ begins (words line.now) }
 {
@@ -272,7 +272,7 @@ fn begins(line: &[u8]) -> bool
         || is_address(word)
 }
 
-/// Tells whether the line has a word that busybox never prints.
+/// Checks whether the line has a word that busybox never prints.
 fn has_protocol(line: &[u8]) -> bool
     ensures { result ≡ list_any tells_protocol (words line.now) }
 {
@@ -287,7 +287,7 @@ fn has_protocol(line: &[u8]) -> bool
 }
 
 impl Feature {
-    /// Tells whether a line has it.
+    /// Checks whether a line has it.
     fn is_of(self, line: &[u8]) -> bool
         ensures { result ≡ has self line.now }
     {
@@ -299,7 +299,7 @@ impl Feature {
         }
     }
 
-    /// Tells whether some line of a text has it.
+    /// Checks whether some line of a text has it.
     fn is_in(self, text: &[u8]) -> bool
         ensures { result ≡ any_has self (lines_of text.now) }
     {
@@ -314,7 +314,7 @@ impl Feature {
     }
 }
 
-/// Finds why the lines of a text are of no form that is read, where no single line shows it.
+/// Finds why the lines of a text are of no form that is read, if no single line shows it.
 fn form_fault(text: &[u8]) -> Option<NoListing>
     ensures { result ≡ form_fault (lines_of text.now) }
 {
@@ -343,8 +343,8 @@ fn listing_fault(text: &[u8]) -> Option<NoListing>
     }
 }
 
-/// Tells whether a text may be taken as what `ip -4 rule` and `ip -4 route show table all` print: as a whole, of IPv4 alone,
-/// without options that change its words.
+/// Checks whether a text may be taken as what `ip -4 rule` and `ip -4 route show table all` print: as a whole, of IPv4
+/// alone, without options that change its words.
 ///
 /// # Errors
 ///

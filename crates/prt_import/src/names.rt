@@ -17,7 +17,7 @@ struct Named {
     number: u32,
 }
 
-/// Names of tables, or of routing protocols, as files of iproute2 give them: `rt_tables` and `rt_protos`, and those of
+/// Names of tables, or of routing protocols, as files of iproute2 define them: `rt_tables` and `rt_protos`, and those of
 /// `rt_tables.d` and `rt_protos.d`.
 #[derive(Drop)]
 pub struct Names {

@@ -31,7 +31,7 @@ struct Cut<'a> {
 }
 
 impl Text {
-    /// Tells whether the byte stands between pieces.
+    /// Checks whether the byte separates pieces.
     fn is_separator(self, byte: u8) -> bool
         ensures { result ≡ is_separator self byte }
     {
@@ -41,7 +41,7 @@ impl Text {
         }
     }
 
-    /// Tells whether a table follows the word.
+    /// Checks whether a table follows the word.
     fn is_table_word(self, word: &[u8]) -> bool
         ensures { result ≡ is_one_of word.now (table_words self) }
     {
@@ -72,7 +72,7 @@ fn next_piece(form: Text, text: &[u8]) -> Option<Cut<'_>>
     })
 }
 
-/// Gives the last piece of a line that is not empty, after one more.
+/// Returns the last piece of a line that is not empty, after one more.
 fn last_word<'a>(before: &'a [u8], cut: &Cut<'a>) -> &'a [u8]
     ensures { result.now ≡ last_word before.now (record { word = cut.now.piece.now; ended = cut.now.separator ∷ [] }) }
 {
@@ -133,7 +133,7 @@ fn push_name(out: &mut Vec<u8>, form: Text, name: &[u8]) -> Result<(), AllocErro
     }
 }
 
-/// Appends a piece that stands after this word, or the name of the table that it is.
+/// Appends a piece that comes after this word, or the name of the table that it is.
 fn push_piece(
     out: &mut Vec<u8>,
     names: &Names,
@@ -152,8 +152,8 @@ fn push_piece(
     }
 }
 
-/// Gives a text that prt printed with the name of each table in place of its number, where the table has a name. All else
-/// stands as it was.
+/// Copies a text that prt printed, with the name of each table in place of its number, if the table has a name. All else
+/// stays as it was.
 ///
 /// Of several names of one number it is the one that was read last, as iproute2 shows it.
 ///

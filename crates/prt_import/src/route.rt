@@ -15,7 +15,7 @@ use prt_command::{Command, Refusal, Request, Route, is, next_word, read_line};
 use prt_listing::push_text;
 use std::alloc::{AllocError, Global};
 
-/// Tells what a line that begins with this word says of the route in the line before it.
+/// Finds what a line that begins with this word says of the route in the line before it.
 pub(crate) fn continuation_of(word: &[u8]) -> Option<Reason>
     ensures { result ≡ continuation_of word.now }
 {
@@ -54,7 +54,7 @@ fn checked_route(line: &[u8]) -> Result<Route, Reason>
     }
 }
 
-/// Appends the scope of a route where it does not go without saying: `ip` leaves out the one that is global.
+/// Appends the scope of a route if it is not implied: `ip` leaves out the one that is global.
 fn push_scope(out: &mut Vec<u8>, is_settled: bool) -> Result<(), AllocError>
     ensures { OnOk result (out.new.items ≡ out.old.items ++ scope_text is_settled) }
 {
@@ -88,7 +88,7 @@ pub(crate) struct RouteLine {
 ///
 /// # Errors
 ///
-/// `Left` where there is no such line, `NoMemory` where memory is refused.
+/// `Left` if there is no such line, `NoMemory` if memory is refused.
 pub(crate) fn route_line(alloc: Global, names: &HostNames, text: &[u8]) -> Result<RouteLine, Fault>
     ensures ok { IfOk result (λ made. route_line (known_names names.now) (words text.now) ≡ Ok (record { line = made.line.items; has_gateway = made.has_gateway })) }
     ensures err { IfErr result (λ fault. IsWhy (route_line (known_names names.now) (words text.now)) fault) }

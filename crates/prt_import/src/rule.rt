@@ -24,7 +24,7 @@ fn first_colon(word: &[u8]) -> Option<usize>
     word.iter().position(|byte| *byte == b':')
 }
 
-/// Tells whether each byte is a digit.
+/// Checks whether each byte is a digit.
 pub(crate) fn are_digits(word: &[u8]) -> bool
     ensures { result ≡ list_all is_ascii_digit word.now }
 {
@@ -89,7 +89,7 @@ fn rule_text(
 ///
 /// # Errors
 ///
-/// `Left` where there is no such line, `NoMemory` where memory is refused.
+/// `Left` if there is no such line, `NoMemory` if memory is refused.
 pub(crate) fn rule_line(
     alloc: Global,
     names: &HostNames,

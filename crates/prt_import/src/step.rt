@@ -12,7 +12,7 @@ use prt_addr::read_number;
 use prt_command::is;
 use prt_route::{read_protocol, read_table};
 
-/// What may stand next in a line.
+/// What may come next in a line.
 #[derive(Clone, Copy)]
 pub enum Place {
     /// A type of routes, or the destination.
@@ -39,9 +39,9 @@ pub enum Written {
 #[derive(Clone, Copy)]
 pub struct Step {
     pub written: Written,
-    /// What may stand after it.
+    /// What may come after it.
     pub next: Place,
-    /// Whether the scope of a route goes without saying after it: it is said, or is global here as it is there.
+    /// Whether the scope of a route is implied after it: it is said, or is global here as it is there.
     pub settles_scope: bool,
 }
 
@@ -61,7 +61,7 @@ const OTHER_PROTOCOLS: [(&str, u32); 11] = [
 ];
 
 impl Role {
-    /// Tells whether the word before the value is kept.
+    /// Returns whether the word before the value is kept.
     fn is_kept(self) -> bool
         ensures { result ≡ is_kept self }
     {
@@ -70,7 +70,7 @@ impl Role {
 }
 
 impl Written {
-    /// Begins an item with this, before what may stand next.
+    /// Begins an item with this, before what may come next.
     fn before(self, next: Place) -> Step
         ensures { result ≡ before next self }
     {
@@ -88,7 +88,7 @@ impl Written {
         self.before(Place::Item)
     }
 
-    /// Goes on with what may stand next, where the scope goes without saying.
+    /// Goes on with what may come next, with the scope implied.
     fn settles_scope(self, next: Place) -> Step
         ensures { result ≡ settles_scope next self }
     {
@@ -147,7 +147,7 @@ fn protocol_value(names: &HostNames, word: &[u8]) -> Result<Written, Reason>
     }
 }
 
-/// Takes a mark. Where `ip` prints 0 alone, each bit of a mark has to be 0; read again, it would say nothing of marks.
+/// Takes a mark. If `ip` prints 0 alone, each bit of a mark has to be 0; read again, it would say nothing of marks.
 fn mark_value(word: &[u8]) -> Written
     ensures { result ≡ mark_value word.now }
 {
@@ -157,7 +157,7 @@ fn mark_value(word: &[u8]) -> Written
     }
 }
 
-/// Tells whether an address is of another family: IPv4 has no `:`, and the other families of gateways are named.
+/// Checks whether an address is of another family: IPv4 has no `:`, and the other families of gateways are named.
 fn is_other_family(word: &[u8]) -> bool
     ensures { result ≡ is_other_family word.now }
 {
@@ -210,7 +210,7 @@ fn item_step(object: Object, word: &[u8]) -> Result<Step, Reason>
     }
 }
 
-/// Tells whether the word is a type of routes that drop their packets.
+/// Checks whether the word is a type of routes that drop their packets.
 pub(crate) fn is_dropping_type(word: &[u8]) -> bool
     ensures { result ≡ is_one_of word.now dropping_types }
 {
@@ -220,7 +220,7 @@ pub(crate) fn is_dropping_type(word: &[u8]) -> bool
         || is(word, b"throw")
 }
 
-/// Tells whether the word is a type of routes that there is not here.
+/// Checks whether the word is a type of routes that does not exist here.
 pub(crate) fn is_other_type(word: &[u8]) -> bool
     ensures { result ≡ is_one_of word.now other_types }
 {
@@ -233,7 +233,7 @@ pub(crate) fn is_other_type(word: &[u8]) -> bool
         || is(word, b"unspec")
 }
 
-/// Tells whether a line that begins with this word is JSON.
+/// Checks whether a line that begins with this word is JSON.
 fn is_json(word: &[u8]) -> bool
     ensures { result ≡ is_json word.now }
 {
@@ -259,7 +259,7 @@ fn destination_step(word: &[u8]) -> Result<Step, Reason>
     Ok(address_value(word)?.ends_item())
 }
 
-/// Tells what becomes of a word at this place of a line, or why the line has to be left out.
+/// Decides what becomes of a word at this place of a line, or why the line has to be left out.
 pub(crate) fn step_of(
     names: &HostNames,
     object: Object,

@@ -1,4 +1,4 @@
-//! What is told of the words of a line.
+//! What is reported of the words of a line.
 ghost use Rattle.std.specs.Prelude.{◌≡◌, ◌++◌, OnOk, map};
 ghost use Rattle.prt_command.specs.Reading.{words};
 ghost use Rattle.prt_import.specs.TableNames.{known_names};
@@ -12,7 +12,7 @@ use crate::step::{Place, step_of};
 use prt_command::{is, next_word};
 use std::alloc::{AllocError, Global};
 
-/// Finds the word for which a line has to be left out, in a text that begins at this place of the line; an empty word where
+/// Finds the word for which a line has to be left out, in a text that begins at this place of the line; an empty word if
 /// there is none.
 pub(crate) fn word_at_fault<'a>(
     names: &HostNames,
@@ -34,7 +34,7 @@ pub(crate) fn word_at_fault<'a>(
     &text[..0]
 }
 
-/// Tells why a word is left off, where that is told.
+/// Finds why a word is left off, if that is reported.
 fn note_of(object: Object, place: Place, word: &[u8]) -> Option<Reason>
     ensures { result ≡ note_of object place word.now }
 {
@@ -46,7 +46,7 @@ fn note_of(object: Object, place: Place, word: &[u8]) -> Option<Reason>
     }
 }
 
-/// Tells of a word of a line, if it is one that is told.
+/// Records a word of a line, if it is one that is reported.
 fn push_note(
     alloc: Global,
     notes: &mut Vec<Left>,
@@ -66,7 +66,7 @@ fn push_note(
     }
 }
 
-/// Tells of each word that is left off, in a text that begins at this place of a line.
+/// Records each word that is left off, in a text that begins at this place of a line.
 pub(crate) fn push_notes(
     alloc: Global,
     notes: &mut Vec<Left>,
@@ -91,14 +91,14 @@ pub(crate) fn push_notes(
     Ok(())
 }
 
-/// Tells whether a word and its value say that the kernel made a route: by its protocol.
+/// Checks whether a word and its value say that the kernel made a route: by its protocol.
 fn is_kernels_value(word: &[u8], value: &[u8]) -> bool
     ensures { result ≡ is_kernels_value word.now value.now }
 {
     is(word, b"proto") && is(value, b"kernel")
 }
 
-/// Tells whether a route's line says that the kernel made it: it has the kernel's protocol.
+/// Checks whether a route's line says that the kernel made it: it has the kernel's protocol.
 pub(crate) fn is_kernels(text: &[u8]) -> bool
     ensures { result ≡ is_kernels (words text.now) }
 {

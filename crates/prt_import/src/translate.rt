@@ -35,13 +35,12 @@ fn push_written(out: &mut Vec<u8>, written: Written, word: &[u8]) -> Result<(), 
     }
 }
 
-/// Appends what is written for each word of a text, which begins at this place of a line. Tells whether the scope of a
-/// route goes without saying after them.
+/// Appends what is written for each word of a text, which begins at this place of a line. Returns whether the scope of a
+/// route is implied after them.
 ///
 /// # Errors
 ///
-/// `Left` where the line has to be left out, `NoMemory` where memory is refused; some of the words may stand after what
-/// `out` had.
+/// `Left` if the line has to be left out, `NoMemory` if memory is refused; some of the words may follow what `out` had.
 pub(crate) fn push_words(
     out: &mut Vec<u8>,
     names: &HostNames,

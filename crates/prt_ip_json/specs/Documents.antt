@@ -49,7 +49,7 @@ is_blank text = list_all is_space text
 abbrev pub document_of : List ℕ → Option Json
 document_of part = if is_utf8 part then document part else None
 
--- those of the parts, but for white space
+-- those of the parts, except for white space
 abbrev pub documents_of : List (List ℕ) → Option (List Json)
 documents_of [] = Some []
 documents_of (part ∷ others) =

@@ -7,7 +7,7 @@ use Rattle.prt_ip_json.specs.declared.naming.Naming.TheVariants.{Rule, Route}
 
 -- ---- one value
 
--- What stands before a number or a text: nothing before a type or a destination that begins a route, a mark between two values that
+-- What comes before a number or a text: nothing before a type or a destination that begins a route, a mark between two values that
 -- belong together, and else the label of the name and a space.
 abbrev pub opening : Naming → Option Word → Word → List ℕ
 opening naming None name = if bytes_eq (codes "type") name then [] else (if bytes_eq (codes "dst") name then [] else label naming name ++ codes " ")
@@ -71,7 +71,7 @@ abbrev pub object_text : Members → List ℕ
 object_text no_members = []
 object_text (member name value ms) = line_by (priority name value) name value ms
 
--- a value that is no object gives a line that is no rule and no route
+-- a value that is no object yields a line that is no rule and no route
 abbrev pub line_text : Json → List ℕ
 line_text (object ms) = object_text ms
 line_text value = unsaid

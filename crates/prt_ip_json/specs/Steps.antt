@@ -12,7 +12,7 @@ use Rattle.prt_ip_json.specs.declared.fault.NotListed.TheVariants.{NoJson, NoMem
 abbrev pub Appends : {A : Type 0} → Option (A × List Token) → List Token → (A → List ℕ) → List ℕ → List ℕ → Type 0
 Appends {A} read rest text old new = (x : A) × (read ≡ Some (x, rest)) × (new ≡ old ++ text x)
 
--- a text, if there is one, after what stood before
+-- a text, if there is one, after what came before
 abbrev pub appended : List ℕ → Option (List ℕ) → Option (List ℕ)
 appended old text = option_map (λ t. old ++ t) text
 

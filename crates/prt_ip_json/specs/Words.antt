@@ -16,8 +16,8 @@ is_word_byte b = nat_lt 32 b && not (b == 127)
 abbrev pub is_word : List ℕ → Bool
 is_word text = not (length text == 0) && list_all is_word_byte text
 
--- What stands for a value that no line has: two words, so that one of them stands where an item begins. No item begins so, and no
--- destination is read so: a line with them is told as one that can't be kept.
+-- What is written for a value that no line has: two words, so that one of them is where an item begins. No item begins so, and no
+-- destination is read so: a line with them is reported as one that can't be kept.
 abbrev pub unsaid : List ℕ
 unsaid = codes "{} {}"
 
@@ -61,7 +61,7 @@ route_labels =
     ∷ (codes "congestion", codes " congctl")
     ∷ []
 
--- the names that stand for themselves, with null
+-- the names that are written as themselves, with null
 abbrev pub null_labels : List (Word × List ℕ)
 null_labels =
     (codes "not", codes " not")
@@ -88,7 +88,7 @@ label Nameless name = []
 
 -- ---- names after names
 
--- What stands between the value of the first name and that of the second one, where this follows at once.
+-- What comes between the value of the first name and that of the second one, if this follows at once.
 pub record Joint : Type 0 where
   pub first : Word
   pub second : Word

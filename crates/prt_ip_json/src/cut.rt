@@ -2,7 +2,7 @@
 ghost use Rattle.std.specs.Prelude.{◌≡◌, ◌<◌, ◌≤◌, ◌+◌, ◌^◌, [], ◌∷◌, length, MatchOption};
 ghost use Rattle.prt_ip_json.specs.Documents.{closes, depth_after, ends, mode_after, opens, parts};
 
-/// Where a text stands.
+/// The place that a text has reached.
 #[derive(Clone, Copy)]
 pub(crate) enum Mode {
     /// Outside of strings.
@@ -12,21 +12,21 @@ pub(crate) enum Mode {
     AfterBackslash,
 }
 
-/// Tells whether a byte opens an array or an object.
+/// Checks whether a byte opens an array or an object.
 pub(crate) fn opens(byte: u8) -> bool
     ensures { result ≡ opens byte }
 {
     byte == b'[' || byte == b'{'
 }
 
-/// Tells whether a byte closes an array or an object.
+/// Checks whether a byte closes an array or an object.
 fn closes(byte: u8) -> bool
     ensures { result ≡ closes byte }
 {
     byte == b']' || byte == b'}'
 }
 
-/// Tells whether a byte closes the first of the brackets that are open.
+/// Checks whether a byte closes the first of the brackets that are open.
 fn ends(depth: u64, mode: Mode, byte: u8) -> bool
     ensures { result ≡ ends depth mode byte }
 {
@@ -49,7 +49,7 @@ fn depth_after(depth: u64, mode: Mode, byte: u8) -> u64
     }
 }
 
-/// Tells where the text stands after a byte.
+/// Finds the place that a text has reached after a byte.
 fn mode_after(mode: Mode, byte: u8) -> Mode
     ensures { result ≡ mode_after mode byte }
 {

@@ -1,11 +1,11 @@
-//! Why a text gives no lines.
+//! Why a text yields no lines.
 ghost use Rattle.std.specs.Prelude.{◌≡◌};
 ghost use Rattle.prt_ip_json.specs.Steps.{reason};
 
 use std::alloc::AllocError;
 use thiserror::Error;
 
-/// Why a text gives no lines.
+/// Why a text yields no lines.
 #[derive(Clone, Copy, Debug, Error, PartialEq, Eq)]
 pub enum NotListed {
     /// It is no sequence of JSON documents, or nests deeper than 128 arrays and objects.
@@ -27,7 +27,7 @@ impl From<AllocError> for NotListed {
     }
 }
 
-/// Tells why, by the reason for which no value was read.
+/// Finds why, by the reason for which no value was read.
 pub(crate) fn not_listed(error: json::Error) -> NotListed
     ensures { result ≡ reason error }
 {

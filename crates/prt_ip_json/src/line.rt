@@ -9,7 +9,7 @@ use crate::words::{UNSAID, is, push_text};
 use json::Value;
 use std::alloc::AllocError;
 
-/// Gives the priority of a rule, if this member is one.
+/// Returns the priority of a rule, if this member is one.
 fn priority<'a>(name: &str, value: &Value<'a>) -> Option<&'a str>
     ensures { option_map (λ s. s.now) result ≡ priority name.now (value_view value.now) }
 {
@@ -48,7 +48,7 @@ fn push_line_text(out: &mut Vec<u8>, value: &Value<'_>) -> Result<(), AllocError
 ///
 /// # Errors
 ///
-/// Memory is refused; a part of the line may stand after what `out` had.
+/// Memory is refused; a part of the line may follow what `out` had.
 pub(crate) fn push_line(out: &mut Vec<u8>, value: &Value<'_>) -> Result<(), AllocError>
     ensures { OnOk result (out.new.items ≡ out.old.items ++ line (value_view value.now)) }
 {

@@ -12,21 +12,21 @@ use crate::reading::push_document_lines;
 use json::Scratch;
 use std::alloc::Global;
 
-/// Tells whether a byte is white space of JSON.
+/// Checks whether a byte is white space of JSON.
 fn is_space(byte: u8) -> bool
     ensures { result ≡ is_space byte }
 {
     matches!(byte, b' ' | b'\t' | b'\n' | b'\r')
 }
 
-/// Tells whether a text is white space.
+/// Checks whether a text is white space.
 fn is_blank(text: &[u8]) -> bool
     ensures { result ≡ is_blank text.now }
 {
     text.iter().all(|byte| is_space(*byte))
 }
 
-/// Tells whether a text is to be read as JSON: the first byte that is no white space opens an array or an object.
+/// Checks whether a text is to be read as JSON: the first byte that is no white space opens an array or an object.
 ///
 /// No line that `ip` prints of a rule or of a route begins so.
 pub fn is_json(text: &[u8]) -> bool
@@ -59,16 +59,16 @@ fn push_part(
     }
 }
 
-/// Gives the lines that `ip -4 route show table all` and `ip -4 rule` print, of what they print with `-j`, also with `-p`:
+/// Builds the lines that `ip -4 route show table all` and `ip -4 rule` print, of what they print with `-j`, also with `-p`:
 /// JSON documents, one after the other. Each value of an array has a line, and so has any other document, with a newline.
 ///
 /// An object that begins with a `priority` is a rule, and any other is a route. Its members are written in their order, so a
 /// route begins with its type or its destination. Each next hop of a route has a line that begins with a tab and `nexthop`.
-/// What `ip` names otherwise in its JSON gets the word of its lines, as `via` for `gateway`; any other member is written with its
-/// name. Nothing is left out, but for empty `flags`, `metrics` and `nexthops`. What is no word, as a text with white space, and
-/// what no line has, as null for a member with a value, is written as `{} {}`, which no line has.
+/// What `ip` names otherwise in its JSON gets the word of its lines, as `via` for `gateway`; any other member is written
+/// with its name. Nothing is left out, except empty `flags`, `metrics` and `nexthops`. What is no word, as a text with
+/// white space, is written as `{} {}`, which no line has. So is what no line has, as null for a member with a value.
 ///
-/// The lines have the words that `ip` prints, but for metrics and `expires`: of these the JSON has no `lock` and no units.
+/// The lines have the words that `ip` prints, except for metrics and `expires`: of these the JSON has no `lock` and no units.
 ///
 /// # Errors
 ///

@@ -15,7 +15,7 @@ fn push_truth(out: &mut Vec<u8>, is_true: bool) -> Result<(), AllocError>
     push_text(out, if is_true { " true" } else { " false" })
 }
 
-/// Gives the name of a member to whose value the next one may be joined, or the empty text.
+/// Returns the name of a member to whose value the next one may be joined, or the empty text.
 fn joinable<'n>(name: &'n str, value: &Value<'_>) -> &'n str
     ensures { result.now ≡ joinable name.now (value_view value.now) }
 {
@@ -67,7 +67,7 @@ fn push_member(
 ///
 /// # Errors
 ///
-/// Memory is refused; some of them may stand after what `out` had.
+/// Memory is refused; some of them may follow what `out` had.
 #[cycle(member)]
 pub(crate) fn push_members(
     out: &mut Vec<u8>,

@@ -61,10 +61,10 @@ const NULL_LABELS: [(&str, &str); 9] = [
     ("tcp_usec_ts", " tcp_usec_ts"),
 ];
 
-/// Two names of members that follow each other at once, and what stands between their values.
+/// Two names of members that follow each other at once, and what comes between their values.
 type Joint = (&'static str, &'static str, &'static str);
 
-/// The names whose values stand together.
+/// The names whose values are written together.
 const JOINTS: [Joint; 9] = [
     ("type", "dst", " "),
     ("src", "srclen", "/"),
@@ -89,28 +89,28 @@ fn text_in(rows: &[(&'static str, &'static str)], name: &str) -> Option<&'static
     None
 }
 
-/// Gives the text for a name in a rule.
+/// Looks up the text for a name in a rule.
 fn rule_label(name: &str) -> Option<&'static str>
     ensures { option_map (λ s. s.now) result ≡ text_in rule_labels name.now }
 {
     text_in(&RULE_LABELS, name)
 }
 
-/// Gives the text for a name in a route.
+/// Looks up the text for a name in a route.
 fn route_label(name: &str) -> Option<&'static str>
     ensures { option_map (λ s. s.now) result ≡ text_in route_labels name.now }
 {
     text_in(&ROUTE_LABELS, name)
 }
 
-/// Gives the text for a name that has null.
+/// Looks up the text for a name that has null.
 fn null_label(name: &str) -> Option<&'static str>
     ensures { option_map (λ s. s.now) result ≡ text_in null_labels name.now }
 {
     text_in(&NULL_LABELS, name)
 }
 
-/// Looks up what stands between the values of two names.
+/// Looks up what comes between the values of two names.
 fn between_in(joints: &[Joint], first: &str, second: &str) -> Option<&'static str>
     ensures { option_map (λ s. s.now) result ≡ between_in (map (λ j. joint j.0.now j.1.now j.2.now) joints.now) first.now second.now }
 {
@@ -122,14 +122,14 @@ fn between_in(joints: &[Joint], first: &str, second: &str) -> Option<&'static st
     None
 }
 
-/// Tells what stands between the values of two names, if they stand together.
+/// Looks up what comes between the values of two names, if they are written together.
 fn between(first: &str, second: &str) -> Option<&'static str>
     ensures { option_map (λ s. s.now) result ≡ between_in joints first.now second.now }
 {
     between_in(&JOINTS, first, second)
 }
 
-/// Appends this text, or the name after a space where there is none.
+/// Appends this text, or the name after a space if there is none.
 fn push_text_or_name(
     out: &mut Vec<u8>,
     text: Option<&'static str>,
@@ -163,7 +163,7 @@ fn push_label_and_space(out: &mut Vec<u8>, naming: Naming, name: &str) -> Result
     push_text(out, " ")
 }
 
-/// Appends what stands before a number or a text of this name.
+/// Appends what comes before a number or a text of this name.
 pub(crate) fn push_opening(
     out: &mut Vec<u8>,
     naming: Naming,
@@ -196,7 +196,7 @@ pub(crate) fn push_null(out: &mut Vec<u8>, naming: Naming, name: &str) -> Result
 }
 
 impl Naming {
-    /// Tells how the members in the value of a member are named.
+    /// Chooses how the members in the value of a member are named.
     pub(crate) fn inside(self, name: &str) -> Naming
         ensures { result ≡ inside self name.now }
     {
@@ -207,7 +207,7 @@ impl Naming {
         }
     }
 
-    /// Gives what stands before each value of an array in a member of this name.
+    /// Chooses what comes before each value of an array in a member of this name.
     pub(crate) fn item_start(self, name: &str) -> &'static str
         ensures { result.now ≡ item_start self name.now }
     {
@@ -217,7 +217,7 @@ impl Naming {
         }
     }
 
-    /// Gives what stands after an array or an object in a member of this name.
+    /// Chooses what comes after an array or an object in a member of this name.
     pub(crate) fn item_end(self, name: &str) -> &'static str
         ensures { result.now ≡ item_end self name.now }
     {
@@ -228,7 +228,7 @@ impl Naming {
     }
 }
 
-/// Tells whether a member of this name in a route has an array or an object that is known.
+/// Checks whether a member of this name in a route has an array or an object that is known.
 fn is_nesting(name: &str) -> bool
     ensures { result ≡ list_any (λ known. bytes_eq known name.now) nesting_names }
 {

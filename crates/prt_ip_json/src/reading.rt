@@ -113,7 +113,7 @@ fn push_document(
 ///
 /// # Errors
 ///
-/// `NoJson` where it is none, `NoMemory` where memory is refused; some lines may stand after what `out` had.
+/// `NoJson` if it is none, `NoMemory` if memory is refused; some lines may follow what `out` had.
 pub(crate) fn push_document_lines<'a>(
     out: &mut Vec<u8>,
     alloc: Global,

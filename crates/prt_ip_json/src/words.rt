@@ -5,7 +5,7 @@ ghost use Rattle.prt_ip_json.specs.Words.{is_word, is_word_byte, own_label, word
 
 use std::alloc::AllocError;
 
-/// What stands for a value that no line has: two words, so that one of them stands where an item begins.
+/// What is written for a value that no line has: two words, so that one of them is where an item begins.
 pub(crate) const UNSAID: &str = "{} {}";
 
 /// The same, for the next words of a line.
@@ -14,28 +14,28 @@ pub(crate) const UNSAID_NEXT: &str = " {} {}";
 /// A line of it.
 pub(crate) const UNSAID_LINE: &str = "{} {}\n";
 
-/// Tells whether a name is this text.
+/// Checks whether a name is this text.
 pub(crate) fn is(name: &str, text: &str) -> bool
     ensures { result ≡ bytes_eq text.now name.now }
 {
     text == name
 }
 
-/// Tells whether a byte may stand in a word: no white space and no control byte.
+/// Checks whether a byte may be in a word: no white space and no control byte.
 fn is_word_byte(byte: u8) -> bool
     ensures { result ≡ is_word_byte byte }
 {
     byte > 32 && byte != 127
 }
 
-/// Tells whether all bytes may stand in a word.
+/// Checks whether all bytes may be in a word.
 fn has_word_bytes(bytes: &[u8]) -> bool
     ensures { result ≡ list_all is_word_byte bytes.now }
 {
     bytes.iter().all(|byte| is_word_byte(*byte))
 }
 
-/// Tells whether a text is one word.
+/// Checks whether a text is one word.
 fn is_word(text: &str) -> bool
     ensures { result ≡ is_word text.now }
 {

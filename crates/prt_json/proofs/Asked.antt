@@ -1,4 +1,4 @@
--- The rules that are asked, one after another, and what each one finds.
+-- The rules that are tried, one after another, and what each one finds.
 use Rattle.std.proofs.Common.{◌≡◌, ℕ, ◌+◌, ◌<◌, Bool, true, false, List, [], ◌∷◌, ◌++◌, Option, Some, None, refl, sym, ap, ◌∙◌, append_assoc, cond, drop, get_or, length, map}
 use Rattle.std.specs.Prelude.{codes, option_map, unwrap_or}
 use Rattle.prt_addr.specs.declared.addr.Addr.{Addr}
@@ -52,11 +52,11 @@ asked_by : (rule : Rule) (rules : List Rule) (routes : List Route) (packet : Pac
 asked_by rule rules routes packet true = refl
 asked_by rule rules routes packet false = refl
 
--- the first rule, and the others where it doesn't decide
+-- the first rule, and the others if it doesn't decide
 asked-first : (rule : Rule) (rules : List Rule) (routes : List Route) (packet : Packet) → asked_tokens (rule ∷ rules) routes packet ≡ json_tokens (asked_json routes packet rule) ++ cond (decides routes packet rule) [] (asked_tokens rules routes packet)
 asked-first rule rules routes packet = asked_by rule rules routes packet (decides routes packet rule)
 
--- the rule at i is asked: its tokens stand there, and those of the rules after it are still to come if it doesn't decide
+-- the rule at i is tried: its tokens are there, and those of the rules after it are still to come if it doesn't decide
 pub asked_more : (rules : List Rule) (i : ℕ) (rule : Rule) (routes : List Route) (packet : Packet) (before old new : List Token) (b : Bool) → i < length rules → rule ≡ get_or rules i rule → old ++ asked_tokens (drop i rules) routes packet ≡ before → new ≡ old ++ json_tokens (asked_json routes packet rule) → b ≡ decides routes packet rule → new ++ cond b [] (asked_tokens (drop (i + 1) rules) routes packet) ≡ before
 asked_more rules i rule routes packet before old new b inside is held pushed says =
     let rest : List Token = cond b [] (asked_tokens (drop (i + 1) rules) routes packet) in

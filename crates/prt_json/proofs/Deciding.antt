@@ -1,4 +1,4 @@
--- Of the rules that are asked the last one decides, if one does.
+-- Of the rules that are tried the last one decides, if one does.
 use Rattle.std.proofs.Common.{◌≡◌, Bool, true, false, ◌||◌, List, [], ◌∷◌, ◌++◌, refl, sym, ap, ◌∙◌, cond}
 use Rattle.std.specs.List.{list_any}
 use Rattle.prt_route.specs.declared.route.Route.{Route}
@@ -14,7 +14,7 @@ module _ (routes : List Route) (packet : Packet) where
   abbrev does : Rule → Bool
   does rule = decides routes packet rule
 
-  -- where no rule is asked there is none
+  -- if no rule is tried there is none
   none_decides : (rules : List Rule) → asked rules ≡ [] → list_any does rules ≡ false
   none_decides [] is = refl
   none_decides (rule ∷ rules) is = absurd cc

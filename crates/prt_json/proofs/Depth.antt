@@ -166,7 +166,7 @@ pub anyhow : {T E : Type 0} (result : Result T E) (P : Type 0) → P → OnOk re
 anyhow (Ok value) P holds = holds
 anyhow (Err reason) P holds = tt
 
--- its text reads as the value, where the tokens are those of the text
+-- its text reads as the value, if the tokens are those of the text
 pub reads_back : (state : State) (d : Document) → tokens (json_text (document_json state d)) ≡ json_tokens (document_json state d) → ReadsBack (document_json state d)
 reads_back state d same =
     ap (option_and_then (λ p. if_last p.0 p.1))

@@ -93,7 +93,7 @@ items_tokens-items (value ∷ values) =
     ap (λ ts. json_tokens value ++ ts) (items_tokens-items values)
     ∙ sym (append_assoc (json_tokens value) (values_tokens values) (end_array ∷ []))
 
--- an opening bracket, what stands between, and the closing one
+-- an opening bracket, what is between, and the closing one
 closed : (old one two new between : List Token) (opening closing : Token) → one ≡ old ++ opening ∷ [] → two ≡ one ++ between → new ≡ two ++ closing ∷ [] → new ≡ old ++ opening ∷ (between ++ closing ∷ [])
 closed old one two new between opening closing opens holds closes =
     closes

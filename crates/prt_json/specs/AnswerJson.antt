@@ -16,19 +16,19 @@ use Rattle.prt_json.specs.RuleJson.{failure}
 abbrev pub target_field : Packet → Option Member
 target_field packet = text_field (codes "dst") (Some (addr_text packet.dst))
 
--- the source, but for 0.0.0.0, which is none
+-- the source, except for 0.0.0.0, which is none
 abbrev pub from_field : Packet → Option Member
 from_field packet = text_field (codes "from") (if packet.src.0 == 0 then None else Some (addr_text packet.src))
 
--- the source that the route prefers, where the packet has none and came in by `lo`
+-- the source that the route prefers, if the packet has none and came in by `lo`
 abbrev pub preferred : Packet → Option Addr → Option Addr
 preferred packet src = if packet.src.0 == 0 && bytes_eq packet.iif (codes "lo") then src else None
 
--- the mark, but for 0
+-- the mark, except for 0
 abbrev pub mark_field : Packet → Option Member
 mark_field packet = number_field (codes "mark") (if packet.mark == 0 then None else Some packet.mark)
 
--- the interface that it came in by, but for `lo`
+-- the interface that it came in by, except for `lo`
 abbrev pub iif_field : Packet → Option Member
 iif_field packet = dev_field (codes "iif") (if bytes_eq packet.iif (codes "lo") then None else Some packet.iif)
 
@@ -60,7 +60,7 @@ drop_answer packet action =
     ∷ iif_field packet
     ∷ []
 
--- one object, or none where no rule decides
+-- one object, or none if no rule decides
 abbrev pub answers : Packet → Verdict → List Json
 answers packet (verdict.Route priority route) = object_of (route_answer packet route) ∷ []
 answers packet (verdict.RuleSays priority action) = object_of (drop_answer packet action) ∷ []

@@ -1,4 +1,4 @@
--- Why a packet goes where it goes. `ip` tells nothing of this: rules, routes and the answer have its fields, the others are our own.
+-- Why a packet goes where it goes. `ip` prints nothing of this: rules, routes and the answer have its fields, the others are our own.
 use Rattle.std.specs.Prelude.{ℕ, Bool, if◌then◌else◌, List, [], ◌∷◌, ◌++◌, map, Option, Some, None, option_map, is_some, codes}
 use Rattle.std.specs.Str.Lossy.{utf8_lossy}
 use Rattle.prt_addr.specs.Addr.{addr_text}
@@ -30,7 +30,7 @@ packet_fields packet =
     ∷ number_field (codes "mark") (Some packet.mark)
     ∷ []
 
--- ---- the fields of a rule that is asked
+-- ---- the fields of a rule that is tried
 
 -- a field with true or false
 abbrev pub truth_field : List ℕ → Bool → Option Member
@@ -40,7 +40,7 @@ truth_field name b = Some (name, boolean b)
 abbrev pub route_field : List ℕ → Option Route → Option Member
 route_field name route = option_map (λ r. (name, route_json all_tables r)) route
 
--- whether the rule matches, and the first part of its selector that the packet doesn't agree with; U+FFFD stands for what is no UTF-8 in it
+-- whether the rule matches, and the first part of its selector that the packet doesn't agree with; U+FFFD is written for what is no UTF-8 in it
 abbrev pub match_fields : Rule → Packet → List (Option Member)
 match_fields rule packet =
     truth_field (codes "matches") (matches rule packet)
@@ -78,11 +78,11 @@ asked_json routes packet rule = object_of (asked_fields routes packet rule)
 
 -- ---- the explanation
 
--- the rules that are asked: up to the first that decides, and that one
+-- the rules that are tried: up to the first that decides, and that one
 abbrev pub asked_rules_json : State → Packet → Json
 asked_rules_json state packet = array_of (map (asked_json state.routes packet) (asked_rules state.rules state.routes packet))
 
--- the packet, the rules that are asked, and the answer
+-- the packet, the rules that are tried, and the answer
 abbrev pub explanation_json : State → Packet → Json
 explanation_json state packet =
     object_of

@@ -17,7 +17,7 @@ text_field name text = option_map (λ text. (name, string text)) text
 abbrev pub number_field : List ℕ → Option ℕ → Option Member
 number_field name n = option_map (λ n. (name, number (decimal n))) n
 
--- a field with an interface, if there is one; U+FFFD stands for what is no UTF-8 in its name
+-- a field with an interface, if there is one; U+FFFD is written for what is no UTF-8 in its name
 abbrev pub dev_field : List ℕ → Option (List ℕ) → Option Member
 dev_field name dev = text_field name (option_map utf8_lossy dev)
 

@@ -16,7 +16,7 @@ use Rattle.prt_json.specs.RuleJson.{rule_json}
 abbrev pub routes_json : State → Selector → Json
 routes_json state selector = array_of (map (route_json selector) (listing selector state.routes))
 
--- the rules in the order in which they are asked
+-- the rules in the order in which they are tried
 abbrev pub rules_json : State → Json
 rules_json state = array_of (map rule_json state.rules)
 

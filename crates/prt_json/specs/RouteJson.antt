@@ -12,12 +12,12 @@ use Rattle.prt_listing.specs.RouteText.{kind_part}
 use Rattle.json.specs.Json.{Json}
 use Rattle.prt_json.specs.Fields.{Member, dev_field, empty_field, number_field, object_of, text_field}
 
--- what a selector gives goes without saying
+-- what a selector gives is implied
 abbrev pub unless_given : {X Y : Type 0} → Option X → Option Y → Option Y
 unless_given None shown = shown
 unless_given (Some given) shown = None
 
--- the kind, but for unicast
+-- the kind, except for unicast
 abbrev pub type_field : Kind → Option Member
 type_field kind = text_field (codes "type") (kind_part kind)
 
@@ -32,15 +32,15 @@ gateway_field via = text_field (codes "gateway") (option_map addr_text via)
 abbrev pub route_dev_field : Option (List ℕ) → Option (List ℕ) → Option Member
 route_dev_field given dev = dev_field (codes "dev") (unless_given given dev)
 
--- the table, unless one is given, and but for main
+-- the table, unless one is given, and except for main
 abbrev pub table_field : Option ℕ → ℕ → Option Member
 table_field given table = text_field (codes "table") (unless_given given (unless main_table table (table_text table)))
 
--- the protocol, unless one is given, and but for boot
+-- the protocol, unless one is given, and except for boot
 abbrev pub protocol_field : Option ℕ → ℕ → Option Member
 protocol_field given proto = text_field (codes "protocol") (unless_given given (unless boot_protocol proto (name_or_number protocols proto)))
 
--- the scope, unless one is given, and but for global
+-- the scope, unless one is given, and except for global
 abbrev pub scope_field : Option ℕ → ℕ → Option Member
 scope_field given scope = text_field (codes "scope") (unless_given given (unless global_scope scope (name_or_number scopes scope)))
 
@@ -48,7 +48,7 @@ scope_field given scope = text_field (codes "scope") (unless_given given (unless
 abbrev pub prefsrc_field : Option Addr → Option Member
 prefsrc_field src = text_field (codes "prefsrc") (option_map addr_text src)
 
--- the metric, but for 0
+-- the metric, except for 0
 abbrev pub metric_field : ℕ → Option Member
 metric_field metric = number_field (codes "metric") (if metric == 0 then None else Some metric)
 

@@ -11,7 +11,7 @@ use Rattle.prt_rule.specs.declared.rule.Rule.{Rule}
 use Rattle.json.specs.Json.{Json, null}
 use Rattle.prt_json.specs.Fields.{Member, dev_field, number_field, object_of, text_field}
 
--- the field of a rule that is turned round, without a value
+-- the field of an inverted rule, without a value
 abbrev pub not_field : Bool → Option Member
 not_field inverted = if inverted then Some (codes "not", null) else None
 
@@ -19,7 +19,7 @@ not_field inverted = if inverted then Some (codes "not", null) else None
 abbrev pub base_text : Block → List ℕ
 base_text prefix = addr_text (record { 0 = prefix.bits })
 
--- the length of a prefix, but for that of one address and of 0.0.0.0/0
+-- the length of a prefix, except for that of one address and of 0.0.0.0/0
 abbrev pub shown_len : Block → Option ℕ
 shown_len prefix = if is_everything prefix || prefix.len == 32 then None else Some prefix.len
 
@@ -27,7 +27,7 @@ shown_len prefix = if is_everything prefix || prefix.len == 32 then None else So
 abbrev pub src_field : Block → Option Member
 src_field from = text_field (codes "src") (Some (if is_everything from then codes "all" else base_text from))
 
--- the destinations, but for 0.0.0.0/0
+-- the destinations, except for 0.0.0.0/0
 abbrev pub dst_field : Block → Option Member
 dst_field to = text_field (codes "dst") (if is_everything to then None else Some (base_text to))
 
@@ -35,7 +35,7 @@ dst_field to = text_field (codes "dst") (if is_everything to then None else Some
 abbrev pub hexadecimal : ℕ → List ℕ
 hexadecimal n = if n == 0 then codes "0" else hex_text n
 
--- the mark, but for 0/0, which is that of every packet
+-- the mark, except for 0/0, which is that of every packet
 abbrev pub shown_mark : Option Mark → Option Mark
 shown_mark mark = keep (λ m. not (m.mark == 0 && m.mask == 0)) mark
 

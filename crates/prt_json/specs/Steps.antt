@@ -1,4 +1,4 @@
--- What the parts of the program stand for.
+-- What the parts of the program denote.
 use Rattle.std.specs.Prelude.{List, [], ◌∷◌, ◌++◌, Option, Some, None, map, option_map, decimal}
 use Rattle.std.specs.Str.Lossy.{utf8_lossy}
 use Rattle.prt_addr.specs.Addr.{addr_text}
@@ -52,7 +52,7 @@ abbrev pub values_tokens : List Json → List Token
 values_tokens [] = []
 values_tokens (value ∷ values) = json_tokens value ++ values_tokens values
 
--- the tokens of the rules that are asked of these
+-- the tokens of the rules that are tried of these
 abbrev pub asked_tokens : List Rule → List Route → Packet → List Token
 asked_tokens rules routes packet = values_tokens (map (asked_json routes packet) (asked_rules rules routes packet))
 

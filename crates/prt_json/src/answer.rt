@@ -17,7 +17,7 @@ fn target_field(packet: &Packet) -> Option<Field>
     Some(Field("dst", Value::Addr(packet.dst)))
 }
 
-/// Makes the field of the source, but for 0.0.0.0.
+/// Makes the field of the source, except for 0.0.0.0.
 fn from_field(packet: &Packet) -> Option<Field>
     ensures { member_of result ≡ from_field packet.now }
 {
@@ -27,7 +27,7 @@ fn from_field(packet: &Packet) -> Option<Field>
     Some(Field("from", Value::Addr(packet.src)))
 }
 
-/// Gives the source that the route prefers, where the packet has none and came in by `lo`.
+/// Returns the source that the route prefers, if the packet has none and came in by `lo`.
 fn preferred(packet: &Packet, src: Option<Addr>) -> Option<Addr>
     ensures { result ≡ preferred packet.now src }
 {
@@ -38,7 +38,7 @@ fn preferred(packet: &Packet, src: Option<Addr>) -> Option<Addr>
     }
 }
 
-/// Makes the field of the mark, but for 0.
+/// Makes the field of the mark, except for 0.
 fn mark_field(packet: &Packet) -> Option<Field>
     ensures { member_of result ≡ mark_field packet.now }
 {
@@ -48,7 +48,7 @@ fn mark_field(packet: &Packet) -> Option<Field>
     Some(Field("mark", Value::Number(u64::from(packet.mark))))
 }
 
-/// Makes the field of the interface that the packet came in by, but for `lo`.
+/// Makes the field of the interface that the packet came in by, except for `lo`.
 fn iif_field(packet: &Packet) -> Option<Field>
     ensures { member_of result ≡ iif_field packet.now }
 {
@@ -58,7 +58,7 @@ fn iif_field(packet: &Packet) -> Option<Field>
     Some(Field("iif", Value::Dev(packet.iif)))
 }
 
-/// Gives the fields of a packet that goes by this route, in their order.
+/// Builds the fields of a packet that goes by this route, in their order.
 pub(crate) fn route_answer(packet: &Packet, route: &Route) -> [Option<Field>; 11]
     ensures { members_of result ≡ route_answer packet.now route.now }
 {
@@ -77,7 +77,7 @@ pub(crate) fn route_answer(packet: &Packet, route: &Route) -> [Option<Field>; 11
     ]
 }
 
-/// Gives the fields of a packet that a rule drops, in their order.
+/// Builds the fields of a packet that a rule drops, in their order.
 pub(crate) fn drop_answer(packet: &Packet, action: Action) -> [Option<Field>; 7]
     ensures { members_of result ≡ drop_answer packet.now action }
 {

@@ -66,7 +66,7 @@ fn push_document(
 ///
 /// # Errors
 ///
-/// Memory is refused; a part of the text may stand after what `out` had.
+/// Memory is refused; a part of the text may follow what `out` had.
 fn push_line(out: &mut Vec<u8>, version: &Version, document: &Document) -> Result<(), AllocError>
     ensures ok { OnOk result (out.new.items ≡ out.old.items ++ json_line (document_json version.now document.now)) }
     ensures reads_back { OnOk result (ReadsBack (document_json version.now document.now)) }
@@ -84,7 +84,7 @@ fn push_line(out: &mut Vec<u8>, version: &Version, document: &Document) -> Resul
 ///
 /// # Errors
 ///
-/// `NoMemory` where memory is refused; `out` is as it was.
+/// `NoMemory` if memory is refused; `out` is as it was.
 fn append(out: &mut Vec<u8>, version: &Version, document: &Document) -> Result<(), Refusal>
     ensures { Appends result out.old.items out.new.items (document_json version.now document.now) }
 {
@@ -98,11 +98,11 @@ fn append(out: &mut Vec<u8>, version: &Version, document: &Document) -> Result<(
 
 /// Appends the routes that the selector takes as `ip -j route show` writes them: an array of objects, and a newline.
 ///
-/// The routes are in the order of listings. What the selector gives, but for the type, is left out of each of them.
+/// The routes are in the order of listings. What the selector gives, except for the type, is left out of each of them.
 ///
 /// # Errors
 ///
-/// `NoMemory` where memory is refused; `out` is as it was.
+/// `NoMemory` if memory is refused; `out` is as it was.
 pub fn routes_json(out: &mut Vec<u8>, version: &Version, selector: &Selector) -> Result<(), Refusal>
     ensures { Appends result out.old.items out.new.items (routes_json version.now selector.now) }
 {
@@ -113,7 +113,7 @@ pub fn routes_json(out: &mut Vec<u8>, version: &Version, selector: &Selector) ->
 ///
 /// # Errors
 ///
-/// `NoMemory` where memory is refused; `out` is as it was.
+/// `NoMemory` if memory is refused; `out` is as it was.
 pub fn rules_json(out: &mut Vec<u8>, version: &Version) -> Result<(), Refusal>
     ensures { Appends result out.old.items out.new.items (rules_json version.now) }
 {
@@ -122,12 +122,12 @@ pub fn rules_json(out: &mut Vec<u8>, version: &Version) -> Result<(), Refusal>
 
 /// Appends what becomes of the packet as `ip -j route get` writes it: an array of one object, and a newline.
 ///
-/// No source address is chosen for the packet: `prefsrc` is the one that the route prefers. There is no `uid`. Where
-/// `ip` fails since the packet is dropped, the object's `type` says how; where no rule decides, the array is empty.
+/// No source address is chosen for the packet: `prefsrc` is the one that the route prefers. There is no `uid`. If
+/// `ip` fails since the packet is dropped, the object's `type` says how; if no rule decides, the array is empty.
 ///
 /// # Errors
 ///
-/// `NoMemory` where memory is refused; `out` is as it was.
+/// `NoMemory` if memory is refused; `out` is as it was.
 pub fn answer_json(out: &mut Vec<u8>, version: &Version, packet: &Packet) -> Result<(), Refusal>
     ensures { Appends result out.old.items out.new.items (answer_json version.now packet.now) }
 {
@@ -135,20 +135,20 @@ pub fn answer_json(out: &mut Vec<u8>, version: &Version, packet: &Packet) -> Res
 }
 
 /// Appends why the packet goes where it goes as one object, and a newline: `packet`, what was asked, `rules`, those that
-/// are asked, up to the one that decides, and `answer` as `answer_json` shows it.
+/// are tried, up to the one that decides, and `answer` as `answer_json` shows it.
 ///
 /// A rule has the fields of `rules_json`, and behind them:
 ///
 /// - `matches`, true or false, and `mismatch`, the first part of its selector that the packet doesn't agree with, if one
-///   doesn't. A rule with `not` matches where there is one.
-/// - Where it matches and finds a route in its table, `found`, the best one, and `runner_up`, the next one, if there is
-///   one, both as `routes_json` shows routes of all tables; and `suppressed`, true where the rule says nothing since the
-///   best one's prefix is too short. It also says nothing where that is a throw route.
+///   doesn't. A rule with `not` matches if there is one.
+/// - If it matches and finds a route in its table, `found`, the best one, and `runner_up`, the next one, if there is
+///   one; both as `routes_json` shows routes of all tables; and `suppressed`, true if the rule says nothing since the
+///   best one's prefix is too short. It also says nothing if that is a throw route.
 /// - `decides`, true or false.
 ///
 /// # Errors
 ///
-/// `NoMemory` where memory is refused; `out` is as it was.
+/// `NoMemory` if memory is refused; `out` is as it was.
 pub fn explanation_json(
     out: &mut Vec<u8>,
     version: &Version,
@@ -164,7 +164,7 @@ pub fn explanation_json(
 ///
 /// # Errors
 ///
-/// `NoMemory` where memory is refused; `out` is as it was.
+/// `NoMemory` if memory is refused; `out` is as it was.
 pub fn tables_json(out: &mut Vec<u8>, version: &Version) -> Result<(), Refusal>
     ensures { Appends result out.old.items out.new.items (tables_json version.now) }
 {

@@ -22,7 +22,7 @@ use prt_rule::{Action, Packet, Rule, matches};
 use prt_version::Version;
 use std::alloc::{AllocError, Global};
 
-/// Gives the fields of the packet that is asked for.
+/// Builds the fields of the packet that is asked for.
 fn packet_fields(packet: &Packet) -> [Option<Field>; 4]
     ensures { members_of result ≡ packet_fields packet.now }
 {
@@ -44,7 +44,7 @@ fn mismatch_field(rule: &Rule, packet: &Packet) -> Option<Field>
     }
 }
 
-/// Gives the fields of whether a rule matches, and why it doesn't.
+/// Builds the fields of whether a rule matches, and why it doesn't.
 fn match_fields(rule: &Rule, packet: &Packet) -> [Option<Field>; 2]
     ensures { members_of result ≡ match_fields rule.now packet.now }
 {
@@ -86,7 +86,7 @@ fn push_found(
     push_fields(out, alloc, &[truth_field("suppressed", suppressed)])
 }
 
-/// Writes the fields of what a rule finds in its table, and tells whether it decides.
+/// Writes the fields of what a rule finds in its table, and returns whether it decides.
 fn push_lookup(
     out: &mut Writer,
     alloc: Global,
@@ -110,7 +110,7 @@ fn push_lookup(
     }
 }
 
-/// Writes the fields of what a rule does with the packet if it matches, and tells whether it decides.
+/// Writes the fields of what a rule does with the packet if it matches, and returns whether it decides.
 fn push_action(
     out: &mut Writer,
     alloc: Global,
@@ -131,7 +131,7 @@ fn push_action(
     }
 }
 
-/// Writes the object of a rule that is asked, and tells whether it decides.
+/// Writes the object of a rule that is tried, and returns whether it decides.
 fn push_asked(
     out: &mut Writer,
     alloc: Global,
@@ -152,7 +152,7 @@ fn push_asked(
     Ok(decides)
 }
 
-/// Writes the objects of the rules that are asked.
+/// Writes the objects of the rules that are tried.
 fn push_each_asked(
     out: &mut Writer,
     alloc: Global,
@@ -170,7 +170,7 @@ fn push_each_asked(
     Ok(())
 }
 
-/// Writes the array of the rules that are asked.
+/// Writes the array of the rules that are tried.
 fn push_asked_rules(
     out: &mut Writer,
     alloc: Global,

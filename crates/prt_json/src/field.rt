@@ -63,7 +63,7 @@ pub(crate) fn truth_field(name: &'static str, is_true: bool) -> Option<Field>
     Some(Field(name, Value::Truth(is_true)))
 }
 
-/// Gives the name of a number or, where it has none, its digits.
+/// Returns the name of a number or, if it has none, its digits.
 pub(crate) fn name_or_digits(name: Option<&'static str>, number: u32) -> Value
     ensures { value_json result ≡ string (unwrap_or (option_map (λ s. s.now) name.entry) (decimal number)) }
 {
@@ -73,7 +73,7 @@ pub(crate) fn name_or_digits(name: Option<&'static str>, number: u32) -> Value
     }
 }
 
-/// Gives the name of a table or, where it has none, its digits.
+/// Returns the name of a table or, if it has none, its digits.
 pub(crate) fn table_value(table: u32) -> Value
     ensures { value_json result ≡ string (table_text table) }
 {

@@ -7,7 +7,7 @@ ghost use Rattle.prt_rule.specs.declared.rule.Rule.{Rule};
 ghost use Rattle.prt_explain.specs.Explanation.{asked_rules};
 ghost use Rattle.prt_json.specs.ExplanationJson.{decides};
 
-/// The last rule that is told of decides exactly where a rule does, and no other one that is told of does.
+/// The last rule that is reported decides exactly if a rule does, and no other one that is reported does.
 pub fn last_decides()
     ensures last { (rules : List Rule) (routes : List Route) (packet : Packet) (before : List Rule) (rule : Rule) →
         asked_rules rules routes packet ≡ before ++ rule ∷ [] →

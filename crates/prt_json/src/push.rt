@@ -36,7 +36,7 @@ fn push_hexadecimal(out: &mut Writer, alloc: Global, number: u32) -> Result<(), 
     out.string(text.as_str())
 }
 
-/// Writes bytes as a string. U+FFFD stands for what is no UTF-8 in them.
+/// Writes bytes as a string. U+FFFD is written for what is no UTF-8 in them.
 fn push_lossy(out: &mut Writer, alloc: Global, bytes: &[u8]) -> Result<(), AllocError>
     ensures ok { OnOk result (out.new.tokens ≡ out.old.tokens ++ json_tokens (string (utf8_lossy bytes.now))) }
     ensures before { out.new.before ≡ out.old.before }

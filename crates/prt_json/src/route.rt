@@ -12,7 +12,7 @@ use prt_route::{
     protocol_name, scope_name,
 };
 
-/// Makes the field of the kind, but for unicast.
+/// Makes the field of the kind, except for unicast.
 pub(crate) fn type_field(kind: Kind) -> Option<Field>
     ensures { member_of result ≡ type_field kind }
 {
@@ -50,7 +50,7 @@ pub(crate) fn route_dev_field(given: Option<Dev>, dev: Option<Dev>) -> Option<Fi
     dev_field("dev", dev)
 }
 
-/// Makes the field of the table, unless one is given, and but for main.
+/// Makes the field of the table, unless one is given, and except for main.
 pub(crate) fn table_field(given: Option<u32>, table: u32) -> Option<Field>
     ensures { member_of result ≡ table_field given table }
 {
@@ -60,7 +60,7 @@ pub(crate) fn table_field(given: Option<u32>, table: u32) -> Option<Field>
     Some(Field("table", table_value(table)))
 }
 
-/// Makes the field of the protocol, unless one is given, and but for boot.
+/// Makes the field of the protocol, unless one is given, and except for boot.
 fn protocol_field(given: Option<u8>, proto: u8) -> Option<Field>
     ensures { member_of result ≡ protocol_field given proto }
 {
@@ -73,7 +73,7 @@ fn protocol_field(given: Option<u8>, proto: u8) -> Option<Field>
     ))
 }
 
-/// Makes the field of the scope, unless one is given, and but for global.
+/// Makes the field of the scope, unless one is given, and except for global.
 fn scope_field(given: Option<u8>, scope: u8) -> Option<Field>
     ensures { member_of result ≡ scope_field given scope }
 {
@@ -90,7 +90,7 @@ pub(crate) fn prefsrc_field(src: Option<Addr>) -> Option<Field>
     addr_field("prefsrc", src)
 }
 
-/// Makes the field of the metric, but for 0.
+/// Makes the field of the metric, except for 0.
 fn metric_field(metric: u32) -> Option<Field>
     ensures { member_of result ≡ metric_field metric }
 {
@@ -100,7 +100,7 @@ fn metric_field(metric: u32) -> Option<Field>
     Some(Field("metric", Value::Number(u64::from(metric))))
 }
 
-/// Gives the fields of a route in their order, without those that the selector gives.
+/// Builds the fields of a route in their order, without those that the selector gives.
 pub(crate) fn route_fields(selector: &Selector, route: &Route) -> [Option<Field>; 10]
     ensures { members_of result ≡ route_fields selector.now route.now }
 {

@@ -31,7 +31,7 @@ fn src_field(from: &Prefix) -> Option<Field>
     }
 }
 
-/// Makes the field of the destinations' first address, but for 0.0.0.0/0.
+/// Makes the field of the destinations' first address, except for 0.0.0.0/0.
 fn dst_field(to: &Prefix) -> Option<Field>
     ensures { member_of result ≡ dst_field to.now }
 {
@@ -41,7 +41,7 @@ fn dst_field(to: &Prefix) -> Option<Field>
     Some(Field("dst", Value::Addr(Addr(to.bits()))))
 }
 
-/// Makes the field of the length of a prefix, but for that of one address and of 0.0.0.0/0.
+/// Makes the field of the length of a prefix, except for that of one address and of 0.0.0.0/0.
 fn len_field(name: &'static str, prefix: &Prefix) -> Option<Field>
     ensures { member_of result ≡ number_field name.now (shown_len prefix.now) }
 {
@@ -51,7 +51,7 @@ fn len_field(name: &'static str, prefix: &Prefix) -> Option<Field>
     Some(Field(name, Value::Number(u64::from(prefix.len()))))
 }
 
-/// Gives the mark, but for 0/0.
+/// Returns the mark, except for 0/0.
 fn shown_mark(mark: Option<Mark>) -> Option<Mark>
     ensures { result ≡ shown_mark mark }
 {
@@ -113,7 +113,7 @@ fn suppress_field(suppress: Option<u8>) -> Option<Field>
     }
 }
 
-/// Gives the fields of a rule in their order.
+/// Builds the fields of a rule in their order.
 pub(crate) fn rule_fields(rule: &Rule) -> [Option<Field>; 11]
     ensures { members_of result ≡ rule_fields rule.now }
 {

@@ -1,4 +1,4 @@
--- What a world acknowledged and answered: no event but Ack gives an acknowledgement, and answers stay in its list.
+-- What a world acknowledged and answered: no event except Ack yields an acknowledgement, and answers stay in its list.
 use Rattle.std.proofs.Common.{◌≡◌, List, [], ◌∷◌, ◌++◌, sym, subst, Bool, true, false, Some, None, refl, cond, ℕ, ◌+◌, ◌-◌, ◌≤◌, length, ap, ◌∙◌, arith}
 use Rattle.prt_version.specs.State.{State}
 use Rattle.std.specs.List.{AllByRecursion as Each}
@@ -30,7 +30,7 @@ pub each_last : {X : Type 0} (P : X → Type 0) (xs ys : List X) → Each P (xs 
 each_last P [] ys h = h
 each_last P (x ∷ xs) ys h = each_last P xs ys h.1
 
--- in a world with these receipts, where its disk is left
+-- in a world with these receipts, if its disk is left
 pub holds_all : (w : World) (before receipts : List Ack) (answers : List Lookup) (left : State) → Holds w → left ≡ w.disk → w.acks ≡ before ++ receipts → (Each (IsAnswered w) w.answers → Each (IsAnswered w) answers) → HoldsAll w receipts answers left
 holds_all w before receipts answers left holds is acks given = record {
   is = sym is;
@@ -101,7 +101,7 @@ acks_from (command ∷ commands) n last is =
 pub acks_end : (commands : List Command) (last : ℕ) → length commands ≤ last → acks_after (last - length commands) commands ≡ acks_to last commands
 acks_end commands last within = acks_from commands (last - length commands) last (omega (arith, within))
 
--- ---- events that give none
+-- ---- events that yield none
 
 look_keeps : (w : World) (packet : _) (state : LookerState) → Keeps (λ v. v.acks) w (world.look w packet state)
 look_keeps w packet (online announced None) = refl
@@ -135,7 +135,7 @@ committed_none commands rest none = committed_then (λ event. is_ack event ≡ f
 
 -- ---- whatever lookers do between
 
--- events that give none
+-- events that yield none
 pub woven_keeps : (all list : List Event) → own all ≡ list → Each (λ event. is_ack event ≡ false) list → (w : World) → (run_from w all).acks ≡ w.acks
 woven_keeps all list e none =
     by_own (λ all list. Each (λ event. is_ack event ≡ false) list → (w : World) → (run_from w all).acks ≡ w.acks) (λ _ w. refl)

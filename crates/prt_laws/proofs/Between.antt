@@ -68,7 +68,7 @@ room_published w line disk commands h =
 
 -- ---- one event
 
--- the same, but for lookers and versions that nobody can hold
+-- the same, except for lookers and versions that nobody can hold
 record IsBeside (w v : World) : Type 0 where
   moment : v.phase ≡ w.phase
   disk : v.disk ≡ w.disk

@@ -112,7 +112,7 @@ accepted_there line disk w event some h allowed has more e =
       a.2 ∙ ap (λ acks. acks ++ acks_to n commands) (event_keeps w event (asks_none event some)),
     )
 
--- ---- what the outcomes of store calls tell
+-- ---- what the outcomes of store calls report
 
 told_writes : (before : Result ℕ Refusal) (commands : List Command) (rest : List Outcome) → result_after before (write_outcomes commands ++ rest) ≡ result_after before rest
 told_writes before [] rest = refl
@@ -164,7 +164,7 @@ module _ (w : World) (event : Event) (some : AsksSome event) where
           silent more [] e tt,
         ))
 
-    -- the place of its world where it is open
+    -- the place of its world if it is open
     open_there : desk.closed ≡ false → IsAt (spot (line_at w) w.disk world.Ready) w
     open_there is_open = placed w world.Ready h.reached (h.between ∙ ap moment_between is_open) tt
 

@@ -264,7 +264,7 @@ module _ {S : Type 0} (g : Ghosts S) where
   )
 
   module _ (old new : Standing (Held S)) where
-    -- what a failed commit may leave is the published state or, where the commit call failed, the one after the commands
+    -- what a failed commit may leave is the published state or, if the commit call failed, the one after the commands
     abbrev pub Leaves : Refusal → Type 0
     Leaves why = IsKnown g new.ours_first new.tables → (left : State) → MayLeave g new.tables left → (left ≡ line_state old.line) ⊎ ((why ≡ refusals.StoreFailed calls.Commit) × (left ≡ fold (line_state old.line) old.commands))
 

@@ -29,7 +29,7 @@ use Rattle.prt_laws.proofs.Desks.{list_is_steps}
 use Rattle.prt_laws.proofs.Scripts.{Reaches, lines_tell, list_seats, nothing_done, plain_list, reclaimed, reopened_desk, script_is_run}
 use Rattle.prt_laws.proofs.Steps.{holds_of, reached_run, run_more}
 
--- ---- the numbers that the replies tell
+-- ---- the numbers that the replies report
 
 accepted_first : (n k : ℕ) → accepted_after n (suc k) ≡ Accepted (n + 1) ∷ accepted_after (n + 1) k
 accepted_first n zero = refl
@@ -129,7 +129,8 @@ file_is_run desk w input mishaps mishap h all = filed w desk h all _ (read_comma
 
 -- ---- scripts and files, one after the other
 
--- some events lead to a world of the desk after it, without lookers, which acknowledged what its replies do, and hold each answer that it tells
+-- some events lead to a world of the desk after it, without lookers, which acknowledged what its replies do, and hold each
+-- answer that it reports
 abbrev Worked : World → Work → DeskState → Type 0
 Worked w work desk =
     (list : List Event) × IsDeskOf desk (run_from w list) × AreOffline (run_from w list) × ((run_from w list).acks ≡ w.acks ++ work_acks work)
@@ -148,7 +149,7 @@ worked (file input mishaps mishap told) before after w h all does =
       λ v had. tt,
     )
 
--- some events lead to a world with this on disk, which acknowledged what replies do and gave the answers that they tell
+-- some events lead to a world with this on disk, which acknowledged what replies do and gave the answers that they report
 abbrev Holding : World → List Work → State → Type 0
 Holding w works left = (v : World) × (list : List Event) × (v ≡ run_from w list) × (v.disk ≡ left) × (v.acks ≡ w.acks ++ accepted_by works) × Each (WorkTells (IsAnswered v)) works
 

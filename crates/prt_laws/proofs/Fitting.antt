@@ -1,4 +1,5 @@
--- A run with the fates that fit what is left: two worlds that are alike but for what is on disk, as after a call that failed with one fate or the other.
+-- A run with the fates that fit what is left: two worlds that are alike except for what is on disk, as after a call that
+-- failed with one fate or the other.
 use Rattle.std.proofs.Common.{◌≡◌, ℕ, Bool, true, false, List, [], ◌∷◌, ◌++◌, None, map, refl, sym, ap, ◌∙◌, subst, cond, ◌⊎◌, inl, inr, ◌≤◌, length, arith}
 use Rattle.std.specs.List.{AllByRecursion as Each}
 use Rattle.prt_refusals.specs.declared.refusal.StoreCall.{StoreCall}
@@ -107,7 +108,7 @@ lookers_same : (fate : Fate) (event : Event) → is_lookers event ≡ true → r
 lookers_same fate (events.Fail other) is = absurd cc
 lookers_same fate event is = refl
 
--- The same but for the disk, and to the registry the same.
+-- The same except for the disk, and to the registry the same.
 abbrev pub Alike : RegistryState → World → World → List Event → List Event → Type 0
 Alike r v w again all = (d : State) × (p : State) × (run_from v again ≡ with (run_from w all) d p) × (registry_through r v again ≡ registry_through r w all)
 
@@ -133,7 +134,7 @@ beside_all fate all e r w d p =
     (λ event all is again e r w. absurd cc)
     all e r w
 
--- a call that fails leaves the same but for the disk
+-- a call that fails leaves the same except for the disk
 fail_with : (w : World) (first second : Fate) (moment : Moment) → (d : State) × (p : State) × ((world.fail w first moment).world ≡ with (world.fail w second moment).world d p)
 fail_with w first second (world.Prepared commands done next) = (world.stopped w first (world.Prepared commands done next), world.stopped w first (world.Prepared commands done next), refl)
 fail_with w first second moment = (w.disk, w.pending, refl)
@@ -211,7 +212,7 @@ none_left (command ∷ commands) some is = cc
 same_call : (a b : StoreCall) → StoreFailed a ≡ StoreFailed b → b ≡ a
 same_call a b is = cc
 
--- ---- the same run but for fates
+-- ---- the same run except for fates
 
 same_events : (again act : List Event) (rest more : List Event) → map without_fate again ≡ map without_fate act → map without_fate rest ≡ map without_fate more → map without_fate (again ++ rest) ≡ map without_fate (act ++ more)
 same_events again act rest more first second =
@@ -371,7 +372,7 @@ module _ {S : Type 0} (g : Ghosts S) where
     | inr idle ↦ absurd (let both : world.Ready ≡ world.Closed = (place_in g old old start h.0 Closed idle.0).moment in cc)
   ]
 
-  -- whatever may be left spells a state
+  -- whatever may be left encodes a state
   spells_by : (phase : Phase) (commands : List Command) (current : State) (tables : Held S) (trees : Trees) → (state g tables).may_leave trees → Agrees g phase commands current tables → (left : State) × Spells trees left
   spells_by Closed [] current tables trees may held = let found = held.durable trees may in (found.0, found.1)
   spells_by phase commands current tables trees may held = (_, held.durable trees may)

@@ -145,7 +145,8 @@ module _ {S : Type 0} (g : Ghosts S) where
       (λ line disk some. then_goes line disk old.commands some calls.Commit (events.Stop Kept) outcomes.Stopped (spot line (fold (line_state line) old.commands) world.Stopped) (λ w h. stops_kept line disk old.commands (length old.commands) w h))
       call left may
 
-  -- Whatever file is left of a commit that was stopped there spells the published state or, within the commit call alone, the one after the commands.
+  -- Whatever file is left of a commit that was stopped there encodes the published state or, within the commit call alone,
+  -- the one after the commands.
   pub cut_left : (old : Standing (Held S)) (call : StoreCall) (now : Held S) → Stands g old → IsCutShort g old call now → IsKnown g old.ours_first now → (trees : Trees) → (state g now).may_leave trees
       → (left : State) × Spells trees left × ((left ≡ line_state old.line) ⊎ ((call ≡ calls.Commit) × (left ≡ fold (line_state old.line) old.commands)))
   cut_left old call now stood was known trees may =

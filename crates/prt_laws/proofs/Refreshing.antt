@@ -195,7 +195,7 @@ count_most state (command ∷ commands) =
     let rest = count_most (apply state command) commands in
     omega (arith, first, rest)
 
--- the numbers of a list that begins the published one: each of its commands was accepted
+-- the numbers of a list that is a prefix of the published one: each of its commands was accepted
 number_by : (base part rest all first last : ℕ) → first ≤ base + part → last ≤ first + rest → last ≡ all → all ≡ base + (part + rest) → (first ≡ base + part) × (first ≤ all)
 number_by base part rest all first last low high is sum = (omega arith, omega arith)
 

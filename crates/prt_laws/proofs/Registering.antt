@@ -58,7 +58,7 @@ module _ (r : RegistryState) (w : World) (reached : IsReached w) (s : IsRegistry
       ∙ append-nil (filter p r.retired)
       ∙ all_pass p r.retired (each_implies (λ state. state.count < w.noted) (λ state. p state ≡ true) (λ state low. is_less state.count w.noted low) r.retired s.below)
 
-  -- the world has room exactly where the registry has
+  -- the world has room exactly if the registry has
   pub room_is : has_room w ≡ nat_lt (length r.retired) MOST_RETIRED
   room_is = ap (λ xs. nat_lt (length xs) MOST_RETIRED) retired_only
 

@@ -125,7 +125,7 @@ plain_list commands false (Some why) (Some no_memory) some = (tt, refl, refl)
 plain_list commands false (Some why) mishap some = plain_with (events.SubmitAll commands) [] some tt
 plain_list commands false None mishap some = plain_submitted (events.SubmitAll commands) mishap some
 
--- ---- a reclaim where no looker is online
+-- ---- a reclaim if no looker is online
 
 none_holds : (n : ℕ) (lookers : List LookerState) → Each (λ looker. looker ≡ offline) lookers → list_any (may_hold n) (map announced_by lookers) ≡ false
 none_holds n [] all = refl
@@ -319,7 +319,7 @@ reopened_desk desk w h =
       event_keeps v events.Reopen refl ∙ event_keeps w (events.Stop Lost) refl,
     )
 
--- ---- the answers that replies tell
+-- ---- the answers that replies report
 
 module _ (P : Lookup → Type 0) where
   get_tells : (w : World) (part : List Event) (packet : Packet) (reply : Reply) → ShowsAnswer w part (Get packet) reply → Each P (run_from w part).answers → Tells P (Ok (Some (requests.Query (Get packet)))) reply

@@ -51,7 +51,7 @@ module _ {S : Type 0} (g : Ghosts S) where
   abbrev published_as : Standing (Held S) → List Command → Held S → Standing (Held S)
   published_as old commands tables = record old { phase = Published; line = grown_by old.line commands; commands = commands; tables = tables }
 
-  -- a ready publisher whose world has room stands there with admitted commands, too
+  -- a ready publisher whose world has room is there with admitted commands, too
   admitted_there : (old : Standing (Held S)) (commands : List Command) (w : World) → old.phase ≡ Ready → IsPublisherOf g old w → has_room w ≡ true → IsPublisherOf g (admitted_as old commands) w
   admitted_there old commands w ready s room = stands g (admitted_as old commands) w w.disk (place_in g old old w s Ready ready) (stored_in g old old w s Ready ready) room
 

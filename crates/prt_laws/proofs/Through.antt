@@ -23,7 +23,7 @@ use Rattle.prt_laws.proofs.Exits.{acknowledges_registers, spot, storing_register
 use Rattle.prt_laws.proofs.Registering.{registers_beside, registers_noted, registers_published, room_is}
 use Rattle.prt_laws.proofs.Steps.{line_at, placed, publishes, reached_run}
 
--- ---- after each event commands that are prepared, stored or published have their room, and a world that runs goes on but for a stop
+-- ---- after each event commands prepared, stored or published have their room, and a world that runs goes on except for a stop
 
 abbrev Roomy : Step → Type 0
 Roomy s = HasRoom s.world s.world.phase
@@ -151,7 +151,7 @@ lookers_go_on (events.Stop fate) is = absurd cc
 lookers_go_on events.Reopen is = absurd cc
 lookers_go_on event is = refl
 
--- where the publisher's own events go on, so do all
+-- if the publisher's own events go on, so do all
 pub all_go_on : (all list : List Event) → own all ≡ list → Each (λ event. is_going event ≡ true) list → Each (λ event. is_going event ≡ true) all
 all_go_on all list e each =
     by_own (λ all list. Each (λ event. is_going event ≡ true) list → Each (λ event. is_going event ≡ true) all) (λ _. tt)

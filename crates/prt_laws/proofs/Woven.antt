@@ -64,7 +64,7 @@ IsWoven all = (list : List Event) (shown : List Outcome) (spot last : Spot) (w :
 pub own_by : (event : Event) (all : List Event) (b : Bool) → is_lookers event ≡ b → own (event ∷ all) ≡ cond (not b) (event ∷ own all) (own all)
 own_by event all b is = ap (λ b. cond (not b) (event ∷ own all) (own all)) is
 
--- what holds of no event holds of each list beside its own ones, where an event keeps it, of a looker or of the publisher
+-- what holds of no event holds of each list beside its own ones, if an event keeps it, of a looker or of the publisher
 pub by_own : (P : List Event → List Event → Type 0) → P [] [] → ((event : Event) (all : List Event) → is_lookers event ≡ true → P all (own all) → P (event ∷ all) (own all))
     → ((event : Event) (all : List Event) → is_lookers event ≡ false → P all (own all) → P (event ∷ all) (event ∷ own all)) → (all : List Event) → P all (own all)
 by_own P none beside next [] = none

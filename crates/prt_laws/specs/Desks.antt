@@ -45,7 +45,7 @@ abbrev pub moment_between : Bool → Moment
 moment_between true = world.Closed
 moment_between false = world.Ready
 
--- The world publishes what the desk does, has on disk what is stored there, and is closed where the desk is.
+-- The world publishes what the desk does, has on disk what is stored there, and is closed if the desk is.
 pub record IsDeskOf (desk : DeskState) (w : World) : Type 0 where
   pub reached : IsReached w
   pub between : w.phase ≡ moment_between desk.closed
@@ -72,7 +72,7 @@ events_by command false None mishap = submitted_events (events.Submit command) m
 abbrev pub desk_events : DeskState → Command → Option Mishap → List Event
 desk_events desk command mishap = events_by command desk.closed (refusal desk.published command) mishap
 
--- of commands together: where memory is refused at the one that is refused, or at one before it, nothing is submitted
+-- of commands together: if memory is refused at the one that is refused, or at one before it, nothing is submitted
 abbrev pub list_events_by : List Command → Bool → Option Refusal → Option Mishap → List Event
 list_events_by commands true reason mishap = events.SubmitAll commands ∷ []
 list_events_by commands false (Some reason) (Some no_memory) = []
@@ -82,7 +82,7 @@ list_events_by commands false None mishap = submitted_events (events.SubmitAll c
 abbrev pub list_events : DeskState → List Command → Option Mishap → List Event
 list_events desk commands mishap = list_events_by commands desk.closed (refusal_all desk.published commands) mishap
 
--- the world has room where the command is to find some, and none where it is to find none
+-- the world has room if the command is to find some, and none if it is to find none
 abbrev pub HasRoomFor : World → Option Mishap → Type 0
 HasRoomFor w (Some no_room) = has_room w ≡ false
 HasRoomFor w (Some no_memory) = Unit {0}
@@ -93,7 +93,7 @@ abbrev pub Weaves : List Event → List Event → Type 0
 Weaves [] all = own all ≡ []
 Weaves (event ∷ list) all = (more : List Event) × (all ≡ event ∷ more) × (own more ≡ list)
 
--- what the last outcome tells of the commands: the number of the last, or why none is made
+-- what the last outcome reports of the commands: the number of the last, or why none is made
 abbrev pub result_by : Result ℕ Refusal → Outcome → Result ℕ Refusal
 result_by before (outcomes.Acknowledged number) = Ok number
 result_by before (outcomes.Refused reason) = Err reason
@@ -103,7 +103,7 @@ abbrev pub result_after : Result ℕ Refusal → List Outcome → Result ℕ Ref
 result_after before [] = before
 result_after before (outcome ∷ outcomes) = result_after (result_by before outcome) outcomes
 
--- and all that was shown: where nothing was, memory was refused
+-- and all that was shown: if nothing was, memory was refused
 abbrev pub shown_result : List Outcome → Result ℕ Refusal
 shown_result outcomes = result_after (Err NoMemory) outcomes
 
@@ -116,7 +116,8 @@ abbrev pub reply_acks : Command → Reply → List Ack
 reply_acks command (Accepted number) = record { number = number; command = command } ∷ []
 reply_acks command reply = []
 
--- Each turn of a command is the world's events: they show its reply, lead to a world of the desk that it leaves, and acknowledge the command where the reply does.
+-- Each turn of a command is the world's events: they show its reply, lead to a world of the desk that it leaves, and
+-- acknowledge the command if the reply does.
 abbrev pub TurnIsSteps : Type 0
 TurnIsSteps = (desk : DeskState) (w : World) (command : Command) (mishap : Option Mishap) → IsDeskOf desk w → (desk.closed ≡ false → refusal desk.published command ≡ None → HasRoomFor w mishap)
     → (all : List Event) → Weaves (desk_events desk command mishap) all
@@ -128,7 +129,8 @@ abbrev pub result_acks : List Command → Result ℕ Refusal → List Ack
 result_acks commands (Ok last) = acks_to last commands
 result_acks commands (Err reason) = []
 
--- So is each turn of commands that are made together or not at all: where the result is a number each of them is acknowledged, under its own.
+-- So is each turn of commands that are made together or not at all: if the result is a number each of them is acknowledged,
+-- under its own.
 abbrev pub ListIsSteps : Type 0
 ListIsSteps = (desk : DeskState) (w : World) (commands : List Command) (mishap : Option Mishap) → 1 ≤ length commands → IsDeskOf desk w
     → (desk.closed ≡ false → refusal_all desk.published commands ≡ None → HasRoomFor w mishap)
@@ -146,7 +148,7 @@ abbrev pub request_acks : Result (Option Request) Refusal → Reply → List Ack
 request_acks (Ok (Some (requests.Command command))) reply = reply_acks command reply
 request_acks request reply = []
 
--- the commands that the replies acknowledge, with the numbers that they tell
+-- the commands that the replies acknowledge, with the numbers that they report
 abbrev pub accepted_in : {M : Type 0} → List (Exchange M) → List Ack
 accepted_in {M} [] = []
 accepted_in {M} (x ∷ xs) = request_acks (reading x.line) x.reply ++ accepted_in xs
@@ -164,7 +166,8 @@ lookup_events packet = events.Online 0 ∷ events.Fetch 0 ∷ events.Look 0 pack
 abbrev pub lookup_outcomes : World → Answer → List Outcome
 lookup_outcomes w answer = outcomes.Online 0 w.noted ∷ outcomes.Fetched 0 w.published ∷ outcomes.Answered answer ∷ outcomes.Offline 0 ∷ []
 
--- `route get` is a lookup, which shows the answer that the reply tells. A listing is one of the published version, and no event.
+-- `route get` is a lookup, which shows the answer that the reply reports. A listing is one of the published version, and no
+-- event.
 abbrev pub ShowsAnswer : World → List Event → Query → Reply → Type 0
 ShowsAnswer w part (Get packet) reply = (part ≡ lookup_events packet) × (answer : Answer) × (outcomes_from w part ≡ lookup_outcomes w answer) × (reply ≡ Answered (answer_text answer ++ codes "\n"))
 ShowsAnswer w part query reply = (part ≡ []) × (reply ≡ Answered (query_text (published_version w) query))
@@ -215,7 +218,7 @@ ShowsFile desk w part (Some refused) commands mishap told = (part ≡ []) × (to
 ShowsFile desk w part None [] mishap told = (part ≡ []) × (told ≡ [])
 ShowsFile desk w part None (command ∷ commands) mishap told = (result : Result ℕ Refusal) × ShowsList w part (command ∷ commands) mishap result × (told ≡ list_replies desk (command ∷ commands) result)
 
--- the commands that the replies acknowledge, with the numbers that they tell
+-- the commands that the replies acknowledge, with the numbers that they report
 abbrev pub replies_acks : List Command → List Reply → List Ack
 replies_acks [] replies = []
 replies_acks (command ∷ commands) [] = []
@@ -275,7 +278,7 @@ abbrev pub accepted_by : List Work → List Ack
 accepted_by [] = []
 accepted_by (work ∷ works) = work_acks work ++ accepted_by works
 
--- where the reply answers a `route get`, this holds of the packet and the answer that it tells
+-- if the reply answers a `route get`, this holds of the packet and the answer that it reports
 abbrev pub Tells : (Lookup → Type 0) → Result (Option Request) Refusal → Reply → Type 0
 Tells P (Ok (Some (requests.Query (Get packet)))) (Answered text) = (answer : Answer) × (text ≡ answer_text answer ++ codes "\n") × P (record { packet = packet; answer = answer })
 Tells P request reply = Unit {0}

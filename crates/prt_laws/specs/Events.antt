@@ -86,7 +86,8 @@ commit_events commands = events_before commands calls.Commit ++ events.Call ∷ 
 abbrev pub commit_outcomes : List Command → List Outcome
 commit_outcomes commands = outcomes_before commands calls.Commit ++ outcomes.Called calls.Commit ∷ []
 
--- The calls before the one that fails. Which of the writes fails is not told: nothing is kept whichever it is, and the first is taken.
+-- The calls before the one that fails. Which of the writes fails is not reported: nothing is kept whichever it is, and the
+-- first is taken.
 abbrev pub fail_events : List Command → StoreCall → Fate → List Event
 fail_events commands call fate = events_before commands call ++ events.Fail fate ∷ []
 

@@ -78,17 +78,17 @@ module _ {S : Type 0} (g : Ghosts S) (old new : Standing (Held S)) where
   abbrev pub PublishesNot : Refusal → Type 0
   PublishesNot why = (why ≡ NotPublished) × (new ≡ record old { phase = Closed }) × ((w : World) → IsPublisherOf g old w → Leads g w (events.PublishFail ∷ []) (outcomes.Refused why ∷ []) new)
 
-  -- under the registry's lock it notes the version there; the lock is given back, and the commands acknowledged
+  -- under the registry's lock it notes the version there; the lock is released, and the commands acknowledged
   abbrev pub Notes : RegistryState → RegistryState → Line → Type 0
   Notes before r told = (new.phase ≡ Ready) × ((w : World) → IsPublisherOf g old w → (r ≡ registry_after before w events.Note) × Leads g w note_events (note_outcomes told) new)
 
   -- ---- the calls with a domain: what they see under its lock is said of the world
 
-  -- where the world has room
+  -- if the world has room
   abbrev pub Prepares : Event → Type 0
   Prepares event = (new.phase ≡ Prepared) × ((w : World) → IsPublisherOf g old w → has_room w ≡ true → Leads g w (event ∷ []) (outcomes.Prepared (last_number event) ∷ []) new)
 
-  -- the world refuses what the event submits: for want of room where it has none; the publisher is as it was
+  -- the world refuses what the event submits: for want of room if it has none; the publisher is as it was
   abbrev pub Refuses : Event → Refusal → Type 0
   Refuses event why = (new ≡ old) × ((w : World) → IsPublisherOf g old w → (why ≡ Busy → has_room w ≡ false) →
       ((step w event).outcome ≡ outcomes.Refused why) × IsPublisherOf g new (step w event).world)
@@ -99,7 +99,7 @@ module _ {S : Type 0} (g : Ghosts S) (old new : Standing (Held S)) where
   abbrev pub Publishes : Line → Type 0
   Publishes told = (new.phase ≡ Ready) × ((w : World) → IsPublisherOf g old w → Leads g w publish_events (publish_outcomes (line_state told).count) new)
 
-  -- where the world has room, all events of what this one submits
+  -- if the world has room, all events of what this one submits
   abbrev pub Submits : Event → Line → Type 0
   Submits event told = (new.phase ≡ Ready) × ((w : World) → IsPublisherOf g old w → has_room w ≡ true → Leads g w (submit_events event) (submit_outcomes (asked event) (line_state told).count) new)
 
@@ -130,7 +130,7 @@ module _ {S : Type 0} (g : Ghosts S) where
       (outcomes_from w (events.Stop Lost ∷ events.Reopen ∷ []) ≡ outcomes.Stopped ∷ outcomes.Reopened (line_state new.line).count ∷ [])
       × BeginsAt new (run_from w (events.Stop Lost ∷ events.Reopen ∷ []))
 
-  -- in each world whose disk these trees spell, whatever the publisher before stood at
+  -- in each world whose disk these trees encode, whatever the publisher before was at
   abbrev pub AdoptsAgain : Trees → Standing (Held S) → Type 0
   AdoptsAgain trees new = (new.phase ≡ Ready) × ((old : Standing (Held S)) (w : World) → IsPublisherOf g old w → Spells trees w.disk → OpensAgain w new)
 

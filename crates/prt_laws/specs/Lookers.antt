@@ -37,7 +37,7 @@ module _ (r new : RegistryState) (before place : Place) where
   abbrev pub IsOnline : Type 0
   IsOnline = (held : Option ℕ) → IsCall held (held_online before.announced held) (λ looker. events.Online looker)
 
-  -- where it was offline, that shows this number
+  -- if it was offline, that shows this number
   abbrev pub ShowsOnline : ℕ → Type 0
   ShowsOnline number = (w : World) → is_stopped w.phase ≡ false → IsRegistryOf r w → Sits before None w → before.announced ≡ None → (step w (events.Online before.index)).outcome ≡ outcomes.Online before.index number
 

@@ -12,7 +12,8 @@ use Rattle.prt_world.specs.declared.event.Event.TheVariants as events
 use Rattle.prt_laws.specs.Events.{is_going}
 use Rattle.prt_laws.specs.Spots.{IsReached}
 
--- The registry has noted the world's number. Its versions are those that the world keeps, but for one that is published and not noted. Its places announce what the world's lookers do.
+-- The registry has noted the world's number. Its versions are those that the world keeps, except for one that is published
+-- and not noted. Its places announce what the world's lookers do.
 pub record IsRegistryOf (r : RegistryState) (w : World) : Type 0 where
   pub noted : r.noted.count ≡ w.noted
   pub below : Each (λ state. state.count < w.noted) r.retired
@@ -36,7 +37,7 @@ abbrev pub taken_offline : RegistryState → ℕ → LookerState → RegistrySta
 taken_offline r looker offline = r
 taken_offline r looker (online announced held) = with_place r looker places.Offline
 
--- the published version is noted, where that is the publisher's next step
+-- the published version is noted, if that is the publisher's next step
 abbrev pub noted_at : RegistryState → State → Moment → RegistryState
 noted_at r version (world.Published commands) = noted_by r version
 noted_at r version moment = r

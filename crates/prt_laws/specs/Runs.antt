@@ -109,7 +109,7 @@ abbrev pub answers_of : List Act → List Lookup
 answers_of [] = []
 answers_of (act ∷ acts) = act_answers act ++ answers_of acts
 
--- The same run, but for which fate each failure has.
+-- The same run, except for which fate each failure has.
 pub record SameButFates (again acts : List Act) : Type 0 where
   pub events : map without_fate (events_of again) ≡ map without_fate (events_of acts)
   pub receipts : receipts_of again ≡ receipts_of acts
@@ -119,7 +119,9 @@ pub record SameButFates (again acts : List Act) : Type 0 where
 abbrev pub step_acts : Event → Line → List Act
 step_acts event told = admitted ∷ planned event ∷ committed (commit_events (asked event)) ∷ shown ∷ noted (asked event) told (events.Ack ∷ []) ∷ []
 
--- What a crash leaves is on disk in this world. It is a beginning of the accepted commands that lacks at most those that were accepted last together. It has each command of a receipt under its number, and the version by which each of these answers was given. So it has that of every answer of the world, also of one that was given while a call was under way.
+-- What a crash leaves is on disk in this world. It is a prefix of the accepted commands that lacks at most those that were
+-- accepted last together. It has each command of a receipt under its number, and the version by which each of these answers
+-- was given. So it has that of every answer of the world, also of one that was given while a call was under way.
 pub record HoldsAll (w : World) (receipts : List Ack) (answers : List Lookup) (left : State) : Type 0 where
   pub is : w.disk ≡ left
   pub durable : IsDurable w
@@ -128,11 +130,13 @@ pub record HoldsAll (w : World) (receipts : List Ack) (answers : List Lookup) (l
   pub all_answered : Each (IsAnswered w) w.answers
 
 module _ {S : Type 0} (g : Ghosts S) where
-  -- A crash may leave these trees of a file that is known. After a failed commit they spell the state that was chosen for the world.
+  -- A crash may leave these trees of a file that is known. After a failed commit they encode the state that was chosen for
+  -- the world.
   abbrev pub LeavesFile : Standing (Held S) → World → Trees → Type 0
   LeavesFile old w trees = IsKnown g old.ours_first old.tables × (state g old.tables).may_leave trees × (old.phase ≡ Closed → old.commands ≡ [] → Spells trees w.disk)
 
-  -- The law of the call that has this exit. The registry changes under its lock alone: by a step that is handed it, by a looker's call, or where a place is taken or given up.
+  -- The law of the call that has this exit. The registry changes under its lock alone: by a step that is handed it, by a
+  -- looker's call, or when a place is taken or given up.
   abbrev pub Acts : Standing (Held S) → RegistryState → World → Act → Standing (Held S) → RegistryState → Type 0
   Acts old r w (beside event) new after = (is_lookers event ≡ true) × (new ≡ old) × (after ≡ registry_after r w event)
   Acts old r w (looked looker packet answer) new after = (new ≡ old) × (after ≡ r) × ((step w (events.Look looker packet)).outcome ≡ outcomes.Answered answer)
@@ -166,7 +170,8 @@ module _ {S : Type 0} (g : Ghosts S) where
   abbrev pub Acknowledges : Standing (Held S) → RegistryState → Event → Line → Standing (Held S) → RegistryState → Type 0
   Acknowledges old r event told new after = (w : World) → AreBothOf g old r w → ActsAll old r w (step_acts event told) new after
 
-  -- One that is not has no memory to be checked, where its commands are several, and nothing changes; or it is refused at once, or after a reclaim; or it has no memory then. Or it is stored, and its publication fails; or its commit fails.
+  -- One that is not has no memory to be checked, if its commands are several, and nothing changes; or it is refused at
+  -- once, or after a reclaim; or it has no memory then. Or it is stored, and its publication fails; or its commit fails.
   abbrev pub TakesNot : Standing (Held S) → RegistryState → Event → Refusal → Standing (Held S) → RegistryState → Type 0
   TakesNot old r event why new after = (w : World) → AreBothOf g old r w →
       ((why ≡ NoMemory) × (2 ≤ length (asked event)) × (new ≡ old) × (after ≡ r))
@@ -182,7 +187,8 @@ module _ {S : Type 0} (g : Ghosts S) where
   EveryRunStands = (acts : List Act) (old new : Standing (Held S)) (r after : RegistryState) (w : World) → AreBothOf g old r w → ActsAll old r w acts new after
       → AreBothOf g new after (run_from w (events_of acts)) × ((run_from w (events_of acts)).acks ≡ w.acks ++ receipts_of acts)
 
-  -- Whatever file a crash may leave after a run on a new one spells a state, which holds all that was acknowledged and answered in the world of the run's events. Once a commit has failed that is the world of the fate which fits.
+  -- Whatever file a crash may leave after a run on a new one encodes a state, which holds all that was acknowledged and
+  -- answered in the world of the run's events. Once a commit has failed that is the world of the fate which fits.
   abbrev pub EveryRunLeaves : Type 0
   EveryRunLeaves = (acts : List Act) (old new : Standing (Held S)) (after : RegistryState) → BeginsAt g old start → ActsAll old (new_registry (line_state old.line)) start acts new after
       → Stands g new → IsKnown g new.ours_first new.tables → (trees : Trees) → (state g new.tables).may_leave trees
@@ -194,7 +200,8 @@ module _ {S : Type 0} (g : Ghosts S) where
       → Stands g new → IsKnown g new.ours_first new.tables → (trees : Trees) → (state g new.tables).may_leave trees → AdoptsAgain g trees last
       → (again : List Act) × SameButFates again acts × ActsAll old (new_registry (line_state old.line)) start (again ++ adopted trees ∷ []) last (new_registry (line_state last.line))
 
-  -- Where a commit is stopped within a store call after a run, whatever file a crash then leaves spells a state that holds all of it too, before it is opened again.
+  -- If a commit is stopped within a store call after a run, whatever file a crash then leaves encodes a state that holds
+  -- all of it too, before it is opened again.
   abbrev pub EveryStopLeaves : Type 0
   EveryStopLeaves = (acts : List Act) (old mid : Standing (Held S)) (after : RegistryState) → BeginsAt g old start → ActsAll old (new_registry (line_state old.line)) start acts mid after
       → Stands g mid → (call : StoreCall) (now : Held S) → IsCutShort g mid call now → IsKnown g mid.ours_first now → (trees : Trees) → (state g now).may_leave trees

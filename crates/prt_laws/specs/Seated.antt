@@ -50,7 +50,8 @@ fetching w i before between = run_from (step (run_from w before) (events.Online 
 abbrev pub announcing_at : World → ℕ → List Event → List Event → List Event → World
 announcing_at w i before between after = run_from (step (fetching w i before between) (events.Fetch i)).world after
 
--- A refresh is Online, Fetch and Announce, whatever others do before and between them: where the front handed out the version that was published at its fetch, the looker holds that one then.
+-- A refresh is Online, Fetch and Announce, whatever others do before and between them: if the front handed out the version
+-- that was published at its fetch, the looker holds that one then.
 abbrev pub Refreshes : Look → Look → Type 0
 Refreshes old new = (i : ℕ) (w : World) (before between after : List Event) → IsReached w → Seated old i w → Others i before → Others i between → Others i after
     → Runs (run_from w before) → Runs (fetching w i before between) → Runs (announcing_at w i before between after)
@@ -75,7 +76,7 @@ IsMade look = (i : ℕ) (w : World) → i < length w.lookers → looker_state w 
 abbrev pub Rests : Look → Look → Type 0
 Rests old new = (i : ℕ) (w : World) → Seated old i w → Runs w → Seated new i (step w (events.Offline i)).world
 
--- To look is Look, with its answer, wherever the list of the version that it holds begins the published one.
+-- To look is Look, with its answer, whenever the list of the version that it holds is a prefix of the published one.
 abbrev pub Looks : Look → Packet → Answer → Type 0
 Looks look packet answer = (i : ℕ) (spot : Spot) (w : World) → IsAt spot w → Seated look i w → Runs w → IfSome look.held (λ line. Begins line spot.line)
     → (step w (events.Look i packet)).outcome ≡ outcomes.Answered answer

@@ -38,7 +38,8 @@ RunIsWork = (mode : Mode) (before after : DeskState) (reader0 reader writer0 wri
 abbrev pub cut_short : List ℕ → Exchange Mishap
 cut_short line = record { line = line; mishap = Some commit_kept; reply = Refused (StoreFailed Commit) }
 
--- So are the lines of a script up to a stop, with one more where its command was stored: the commit was kept, and nothing was replied. No more is acknowledged.
+-- So are the lines of a script up to a stop, with one more if its command was stored: the commit was kept, and nothing was
+-- replied. No more is acknowledged.
 abbrev pub StopIsWork : Type 0
 StopIsWork = (before mid : DeskState) (xs : List (Exchange Mishap)) → Exchanges before xs mid → mid.closed ≡ false
     → (line : List ℕ) (command : Command) → reading line ≡ Ok (Some (requests.Command command)) → refusal mid.published command ≡ None
@@ -50,7 +51,7 @@ StopIsWork = (before mid : DeskState) (xs : List (Exchange Mishap)) → Exchange
 abbrev pub FileEnds : Type 0
 FileEnds = (input : Input) (mishaps : List (Option Mishap)) → length input.bytes ≤ length (collected input mishaps).unread + (1000000 * 65537 + 1)
 
--- Where its reading was refused, or failed, that is the one reply, and nothing was submitted.
+-- If its reading was refused, or failed, that is the one reply, and nothing was submitted.
 abbrev pub RefusedFileDoesNothing : Type 0
 RefusedFileDoesNothing = (desk : DeskState) (input : Input) (mishaps : List (Option Mishap)) (mishap : Option Mishap) (refused : Reply) → reading_refused input mishaps ≡ Some refused
     → ((atomic_output desk input mishaps mishap).replies ≡ refused ∷ []) × ((atomic_output desk input mishaps mishap).desk ≡ desk)

@@ -167,7 +167,7 @@ pub fn submit_by_steps<S: Alter + Drop, W: Wait>(
 }
 
 /// Submits the first commands of a new file, with the registry of its domain. What a crash leaves then holds each of them,
-/// under its own number, of which the receipt tells the last.
+/// under its own number, of which the receipt reports the last.
 ///
 /// # Errors
 ///
@@ -195,7 +195,7 @@ pub fn first_commands<S: Alter + Drop, W: Wait>(
 ///
 /// # Errors
 ///
-/// Those of `Publisher::prepare`. The world refuses the command for the same reason, for want of room where it has none;
+/// Those of `Publisher::prepare`. The world refuses the command for the same reason, for want of room if it has none;
 /// of `NoMemory` it has no event.
 pub fn prepare<S: Alter + Drop, W: Wait>(
     publisher: &mut Publisher<S>,
@@ -218,7 +218,7 @@ pub fn prepare<S: Alter + Drop, W: Wait>(
 ///
 /// # Errors
 ///
-/// Those of `Publisher::prepare_all`. The world refuses the commands for the same reason, for want of room where it has
+/// Those of `Publisher::prepare_all`. The world refuses the commands for the same reason, for want of room if it has
 /// none; of `NoMemory` it has no event.
 pub fn prepare_all<S: Alter + Drop, W: Wait>(
     publisher: &mut Publisher<S>,

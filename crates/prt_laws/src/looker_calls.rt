@@ -52,7 +52,7 @@ pub fn refresh<S: Alter + Drop, J: Naming, W: Wait>(
     }
 }
 
-/// Gives its version back, and takes the looker offline.
+/// Releases its version, and takes the looker offline.
 pub fn rest<S: Alter + Drop, J: Naming, W: Wait>(
     looker: &mut Looker,
     rt: &W,

@@ -8,7 +8,7 @@ ghost use Rattle.prt_laws.specs.Registries.{registry_after};
 
 use prt_grace::{Place, Registry};
 
-/// Gives a new looker a place, offline: no event.
+/// Assigns a place to a new looker, offline: no event.
 pub fn join(registry: &mut Registry) -> Option<Place>
     ensures { IfSome result (λ place. IsJoin registry.old registry.new place) }
 {
@@ -26,7 +26,7 @@ pub fn part(registry: &mut Registry, place: Place)
     registry.part(place);
 }
 
-/// Brings a looker online. Where it was offline, the number is the one that the event shows.
+/// Brings a looker online. If it was offline, the number is the one that the event shows.
 pub fn online(registry: &mut Registry, place: &mut Place) -> u64
     requires { HasPlace registry.old place.old }
     ensures moved { IsOnline registry.old registry.new place.old place.new }
@@ -53,7 +53,7 @@ pub fn offline(registry: &mut Registry, place: &mut Place)
     registry.offline(place);
 }
 
-/// Gives up each retired version that no looker can hold any more. The event shows how many went.
+/// Reclaims each retired version that no looker can hold any more. The event shows how many went.
 pub fn reclaim(registry: &mut Registry) -> usize
     ensures registry { (w : World) → registry.new ≡ registry_after registry.old w Reclaim }
     ensures number { ShowsReclaimed registry.old result }

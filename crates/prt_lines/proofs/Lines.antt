@@ -26,7 +26,7 @@ cut_before (b ∷ bs) (suc at) within ends before =
     let later = cut_before bs at (omega arith) ends (λ k h. before (suc k) (omega (arith, h))) in
     (ap (λ xs. b ∷ xs) later.0, simp none later.1)
 
--- the first line, where a newline ends it
+-- the first line, if a newline ends it
 pub cut_at : (bs : List ℕ) (at : ℕ) → position is_newline bs ≡ Some at → IsCut bs (take at bs) (from bs (at + 1))
 cut_at bs at h =
     let found = position-Some is_newline bs at 0 h in
@@ -49,11 +49,11 @@ no_newline (b ∷ bs) h = elim (cases_Bool (is_newline b)) [
   | inr e ↦ let l : suc (length bs) ≤ 1 + position_or_len is_newline bs = simp e at h in simp e (no_newline bs (omega (arith, l)))
 ]
 
--- no line, where no newline ends one
+-- no line, if no newline ends one
 pub none_at : (bs : List ℕ) → position is_newline bs ≡ None → has_newline bs ≡ false
 none_at bs h = no_newline bs (none_before (position_or_len is_newline bs) (length bs) _ refl h)
 
--- what stands after a line is shorter than the text
+-- what comes after a line is shorter than the text
 pub shorter : (text line after : List ℕ) → IsCut text line after → length after < length text
 shorter text line after cut = let e = ap length cut.parts in let l = length-append line (10 ∷ after) in omega (arith, e, l)
 

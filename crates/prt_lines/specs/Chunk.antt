@@ -10,7 +10,7 @@ use Rattle.prt_lines.specs.declared.chunk.Executed.{Executed}
 abbrev pub has_newline : List ℕ → Bool
 has_newline text = list_any (λ b. b == 10) text
 
--- the text is this line, a newline, and what stands after it
+-- the text is this line, a newline, and what comes after it
 pub record IsCut (text line after : List ℕ) : Type 0 where
   pub parts : text ≡ line ++ 10 ∷ after
   pub whole : has_newline line ≡ false

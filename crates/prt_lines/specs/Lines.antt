@@ -21,7 +21,7 @@ read_refusal state (Ok (Some (Query query))) = None
 read_refusal state (Ok None) = None
 read_refusal state (Err reason) = Some reason
 
--- the state after a line, which stands without its newline
+-- the state after a line, which comes without its newline
 abbrev pub line_state : State → List ℕ → State
 line_state state line = read_state state (reading line)
 

@@ -13,7 +13,7 @@ use std::sync::Arc;
 pub struct Executed {
     /// The bytes of the lines that were executed, with their newlines.
     pub bytes: usize,
-    /// Why the line after them was refused; None where no whole line is left.
+    /// Why the line after them was refused; None if no whole line is left.
     pub refused: Option<Refusal>,
 }
 
@@ -24,7 +24,7 @@ fn first_newline(text: &[u8]) -> Option<usize>
     text.iter().position(|byte| *byte == b'\n')
 }
 
-/// Cuts a text at its first newline: the line before it, and what stands after it.
+/// Cuts a text at its first newline: the line before it, and what comes after it.
 fn first_line(text: &[u8]) -> Option<(&[u8], &[u8])>
     ensures { MatchOption result (has_newline text.now ≡ false) (λ cut. IsCut text.now cut.0.now cut.1.now) }
 {
@@ -37,7 +37,7 @@ fn first_line(text: &[u8]) -> Option<(&[u8], &[u8])>
 /// Executes the lines of a text that a newline ends, one after the other, up to the first that is refused. The owner owns
 /// the version after the last that was executed.
 ///
-/// A refusal is that of [`advance`] for the line. What stands after the last newline is not executed.
+/// A refusal is that of [`advance`] for the line. What comes after the last newline is not executed.
 pub fn advance_all(alloc: Global, owner: &mut Arc<Version>, text: &[u8]) -> Executed
     ensures { IsRun (arc_value owner.old) text.now (arc_value owner.new) result }
 {

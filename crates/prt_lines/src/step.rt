@@ -34,8 +34,8 @@ fn made(version: &Version, command: &Command) -> Result<Version, Refusal>
     after(version, version.check(command))
 }
 
-/// Makes the version after a line, which stands without its newline; None where the line asks for no change: it is blank,
-/// a comment or a question. The version stays as it is.
+/// Makes the version after a line, which comes without its newline. None if the line asks for no change: it is blank, a comment
+/// or a question. The version stays as it is.
 ///
 /// # Errors
 ///

@@ -9,7 +9,7 @@ use Rattle.prt_listing.specs.Parts.{spaced}
 abbrev pub texts : List (Option (List ℕ)) → List (List ℕ)
 texts parts = filter_map (λ text. text) parts
 
--- what stands between these texts and a further one
+-- what comes between these texts and a further one
 abbrev pub gap : List (List ℕ) → List ℕ
 gap [] = []
 gap (text ∷ others) = codes " "

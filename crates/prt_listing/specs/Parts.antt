@@ -16,7 +16,7 @@ spaced parts = join_with_byte 32 (filter_map (λ text. text) parts)
 abbrev pub part : List ℕ → Option (List ℕ) → Option (List ℕ)
 part word value = option_map (λ text. word ++ codes " " ++ text) value
 
--- the text, but for the number that goes without saying
+-- the text, except for the number that is implied
 abbrev pub unless : ℕ → ℕ → List ℕ → Option (List ℕ)
 unless unsaid n text = if n == unsaid then None else Some text
 
@@ -40,6 +40,6 @@ prefix_or word prefix = if is_everything prefix then word else prefix_text prefi
 abbrev pub hex_text : ℕ → List ℕ
 hex_text n = codes "0x" ++ digits 16 false n
 
--- MARK[/MASK]: a mask of which every bit counts goes without saying
+-- MARK[/MASK]: a mask of which every bit counts is implied
 abbrev pub mark_text : Mark → List ℕ
 mark_text m = hex_text m.mark ++ (if m.mask == 2 ^ 32 - 1 then [] else codes "/" ++ hex_text m.mask)

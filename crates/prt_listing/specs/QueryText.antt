@@ -20,7 +20,7 @@ lines_text (line ∷ lines) = line ++ codes "\n" ++ lines_text lines
 abbrev pub listing_text : List (List ℕ) → List ℕ
 listing_text lines = lines_text lines ++ codes "end " ++ decimal (length lines) ++ codes "\n"
 
--- the table is shown where all tables are listed
+-- the table is shown if all tables are listed
 abbrev pub table_shown : Option ℕ → TablePart
 table_shown (Some table) = LeftOut
 table_shown None = Shown

@@ -10,25 +10,25 @@ use Rattle.prt_listing.specs.Parts.{name_or_number, part, prefix_or, spaced, tab
 use Rattle.prt_listing.specs.declared.route.TablePart.{TablePart}
 use Rattle.prt_listing.specs.declared.route.TablePart.TheVariants.{Shown, LeftOut}
 
--- the kind, but for unicast
+-- the kind, except for unicast
 abbrev pub kind_part : Kind → Option (List ℕ)
 kind_part Unicast = None
 kind_part kind = Some (kind_name kind)
 
--- the table, where it is shown, but for main
+-- the table, if it is shown, except for main
 abbrev pub table_part : TablePart → ℕ → Option (List ℕ)
 table_part Shown table = part (codes "table") (unless main_table table (table_text table))
 table_part LeftOut table = None
 
--- the protocol, but for boot
+-- the protocol, except for boot
 abbrev pub protocol_part : ℕ → Option (List ℕ)
 protocol_part proto = part (codes "proto") (unless boot_protocol proto (name_or_number protocols proto))
 
--- the scope, but for global
+-- the scope, except for global
 abbrev pub scope_part : ℕ → Option (List ℕ)
 scope_part scope = part (codes "scope") (unless global_scope scope (name_or_number scopes scope))
 
--- the metric, but for 0
+-- the metric, except for 0
 abbrev pub metric_part : ℕ → Option (List ℕ)
 metric_part metric = part (codes "metric") (unless 0 metric (decimal metric))
 

@@ -8,11 +8,11 @@ use Rattle.prt_rule.specs.declared.rule.Mark.{Mark}
 use Rattle.prt_rule.specs.declared.rule.Rule.{Rule}
 use Rattle.prt_listing.specs.Parts.{is_everything, mark_text, part, prefix_or, spaced, table_text}
 
--- the word of a rule that is turned round
+-- the word of an inverted rule
 abbrev pub not_part : Bool → Option (List ℕ)
 not_part inverted = if inverted then Some (codes "not") else None
 
--- the destinations, but for 0.0.0.0/0
+-- the destinations, except for 0.0.0.0/0
 abbrev pub to_part : Block → Option (List ℕ)
 to_part to = if is_everything to then None else part (codes "to") (Some (prefix_text to))
 

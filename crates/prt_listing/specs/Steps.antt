@@ -1,4 +1,4 @@
--- What the parts of the program stand for.
+-- What the parts of the program denote.
 use Rattle.std.specs.Prelude.{ℕ, List, ◌++◌, Option, option_map, codes, decimal}
 use Rattle.prt_addr.specs.Addr.{addr_text}
 use Rattle.prt_addr.specs.Prefix.{prefix_text}

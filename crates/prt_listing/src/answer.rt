@@ -23,7 +23,7 @@ fn rule_part(priority: u32) -> Part
 ///
 /// # Errors
 ///
-/// Memory is refused; a part of the text may stand after what `out` had.
+/// Memory is refused; a part of the text may follow what `out` had.
 pub(crate) fn push_answer(out: &mut Vec<u8>, answer: &Answer) -> Result<(), AllocError>
     ensures ok { OnOk result (out.new.items ≡ out.old.items ++ answer_text answer.now) }
     ensures err { OnErr result (Keeps out.old.items out.new.items) }
@@ -57,7 +57,7 @@ pub(crate) fn push_answer(out: &mut Vec<u8>, answer: &Answer) -> Result<(), Allo
 ///
 /// # Errors
 ///
-/// `NoMemory` where memory is refused; `out` is as it was.
+/// `NoMemory` if memory is refused; `out` is as it was.
 pub fn answer_text(out: &mut Vec<u8>, answer: &Answer) -> Result<(), Refusal>
     ensures ok { OnOk result (out.new.items ≡ out.old.items ++ answer_text answer.now) }
     ensures err { OnErr result (out.new.items ≡ out.old.items) }

@@ -8,7 +8,7 @@ ghost use Rattle.prt_listing.specs.declared.route.TablePart.TheVariants.{LeftOut
 ghost use Rattle.prt_route.specs.declared.kind.Kind.TheVariants as kinds;
 ghost use Rattle.prt_rule.specs.declared.rule.Action.TheVariants.{Lookup};
 
-/// What goes without saying, and what has no name (`ip-route(8)`).
+/// What is implied, and what has no name (`ip-route(8)`).
 pub fn plain_routes()
     ensures of_main { route_text (through 1 254 everything 0) Shown ≡ codes "default via 192.0.2.1" }
     ensures of_default { route_text (route_of 253 everything kinds.Throw) Shown ≡ codes "throw default table default" }
@@ -23,7 +23,7 @@ pub fn marks()
     ensures everything { rule_text (record (rule_for_all 1 (Lookup 254)) { mark = whole 4294967295 }) ≡ codes "1:\tfrom all fwmark 0xffffffff lookup main" }
 {}
 
-/// The length up to which a rule suppresses prefixes stands at the end (`ip-rule(8)`).
+/// The length up to which a rule suppresses prefixes comes at the end (`ip-rule(8)`).
 pub fn suppressed_lengths()
     ensures default_alone { rule_text (record (rule_for_all 1 (Lookup 254)) { suppress = Some 0 }) ≡ codes "1:\tfrom all lookup main suppress_prefixlength 0" }
     ensures all { rule_text (record (rule_for_all 1 (Lookup 7)) { suppress = Some 32 }) ≡ codes "1:\tfrom all lookup 7 suppress_prefixlength 32" }

@@ -23,7 +23,7 @@ pub(crate) fn write_hexadecimal(number: u32, buffer: &mut [u8; MOST_DIGITS]) -> 
     }
 }
 
-/// Gives the digit of a number below 16.
+/// Returns the digit of a number below 16.
 fn hex_digit(number: u8) -> u8
     requires { number < 16 }
     ensures { result ≡ digit_glyph false number }

@@ -27,7 +27,7 @@ pub enum Part {
     Named(&'static str, Value),
 }
 
-/// Gives the name of a number or, where it has none, the number.
+/// Returns the name of a number or, if it has none, the number.
 pub(crate) fn name_or_number(name: Option<&'static str>, number: u32) -> Value
     ensures { value_text result ≡ unwrap_or (option_map (λ s. s.now) name.entry) (decimal number) }
 {
@@ -37,35 +37,35 @@ pub(crate) fn name_or_number(name: Option<&'static str>, number: u32) -> Value
     }
 }
 
-/// Gives the name of a table or, where it has none, its number.
+/// Returns the name of a table or, if it has none, its number.
 pub fn table_value(table: u32) -> Value
     ensures { value_text result ≡ table_text table }
 {
     name_or_number(table_name(table), table)
 }
 
-/// Gives the name of a protocol or, where it has none, its number.
+/// Returns the name of a protocol or, if it has none, its number.
 pub fn protocol_value(proto: u8) -> Value
     ensures { value_text result ≡ name_or_number protocols proto }
 {
     name_or_number(protocol_name(proto), u32::from(proto))
 }
 
-/// Gives the name of a scope or, where it has none, its number.
+/// Returns the name of a scope or, if it has none, its number.
 pub fn scope_value(scope: u8) -> Value
     ensures { value_text result ≡ name_or_number scopes scope }
 {
     name_or_number(scope_name(scope), u32::from(scope))
 }
 
-/// Tells whether the prefix holds every address.
+/// Checks whether the prefix holds every address.
 pub fn is_everything(prefix: &Prefix) -> bool
     ensures { result ≡ is_everything prefix.now }
 {
     prefix.bits() == 0 && prefix.len() == 0
 }
 
-/// Gives the prefix, or this word for that of every address.
+/// Returns the prefix, or this word for that of every address.
 pub fn prefix_or(word: &'static str, prefix: &Prefix) -> Value
     ensures { value_text result ≡ prefix_or word.now prefix.now }
 {
@@ -76,14 +76,14 @@ pub fn prefix_or(word: &'static str, prefix: &Prefix) -> Value
     }
 }
 
-/// Gives a word and an address, if there is an address.
+/// Builds a word and an address, if there is an address.
 pub fn addr_part(word: &'static str, addr: Option<Addr>) -> Option<Part>
     ensures { part_of result ≡ part word.now (option_map addr_text addr) }
 {
     addr.map(|addr| Part::Named(word, Value::Addr(addr)))
 }
 
-/// Gives a word and the name of an interface, if there is one.
+/// Builds a word and the name of an interface, if there is one.
 pub fn dev_part(word: &'static str, dev: Option<Dev>) -> Option<Part>
     ensures { part_of result ≡ part word.now dev }
 {

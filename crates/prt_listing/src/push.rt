@@ -16,7 +16,7 @@ use std::alloc::AllocError;
 ///
 /// # Errors
 ///
-/// Memory is refused; a part of the text may stand after what `out` had.
+/// Memory is refused; a part of the text may follow what `out` had.
 pub fn push_text(out: &mut Vec<u8>, text: &str) -> Result<(), AllocError>
     ensures ok { OnOk result (out.new.items ≡ out.old.items ++ text.now) }
     ensures err { OnErr result (Keeps out.old.items out.new.items) }
@@ -28,7 +28,7 @@ pub fn push_text(out: &mut Vec<u8>, text: &str) -> Result<(), AllocError>
 ///
 /// # Errors
 ///
-/// Memory is refused; a part of the text may stand after what `out` had.
+/// Memory is refused; a part of the text may follow what `out` had.
 pub(crate) fn push_number(out: &mut Vec<u8>, number: u64) -> Result<(), AllocError>
     ensures ok { OnOk result (out.new.items ≡ out.old.items ++ decimal number) }
     ensures err { OnErr result (Keeps out.old.items out.new.items) }
@@ -47,7 +47,7 @@ fn push_hexadecimal(out: &mut Vec<u8>, number: u32) -> Result<(), AllocError>
     out.extend_from_slice(&digits[start..])
 }
 
-/// Appends a mark and, where not every bit of it counts, its mask.
+/// Appends a mark and, if not every bit of it counts, its mask.
 fn push_mark(out: &mut Vec<u8>, mark: Mark) -> Result<(), AllocError>
     ensures ok { OnOk result (out.new.items ≡ out.old.items ++ mark_text mark) }
     ensures err { OnErr result (Keeps out.old.items out.new.items) }
@@ -79,7 +79,7 @@ fn push_value(out: &mut Vec<u8>, value: &Value) -> Result<(), AllocError>
 ///
 /// # Errors
 ///
-/// Memory is refused; a piece of the part may stand after what `out` had.
+/// Memory is refused; a piece of the part may follow what `out` had.
 pub fn push_part(out: &mut Vec<u8>, part: &Part) -> Result<(), AllocError>
     ensures ok { OnOk result (out.new.items ≡ out.old.items ++ part_text part.now) }
     ensures err { OnErr result (Keeps out.old.items out.new.items) }
@@ -98,7 +98,7 @@ pub fn push_part(out: &mut Vec<u8>, part: &Part) -> Result<(), AllocError>
 ///
 /// # Errors
 ///
-/// Memory is refused; a part of the text may stand after what `out` had.
+/// Memory is refused; a part of the text may follow what `out` had.
 pub(crate) fn push_parts(out: &mut Vec<u8>, parts: &[Option<Part>]) -> Result<(), AllocError>
     ensures ok { OnOk result (out.new.items ≡ out.old.items ++ spaced (map part_of parts.now)) }
     ensures err { OnErr result (Keeps out.old.items out.new.items) }
@@ -118,7 +118,7 @@ pub(crate) fn push_parts(out: &mut Vec<u8>, parts: &[Option<Part>]) -> Result<()
 ///
 /// # Errors
 ///
-/// `NoMemory` where it failed; the first `len` bytes are left.
+/// `NoMemory` if it failed; the first `len` bytes are left.
 pub(crate) fn whole_or_nothing(
     out: &mut Vec<u8>,
     len: usize,

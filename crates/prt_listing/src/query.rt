@@ -64,7 +64,7 @@ fn push_routes(out: &mut Vec<u8>, routes: &[Route], table: TablePart) -> Result<
     Ok(())
 }
 
-/// Tells whether a listing of the selector's routes names their tables.
+/// Chooses whether a listing of the selector's routes names their tables.
 fn table_shown(selector: &Selector) -> TablePart
     ensures { result ≡ table_shown selector.now.table }
 {
@@ -94,7 +94,7 @@ fn push_route_listing(
 ///
 /// # Errors
 ///
-/// Memory is refused; a part of the text may stand after what `out` had.
+/// Memory is refused; a part of the text may follow what `out` had.
 fn push_query(out: &mut Vec<u8>, version: &Version, query: &Query) -> Result<(), AllocError>
     ensures ok { OnOk result (out.new.items ≡ out.old.items ++ query_text version.now query.now) }
     ensures err { OnErr result (Keeps out.old.items out.new.items) }
@@ -116,7 +116,7 @@ fn push_query(out: &mut Vec<u8>, version: &Version, query: &Query) -> Result<(),
 ///
 /// # Errors
 ///
-/// `NoMemory` where memory is refused; `out` is as it was.
+/// `NoMemory` if memory is refused; `out` is as it was.
 pub fn query_text(out: &mut Vec<u8>, version: &Version, query: &Query) -> Result<(), Refusal>
     ensures ok { OnOk result (out.new.items ≡ out.old.items ++ query_text version.now query.now) }
     ensures err { OnErr result (out.new.items ≡ out.old.items) }

@@ -8,7 +8,7 @@ use prt_refusals::Refusal;
 ///
 /// # Errors
 ///
-/// `NoMemory` where memory is refused; `out` is as it was.
+/// `NoMemory` if memory is refused; `out` is as it was.
 pub fn refusal_text(out: &mut Vec<u8>, refusal: &Refusal) -> Result<(), Refusal>
     ensures ok { OnOk result (out.new.items ≡ out.old.items ++ refusal_text refusal.now) }
     ensures err { OnErr result (out.new.items ≡ out.old.items) }

@@ -12,19 +12,19 @@ use prt_refusals::Refusal;
 use prt_route::{BOOT_PROTOCOL, GLOBAL_SCOPE, Kind, MAIN_TABLE, Route};
 use std::alloc::AllocError;
 
-/// The metric that goes without saying.
+/// The metric that is implied.
 const UNSAID_METRIC: u32 = 0;
 
 /// Whether the text of a route names its table.
 #[derive(Clone, Copy)]
 pub enum TablePart {
-    /// It does, but for the table main.
+    /// It does, except for the table main.
     Shown,
     /// It names no table.
     LeftOut,
 }
 
-/// Gives the kind, but for unicast.
+/// Returns the kind, except for unicast.
 fn kind_part(kind: Kind) -> Option<Part>
     ensures { part_of result ≡ kind_part kind }
 {
@@ -34,7 +34,7 @@ fn kind_part(kind: Kind) -> Option<Part>
     }
 }
 
-/// Gives the table, unless it goes without saying.
+/// Returns the table, unless it is implied.
 pub fn table_part(shown: TablePart, table: u32) -> Option<Part>
     ensures { part_of result ≡ table_part shown table }
 {
@@ -46,7 +46,7 @@ pub fn table_part(shown: TablePart, table: u32) -> Option<Part>
     }
 }
 
-/// Gives the protocol, unless it goes without saying.
+/// Returns the protocol, unless it is implied.
 fn protocol_part(proto: u8) -> Option<Part>
     ensures { part_of result ≡ protocol_part proto }
 {
@@ -56,7 +56,7 @@ fn protocol_part(proto: u8) -> Option<Part>
     Some(Part::Named("proto", protocol_value(proto)))
 }
 
-/// Gives the scope, unless it goes without saying.
+/// Returns the scope, unless it is implied.
 fn scope_part(scope: u8) -> Option<Part>
     ensures { part_of result ≡ scope_part scope }
 {
@@ -66,7 +66,7 @@ fn scope_part(scope: u8) -> Option<Part>
     Some(Part::Named("scope", scope_value(scope)))
 }
 
-/// Gives the metric, unless it goes without saying.
+/// Returns the metric, unless it is implied.
 fn metric_part(metric: u32) -> Option<Part>
     ensures { part_of result ≡ metric_part metric }
 {
@@ -76,7 +76,7 @@ fn metric_part(metric: u32) -> Option<Part>
     Some(Part::Named("metric", Value::Number(u64::from(metric))))
 }
 
-/// Gives the parts of a route in their order.
+/// Builds the parts of a route in their order.
 pub fn route_parts(route: &Route, table: TablePart) -> [Option<Part>; 9]
     ensures { map part_of result ≡ route_parts route.now table }
 {
@@ -97,7 +97,7 @@ pub fn route_parts(route: &Route, table: TablePart) -> [Option<Part>; 9]
 ///
 /// # Errors
 ///
-/// Memory is refused; a part of the text may stand after what `out` had.
+/// Memory is refused; a part of the text may follow what `out` had.
 pub(crate) fn push_route(
     out: &mut Vec<u8>,
     route: &Route,
@@ -109,11 +109,11 @@ pub(crate) fn push_route(
     push_parts(out, &route_parts(route, table))
 }
 
-/// Appends a route in the form of `ip-route(8)`, without what goes without saying.
+/// Appends a route in the form of `ip-route(8)`, without what is implied.
 ///
 /// # Errors
 ///
-/// `NoMemory` where memory is refused; `out` is as it was.
+/// `NoMemory` if memory is refused; `out` is as it was.
 pub fn route_text(out: &mut Vec<u8>, route: &Route, table: TablePart) -> Result<(), Refusal>
     ensures ok { OnOk result (out.new.items ≡ out.old.items ++ route_text route.now table) }
     ensures err { OnErr result (out.new.items ≡ out.old.items) }

@@ -12,7 +12,7 @@ use prt_refusals::Refusal;
 use prt_rule::{Action, Mark, Rule};
 use std::alloc::AllocError;
 
-/// Gives the word of an inverted rule.
+/// Returns the word of an inverted rule.
 pub fn not_part(inverted: bool) -> Option<Part>
     ensures { part_of result ≡ not_part inverted }
 {
@@ -23,7 +23,7 @@ pub fn not_part(inverted: bool) -> Option<Part>
     }
 }
 
-/// Gives the destinations, unless they are all.
+/// Returns the destinations, unless they are all.
 fn to_part(to: &Prefix) -> Option<Part>
     ensures { part_of result ≡ to_part to.now }
 {
@@ -34,7 +34,7 @@ fn to_part(to: &Prefix) -> Option<Part>
     }
 }
 
-/// Gives the mark, if there is one.
+/// Returns the mark, if there is one.
 pub fn mark_part(mark: Option<Mark>) -> Option<Part>
     ensures { part_of result ≡ mark_part mark }
 {
@@ -53,14 +53,14 @@ pub fn action_part(action: Action) -> Part
     }
 }
 
-/// Gives the length up to which prefixes are suppressed, if some are.
+/// Returns the length up to which prefixes are suppressed, if some are.
 pub fn suppress_part(suppress: Option<u8>) -> Option<Part>
     ensures { part_of result ≡ part (codes "suppress_prefixlength") (option_map decimal suppress) }
 {
     suppress.map(|len| Part::Named("suppress_prefixlength", Value::Number(u64::from(len))))
 }
 
-/// Gives the parts of a rule after its priority, in their order.
+/// Builds the parts of a rule after its priority, in their order.
 fn rule_parts(rule: &Rule) -> [Option<Part>; 7]
     ensures { map part_of result ≡ rule_parts rule.now }
 {
@@ -79,7 +79,7 @@ fn rule_parts(rule: &Rule) -> [Option<Part>; 7]
 ///
 /// # Errors
 ///
-/// Memory is refused; a part of the text may stand after what `out` had.
+/// Memory is refused; a part of the text may follow what `out` had.
 pub(crate) fn push_rule(out: &mut Vec<u8>, rule: &Rule) -> Result<(), AllocError>
     ensures ok { OnOk result (out.new.items ≡ out.old.items ++ rule_text rule.now) }
     ensures err { OnErr result (Keeps out.old.items out.new.items) }
@@ -89,11 +89,11 @@ pub(crate) fn push_rule(out: &mut Vec<u8>, rule: &Rule) -> Result<(), AllocError
     push_parts(out, &rule_parts(rule))
 }
 
-/// Appends a rule in the form of `ip-rule(8)`, without what goes without saying.
+/// Appends a rule in the form of `ip-rule(8)`, without what is implied.
 ///
 /// # Errors
 ///
-/// `NoMemory` where memory is refused; `out` is as it was.
+/// `NoMemory` if memory is refused; `out` is as it was.
 pub fn rule_text(out: &mut Vec<u8>, rule: &Rule) -> Result<(), Refusal>
     ensures ok { OnOk result (out.new.items ≡ out.old.items ++ rule_text rule.now) }
     ensures err { OnErr result (out.new.items ≡ out.old.items) }

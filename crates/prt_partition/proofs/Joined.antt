@@ -161,7 +161,7 @@ joined_distinct (rule ∷ rules) packets =
 
 -- ---- classes
 
--- those that are kept stand for what the classes stand for
+-- those that are kept represent what the classes represent
 pub through : (rules : List Rule) (classes : List Packet) → AreClasses rules classes → AreClasses rules (joined rules classes)
 through rules classes are packet is =
     let found = are packet is in

@@ -1,4 +1,4 @@
--- The spans of a version tell what becomes of each packet.
+-- The spans of a version say what becomes of each packet.
 use Rattle.std.proofs.Common.{◌≡◌, ◌≢◌, ℕ, ◌<◌, true, false, List, [], ◌∷◌, refl, sym, ◌∙◌, arith}
 use Rattle.std.specs.Prelude.{map}
 use Rattle.std.specs.List.{dedup}

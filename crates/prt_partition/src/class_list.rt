@@ -13,14 +13,14 @@ use prt_route::Dev;
 use prt_rule::{Packet, Rule};
 use std::alloc::{AllocError, Global};
 
-/// Gives a packet of each box. The fresh interface is one that no rule names.
+/// Makes a packet of each box. The fresh interface is one that no rule names.
 fn packets_of(alloc: Global, boxes: &[PacketBox], fresh: &Dev) -> Result<Vec<Packet>, AllocError>
     ensures { IfOk result (λ packets. packets.items ≡ map (packet_of fresh.now) boxes.now) }
 {
     boxes.iter().map(|one| one.packet(fresh)).collect(alloc)
 }
 
-/// Gives packets that represent all packets: for each packet there is one that every rule takes alike, whatever destination
+/// Finds packets that represent all packets: for each packet there is one that every rule takes alike, whatever destination
 /// the two are given. It is one packet of each box.
 ///
 /// # Errors
@@ -38,7 +38,7 @@ pub fn classes(alloc: Global, rules: &[Rule]) -> Result<Vec<Packet>, Refusal>
     Ok(all)
 }
 
-/// Gives packets that represent all packets: for each packet there is one that every rule takes alike, whatever destination
+/// Finds packets that represent all packets: for each packet there is one that every rule takes alike, whatever destination
 /// the two are given. No two of them are taken alike by every rule.
 ///
 /// # Errors

@@ -10,7 +10,7 @@ use prt_rule::Rule;
 use prt_version::Version;
 use std::alloc::{AllocError, Global};
 
-/// Gives the first address after those of the prefix, if there is one.
+/// Computes the first address after those of the prefix, if there is one.
 pub(crate) fn end_of(prefix: &Prefix) -> Option<u32>
     ensures { result ≡ end_of prefix.now }
 {
@@ -49,7 +49,7 @@ fn push_route_cuts(cuts: &mut Vec<u32>, routes: &[Route]) -> Result<(), AllocErr
     Ok(())
 }
 
-/// Gives all routes of the version, in the order of listings.
+/// Collects all routes of the version, in the order of listings.
 pub(crate) fn every_route(version: &Version) -> Result<Vec<Route>, AllocError>
     ensures { IfOk result (λ routes. routes.items ≡ version.now.routes) }
 {
@@ -88,7 +88,7 @@ pub(crate) fn sort_distinct(numbers: &mut Vec<u32>)
     numbers.dedup();
 }
 
-/// Gives the destinations at which an answer of the version can change, and 0.0.0.0, in order.
+/// Lists the destinations at which an answer of the version can change, and 0.0.0.0, in order.
 pub(crate) fn starts_of(alloc: Global, version: &Version) -> Result<Vec<u32>, AllocError>
     ensures { IfOk result (λ starts. AreStarts (destination_cuts version.now) starts.items) }
 {
@@ -109,7 +109,7 @@ fn push_from_cuts(cuts: &mut Vec<u32>, rules: &[Rule]) -> Result<(), AllocError>
     Ok(())
 }
 
-/// Gives the sources at which a rule can begin or cease to match, and 0.0.0.0, in order.
+/// Lists the sources at which a rule can begin or cease to match, and 0.0.0.0, in order.
 pub(crate) fn source_starts(alloc: Global, rules: &[Rule]) -> Result<Vec<u32>, AllocError>
     ensures value { IfOk result (λ starts. AreStarts (from_cuts rules.now) starts.items) }
     ensures few { IfOk result (λ starts. length starts.items ≤ 2 * length rules.now + 1) }

@@ -23,7 +23,7 @@ pub struct Span {
     pub verdict: Verdict,
 }
 
-/// Gives the span that begins at the address.
+/// Builds the span that begins at the address.
 fn span_from(version: &Version, packet: &Packet, first: u32) -> Span
     ensures { result ≡ span_from version.now packet.now first }
 {
@@ -33,7 +33,7 @@ fn span_from(version: &Version, packet: &Packet, first: u32) -> Span
     }
 }
 
-/// Gives the spans that begin at these addresses.
+/// Builds the spans that begin at these addresses.
 fn spans_from(
     alloc: Global,
     version: &Version,
@@ -58,7 +58,7 @@ fn join(spans: &mut Vec<Span>)
     spans.dedup_by(same);
 }
 
-/// Gives what becomes of the packet at each destination: spans of destinations with one verdict, in order, each as long as
+/// Finds what becomes of the packet at each destination: spans of destinations with one verdict, in order, each as long as
 /// it can be. The packet's own destination doesn't matter.
 ///
 /// # Errors

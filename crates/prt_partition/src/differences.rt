@@ -37,7 +37,7 @@ pub struct Difference {
     pub is: Verdict,
 }
 
-/// Gives what becomes of the packet before and after, from this destination on.
+/// Finds what becomes of the packet before and after, from this destination on.
 fn contrast_from(
     before: &Version,
     after: &Version,
@@ -55,7 +55,7 @@ fn contrast_from(
     }
 }
 
-/// Gives what becomes of the packet before and after, from each of these destinations on.
+/// Finds what becomes of the packet before and after, from each of these destinations on.
 fn contrasts_from(
     alloc: Global,
     before: &Version,
@@ -74,14 +74,14 @@ fn contrasts_from(
         .collect(alloc)
 }
 
-/// Tells whether both have the same verdicts before and after.
+/// Checks whether both have the same verdicts before and after.
 fn is_same_transition(transition: &Transition, other: &Transition) -> bool
     ensures { result ≡ is_same_transition transition.now other.now }
 {
     is_same_verdict(&transition.was, &other.was) && is_same_verdict(&transition.is, &other.is)
 }
 
-/// Tells whether neither is there, or both have the same verdicts before and after.
+/// Checks whether neither is there, or both have the same verdicts before and after.
 fn are_same_transitions(transition: &Option<Transition>, other: &Option<Transition>) -> bool
     ensures { result ≡ option_eq is_same_transition transition.now other.now }
 {
@@ -102,7 +102,7 @@ fn join(contrasts: &mut Vec<Contrast>)
     contrasts.dedup_by(same);
 }
 
-/// Gives the last address before the contrast at this place begins.
+/// Computes the last address before the contrast at this place begins.
 fn last_before(contrasts: &[Contrast], place: usize) -> u32
     requires { place ≤ length contrasts.now }
     ensures { result ≡ last_before (drop place contrasts.now) }
@@ -114,7 +114,7 @@ fn last_before(contrasts: &[Contrast], place: usize) -> u32
     }
 }
 
-/// Gives the contrasts that differ, each with its last destination.
+/// Collects the contrasts that differ, each with its last destination.
 fn differences_of(alloc: Global, contrasts: &[Contrast]) -> Result<Vec<Difference>, AllocError>
     ensures { IfOk result (λ differences. differences.items ≡ differences_of contrasts.now) }
 {
@@ -132,8 +132,8 @@ fn differences_of(alloc: Global, contrasts: &[Contrast]) -> Result<Vec<Differenc
     Ok(differences)
 }
 
-/// Gives exactly the destinations at which the packet's verdict after isn't the same as the one before, in ranges with one
-/// verdict before and one after. The packet's own destination doesn't matter.
+/// Finds exactly the destinations at which the packet's verdict after isn't the same as the one before. They come in ranges
+/// with one verdict before and one after. The packet's own destination doesn't matter.
 ///
 /// `differing` is what [`what_differs`](crate::what_differs) finds for the two versions. Only destinations at which that can
 /// change an answer are looked at.

@@ -28,9 +28,9 @@ pub struct Differing {
     pub(crate) starts: Vec<u32>,
 }
 
-/// Gives the rules that only one of the lists has. Ids don't matter.
+/// Collects the rules that only one of the lists has. Ids don't matter.
 ///
-/// Both lists are gone through once, and are in the order in which rules are asked.
+/// Both lists are gone through once, and are in the order in which rules are tried.
 fn differing_rules(alloc: Global, before: &[Rule], after: &[Rule]) -> Result<Vec<Rule>, AllocError>
     ensures { IfOk result (λ rules. HoldRuleChanges before.now after.now rules.items) }
 {
@@ -53,7 +53,7 @@ fn differing_rules(alloc: Global, before: &[Rule], after: &[Rule]) -> Result<Vec
     Ok(rules)
 }
 
-/// Gives the routes that only one of the lists has.
+/// Collects the routes that only one of the lists has.
 ///
 /// Both lists are gone through once, and are in the order of listings.
 fn differing_routes(
@@ -82,7 +82,7 @@ fn differing_routes(
     Ok(routes)
 }
 
-/// Tells whether no rule and no route differs. Then every packet goes the same way.
+/// Checks whether no rule and no route differs. Then every packet goes the same way.
 pub fn is_same_everywhere(differing: &Differing) -> bool
     ensures { result ≡ true → (packet : PacketOf) → IsUntouched differing.now.rules.items differing.now.routes.items packet }
 {

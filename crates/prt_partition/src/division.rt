@@ -13,7 +13,7 @@ use prt_route::Dev;
 use prt_rule::{Mark, Rule};
 use std::alloc::{AllocError, Global};
 
-/// Gives each of the names, and all interfaces that have none of them.
+/// Lists each of the names, and all interfaces that have none of them.
 fn all_interfaces(alloc: Global, names: &[Dev]) -> Result<Vec<Interfaces>, AllocError>
     ensures { IfOk result (λ interfaces. interfaces.items ≡ all_interfaces names.now) }
 {
@@ -25,7 +25,7 @@ fn all_interfaces(alloc: Global, names: &[Dev]) -> Result<Vec<Interfaces>, Alloc
     Ok(interfaces)
 }
 
-/// Gives the box of these.
+/// Builds the box of these.
 fn box_of(first: u32, last: u32, interfaces: &Interfaces, mark: &Mark) -> PacketBox
     ensures { result ≡ box_of first last interfaces.now mark.now }
 {
@@ -69,7 +69,7 @@ fn push_between(
     Ok(())
 }
 
-/// Gives the last source before the range at this place begins.
+/// Computes the last source before the range at this place begins.
 fn last_before(starts: &[u32], place: usize) -> u32
     requires { place ≤ length starts.now }
     ensures { result ≡ last_before (drop place starts.now) }
@@ -81,7 +81,7 @@ fn last_before(starts: &[u32], place: usize) -> u32
     }
 }
 
-/// Gives the boxes of the ranges that begin at these sources.
+/// Builds the boxes of the ranges that begin at these sources.
 fn boxes_from(
     alloc: Global,
     starts: &[u32],
@@ -98,7 +98,7 @@ fn boxes_from(
     Ok(boxes)
 }
 
-/// Gives how many boxes there are of so many ranges of sources, interfaces and blocks of marks.
+/// Computes how many boxes there are of so many ranges of sources, interfaces and blocks of marks.
 fn count(sources: usize, interfaces: usize, marks: usize) -> usize
     requires sources { sources ≤ 4001 }
     requires interfaces { interfaces ≤ 2001 }
@@ -108,7 +108,7 @@ fn count(sources: usize, interfaces: usize, marks: usize) -> usize
     sources * interfaces * marks
 }
 
-/// Divides all packets into boxes by the rules: each packet is in exactly one box, and each rule takes all packets of a box
+/// Divides all packets into boxes by the rules. Each packet is in exactly one box, and each rule takes all packets of a box
 /// alike, if they are given one destination.
 ///
 /// # Errors

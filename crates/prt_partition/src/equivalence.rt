@@ -14,7 +14,7 @@ use prt_rule::{Packet, Rule};
 use prt_version::Version;
 use std::alloc::{AllocError, Global};
 
-/// Gives the first of these destinations at which the verdicts on the packet are not the same.
+/// Finds the first of these destinations at which the verdicts on the packet are not the same.
 fn first_change(
     before: &Version,
     after: &Version,
@@ -37,7 +37,7 @@ fn first_change(
     None
 }
 
-/// Gives a packet of this class on which the verdicts are not the same, if there is one.
+/// Finds a packet of this class on which the verdicts are not the same, if there is one.
 fn change_of(
     alloc: Global,
     before: &Version,
@@ -57,7 +57,7 @@ fn change_of(
     }
 }
 
-/// Gives the rules of both versions.
+/// Collects the rules of both versions.
 ///
 /// # Errors
 ///
@@ -78,7 +78,7 @@ pub fn rules_of_both(
     Ok(rules)
 }
 
-/// Gives a packet whose verdict after isn't the same as the one before. If it gives none, there is none: the verdicts on
+/// Finds a packet whose verdict after isn't the same as the one before. If it finds none, there is none: the verdicts on
 /// every packet of every source, destination, interface and mark are the same.
 ///
 /// # Errors

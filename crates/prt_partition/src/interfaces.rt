@@ -10,21 +10,21 @@ use prt_route::{Dev, read_dev};
 use prt_rule::Rule;
 use std::alloc::{AllocError, Global};
 
-/// Tells whether the rule names the interface.
+/// Checks whether the rule names the interface.
 fn names(name: &Dev, rule: &Rule) -> bool
     ensures { result ≡ names name.now rule.now }
 {
     rule.iif == Some(*name)
 }
 
-/// Tells whether a rule names the interface.
+/// Checks whether a rule names the interface.
 pub(crate) fn is_named(rules: &[Rule], name: &Dev) -> bool
     ensures { result ≡ is_named rules.now name.now }
 {
     rules.iter().any(|rule| names(name, rule))
 }
 
-/// Gives a number for each name of three bytes. Different names of three letters have different numbers.
+/// Computes a number for each name of three bytes. Different names of three letters have different numbers.
 fn number_of(name: &Dev) -> Option<u32>
     ensures { result ≡ number_of name.now }
 {
@@ -51,7 +51,7 @@ fn push_numbers(numbers: &mut Vec<u32>, rules: &[Rule]) -> Result<(), AllocError
     Ok(())
 }
 
-/// Gives the lowest number that isn't in the list.
+/// Finds the lowest number that isn't in the list.
 fn first_gap(numbers: &[u32]) -> u32
     requires rise { IsStrictlyIncreasing numbers.now }
     requires few { length numbers.now ≤ 2000 }
@@ -66,7 +66,7 @@ fn first_gap(numbers: &[u32]) -> u32
     numbers.len() as u32
 }
 
-/// Gives the name of three letters that has this number.
+/// Builds the name of three letters that has this number.
 fn name_of(number: u32) -> Dev
     requires { number ≤ 2000 }
     ensures { number_of result ≡ Some number }
@@ -101,7 +101,7 @@ pub fn fresh_name(alloc: Global, rules: &[Rule]) -> Result<Dev, AllocError>
     Ok(name_of(first_gap(&numbers)))
 }
 
-/// Tells whether the name is one of these.
+/// Checks whether the name is one of these.
 fn is_among(names: &[Dev], name: &Dev) -> bool
     ensures { result ≡ list_any (bytes_eq name.now) names.now }
 {
@@ -123,7 +123,7 @@ fn push_name(names: &mut Vec<Dev>, name: &Option<Dev>) -> Result<(), AllocError>
     }
 }
 
-/// Gives the interfaces that rules name, each of them once.
+/// Collects the interfaces that rules name, each of them once.
 ///
 /// # Errors
 ///

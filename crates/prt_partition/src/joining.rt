@@ -8,7 +8,7 @@ use prt_route::Dev;
 use prt_rule::{Mark, Packet, Rule};
 use std::alloc::{AllocError, Global};
 
-/// Tells whether the interface is the one that is given, if one is.
+/// Checks whether the interface is the one that is given, if one is.
 fn takes_interface(given: &Option<Dev>, iif: &Dev) -> bool
     ensures { result ≡ takes_interface given.now iif.now }
 {
@@ -18,7 +18,7 @@ fn takes_interface(given: &Option<Dev>, iif: &Dev) -> bool
     }
 }
 
-/// Tells whether the marks agree in the bits of the mask, if a mark is given.
+/// Checks whether the marks agree in the bits of the mask, if a mark is given.
 pub(crate) fn takes_mark(given: &Option<Mark>, mark: u32) -> bool
     ensures { result ≡ takes_mark given.now mark }
 {
@@ -28,7 +28,7 @@ pub(crate) fn takes_mark(given: &Option<Mark>, mark: u32) -> bool
     }
 }
 
-/// Tells whether the rule's selector takes the packet, if its destination is left out. `not` doesn't matter.
+/// Checks whether the rule's selector takes the packet, if its destination is left out. `not` doesn't matter.
 pub(crate) fn takes_apart(rule: &Rule, packet: &Packet) -> bool
     ensures { result ≡ takes_apart rule.now packet.now }
 {
@@ -37,7 +37,7 @@ pub(crate) fn takes_apart(rule: &Rule, packet: &Packet) -> bool
         && takes_mark(&rule.mark, packet.mark)
 }
 
-/// Gives the packets that the rule takes, if their destinations are left out.
+/// Collects the packets that the rule takes, if their destinations are left out.
 fn taken(alloc: Global, rule: &Rule, packets: &[Packet]) -> Result<Vec<Packet>, AllocError>
     ensures { IfOk result (λ taken. taken.items ≡ filter (takes_apart rule.now) packets.now) }
 {
@@ -48,7 +48,7 @@ fn taken(alloc: Global, rule: &Rule, packets: &[Packet]) -> Result<Vec<Packet>, 
         .collect(alloc)
 }
 
-/// Gives the packets that the rule doesn't take, if their destinations are left out.
+/// Collects the packets that the rule doesn't take, if their destinations are left out.
 fn left(alloc: Global, rule: &Rule, packets: &[Packet]) -> Result<Vec<Packet>, AllocError>
     ensures { IfOk result (λ left. left.items ≡ filter (λ packet. not (takes_apart rule.now packet)) packets.now) }
 {
@@ -69,7 +69,7 @@ fn keep(classes: &mut Vec<Packet>, packet: &Packet) -> Result<(), AllocError>
 
 /// Appends one of the packets for each set of them that every rule takes alike.
 ///
-/// It calls itself for each half that a rule makes, at most as deep as there are rules, and ends early at a set of one.
+/// It calls itself for each half that a rule makes, at most as deep as there are rules. It ends early at a set of one.
 #[tactic(auto, using(crate::proofs::Joined::joined_none, crate::proofs::Joined::joined_one))]
 fn push_joined(
     classes: &mut Vec<Packet>,

@@ -11,7 +11,7 @@ use prt_refusals::Refusal;
 use prt_rule::{Mark, Rule};
 use std::alloc::{AllocError, Global};
 
-/// Gives the bit, counted from the lowest.
+/// Returns the bit, counted from the lowest.
 fn bit(number: u32, place: u32) -> u32
     requires { place < 32 }
     ensures { result ≡ bit number place }
@@ -19,7 +19,7 @@ fn bit(number: u32, place: u32) -> u32
     (number >> place) & 1
 }
 
-/// Tells whether the mark compares a bit in which the marks of the block differ.
+/// Checks whether the mark compares a bit in which the marks of the block differ.
 fn is_open(place: u32, block: &Mark, by: &Mark) -> bool
     requires { place < 32 }
     ensures { result ≡ is_open place block.now by.now }
@@ -27,7 +27,7 @@ fn is_open(place: u32, block: &Mark, by: &Mark) -> bool
     bit(by.mask, place) == 1 && bit(block.mask, place) == 0
 }
 
-/// Gives the half of the block that has the bit of its mark.
+/// Returns the half of the block that has the bit of its mark.
 fn kept(place: u32, block: &Mark) -> Mark
     requires { place < 32 }
     ensures { result ≡ kept place block.now }
@@ -38,7 +38,7 @@ fn kept(place: u32, block: &Mark) -> Mark
     }
 }
 
-/// Gives the half of the block that has the other bit.
+/// Returns the half of the block that has the other bit.
 fn flipped(place: u32, block: &Mark) -> Mark
     requires { place < 32 }
     ensures { result ≡ flipped place block.now }
@@ -49,7 +49,7 @@ fn flipped(place: u32, block: &Mark) -> Mark
     }
 }
 
-/// Gives the half of the block that differs from the mark in the bit.
+/// Chooses the half of the block that differs from the mark in the bit.
 fn other_half(place: u32, block: &Mark, by: &Mark) -> Mark
     requires { place < 32 }
     ensures { result ≡ other_half place block.now by.now }
@@ -61,7 +61,7 @@ fn other_half(place: u32, block: &Mark, by: &Mark) -> Mark
     }
 }
 
-/// Gives the half of the block that agrees with the mark in the bit.
+/// Chooses the half of the block that agrees with the mark in the bit.
 fn agreeing_half(place: u32, block: &Mark, by: &Mark) -> Mark
     requires { place < 32 }
     ensures { result ≡ agreeing_half place block.now by.now }
@@ -90,7 +90,7 @@ fn push_parts(blocks: &mut Vec<Mark>, block: &Mark, by: &Mark) -> Result<(), All
     Ok(())
 }
 
-/// Tells whether none of the block's marks agrees with the mark.
+/// Checks whether none of the block's marks agrees with the mark.
 fn differs(block: &Mark, by: &Mark) -> bool
     ensures { result ≡ differs block.now by.now }
 {
@@ -109,7 +109,7 @@ fn push_parts_of(blocks: &mut Vec<Mark>, by: &Mark, block: &Mark) -> Result<(), 
     }
 }
 
-/// Gives the blocks, each split by the mark.
+/// Splits each of the blocks by the mark.
 fn split(alloc: Global, blocks: &[Mark], by: &Mark) -> Result<Vec<Mark>, AllocError>
     ensures { IfOk result (λ all. all.items ≡ flat_map (parts_of by.now) blocks.now) }
 {
@@ -120,7 +120,7 @@ fn split(alloc: Global, blocks: &[Mark], by: &Mark) -> Result<Vec<Mark>, AllocEr
     Ok(all)
 }
 
-/// Gives the blocks, each split by the mark, if there is one.
+/// Splits each of the blocks by the mark, if there is one.
 fn split_by(alloc: Global, blocks: Vec<Mark>, by: &Option<Mark>) -> Result<Vec<Mark>, AllocError>
     ensures { IfOk result (λ all. all.items ≡ split_by by.now blocks.items) }
 {
@@ -130,7 +130,7 @@ fn split_by(alloc: Global, blocks: Vec<Mark>, by: &Option<Mark>) -> Result<Vec<M
     }
 }
 
-/// Gives blocks of marks: each mark is in exactly one of them, and each rule takes all marks of a block or none.
+/// Divides all marks into blocks: each mark is in exactly one of them, and each rule takes all marks of a block or none.
 ///
 /// # Errors
 ///

@@ -9,7 +9,7 @@ use prt_route::Route;
 use prt_rule::Rule;
 use std::alloc::{AllocError, Global};
 
-/// Tells whether one of the blocks has the address.
+/// Checks whether one of the blocks has the address.
 fn has_any(blocks: &[Prefix], addr: u32) -> bool
     ensures { result ≡ has_any blocks.now addr }
 {
@@ -79,8 +79,8 @@ fn push_block_cuts(cuts: &mut Vec<u32>, blocks: &[Prefix]) -> Result<(), AllocEr
     Ok(())
 }
 
-/// Gives the destinations at which blocks begin and end, and those in blocks at which an answer of one of two versions can
-/// change, and 0.0.0.0, in order. The versions are given by their rules and routes.
+/// Lists in order the destinations at which blocks begin and end, those in blocks at which an answer of either version can
+/// change, and 0.0.0.0. The versions are given by their rules and routes.
 pub(crate) fn near_starts(
     alloc: Global,
     blocks: &[Prefix],

@@ -30,14 +30,14 @@ pub struct PacketBox {
     pub mark: Mark,
 }
 
-/// Tells whether the number is in the range. Both ends belong to it.
+/// Checks whether the number is in the range. Both ends belong to it.
 fn is_between(first: u32, last: u32, number: u32) -> bool
     ensures { result ≡ is_between first last number }
 {
     first <= number && number <= last
 }
 
-/// Tells whether the interface is one of these.
+/// Checks whether the interface is one of these.
 fn has_interface(rules: &[Rule], interfaces: &Interfaces, iif: &Dev) -> bool
     ensures { result ≡ has_interface rules.now interfaces.now iif.now }
 {
@@ -48,7 +48,7 @@ fn has_interface(rules: &[Rule], interfaces: &Interfaces, iif: &Dev) -> bool
 }
 
 impl PacketBox {
-    /// Tells whether the packet is in the box, whatever its destination. The rules are those that packets are divided by.
+    /// Checks whether the packet is in the box, whatever its destination. The rules are those that packets are divided by.
     pub fn contains(&self, rules: &[Rule], packet: &Packet) -> bool
         ensures { result ≡ has_packet rules.now packet.now self.now }
     {
@@ -57,9 +57,9 @@ impl PacketBox {
             && takes_mark(&Some(self.mark), packet.mark)
     }
 
-    /// Gives a packet of the box, to 0.0.0.0, which represents all packets of the box.
+    /// Builds a packet of the box, to 0.0.0.0, which represents all packets of the box.
     ///
-    /// The fresh interface is one that no rule names, as [`fresh_name`](crate::fresh_name) gives it.
+    /// The fresh interface is one that no rule names, as [`fresh_name`](crate::fresh_name) finds it.
     pub fn packet(&self, fresh: &Dev) -> Packet
         ensures { result ≡ packet_of fresh.now self.now }
     {

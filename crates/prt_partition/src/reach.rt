@@ -11,14 +11,14 @@ use std::alloc::{AllocError, Global};
 /// How many rules or routes are looked at one by one, to find what they leave as it is.
 pub(crate) const FEW: usize = 64;
 
-/// Gives the prefix that has every address.
+/// Returns the prefix that has every address.
 fn everything() -> Prefix
     ensures { result ≡ everything }
 {
     Prefix::masked(0, 0)
 }
 
-/// Gives a prefix that has the destination of every packet that the rule matches.
+/// Finds a prefix that has the destination of every packet that the rule matches.
 fn reach_of(rule: &Rule) -> Prefix
     ensures { result ≡ reach_of rule.now }
 {
@@ -45,7 +45,7 @@ fn push_prefixes(blocks: &mut Vec<Prefix>, routes: &[Route]) -> Result<(), Alloc
     Ok(())
 }
 
-/// Gives prefixes: a packet to none of them is matched by none of the rules, and no route has its destination.
+/// Finds prefixes: a packet to none of them is matched by none of the rules, and no route has its destination.
 ///
 /// If there are many rules or routes it is one prefix, which has every address.
 pub(crate) fn blocks_of(

@@ -28,7 +28,7 @@ pub enum Sameness {
     Verdicts,
 }
 
-/// Gives what an action other than a lookup does with a packet, as a kind of routes.
+/// Returns what an action other than a lookup does with a packet, as a kind of routes.
 fn kind_of(action: Action) -> Option<Kind>
     ensures { result ≡ kind_of action }
 {
@@ -40,7 +40,7 @@ fn kind_of(action: Action) -> Option<Kind>
     }
 }
 
-/// Gives what the verdict means for the packet.
+/// Returns what the verdict means for the packet.
 pub fn outcome_of(verdict: &Verdict) -> Outcome
     ensures { result ≡ outcome_of verdict.now }
 {
@@ -66,7 +66,7 @@ pub fn outcome_of(verdict: &Verdict) -> Outcome
     }
 }
 
-/// Tells whether the outcomes are equal in every part.
+/// Checks whether the outcomes are equal in every part.
 fn is_same_outcome(outcome: &Outcome, other: &Outcome) -> bool
     ensures { result ≡ is_same_outcome outcome.now other.now }
 {
@@ -76,7 +76,7 @@ fn is_same_outcome(outcome: &Outcome, other: &Outcome) -> bool
         && outcome.src == other.src
 }
 
-/// Tells whether the routes are equal in every part.
+/// Checks whether the routes are equal in every part.
 pub(crate) fn is_same_route(route: &Route, other: &Route) -> bool
     ensures { result ≡ is_same_route route.now other.now }
 {
@@ -89,7 +89,7 @@ pub(crate) fn is_same_route(route: &Route, other: &Route) -> bool
         && route.scope == other.scope
 }
 
-/// Tells whether the verdicts are equal in every part.
+/// Checks whether the verdicts are equal in every part.
 pub fn is_same_verdict(verdict: &Verdict, other: &Verdict) -> bool
     ensures { result ≡ is_same_verdict verdict.now other.now }
 {
@@ -105,7 +105,7 @@ pub fn is_same_verdict(verdict: &Verdict, other: &Verdict) -> bool
     }
 }
 
-/// Tells whether the verdicts count as the same.
+/// Checks whether the verdicts count as the same.
 pub(crate) fn are_same(sameness: Sameness, verdict: &Verdict, other: &Verdict) -> bool
     ensures { result ≡ are_same sameness verdict.now other.now }
 {

@@ -34,7 +34,7 @@ pub(crate) struct Transition {
     pub is: Verdict,
 }
 
-/// Gives the packet with this destination.
+/// Returns the packet with this destination.
 pub(crate) fn to(packet: &Packet, addr: u32) -> Packet
     ensures { result ≡ to packet.now addr }
 {
@@ -46,14 +46,14 @@ pub(crate) fn to(packet: &Packet, addr: u32) -> Packet
     }
 }
 
-/// Tells whether the rule matches the packet if it is given some destination.
+/// Checks whether the rule matches the packet if it is given some destination.
 fn can_match(packet: &Packet, rule: &Rule) -> bool
     ensures { result ≡ can_match packet.now rule.now }
 {
     rule.inverted || takes_apart(rule, packet)
 }
 
-/// Gives the rules that match the packet if it is given some destination.
+/// Collects the rules that match the packet if it is given some destination.
 fn candidates(alloc: Global, rules: &[Rule], packet: &Packet) -> Result<Vec<Rule>, AllocError>
     ensures { IfOk result (λ candidates. candidates.items ≡ filter (can_match packet.now) rules.now) }
 {
@@ -64,7 +64,7 @@ fn candidates(alloc: Global, rules: &[Rule], packet: &Packet) -> Result<Vec<Rule
         .collect(alloc)
 }
 
-/// Gives what of a difference can touch the packet, whatever its destination.
+/// Finds what of a difference can touch the packet, whatever its destination.
 pub(crate) fn what_touches(
     alloc: Global,
     differing: &Differing,
@@ -88,35 +88,35 @@ pub(crate) fn what_touches(
     })
 }
 
-/// Tells whether one of the rules matches the packet.
+/// Checks whether one of the rules matches the packet.
 fn any_matches(rules: &[Rule], packet: &Packet) -> bool
     ensures { result ≡ list_any (λ rule. matches rule packet.now) rules.now }
 {
     rules.iter().any(|rule| matches(rule, packet))
 }
 
-/// Tells whether one of the routes has the address.
+/// Checks whether one of the routes has the address.
 fn any_holds(routes: &[Route], addr: Addr) -> bool
     ensures { result ≡ list_any (λ route. contains route.prefix addr) routes.now }
 {
     routes.iter().any(|route| route.prefix.contains(addr))
 }
 
-/// Tells whether a rule matches the packet, or a route has its destination.
+/// Checks whether a rule matches the packet, or a route has its destination.
 fn is_touched(touching: &Touching, packet: &Packet) -> bool
     ensures { result ≡ is_touched touching.now packet.now }
 {
     touching.all || any_matches(&touching.rules, packet) || any_holds(&touching.routes, packet.dst)
 }
 
-/// Tells whether no packet is touched.
+/// Checks whether no packet is touched.
 pub(crate) fn is_nothing(touching: &Touching) -> bool
     ensures { result ≡ true → (packet : PacketOf) → is_touched touching.now packet ≡ false }
 {
     !touching.all && touching.rules.is_empty() && touching.routes.is_empty()
 }
 
-/// Gives the verdicts before and after, unless they are the same.
+/// Returns the verdicts before and after, unless they are the same.
 fn transition_of(
     before: &Version,
     after: &Version,
@@ -134,7 +134,7 @@ fn transition_of(
     }
 }
 
-/// Gives the verdicts before and after, unless they are the same. It asks for them only if the packet is touched.
+/// Returns the verdicts before and after, unless they are the same. It computes them only if the packet is touched.
 fn transition_if_touched(
     before: &Version,
     after: &Version,
@@ -152,7 +152,7 @@ fn transition_if_touched(
     }
 }
 
-/// Gives the verdicts before and after on the packet with this destination, unless they are the same.
+/// Returns the verdicts before and after on the packet with this destination, unless they are the same.
 pub(crate) fn transition_at(
     before: &Version,
     after: &Version,

@@ -1,4 +1,4 @@
--- What is told on standard error while a script is run.
+-- What is reported on standard error while a script is run.
 use Rattle.std.specs.Prelude.{ℕ, nat_lt, ◌==◌, ◌&&◌, ◌||◌, if◌then◌else◌, List, [], ◌++◌, map, codes, decimal, Option, Some, None}
 use Rattle.prt_refusals.specs.Refusal.{refusal_text}
 use Rattle.prt_addr.specs.Word.{Word}
@@ -11,16 +11,16 @@ use Rattle.prt_replay.specs.TraceText.{call_name}
 abbrev pub shown : ℕ → ℕ
 shown byte = if byte == 9 || (nat_lt 31 byte && nat_lt byte 127) then byte else 63
 
--- where a line stands: `FILE:LINE`
+-- where a line is: `FILE:LINE`
 abbrev pub location : List ℕ → ℕ → List ℕ
 location file line = file ++ codes ":" ++ decimal line
 
--- which call of the store failed, where one did: ` in write`
+-- which call of the store failed, if one did: ` in write`
 abbrev pub failed_call : Refusal → List ℕ
 failed_call (StoreFailed call) = codes " in " ++ call_name call
 failed_call other = []
 
--- the word that the refusal of a line is about, as far as there is one; of a line that was not read whole none is told
+-- the word that the refusal of a line is about, as far as there is one; of a line that was not read whole none is reported
 abbrev pub told_word : Refusal → List ℕ → Option Word
 told_word LineTooLong text = None
 told_word ReadFault text = None
@@ -43,7 +43,7 @@ complaint reason word text = blame reason word ++ codes ": " ++ map shown text
 abbrev pub refused_message : List ℕ → ℕ → Refusal → Option Word → List ℕ → List ℕ
 refused_message file line reason word text = location file line ++ codes ": " ++ complaint reason word text ++ codes "\n"
 
--- of a refused line that stands in no script
+-- of a refused line that is in no script
 abbrev pub question_message : Refusal → List ℕ → List ℕ
 question_message reason text = codes "prt: " ++ complaint reason (told_word reason text) text ++ codes "\n"
 

@@ -134,19 +134,19 @@ LeavesInput asked input0 input = input ≡ input0
 abbrev pub LeavesDatabases : {D : Type 0} → Invocation → D → D → Type 0
 LeavesDatabases asked old new = database_of asked ≡ None → new ≡ old
 
--- of the exit status, where the program has one
+-- of the exit status, if the program has one
 abbrev pub IfExit : (ℕ → Type 0) → Next → Type 0
 IfExit holds (Exit status) = holds status
 IfExit holds (Serve serving) = Unit {0}
 IfExit holds (Ask asked) = Unit {0}
 
--- of the sessions that are to be served, where they are asked for
+-- of the sessions that are to be served, if they are asked for
 abbrev pub IfServe : (Serving → Type 0) → Next → Type 0
 IfServe holds (Exit status) = Unit {0}
 IfServe holds (Serve serving) = holds serving
 IfServe holds (Ask asked) = Unit {0}
 
--- where a question is asked
+-- if a question is asked
 abbrev pub IfAsk : Type 0 → Next → Type 0
 IfAsk holds (Exit status) = Unit {0}
 IfAsk holds (Serve serving) = Unit {0}

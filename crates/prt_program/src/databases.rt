@@ -24,7 +24,7 @@ pub trait Databases {
     /// The states that the database at a path may hold.
     ghost holds: { Self → List ℕ → State → Type 0 };
 
-    /// What an opening of the database at a path makes of the databases, where it gives this desk.
+    /// What an opening of the database at a path makes of the databases, if it returns this desk.
     ghost opens: { Self → Self → List ℕ → Self.Opened → Type 0 };
 
     /// What the closing of this desk makes of the databases.
@@ -37,12 +37,12 @@ pub trait Databases {
     /// as far as its file is known.
     ghost leaves: { Self.Opened → State → Type 0 };
 
-    /// Opens the database at a path, and makes it where there is none. With a refusal comes the error of the file, if
+    /// Opens the database at a path, and makes it if there is none. With a refusal comes the error of the file, if
     /// that could not be opened.
     ///
     /// # Errors
     ///
-    /// `OpenFailed`, `Damaged` where it holds no state, or `NoMemory`; then no database is open.
+    /// `OpenFailed`, `Damaged` if it holds no state, or `NoMemory`; then no database is open.
     fn open(
         &mut self,
         alloc: Global,
@@ -53,14 +53,14 @@ pub trait Databases {
         ensures reason { IfErr result (λ refused. IsOpenRefusal refused.0) }
         ensures refused { IfErr result (λ refused. refuses self.old self.new path.now refused.0) };
 
-    /// Gives the error that failed a commit of an open database, if one failed: it is closed to commands since then.
+    /// Returns the error that failed a commit of an open database, if one failed: it is closed to commands since then.
     fn failure(&self, desk: &Self::Opened) -> Option<Self::Error>;
 
     /// Closes a database, so that its file alone has all of it. A later opening finds what the desk stands for as stored.
     ///
     /// # Errors
     ///
-    /// Why its log could not be moved into the file. Nothing that was acknowledged is lost then: it stands in the log.
+    /// Why its log could not be moved into the file. Nothing that was acknowledged is lost then: it is in the log.
     fn close(&mut self, desk: Self::Opened) -> Result<(), Self::Error>
         ensures closed { closed self.old self.new desk }
         ensures left { (found : State) → leaves desk found → (after : DeskState) × Self.Opened.stands desk after × (after.stored ≡ found) };

@@ -18,10 +18,10 @@ pub(crate) trait Host {
     /// Takes what is replied.
     type Output: Write + IsTerminal;
 
-    /// Takes what a person is told.
+    /// Takes what is reported to a person.
     type Errors: Write + Drop;
 
-    /// Tells the time.
+    /// Reads the time.
     type Clock: Clock + Drop;
 }
 

@@ -1,4 +1,4 @@
-//! The program `prt` over any databases, files and streams: scripts, replays, and what a person is told of a run.
+//! The program `prt` over any databases, files and streams: scripts, replays, and what is reported to a person of a run.
 #![tactic(auto)]
 
 mod databases;

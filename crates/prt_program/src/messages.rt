@@ -1,4 +1,4 @@
-//! What is told on standard error while a script is run.
+//! What is reported on standard error while a script is run.
 ghost use Rattle.std.specs.Prelude.{◌≡◌, ◌≢◌, ◌<◌, ◌∷◌, IfOk, IfSome, List, Some, codes, map, option_map, string_bytes, ℕ};
 ghost use Rattle.prt_command.specs.Reading.{words};
 ghost use Rattle.prt_program.specs.Messages.{blame, complaint, failed_call, lines_text, location, progress_message, question_message, quoted, refused_message, shown, told_word, total_message};
@@ -18,7 +18,7 @@ use std::time::Instant;
 /// Goes over the line of progress, whose at most 31 characters it covers with spaces.
 const BLANK: &str = "\r                                        \r";
 
-/// Gives the character that stands for a byte of a line: what can't be printed could be a command to the terminal.
+/// Chooses the character that is shown for a byte of a line: what can't be printed could be a command to the terminal.
 fn shown(byte: u8) -> char
     ensures value { result ≡ shown byte }
     ensures ascii { result < 128 }
@@ -41,7 +41,7 @@ fn shown_text(alloc: Global, line: &[u8]) -> Result<String, AllocError>
     Ok(text)
 }
 
-/// Makes the text of where a line stands.
+/// Makes the text of where a line is.
 fn location(alloc: Global, file: &str, line: u64) -> Result<String, AllocError>
     ensures { IfOk result (λ text. string_bytes text ≡ location file.now line) }
 {
@@ -50,7 +50,7 @@ fn location(alloc: Global, file: &str, line: u64) -> Result<String, AllocError>
     Ok(text)
 }
 
-/// Makes the text of which call of the store failed, which is empty where none did.
+/// Makes the text of which call of the store failed, which is empty if none did.
 fn failed_call(alloc: Global, refusal: Refusal) -> Result<String, AllocError>
     ensures { IfOk result (λ made. string_bytes made ≡ failed_call refusal) }
 {
@@ -78,7 +78,7 @@ fn told_word(refusal: Refusal, text: &[u8]) -> Option<&[u8]>
     }
 }
 
-/// Finds the word that the refusal of an event is about, where that is `submit` with a command: as of the command.
+/// Finds the word that the refusal of an event is about, if that is `submit` with a command: as of the command.
 fn told_event_word(refusal: Refusal, text: &[u8]) -> Option<&[u8]>
     ensures { IfSome result (λ word. (command : List ℕ) × (words text.now ≡ codes "submit" ∷ words command) × (told_word refusal command ≡ Some word.now)) }
 {
@@ -142,11 +142,11 @@ fn refused_message(
     format!(in alloc; "{location}: {complaint}\n")
 }
 
-/// Makes the message of why a line that stands in no script is refused.
+/// Makes the message of why a line that is in no script is refused.
 ///
 /// # Errors
 ///
-/// `AllocError`, where memory is refused.
+/// `AllocError`, if memory is refused.
 pub fn question_message(alloc: Global, refusal: Refusal, text: &[u8]) -> Result<String, AllocError>
     ensures { IfOk result (λ message. string_bytes message ≡ question_message refusal text.now) }
 {
@@ -178,12 +178,12 @@ fn progress_message(alloc: Global, lines: u64, rate: u64) -> Result<String, Allo
     format!(in alloc; "{lines}, {rate} a second")
 }
 
-/// Makes the message of why a path, or a place to listen at, could not be opened or failed later, in the words of what
-/// refused it.
+/// Makes the message of why a path, or a place to listen at, could not be opened or failed later. It has the words of
+/// what refused it.
 ///
 /// # Errors
 ///
-/// `AllocError`, where memory is refused.
+/// `AllocError`, if memory is refused.
 pub fn cause_message<P: Display, D: Display>(
     alloc: Global,
     place: &P,
@@ -196,7 +196,7 @@ pub fn cause_message<P: Display, D: Display>(
 ///
 /// # Errors
 ///
-/// `AllocError`, where memory is refused.
+/// `AllocError`, if memory is refused.
 pub fn log_message<D: Display>(
     alloc: Global,
     path: &str,
@@ -207,14 +207,14 @@ pub fn log_message<D: Display>(
     )
 }
 
-/// What is told of a run.
+/// What is reported of a run.
 #[derive(Clone, Copy)]
 enum Telling {
     /// Nothing.
     Off,
     /// Messages.
     On,
-    /// Messages, and the line of progress stands after them.
+    /// Messages, and the line of progress comes after them.
     ShowingProgress,
 }
 
@@ -227,7 +227,7 @@ enum Language {
     Events,
 }
 
-/// Looks on at a run, and tells of it on standard error once it is turned on. Why a file failed it always tells.
+/// Looks on at a run, and reports it on standard error once it is turned on. Why a file failed it always reports.
 ///
 /// A fault of the clock, of memory or of writing loses a message and changes nothing else.
 #[derive(Drop)]
@@ -241,16 +241,16 @@ pub(crate) struct Messages<'a, E: Write + Drop, K: Clock + Drop> {
     /// The name of the script.
     file: &'a str,
     language: Language,
-    /// When the run began; none where no progress is told.
+    /// When the run began; none if no progress is reported.
     begun: Option<Instant>,
-    /// How many whole seconds had passed when progress was told last.
+    /// How many whole seconds had passed when progress was last reported.
     seconds: u64,
     lines: u64,
     refused: u64,
 }
 
 impl<'a, E: Write + Drop, K: Clock + Drop> Messages<'a, E, K> {
-    /// Makes messages to `errors`, which tell of nothing until they are turned on.
+    /// Makes messages to `errors`, which report nothing until they are turned on.
     pub(crate) fn new(alloc: Global, errors: E, clock: K) -> Messages<'a, E, K> {
         Messages {
             alloc,
@@ -267,21 +267,21 @@ impl<'a, E: Write + Drop, K: Clock + Drop> Messages<'a, E, K> {
         }
     }
 
-    /// Tells of what follows.
+    /// Starts reporting what follows.
     pub(crate) fn turn_on(&mut self) {
         if !self.is_on() {
             self.telling = Telling::On;
         }
     }
 
-    /// Tells whether it is turned on.
+    /// Returns whether it is turned on.
     fn is_on(&self) -> bool {
         !matches!(self.telling, Telling::Off)
     }
 
     /// Begins to look on at a run of the script of this name, whose replies go to `output`.
     ///
-    /// Where that is a terminal, the replies show the progress themselves.
+    /// If that is a terminal, the replies show the progress themselves.
     pub(crate) fn begin<W: IsTerminal>(&mut self, file: &'a str, output: &W) {
         self.file = file;
         if self.is_on() && !output.is_terminal() {
@@ -289,7 +289,7 @@ impl<'a, E: Write + Drop, K: Clock + Drop> Messages<'a, E, K> {
         }
     }
 
-    /// Begins to look on at a replay of the file of this name, of which at most the refused line is told.
+    /// Begins to look on at a replay of the file of this name, of which at most the refused line is reported.
     pub(crate) fn begin_replay(&mut self, file: &'a str) {
         self.file = file;
         self.language = Language::Events;
@@ -300,14 +300,14 @@ impl<'a, E: Write + Drop, K: Clock + Drop> Messages<'a, E, K> {
         self.cause = cause_message(self.alloc, &path, reason).ok();
     }
 
-    /// Tells why a file could not be opened, if that was kept.
+    /// Reports why a file could not be opened, if that was kept.
     fn tell_cause(&mut self) {
         if let Some(cause) = &self.cause {
             let _ = self.errors.write_all(cause.as_bytes());
         }
     }
 
-    /// Tells why nothing is run, and gives the exit status for that.
+    /// Reports why nothing is run, and returns the exit status for that.
     pub(crate) fn report<W: Write>(&mut self, fault: &Fault, output: &mut W) -> u8
         ensures status { result ≡ fault_status fault.now }
         ensures unwritten { result ≢ DONE → W.contents output.new ≡ W.contents output.old }
@@ -317,7 +317,7 @@ impl<'a, E: Write + Drop, K: Clock + Drop> Messages<'a, E, K> {
         status
     }
 
-    /// Tells why a file could not be read to its end, if it failed.
+    /// Reports why a file could not be read to its end, if it failed.
     pub(crate) fn tell_failure<S>(&mut self, file: &str, stream: &Noting<S>) {
         if let Some(error) = stream.error() {
             self.wipe();
@@ -325,7 +325,7 @@ impl<'a, E: Write + Drop, K: Clock + Drop> Messages<'a, E, K> {
         }
     }
 
-    /// Tells why a commit to the database at a path failed, if one did.
+    /// Reports why a commit to the database at a path failed, if one did.
     pub(crate) fn tell_commit<D: Display>(&mut self, path: &str, failure: &Option<D>) {
         if let Some(reason) = failure {
             self.wipe();
@@ -333,7 +333,7 @@ impl<'a, E: Write + Drop, K: Clock + Drop> Messages<'a, E, K> {
         }
     }
 
-    /// Tells why the log of the database at a path could not be moved into its file, if that failed.
+    /// Reports why the log of the database at a path could not be moved into its file, if that failed.
     pub(crate) fn tell_closing<D: Display>(&mut self, path: &str, closed: &Result<(), D>) {
         if let Err(reason) = closed {
             self.wipe();
@@ -356,7 +356,7 @@ impl<'a, E: Write + Drop, K: Clock + Drop> Messages<'a, E, K> {
         }
     }
 
-    /// Tells of a refused line.
+    /// Reports a refused line.
     fn tell_refused(&mut self, line: u64, refusal: Refusal, text: &[u8]) {
         self.refused = self.refused.saturating_add(1);
         self.wipe();
@@ -367,7 +367,7 @@ impl<'a, E: Write + Drop, K: Clock + Drop> Messages<'a, E, K> {
         self.write(refused_message(self.alloc, self.file, line, refusal, word, text));
     }
 
-    /// Gives the whole seconds since the run began; 0 where no progress is told.
+    /// Returns the whole seconds since the run began; 0 if no progress is reported.
     fn seconds_passed(&self) -> u64 {
         match self.begun {
             Some(begun) => match begun.elapsed(&self.clock) {
@@ -378,7 +378,7 @@ impl<'a, E: Write + Drop, K: Clock + Drop> Messages<'a, E, K> {
         }
     }
 
-    /// Tells how many lines are done, if a further second has passed.
+    /// Reports how many lines are done, if a further second has passed.
     fn tell_progress(&mut self) {
         let seconds = self.seconds_passed();
         if seconds <= self.seconds {
@@ -391,7 +391,7 @@ impl<'a, E: Write + Drop, K: Clock + Drop> Messages<'a, E, K> {
         self.telling = Telling::ShowingProgress;
     }
 
-    /// Counts a refusal of commands that were to be made together, since that is told of no line.
+    /// Counts a refusal of commands that were to be made together, since that is reported of no line.
     pub(crate) fn count_refusal(&mut self, end: ScriptEnd) {
         let is_refused = end.refused
             || matches!(
@@ -403,7 +403,7 @@ impl<'a, E: Write + Drop, K: Clock + Drop> Messages<'a, E, K> {
         }
     }
 
-    /// Tells at the end of a run how many lines there were.
+    /// Reports at the end of a run how many lines there were.
     pub(crate) fn finish(&mut self) {
         if self.is_on() {
             self.wipe();

@@ -1,11 +1,11 @@
-//! Streams whose faults are told.
+//! Streams whose faults are reported.
 ghost use Rattle.std.specs.Prelude.{◌≡◌};
 
 use std::io::{self, IsTerminal, Read, Write};
 
 /// A stream that keeps the error of its last call that failed.
 ///
-/// It reads and writes as the stream itself. What it gives its caller of an error is the kind.
+/// It reads and writes as the stream itself. What it returns to its caller of an error is the kind.
 #[derive(Drop)]
 pub struct Noting<S> {
     stream: S,
@@ -23,12 +23,12 @@ impl<S> Noting<S> {
         }
     }
 
-    /// Gives the error of the last call that failed, if one did.
+    /// Returns the error of the last call that failed, if one did.
     pub fn error(&self) -> Option<&io::Error> {
         self.error.as_ref()
     }
 
-    /// Keeps an error, unless the call is only to be made again, and gives one of its kind.
+    /// Keeps an error, unless the call is only to be made again, and returns one of its kind.
     fn keep(&mut self, error: io::Error) -> io::Error
         ensures { self.new.stream ≡ self.old.stream }
     {

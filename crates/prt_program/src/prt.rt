@@ -28,10 +28,10 @@ use std::fs::{self, Files};
 use std::io::{BufReader, IsTerminal, Read, Write};
 use std::rt::Clock;
 
-/// The exit status where a line was refused.
+/// The exit status if a line was refused.
 const REFUSED: u8 = 1;
 
-/// Gives the exit status of a run.
+/// Chooses the exit status of a run.
 fn exit_status(end: ScriptEnd) -> u8
     ensures { result ≡ exit_status end }
 {
@@ -62,7 +62,7 @@ fn run_in<D: Desk, R: Read, W: Write, O: Observer>(
     }
 }
 
-/// Runs a script over a desk, and gives the exit status of the session.
+/// Runs a script over a desk, and returns the exit status of the session.
 fn run_over<D: Desk, R: Read, W: Write, E: Write + Drop, K: Clock + Drop>(
     alloc: Global,
     desk: &mut D,
@@ -118,7 +118,7 @@ fn buffered<R: Read + Drop>(alloc: Global, input: R) -> Result<BufReader<R>, Fau
     }
 }
 
-/// Runs a script over the database that is asked for, and gives the exit status of the session.
+/// Runs a script over the database that is asked for, and returns the exit status of the session.
 pub(crate) fn run_batch<H: Host, R: Read + Drop>(
     around: &mut Surroundings<'_, '_, H>,
     database: Option<&str>,
@@ -152,7 +152,7 @@ pub(crate) fn run_batch<H: Host, R: Read + Drop>(
     }
 }
 
-/// Checks a script, and gives the exit status.
+/// Checks a script, and returns the exit status.
 fn check<R: Read + Drop, W: Write, O: Observer>(
     alloc: Global,
     input: R,
@@ -167,7 +167,7 @@ fn check<R: Read + Drop, W: Write, O: Observer>(
     Ok(exit_status(check_lines(&mut reader, output, observer)))
 }
 
-/// Replays a list of events, and gives the exit status.
+/// Replays a list of events, and returns the exit status.
 fn replay<R: Read, W: Write, O: Observer>(
     alloc: Global,
     input: &mut R,
@@ -287,7 +287,7 @@ fn replay_of<'a, H: Host, R: Read>(
     }
 }
 
-/// Runs what the words ask for, and gives the exit status of the run. Sessions that are to be served, and a question, are
+/// Runs what the words ask for, and returns the exit status of the run. Sessions that are to be served, and a question, are
 /// handed back.
 fn run_words<'a, H: Host, R: Read>(
     around: &mut Surroundings<'_, '_, H>,
@@ -325,20 +325,20 @@ fn run_words<'a, H: Host, R: Read>(
     }
 }
 
-/// Runs the program with these words, the first of which is its own name, and gives its exit status.
+/// Runs the program with these words, the first of which is its own name, and returns its exit status.
 ///
 /// `batch [--force | --atomic] [--db PATH] [--verbose] [FILE]` runs a script over the database at PATH or a new one in
 /// memory; with `--atomic` all its changes are made together or none.
-/// `check [FILE]` says which of its lines would be refused as they stand, and `replay [FILE]` replays a list of events.
-/// Where a FILE is named, `input` is not read. Of `serve` and of a question (such as `get`) the words
+/// `check [FILE]` says which of its lines would be refused as they are, and `replay [FILE]` replays a list of events.
+/// If a FILE is named, `input` is not read. Of `serve` and of a question (such as `get`) the words
 /// are read and handed back; nothing is written then, and no database touched.
 ///
 /// Without `--db` no database is opened. With it the one at PATH is opened, closed as the session left it, and nothing
 /// else is done to any database. Each state that a later opening may find there is one that the session, which began with
 /// the opened state, left stored; which those are `Databases` says. A refused opening is the only thing done to databases.
 ///
-/// The status is 0 where nothing was refused and after help, 1 where a line was refused, 2 for bad words, and 3 for a
-/// fault of opening, of the store, of the reader or of the writer.
+/// The status is 0 if nothing was refused and after help, 1 if a line was refused, and 2 for bad words. It is 3
+/// for a fault of opening, of the store, of the reader or of the writer.
 pub fn program<
     'a,
     F: Files + Clock,

@@ -16,11 +16,11 @@ use std::rt::Clock;
 /// What the script is called in messages.
 const SCRIPT: &str = "script";
 
-/// Runs a text as a script over the database at a path, goes on after a refused line, and gives the exit status.
+/// Runs a text as a script over the database at a path, goes on after a refused line, and returns the exit status.
 ///
-/// It is the session of `prt batch --force --verbose --db PATH`: replies go to `output`, and each refused line is told on
-/// `errors`. The status is 0 where nothing was refused, 1 where a line was, and 3 for a fault of opening, of the store or of
-/// the writer. Where the database can't be opened, nothing is written and nothing else is done.
+/// It is the session of `prt batch --force --verbose --db PATH`: replies go to `output`, and each refused line is reported on
+/// `errors`. The status is 0 if nothing was refused, and 1 if a line was. It is 3 for a fault of opening, of the store or of
+/// the writer. If the database can't be opened, nothing is written and nothing else is done.
 pub fn run_text<F: Files + Clock, D: Databases, W: Write + IsTerminal, E: Write>(
     files: &F,
     databases: &mut D,

@@ -1,4 +1,4 @@
--- What an opening makes of a database, and what it leaves where it is refused.
+-- What an opening makes of a database, and what it leaves if it is refused.
 use Rattle.std.proofs.Common.{◌≡◌, inl, inr, sym, subst, ◌∙◌, arith}
 use Rattle.std.specs.Prelude.{IsTrue}
 use Rattle.sqlite.proofs.StateLemmas.{survives_then}
@@ -70,7 +70,7 @@ module _ {S : Type 0} (g : Ghosts S) (was adopted loaded : Held S) (live : IsTru
       lasts = lasts;
     }
 
-  -- tables that spell a state spell it once they are adopted, so their load finds no damage
+  -- tables that encode a state encode it once they are adopted, so their load finds no damage
   module _ (reason : Refusal) (left : Held S) (released : left ≡ loaded) (why : IsOpenRefusal reason)
       (keeps : HasCleanDisk (state g adopted) → (stored : State) → Stores (state g was).now stored → Stores (state g adopted).now stored)
       (former : HasCleanDisk (state g adopted) → (stored : State) → StoresFormat1 (state g was).now stored → Stores (state g adopted).now stored)
@@ -99,7 +99,7 @@ module _ {S : Type 0} (g : Ghosts S) (was adopted loaded : Held S) (live : IsTru
     })
 
 module _ {S : Type 0} (g : Ghosts S) (was made left : Held S) (reason : Refusal) where
-  -- what was opened is given back
+  -- what was opened is returned
   pub memory_refused : (opened : State) → reason ≡ NoMemory → left ≡ made → HasOpened g was made opened → HasRefused g was left reason
   memory_refused opened is released made_so = subst (λ (conn : Held S). HasRefused g was conn reason) (sym released) (record {
     why = inr (inr is);

@@ -27,7 +27,7 @@ TakesAll s commands = (s.phase ≡ Ready) × IsAccepted (line_state s.line) comm
 abbrev pub Takes : {T : Type 0} → Standing T → Command → Type 0
 Takes s command = TakesAll s (command ∷ [])
 
--- why commands are refused: the first refusal among them; or, where they are several, that memory was refused on the way to it
+-- why commands are refused: the first refusal among them; or, if they are several, that memory was refused on the way to it
 abbrev pub AreRefused : State → List Command → Refusal → Type 0
 AreRefused published commands why = (refusal_all published commands ≡ Some why) ⊎ ((why ≡ reason.NoMemory) × (2 ≤ length commands))
 
@@ -45,7 +45,8 @@ AreNotPrepared p published commands why = AreRefused published commands why ⊎ 
 abbrev pub IsNotPrepared : Phase → State → Command → Refusal → Type 0
 IsNotPrepared phase published command why = AreNotPrepared phase published (command ∷ []) why
 
--- The commit failed: closed, with the old state in the tables while they can be seen. A crash leaves it too or, only where the commit call failed, possibly the one after all of the commands.
+-- The commit failed: closed, with the old state in the tables while they can be seen. A crash leaves it too or, only if the
+-- commit call failed, possibly the one after all of the commands.
 pub record AreNotStored {S : Type 0} (g : Ghosts S) (old : Standing (Held S)) (commands : List Command) (why : Refusal) (new : Standing (Held S)) : Type 0 where
   pub takes : TakesAll old commands
   pub call : StoreCall
@@ -78,6 +79,6 @@ HaveCommitted g old commands new =
 abbrev pub HasCommitted : {S : Type 0} → Ghosts S → Standing (Held S) → Command → Held S → Type 0
 HasCommitted g old command new = HaveCommitted g old (command ∷ []) new
 
--- the other tables of the file stay, where that can be seen
+-- the other tables of the file stay, if that can be seen
 abbrev pub Spares : {S : Type 0} → Ghosts S → Standing (Held S) → Standing (Held S) → Type 0
 Spares g old new = IsKnown g new.ours_first new.tables → (new.phase ≡ Closed → IsTrue (state g new.tables).is_open) → SparesOthers (state g old.tables).now (state g new.tables).now

@@ -1,4 +1,4 @@
--- What an opening makes of a database, and what it leaves where it is refused.
+-- What an opening makes of a database, and what it leaves if it is refused.
 use Rattle.std.specs.Prelude.{◌≡◌, ◌↔◌, [], true, IsTrue}
 use Rattle.sqlite.specs.Held.{Held, state}
 use Rattle.sqlite.specs.State.{HasCleanDisk, IsUnchanged, Survives}
@@ -20,7 +20,9 @@ use Rattle.prt_version.specs.State.{State}
 abbrev pub Lasts : {S : Type 0} → Ghosts S → Held S → Held S → Type 0
 Lasts g was left = (HasCleanDisk (state g was) → BeginsFormat2 (state g was).now.schema) → Survives (state g was) (state g left) (LeavesPart (state g was).now)
 
--- The tables were adopted, and this state is stored in them; tables that spelled a state spelled this one. Of whatever file, none of ours had other columns. They were only made where they were missing, filled where none of the four showed a row, or migrated where they showed format 1 and no lengths; and the statements that read them show the state.
+-- The tables were adopted, and this state is stored in them; tables that encoded a state encoded this one. Of whatever
+-- file, none of ours had other columns. They were only made if they were missing, filled if none of the four showed a row,
+-- or migrated if they showed format 1 and no lengths; and the statements that read them show the state.
 pub record HasOpened {S : Type 0} (g : Ghosts S) (was made : Held S) (opened : State) : Type 0 where
   pub sound : IsSound opened
   pub suits : (SuitsFormat2 (state g was).now.schema → ⊥) → ⊥
@@ -30,7 +32,9 @@ pub record HasOpened {S : Type 0} (g : Ghosts S) (was made : Held S) (opened : S
   pub found : HasCleanDisk (state g made) → IsTrue (state g was).is_open → (stored : State) → Spells (state g was).now.trees stored → BeginsFormat2 (state g was).now.schema × (opened ≡ stored)
   pub lasts : Lasts g was made
 
--- Nothing was opened. `Damaged` comes only where the file had no state, of which only files that are new, of format 1 alone, or have our tables first are known to have one. Their tables are at most adopted in part. Where one of ours had other columns, the connection is as it was.
+-- Nothing was opened. `Damaged` comes only if the file had no state, of which only files that are new, of format 1 alone,
+-- or have our tables first are known to have one. Their tables are at most adopted in part. If one of ours had other
+-- columns, the connection is as it was.
 pub record HasRefused {S : Type 0} (g : Ghosts S) (was left : Held S) (reason : Refusal) : Type 0 where
   pub why : IsOpenRefusal reason
   pub damaged : reason ≡ Damaged → HasCleanDisk (state g left) → IsTrue (state g was).is_open → (stored : State) → HasState (state g was).now stored → ⊥

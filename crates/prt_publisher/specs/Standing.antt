@@ -45,7 +45,8 @@ unnoted phase commands = 0
 
 -- ---- the tables beside the published state
 
--- What a failed commit leaves: the tables spell the published state while they can be seen. Whatever a crash leaves spells it or the one after the commands that were under way, the same ones each time, which it refuses for nothing.
+-- What a failed commit leaves: the tables encode the published state while they can be seen. Whatever a crash leaves
+-- encodes it or the one after the commands that were under way, the same ones each time, which it refuses for nothing.
 pub record IsLeft {S : Type 0} (g : Ghosts S) (tables : Held S) (published : State) : Type 0 where
   pub now : IsTrue (state g tables).is_open → Stores (state g tables).now published
   pub commands : List Command
@@ -59,6 +60,6 @@ Agrees g Closed [] published tables = IsLeft g tables published
 Agrees g Closed (command ∷ commands) published tables = IsStored g tables (fold published (command ∷ commands))
 Agrees g phase commands published tables = IsStored g tables published
 
--- what stands in the tables of a file that is known
+-- what is in the tables of a file that is known
 abbrev pub Stands : {S : Type 0} → Ghosts S → Standing (Held S) → Type 0
 Stands g s = IsKnown g s.ours_first s.tables → Agrees g s.phase s.commands (line_state s.line) s.tables

@@ -9,7 +9,7 @@ ghost use Rattle.prt_version.specs.Change.{fold};
 use prt_command::{Command, Refusal};
 use prt_version::{Change, Version};
 
-/// Commands before another one, with their changes, and the version after them where there are some.
+/// Commands before another one, with their changes, and the version after them if there are some.
 #[derive(Drop)]
 pub(crate) struct Earlier {
     pub(crate) commands: Vec<Command>,
@@ -30,7 +30,7 @@ pub struct Checked {
 ///
 /// # Errors
 ///
-/// As of `Version::after_all`. Where there are none, it can't fail.
+/// As of `Version::after_all`. If there are none, it can't fail.
 fn make_earlier(published: &Version, commands: &[Command]) -> Result<Earlier, Refusal>
     ensures earlier { IfOk result (LeadUp published.now) }
     ensures commands { IfOk result (λ earlier. earlier.commands.items ≡ commands.now) }
@@ -57,7 +57,7 @@ fn make_earlier(published: &Version, commands: &[Command]) -> Result<Earlier, Re
 }
 
 impl Earlier {
-    /// Gives the version that the next command meets.
+    /// Returns the version that the next command meets.
     pub(crate) fn version<'a>(&'a self, published: &'a Version) -> &'a Version
         ensures { result.now ≡ version_met published.now self.now.version }
     {

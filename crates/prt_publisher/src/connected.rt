@@ -13,11 +13,11 @@ use prt_grace::Domain;
 use sqlite::{Alter, Connection, Error};
 use std::alloc::Global;
 
-/// Opens a publisher over the database of the connection that an open gave.
+/// Opens a publisher over the database of the connection that an open returned.
 ///
 /// # Errors
 ///
-/// `OpenFailed` with the library's error where it gave none, and else, with the connection, as `Publisher::adopt`.
+/// `OpenFailed` with the library's error if it returned none; otherwise, with the connection, as `Publisher::adopt`.
 pub fn publisher_over<S: Alter + Drop>(
     alloc: Global,
     conn: Result<Connection<S>, Error>,

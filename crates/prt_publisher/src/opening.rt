@@ -19,7 +19,7 @@ use sqlite::{Alter, Connection};
 use std::alloc::Global;
 use std::sync::Arc;
 
-/// A store, whether its tables are the first of their file, and the version that they spell.
+/// A store, whether its tables are the first of their file, and the version that they encode.
 #[derive(Drop)]
 struct Loaded<S: Alter + Drop> {
     store: Store<S>,
@@ -44,7 +44,7 @@ pub(crate) struct Opened<S: Alter + Drop> {
     pub(crate) begun: Begun,
 }
 
-/// Adopts the tables of a connection, and loads the version that they spell.
+/// Adopts the tables of a connection, and loads the version that they encode.
 ///
 /// # Errors
 ///

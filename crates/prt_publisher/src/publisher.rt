@@ -60,7 +60,7 @@ enum Step {
 /// locked; `prepare_all` and `publish` lock it for that one step each. The domain's lock is held while no version is made,
 /// across no store call, and while no reader is waited for.
 ///
-/// End it by `end`: the drop of its front gives no memory back.
+/// End it by `end`: the drop of its front frees no memory.
 #[derive(Drop)]
 pub struct Publisher<S: Alter + Drop> {
     store: Store<S>,
@@ -95,15 +95,16 @@ impl<S: Alter + Drop> Model for Publisher<S> {
 
 impl<S: Alter + Drop> Publisher<S> {
     /// Opens the database of a connection on which nothing is pending, and publishes the state that is stored there. Its
-    /// tables are made where they are missing; four empty tables become those of a new database.
+    /// tables are made if they are missing; four empty tables become those of a new database.
     ///
-    /// Gives the domain too, in which that state is noted.
+    /// Returns the domain too, in which that state is noted.
     ///
     /// # Errors
     ///
-    /// With the connection: `OpenFailed` where one of the tables has other columns, and the connection is as it was then; or
-    /// where a store call fails. `Damaged`: never of a file that is new, or whose first tables spell a state. `NoMemory`.
-    /// The rows are then as `Store::adopt` leaves them. The connection is to be closed and opened again before it is used.
+    /// With the connection: `OpenFailed` if one of the tables has other columns, and the connection is as it was then;
+    /// or if a store call fails. `Damaged`: never of a file that is new, or whose first tables encode a state.
+    /// `NoMemory`. The rows are then as `Store::adopt` leaves them. The connection is to be closed and opened again
+    /// before it is used.
     pub fn adopt(
         alloc: Global,
         conn: Connection<S>,
@@ -147,7 +148,7 @@ impl<S: Alter + Drop> Publisher<S> {
         ))
     }
 
-    /// Tells how far it is with the commands under way.
+    /// Returns how far it is with the commands under way.
     pub fn phase(&self) -> Phase
         ensures value { result ≡ self.now.phase }
         ensures stands { Stands S.Store self.now }
@@ -162,7 +163,7 @@ impl<S: Alter + Drop> Publisher<S> {
         }
     }
 
-    /// Gives the version that was published last; at first the one that was stored.
+    /// Returns the version that was published last; at first the one that was stored.
     pub fn published(&self) -> &Version
         ensures { result.now ≡ line_state self.now.line }
     {
@@ -173,7 +174,7 @@ impl<S: Alter + Drop> Publisher<S> {
     ///
     /// # Errors
     ///
-    /// `NotFetched` where the version has as many owners as can be counted.
+    /// `NotFetched` if the version has as many owners as can be counted.
     pub fn share(&self) -> Result<(Arc<Version>, Known), Refusal>
         ensures version { IfOk result (λ shared. arc_value shared.0 ≡ line_state self.now.line) }
         ensures list { IfOk result (λ shared. shared.1 ≡ self.now.line) }
@@ -186,7 +187,7 @@ impl<S: Alter + Drop> Publisher<S> {
         }
     }
 
-    /// Gives the number of the version that was noted last: the published one but for the moment before it is noted.
+    /// Returns the number of the version that was noted last: the published one, except in the moment before it is noted.
     pub fn noted(&self) -> u64
         ensures { result + unnoted self.now.phase self.now.commands ≡ (line_state self.now.line).count }
     {
@@ -209,13 +210,13 @@ impl<S: Alter + Drop> Publisher<S> {
         }
     }
 
-    /// Gives the library's error of the commit that closed it, if one did.
+    /// Returns the library's error of the commit that closed it, if one did.
     pub fn failure(&self) -> Option<Error> {
         self.store.failure()
     }
 
-    /// Gives the connection back, with its tables as they are. It waits for nobody: the front's readers go on, and its
-    /// memory is never given back.
+    /// Returns the connection, with its tables as they are. It waits for nobody: the front's readers go on, and its
+    /// memory is never freed.
     pub fn release(self) -> Connection<S>
         ensures tables { result ≡ self.tables }
         ensures stands { Stands S.Store self }
@@ -223,7 +224,7 @@ impl<S: Alter + Drop> Publisher<S> {
         self.store.release()
     }
 
-    /// Ends its front, which waits for readers that are inside, and gives the connection back, with its tables as they are.
+    /// Ends its front, which waits for readers that are inside, and returns the connection, with its tables as they are.
     pub fn end<W: Wait>(self, rt: &W) -> Connection<S>
         ensures tables { result ≡ self.tables }
         ensures stands { Stands S.Store self }
@@ -236,7 +237,7 @@ impl<S: Alter + Drop> Publisher<S> {
     ///
     /// # Errors
     ///
-    /// `Closed` exactly where it is closed; otherwise what the first command is refused for that is refused in the state
+    /// `Closed` exactly if it is closed; otherwise what the first command is refused for that is refused in the state
     /// after those before it. Of several commands `NoMemory` may come at any up to that.
     pub fn check_all(&self, commands: &[Command]) -> Result<Checked, Refusal>
         requires quiet { IsQuiet self.now.phase }
@@ -260,8 +261,8 @@ impl<S: Alter + Drop> Publisher<S> {
     ///
     /// # Errors
     ///
-    /// `Busy` exactly where the registry has no room. The publisher is then as it was, and the registry too but for what
-    /// it gave up.
+    /// `Busy` exactly if the registry has no room. The publisher is then as it was, and the registry too, except for
+    /// what it gave up.
     pub fn admit(&mut self, registry: &mut Registry, checked: Checked) -> Result<(), Refusal>
         requires ready { self.old.phase ≡ Phase.Ready }
         requires checked { AreChecked (line_state self.old.line) checked }
@@ -310,8 +311,8 @@ impl<S: Alter + Drop> Publisher<S> {
     ///
     /// # Errors
     ///
-    /// `StoreFailed`, with the store call: it is closed. The tables spell the state before, while their connection is
-    /// open; a crash leaves that state or, only where the call was the commit, possibly the one after all of the commands.
+    /// `StoreFailed`, with the store call: it is closed. The tables encode the state before, while their connection is
+    /// open; a crash leaves that state or, only if the call was the commit, possibly the one after all of the commands.
     pub fn commit(&mut self) -> Result<(), Refusal>
         requires { self.old.phase ≡ Phase.Prepared }
         ensures ok { OnOk result (self.new ≡ record self.old { phase = Phase.Committed; tables = self.new.tables }) }
@@ -346,7 +347,7 @@ impl<S: Alter + Drop> Publisher<S> {
     ///
     /// # Errors
     ///
-    /// `NotPublished`, where the front refuses it: it is closed, with the old version published and the commands stored.
+    /// `NotPublished` if the front refuses it: it is closed, with the old version published and the commands stored.
     pub fn show<W: Wait>(&mut self, rt: &W) -> Result<(), Refusal>
         requires { self.old.phase ≡ Phase.Committed }
         ensures ok { OnOk result ((self.new ≡ record self.old { phase = Phase.Published; line = self.new.line }) × (self.new.line ≡ grown_by self.old.line self.old.commands)) }
@@ -396,8 +397,8 @@ impl<S: Alter + Drop> Publisher<S> {
     ///
     /// # Errors
     ///
-    /// `Closed` exactly where it is closed; otherwise what the command is refused for; where that is nothing, `Busy`
-    /// (64 versions that readers may hold) or `NoMemory`. It is then as it was, and the call may be made again.
+    /// `Closed` exactly if it is closed; otherwise what the command is refused for; if that is nothing, `Busy` (64
+    /// versions that readers may hold) or `NoMemory`. It is then as it was, and the call may be made again.
     pub fn prepare<W: Wait>(
         &mut self,
         rt: &W,
@@ -418,7 +419,7 @@ impl<S: Alter + Drop> Publisher<S> {
     ///
     /// # Errors
     ///
-    /// Those of `check_all`; where none is refused, `Busy` (64 versions that readers may hold) or `NoMemory`. It is then
+    /// Those of `check_all`; if none is refused, `Busy` (64 versions that readers may hold) or `NoMemory`. It is then
     /// as it was, and the call may be made again.
     pub fn prepare_all<W: Wait>(
         &mut self,
@@ -452,7 +453,7 @@ impl<S: Alter + Drop> Publisher<S> {
     ///
     /// # Errors
     ///
-    /// `NotPublished`, where the front refuses it: it is closed, with the old version published and the commands stored.
+    /// `NotPublished` if the front refuses it: it is closed, with the old version published and the commands stored.
     pub fn publish<W: Wait>(&mut self, rt: &W, domain: &Domain) -> Result<Receipt, Refusal>
         requires { self.old.phase ≡ Phase.Committed }
         ensures ok { OnOk result ((self.new ≡ record self.old { phase = Phase.Ready; line = self.new.line; commands = [] }) × (self.new.line ≡ grown_by self.old.line self.old.commands)) }

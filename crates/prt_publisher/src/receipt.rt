@@ -33,7 +33,7 @@ impl Receipt {
         Receipt { number, told }
     }
 
-    /// Gives the number of commands that had been accepted with this one, from 1 to 10^15.
+    /// Returns the number of commands that had been accepted with this one, from 1 to 10^15.
     pub fn number(&self) -> u64
         ensures value { result ≡ self.now.base.count + length self.now.list }
         ensures count { result ≡ (line_state self.now).count }
@@ -41,7 +41,7 @@ impl Receipt {
         self.number
     }
 
-    /// Gives the receipt of the command that was accepted so many commands earlier.
+    /// Builds the receipt of the command that was accepted so many commands earlier.
     pub fn of_earlier(&self, count: u64) -> Receipt
         requires { count < length self.now.list }
         ensures { result ≡ record self.now { list = take (length self.now.list - count) self.now.list } }
@@ -50,7 +50,7 @@ impl Receipt {
         Receipt::new(self.number - count, told)
     }
 
-    /// Gives the list that ends with the command.
+    /// Returns the list that ends with the command.
     pub fn told(&self) -> &Told
         ensures { result.now ≡ self.now }
     {

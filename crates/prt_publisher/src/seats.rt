@@ -4,7 +4,7 @@ ghost use Rattle.std.specs.Prelude.{◌≡◌, All, IfSome};
 use prt_front::{FrontReader, Known};
 use std::marker::Model;
 
-/// Readers of one front that no looker has. Contracts see them as a beginning of its list.
+/// Readers of one front that no looker has. Contracts see them as a prefix of its list.
 #[derive(Drop)]
 pub struct Seats {
     first: Known,
@@ -31,7 +31,7 @@ impl Seats {
         Seats { first, readers }
     }
 
-    /// Lends one of them. `None` where none is left.
+    /// Lends one of them. `None` if none is left.
     pub fn take(&mut self) -> Option<FrontReader>
         ensures same { self.new ≡ self.old }
         ensures reader { IfSome result (λ x. (x.book ≡ self.old.book) × (x.base ≡ self.old.base)) }

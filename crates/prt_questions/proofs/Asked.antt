@@ -35,9 +35,13 @@ module _ {M S : Type 0} (g : Ghosts S) (opens : M → M → List ℕ → Held S 
 
   pub says_nothing : (source : Source) (says : State → List ℕ) (before lines : List ℕ) → before ≡ [] → lines ≡ []
       → IsAnswered g opens refuses closes old new (Some before) (Some lines) source says → IsAskedOf g opens refuses closes old new source (λ state. says state ≡ [])
-  says_nothing source says before lines begun empty answered =
-      asked_more source (λ state. Appends (Some before) (Some lines) (says state)) (λ state. says state ≡ [])
+  says_nothing (Script file) says before lines begun empty answered =
+      (answered.0, answered.1, answered.2, answered.3, nothing_said (says answered.1.version) before lines answered.5 begun empty)
+  says_nothing (Database path) says before lines begun empty answered =
+      asked_more (Database path) (λ state. Appends (Some before) (Some lines) (says state)) (λ state. says state ≡ [])
       (λ state appended. nothing_said (says state) before lines appended begun empty) answered
+  says_nothing (Server place) says before lines begun empty answered =
+      (answered.0, answered.1, nothing_said (says answered.1) before lines answered.2 begun empty)
 
   -- whether it was asked, whatever was written
   pub asked_or_not : (source : Source) (says : State → List ℕ) (writer0 writer : Option (List ℕ)) → IsAnsweredAtMost g opens refuses closes old new writer0 writer source says

@@ -1,5 +1,5 @@
 -- What was written for a server that is followed.
-use Rattle.std.proofs.Common.{◌≡◌, ◌∙◌, ℕ, Bool, true, false, List, [], ◌++◌, Option, ap, subst, sym}
+use Rattle.std.proofs.Common.{◌≡◌, ◌∙◌, ℕ, Bool, true, false, List, [], Option, ap, subst, sym}
 use Rattle.std.proofs.lemmas.List.{append-nil}
 use Rattle.prt_ask.proofs.Followed.{written_part, written_then}
 use Rattle.prt_ask.specs.Mirrors.{Follows, mirror_of, steps_text}

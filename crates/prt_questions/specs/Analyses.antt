@@ -7,8 +7,6 @@ use Rattle.sqlite.specs.Store.{Ghosts}
 use Rattle.prt_claims.specs.Checking.{IsChecked, breach_line}
 use Rattle.prt_claims.specs.declared.checking.Breach.{Breach}
 use Rattle.prt_claims.specs.declared.checking.Checked.{Checked}
-use Rattle.prt_diff.specs.Text.{changes_text}
-use Rattle.prt_diff.specs.declared.fence.Fence.{Fence}
 use Rattle.prt_impact.specs.Groups.{AreGroups}
 use Rattle.prt_impact.specs.Text.{groups_text}
 use Rattle.prt_impact.specs.GroupsJson.{groups_json}

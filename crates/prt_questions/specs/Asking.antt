@@ -1,5 +1,5 @@
 -- What comes of a question.
-use Rattle.std.specs.Prelude.{◌≡◌, ◌⊎◌, ℕ, Bool, true, false, List, [], ◌++◌, Ok, Option, Some, None, codes, flat_map, option_map}
+use Rattle.std.specs.Prelude.{◌≡◌, ◌⊎◌, ℕ, Bool, true, false, List, [], ◌++◌, Ok, Option, Some, None, codes, flat_map}
 use Rattle.std.specs.List.{list_all}
 use Rattle.std.specs.Io.KnownBytes.{Appends}
 use Rattle.sqlite.specs.Held.{Held}
@@ -66,7 +66,7 @@ called Names form names text = with_names (text_form form) names text
 abbrev pub said : Inquiry → State → List ℕ
 said inquiry state = called inquiry.labels inquiry.form (names_of inquiry.names.now) (answer inquiry.question state)
 
--- what a server says to an inquiry: the answer of its tables, or the reply of a session, with tables called as is asked
+-- what a server says to an inquiry: the answer of its tables, or the reply of a session, with tables called as it asks
 abbrev pub IsTold : Inquiry → List ℕ → Type 0
 IsTold inquiry text = ((told : State) × (text ≡ said inquiry told)) ⊎ ((reply : List ℕ) × (text ≡ called inquiry.labels inquiry.form (names_of inquiry.names.now) reply))
 
@@ -98,7 +98,7 @@ is_kernel reason = false
 abbrev pub is_kernels : Left → Bool
 is_kernels line = is_kernel line.reason
 
--- no line is left out but for those
+-- no line is left out except those
 abbrev pub AreKernels : List Left → Type 0
 AreKernels lines = list_all is_kernels lines ≡ true
 
@@ -137,13 +137,14 @@ IsWithImpact fence found wanted text = IsWithImpactOf found (changes_text fence 
 abbrev pub follow_text : Fence → State → State → List Command → List ℕ
 follow_text fence found wanted commands = changes_text fence found wanted ++ steps_text (mirror_of fence found wanted) commands
 
--- a listing that is kept was brought to the tables that a feed told
+-- a listing that is kept was brought to the tables that a feed reported
 abbrev pub HasFollowed : (writer0 writer : Option (List ℕ)) → Reach → Type 0
 HasFollowed writer0 writer reach =
     (accepted : Accepted) × IsWholeListing accepted × (fence : Fence) × IsFenceOf reach fence × (told : State)
     × Appends writer0 writer (changes_text fence accepted.version told)
 
--- In any case: nothing was written, or a part at most of the lines for the tables that a feed told, and for the commands that it told in turn.
+-- In any case: nothing was written, or at most a part of the lines. These are for the tables that a feed reported, and for the
+-- commands that it reported in turn.
 abbrev pub HasFollowedAtMost : (writer0 writer : Option (List ℕ)) → Reach → Type 0
 HasFollowedAtMost writer0 writer reach =
     (writer ≡ writer0)
@@ -172,8 +173,9 @@ module _ {M S : Type 0} (g : Ghosts S) (opens : M → M → List ℕ → Held S 
   IsNotAsked source = new ≡ old
 
 module _ {M S : Type 0} (g : Ghosts S) (opens : M → M → List ℕ → Held S → Type 0) (refuses : M → M → List ℕ → Type 0) (closes : M → M → Held S → Type 0) (old new : M) (writer0 writer : Option (List ℕ)) where
-  -- all that the state at a source says was written
+  -- all that the state at a source says was written, and no line of a script was left out, except what the kernel makes itself
   abbrev pub IsAnswered : Source → (says : State → List ℕ) → Type 0
+  IsAnswered (Script file) says = (new ≡ old) × (made : Accepted) × (text : List ℕ) × IsExecuted made text × AreKernels made.left.items × Appends writer0 writer (says made.version)
   IsAnswered source says = IsAskedOf g opens refuses closes old new source (λ state. Appends writer0 writer (says state))
 
   -- in any case: it was not asked, and nothing was written; or it was, and a part at most

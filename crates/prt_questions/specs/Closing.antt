@@ -7,11 +7,13 @@ use Rattle.prt_refusals.specs.declared.refusal.Refusal.{Refusal}
 use Rattle.prt_refusals.specs.declared.refusal.Refusal.TheVariants.{Damaged, OpenFailed}
 use Rattle.prt_publisher.specs.Openings.{HasRefused}
 
--- A connection that was refused for this reason was not touched. Where it was damaged its rows were read, and a crash leaves what it could leave before.
+-- A connection that was refused for this reason was not touched. If it was damaged its rows were read, and a crash leaves what
+-- it could leave before.
 abbrev pub IsOnlyRead : {S : Type 0} → Ghosts S → Refusal → Held S → Held S → Type 0
 IsOnlyRead g reason old new = (reason ≢ Damaged → new ≡ old) × ((new ≡ old) ⊎ Survives (state g old) (state g new) (λ _. ⊥))
 
--- The database at a path was opened as the first connection, and closed as the last, with this between them. Nothing else was done to databases.
+-- The database at a path was opened as the first connection, and closed as the last, with this between them. Nothing else was
+-- done to databases.
 pub record IsClosedAgain {M S : Type 0} (opens : M → M → List ℕ → Held S → Type 0) (closes : M → M → Held S → Type 0) (Made : Held S → Held S → Type 0) (old new : M) (path : List ℕ) : Type 0 where
   pub between : M
   pub first : Held S

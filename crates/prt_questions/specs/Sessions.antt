@@ -9,7 +9,9 @@ use Rattle.prt_program.specs.Program.{RunsAt, SessionFact}
 use Rattle.prt_publisher.specs.Openings.{OpensOne}
 use Rattle.prt_version.specs.Sound.{IsSound}
 
--- A session was run over the database at a path of a machine, by a desk over the connection that was found there, and the connection was closed as the desk had it. Where its file is known, each state that an opening may make of what was left then is one that the session left stored.
+-- A session was run over the database at a path of a machine, by a desk over the connection that was found there. The
+-- connection was closed as the desk had it. If its file is known, each state that an opening may make of what was left then is
+-- one that the session left stored.
 abbrev pub RunsOverMachine : {M S : Type 0} → Ghosts S → (M → M → List ℕ → Held S → Type 0) → (M → M → Held S → Type 0) → M → M → Word → SessionFact
 RunsOverMachine g opens closes old new path =
     RunsAt (λ _ _ opened. IsSound opened) (λ old new path desk. OpensOne g (opens old new path) desk) (λ old new desk. IsKept g desk × closes old new desk.tables) (LeavesFound g)

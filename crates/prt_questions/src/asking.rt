@@ -2,7 +2,7 @@
 ghost use Rattle.std.specs.Prelude.{◌≡◌, ◌⊎◌, IfErr, IfOk, IfSome, List, false, true, ℕ};
 ghost use Rattle.std.specs.Io.KnownBytes.{Appends};
 ghost use Rattle.prt_ask.specs.Answers.{is_whole_change};
-ghost use Rattle.prt_questions.specs.Asking.{HasAnswered, HasAnsweredAtMost, IsAnswered, IsAnsweredAtMost, IsAskedAt, IsCutOff, IsNotOpened, IsReplied, IsRepliedAtMost, IsTold, called, said};
+ghost use Rattle.prt_questions.specs.Asking.{AreKernels, HasAnswered, HasAnsweredAtMost, IsAnswered, IsAnsweredAtMost, IsAskedAt, IsCutOff, IsNotOpened, IsReplied, IsRepliedAtMost, IsTold, called, said};
 ghost use Rattle.prt_import.specs.Accepted.{IsExecuted};
 ghost use Rattle.prt_import.specs.TableNames.{names_of};
 ghost use Rattle.prt_replies.specs.Written.{Written};
@@ -30,11 +30,11 @@ use std::io::{Read, Write};
 use std::net::{Net, SocketAddrV4};
 use std::sync::Wait;
 
-/// The exit status where the words ask nothing, where a rule or a route has no line, where a line is refused or can't be
-/// kept, and where anything differs.
+/// The exit status if the words ask nothing, if a rule or a route has no line, if a line is refused or can't be kept, and if
+/// anything differs.
 pub const REFUSED: u8 = 1;
 
-/// Makes the message of a row of listings that no line can spell.
+/// Makes the message of a row of listings that no line can express.
 fn row_message<P: Display>(
     alloc: Global,
     place: &P,
@@ -45,7 +45,7 @@ fn row_message<P: Display>(
     format!(in alloc; "prt: {place}: line {row} of `{listing}`: no command can give it this name\n")
 }
 
-/// Makes the message of why there is no answer, but for want of memory.
+/// Makes the message of why there is no answer, if it isn't for want of memory.
 pub(crate) fn none_message<P: Display>(
     alloc: Global,
     place: &P,
@@ -64,7 +64,7 @@ pub(crate) fn none_message<P: Display>(
     }
 }
 
-/// Tells why there is no answer, and gives the exit status for it.
+/// Reports why there is no answer, and returns the exit status for it.
 pub(crate) fn report_none<P: Display, W: Write, E: Write>(
     alloc: Global,
     place: &P,
@@ -82,7 +82,7 @@ pub(crate) fn report_none<P: Display, W: Write, E: Write>(
     REFUSED
 }
 
-/// Writes a text, and gives the exit status for it: `DONE` where all of it was written, else `FAULT`.
+/// Writes a text, and returns the exit status for it: `DONE` if all of it was written, else `FAULT`.
 pub(crate) fn write_text<W: Write>(text: Vec<u8>, output: &mut W) -> u8
     ensures status { (result ≡ DONE) ⊎ (result ≡ FAULT) }
     ensures whole { result ≡ DONE → Appends (W.contents output.old) (W.contents output.new) text.items }
@@ -95,8 +95,8 @@ pub(crate) fn write_text<W: Write>(text: Vec<u8>, output: &mut W) -> u8
     }
 }
 
-/// Writes an answer, tells what is to be told of it, and gives the exit status: `REFUSED` where all of it was written, and a
-/// rule or a route stays that should go, or isn't brought.
+/// Writes an answer, reports what is to be reported of it, and returns the exit status: `REFUSED` if all of it was written,
+/// and a rule or a route stays that should go, or isn't brought.
 pub(crate) fn write_made<W: Write, E: Write>(made: Answered, output: &mut W, errors: &mut E) -> u8
     ensures status { (result ≡ DONE) ⊎ ((result ≡ REFUSED) ⊎ (result ≡ FAULT)) }
     ensures whole { (result ≡ DONE) ⊎ (result ≡ REFUSED) → Appends (W.contents output.old) (W.contents output.new) made.text.items }
@@ -114,7 +114,7 @@ pub(crate) fn write_made<W: Write, E: Write>(made: Answered, output: &mut W, err
     written
 }
 
-/// Writes an answer of the tables at a place, or tells why there is none, and gives the exit status.
+/// Writes an answer of the tables at a place, or reports why there is none, and returns the exit status.
 fn write_answer<P: Display, W: Write, E: Write>(
     alloc: Global,
     place: &P,
@@ -132,7 +132,7 @@ fn write_answer<P: Display, W: Write, E: Write>(
     }
 }
 
-/// Asks the database at a path, which is opened and closed, and gives the exit status.
+/// Asks the database at a path, which is opened and closed, and returns the exit status.
 fn ask_database<
     S: Alter + Drop,
     M: Machine<Connection<S>> + Drop,
@@ -150,6 +150,7 @@ fn ask_database<
 ) -> u8
     ensures status { (result ≡ DONE) ⊎ ((result ≡ REFUSED) ⊎ (result ≡ FAULT)) }
     ensures whole { result ≡ DONE → IsAskedAt S.Store M.opens M.refuses M.closes databases.old.machine databases.new.machine path.now (λ state. Appends (W.contents output.old) (W.contents output.new) (said inquiry.now state)) }
+    ensures there { result ≡ DONE → M.is_there databases.old.machine path.now }
     ensures at_most { (IsNotOpened S.Store M.opens M.refuses M.closes databases.old.machine databases.new.machine path.now × (W.contents output.new ≡ W.contents output.old))
         ⊎ IsAskedAt S.Store M.opens M.refuses M.closes databases.old.machine databases.new.machine path.now (λ state. IsCutOff (said inquiry.now state) (W.contents output.old) (W.contents output.new)) }
 {
@@ -172,7 +173,7 @@ fn ask_database<
     write_answer(alloc, &path, answered, output, errors)
 }
 
-/// Asks the server whose feed is at a place, and gives the exit status.
+/// Asks the server whose feed is at a place, and returns the exit status.
 fn ask_server<N: Net, W: Write, E: Write>(
     rt: &N,
     alloc: Global,
@@ -197,7 +198,7 @@ fn ask_server<N: Net, W: Write, E: Write>(
     }
 }
 
-/// Gives what a server said to an inquiry, with tables called as it asks.
+/// Returns what a server said to an inquiry, with tables called as it asks.
 fn said_by(alloc: Global, told: Told, inquiry: &Inquiry<'_>) -> Result<Vec<u8>, NotAnswered>
     ensures { IfOk result (λ text. IsTold inquiry.now text.items) }
 {
@@ -210,7 +211,7 @@ fn said_by(alloc: Global, told: Told, inquiry: &Inquiry<'_>) -> Result<Vec<u8>, 
     }
 }
 
-/// Sends a server the line of an inquiry, and gives the exit status. A session replies to it; a feed tells its tables,
+/// Sends a server the line of an inquiry, and returns the exit status. A session replies to it; a feed tells its tables,
 /// and they are asked.
 fn ask_session<N: Net, W: Write, E: Write>(
     rt: &N,
@@ -238,7 +239,7 @@ fn ask_session<N: Net, W: Write, E: Write>(
     }
 }
 
-/// Gives the server that is asked by a line: of its session or of its feed.
+/// Finds the server that is queried by a line: its session or its feed.
 fn session_of(source: &Source<'_>, question: &Question<'_>) -> Option<SocketAddrV4>
     ensures { IfSome result (λ place. source.now ≡ Server place) }
 {
@@ -252,7 +253,7 @@ fn session_of(source: &Source<'_>, question: &Question<'_>) -> Option<SocketAddr
 ///
 /// # Errors
 ///
-/// The exit status, where memory is refused.
+/// The exit status, if memory is refused.
 pub(crate) fn run_over_new<W: Write, E: Write>(
     alloc: Global,
     script: &[u8],
@@ -270,7 +271,7 @@ pub(crate) fn run_over_new<W: Write, E: Write>(
 }
 
 /// Asks what a script makes of a new database, tells which of its lines are refused and what its comments say was left out,
-/// and gives the exit status.
+/// and returns the exit status.
 fn ask_script<F: Files, R: Read, W: Write, E: Write>(
     files: &F,
     alloc: Global,
@@ -281,7 +282,7 @@ fn ask_script<F: Files, R: Read, W: Write, E: Write>(
     errors: &mut E,
 ) -> u8
     ensures status { (result ≡ DONE) ⊎ ((result ≡ REFUSED) ⊎ (result ≡ FAULT)) }
-    ensures whole { result ≡ DONE → (made : Accepted) × (text : List ℕ) × IsExecuted made text × Appends (W.contents output.old) (W.contents output.new) (said inquiry.now made.version) }
+    ensures whole { result ≡ DONE → (made : Accepted) × (text : List ℕ) × IsExecuted made text × AreKernels made.left.items × Appends (W.contents output.old) (W.contents output.new) (said inquiry.now made.version) }
     ensures part { (W.contents output.new ≡ W.contents output.old) ⊎ ((made : Accepted) × (text : List ℕ) × IsExecuted made text × IsCutOff (said inquiry.now made.version) (W.contents output.old) (W.contents output.new)) }
 {
     let script = match read_whole(files, alloc, file, input, output, errors) {
@@ -303,7 +304,7 @@ fn ask_script<F: Files, R: Read, W: Write, E: Write>(
     left
 }
 
-/// Asks the tables at a source, and gives the exit status.
+/// Asks the tables at a source, and returns the exit status.
 pub(crate) fn ask_source<
     S: Alter + Drop,
     M: Machine<Connection<S>> + Drop,
@@ -342,7 +343,7 @@ pub(crate) fn ask_source<
     }
 }
 
-/// Asks the tables at a source, or a server by the line of the question, and gives the exit status.
+/// Asks the tables at a source, or a server by the line of the question, and returns the exit status.
 fn ask_tables<
     S: Alter + Drop,
     M: Machine<Connection<S>> + Drop,
@@ -373,14 +374,14 @@ fn ask_tables<
     }
 }
 
-/// Asks a question, and gives the exit status.
+/// Asks a question, and returns the exit status.
 ///
-/// The status is 0 where all of the answer was written. It is 1 where the words ask nothing, as of a line with a fault,
-/// where a line of the script that is asked is refused, and where a dump has a rule or a route with a name that no line can
-/// spell. It is 3 for a fault of opening, of the server, of reading, of memory or of the writer.
+/// The status is 0 if all of the answer was written. It is 1 if the words ask nothing, as of a line with a fault, if a line of
+/// the script that is queried is refused, and if a dump has a rule or a route with a name that no line can express, or leaves
+/// one out. It is 3 for a fault of opening, of the server, of reading, of memory or of the writer.
 ///
 /// A database is opened and closed. There has to be one at its path, and no rule or route of it changes; its tables may be
-/// made those of the newest format. Of a server or of a script no database is touched. A server is asked `get` and `show`
+/// made those of the newest format. Of a server or of a script no database is touched. A server is sent `get` and `show`
 /// by their line, unless JSON is wanted; its feed and its sessions both answer that.
 pub(crate) fn ask<
     S: Alter + Drop,

@@ -93,14 +93,14 @@ fn text_of(
     Ok(text)
 }
 
-/// Tells whether each line is a claim, or none at all.
+/// Checks whether each line is a claim, or none at all.
 fn is_readable(checked: &Checked) -> bool
     ensures { result ≡ true → checked.now.bad.items ≡ [] }
 {
     checked.bad.is_empty()
 }
 
-/// Tells whether all claims hold.
+/// Checks whether all claims hold.
 fn holds(checked: &Checked) -> bool
     ensures { result ≡ true → checked.now.breaches.items ≡ [] }
 {
@@ -151,7 +151,7 @@ fn assert_over<F: Files, R: Read, W: Write, E: Write>(
     }
 }
 
-/// Checks claims about all packets over the tables at a source, and gives the exit status.
+/// Checks claims about all packets over the tables at a source, and returns the exit status.
 ///
 /// The status is 0 if all hold. It is 1 if one doesn't, which is written with a packet that shows it, or if a line of the
 /// script is refused. It is 2 if a claim can't be read, and 3 as of `ask`, and if the rules divide packets into too many

@@ -19,7 +19,7 @@ pub enum Cause {
     Tables(Reason),
     #[error("{0}")]
     Library(LibraryError),
-    #[error("{0}: the server that has it can be asked, by --server")]
+    #[error("{0}: a server has it, which --server queries")]
     Locked(LibraryError),
 }
 
@@ -38,7 +38,7 @@ fn reason_for_none<F: Files>(files: &F, path: &str) -> Option<io::Error> {
     }
 }
 
-/// Asks the system why a file can't be opened for reading and writing, and, where any is wanted, not be made; None where
+/// Asks the system why a file can't be opened for reading and writing and, if any is wanted, can't be made. Returns `None` if
 /// it can be.
 fn system_reason<F: Files>(files: &F, path: &str, wanted: Wanted) -> Option<io::Error> {
     let error = match OpenOptions::new().read(true).write(true).open(files, path) {
@@ -51,7 +51,7 @@ fn system_reason<F: Files>(files: &F, path: &str, wanted: Wanted) -> Option<io::
     }
 }
 
-/// Tells which columns of a database, or else which rows, were refused so, if that is known.
+/// Finds which columns of a database, or else which rows, were refused so, if that is known.
 fn tables_reason<S: Alter>(conn: &mut Connection<S>, refusal: Refusal) -> Option<Reason>
     ensures { IsOnlyRead S.Store refusal conn.old conn.new }
 {
@@ -65,7 +65,7 @@ fn tables_reason<S: Alter>(conn: &mut Connection<S>, refusal: Refusal) -> Option
     }
 }
 
-/// Closes a database that was refused, and tells what of its tables was, if that is known. What the closing answers says
+/// Closes a database that was refused, and returns what of its tables was, if that is known. What the closing answers says
 /// no more of that.
 pub(crate) fn close_refused<S: Alter + Drop, M: Machine<Connection<S>>>(
     machine: &mut M,
@@ -79,7 +79,7 @@ pub(crate) fn close_refused<S: Alter + Drop, M: Machine<Connection<S>>>(
     reason
 }
 
-/// Says what failed in the words of the library. Of a file that is only asked, who has it can be asked too.
+/// Says what failed in the words of the library. If a file is only queried, the server that has it can be queried too.
 fn library_cause(wanted: Wanted, error: LibraryError) -> Cause {
     match (wanted, error) {
         (Wanted::Ours, LibraryError::SqliteFailure(ErrorCode::DatabaseBusy)) => {
@@ -89,8 +89,8 @@ fn library_cause(wanted: Wanted, error: LibraryError) -> Cause {
     }
 }
 
-/// Tells why a database could not be opened, if that is known. The system is asked first, since the library says no more
-/// of a file than that it can't be opened.
+/// Finds out why a database could not be opened, if that is known. The system is asked first, since the library says no
+/// more of a file than that it can't be opened.
 pub(crate) fn cause_of<F: Files>(
     files: &F,
     path: &str,

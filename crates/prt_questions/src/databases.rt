@@ -38,7 +38,7 @@ impl<
     F: Files,
     H: Wait + Copy + Drop,
 > DatabaseFiles<'a, S, M, F, H> {
-    /// Gives the databases of a machine, of which none is open.
+    /// Makes the databases of a machine, of which none is open.
     pub fn new(machine: M, files: &'a F, rt: H) -> DatabaseFiles<'a, S, M, F, H>
         ensures { result.machine ≡ machine }
     {

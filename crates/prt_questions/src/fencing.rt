@@ -10,7 +10,7 @@ use prt_words::{NumberSpan, Reach};
 use std::alloc::{Alloc, AllocError, Global};
 use std::fs::Files;
 
-/// Gives the ranges of the numbers that are named.
+/// Collects the ranges of the numbers that are named.
 fn ranges_of(alloc: Global, spans: &[NumberSpan]) -> Result<Vec<NumberRange>, AllocError>
     ensures { IfOk result (λ ranges. ranges.items ≡ map range_of spans.now) }
 {
@@ -24,7 +24,7 @@ fn ranges_of(alloc: Global, spans: &[NumberSpan]) -> Result<Vec<NumberRange>, Al
     Ok(ranges)
 }
 
-/// Gives a range for each protocol that is named.
+/// Makes a range for each protocol that is named.
 fn protocol_ranges(alloc: Global, protocols: &[u8]) -> Result<Vec<NumberRange>, AllocError>
     ensures { IfOk result (λ ranges. ranges.items ≡ map protocol_range protocols.now) }
 {
@@ -74,7 +74,7 @@ fn keep_out(fence: &mut Fence, names: &HostNames, line: &Left) -> Result<(), All
     Ok(())
 }
 
-/// Makes the fence that words name, without what stands in the place of lines that can't be kept.
+/// Makes the fence that words name, without what is in the place of lines that can't be kept.
 ///
 /// # Errors
 ///

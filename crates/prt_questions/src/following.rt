@@ -23,7 +23,7 @@ use std::time::Duration;
 /// How many milliseconds lie between two tries to reach a server.
 const PAUSE: u64 = 100;
 
-/// Tells why following a server ended. A reader of the lines that has gone is no news.
+/// Reports why following a server ended, unless the reader of the lines has gone.
 fn tell_end<E: Write>(alloc: Global, place: SocketAddrV4, end: FollowEnd, errors: &mut E) {
     match end {
         FollowEnd::Feed(NotRead::CutOff) => {
@@ -35,8 +35,8 @@ fn tell_end<E: Write>(alloc: Global, place: SocketAddrV4, end: FollowEnd, errors
     }
 }
 
-/// Prints the lines that bring what `ip` printed to the tables of a server, within a fence, and then those for each change
-/// that its feed tells. Gives the exit status.
+/// Prints the lines that bring what `ip` printed to the tables of a server, within a fence. Then it prints those for each
+/// change that its feed reports. Returns the exit status.
 ///
 /// With `--once` it ends after the first lines, with the status of `diff`. Otherwise it ends with 3: if the feed ends, if a
 /// change has no lines, and if the lines can't be written. No database is touched.
@@ -83,13 +83,14 @@ pub(crate) fn follow_server<F: Files + Alloc + Clone + Drop, N: Net, R: Read, W:
     FAULT
 }
 
-/// Gives the time by the clock that never goes back; 0 if it can't be read.
+/// Returns the time by the clock that never goes back; 0 if it can't be read.
 fn time<N: Clock>(rt: &N) -> Duration {
     rt.monotonic().unwrap_or(Duration::ZERO)
 }
 
-/// Waits until a server answers at a place, its sessions or its feed, and gives the exit status: 3 if none has answered after
-/// the seconds that are given. Without a clock it waits through as many pauses. No database is touched, and nothing printed.
+/// Waits until a server answers at a place, its sessions or its feed, and returns the exit status: 3 if none has answered
+/// after the seconds that are given. Without a clock it waits through as many pauses. No database is touched, and nothing
+/// printed.
 pub(crate) fn wait_for<N: Net + Clock, E: Write>(
     rt: &N,
     alloc: Global,

@@ -38,7 +38,7 @@ fn sameness_of(exactness: Exactness) -> Sameness
     }
 }
 
-/// Reports why packets can't be divided: the rules are too many for it, or memory is refused. It gives the exit status.
+/// Reports why packets can't be divided: the rules are too many for it, or memory is refused. It returns the exit status.
 pub(crate) fn report_undivided<W: Write, E: Write>(
     alloc: Global,
     reason: Refusal,
@@ -103,7 +103,7 @@ fn write_impact<W: Write, E: Write>(
     written
 }
 
-/// Tells whether refused lines stop a rehearsal.
+/// Checks whether refused lines stop a rehearsal.
 fn is_stopped(left: u8, on_refusal: OnRefusal) -> bool
     ensures { result ≡ true → (left ≢ DONE) × (on_refusal ≡ Stop) }
 {
@@ -145,7 +145,7 @@ fn rehearse_over<F: Files, R: Read, W: Write, E: Write>(
     if left == DONE { tables.left } else { REFUSED }
 }
 
-/// Writes which packets get another answer once a script was executed over the tables at a source, and gives the exit status.
+/// Writes which packets get another answer once a script was executed over the tables at a source. Returns the exit status.
 ///
 /// The status is 0 if none does, and 1 if any does or a line is refused, which standard error names. After a refused line
 /// nothing is compared, unless the words say to go on. The status is 3 as of `ask`, and if the rules divide packets into

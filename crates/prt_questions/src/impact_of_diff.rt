@@ -59,7 +59,7 @@ fn with_impact(alloc: Global, found: &Version, lines: &[u8]) -> Result<Vec<u8>, 
 }
 
 /// Compares what was found with tables within a fence, and writes the packets that the difference sends another way, and
-/// its lines. It gives the exit status, as of `write_made`.
+/// its lines. It returns the exit status, as of `write_made`.
 fn write_difference<W: Write, E: Write>(
     alloc: Global,
     place: &str,
@@ -83,7 +83,7 @@ fn write_difference<W: Write, E: Write>(
 }
 
 /// Writes the lines that bring what was found to the tables at a source, after the packets that they send another way. It
-/// gives the exit status.
+/// returns the exit status.
 pub(crate) fn diff_with_impact<
     S: Alter + Drop,
     M: Machine<Connection<S>> + Drop,

@@ -26,7 +26,7 @@ use std::net::Net;
 use std::rt::Clock;
 use std::sync::Wait;
 
-/// Gives the lines of what `ip` printed, also where that is the JSON of `ip -j`.
+/// Returns the lines of what `ip` printed, also if that is the JSON of `ip -j`.
 fn lines_of(alloc: Global, text: Vec<u8>) -> Result<Vec<u8>, NotListed> {
     if is_json(&text) {
         listing_of(alloc, &text)
@@ -47,8 +47,8 @@ fn script_of<F: Files + Alloc + Clone + Drop>(
     import(alloc, &names, lines)
 }
 
-/// Makes what a new database accepts of lines that `ip` prints, and tells what can't be kept of them. Gives the exit status
-/// for what was told, too, and the lines that can't be kept.
+/// Makes what a new database accepts of lines that `ip` prints, and reports what can't be kept of them. Returns the exit
+/// status for what was reported, too, and the lines that can't be kept.
 ///
 /// # Errors
 ///
@@ -82,7 +82,7 @@ fn keep_lines<F: Files + Alloc + Clone + Drop, E: Write>(
 ///
 /// # Errors
 ///
-/// The exit status, where it can't be read, isn't a whole listing of IPv4, or memory is refused.
+/// The exit status, if it can't be read, isn't a whole listing of IPv4, or memory is refused.
 pub(crate) fn read_listing<F: Files + Alloc + Clone + Drop, R: Read, W: Write, E: Write>(
     files: &F,
     alloc: Global,
@@ -112,7 +112,7 @@ pub(crate) fn read_listing<F: Files + Alloc + Clone + Drop, R: Read, W: Write, E
     }
 }
 
-/// Prints a script, or runs it over the database at a path, and gives the exit status.
+/// Prints a script, or runs it over the database at a path, and returns the exit status.
 fn print_or_run<
     S: Alter + Drop,
     M: Machine<Connection<S>> + Drop,
@@ -149,11 +149,11 @@ fn print_or_run<
     }
 }
 
-/// Prints the script of what `ip` printed, or runs it over a database, and gives the exit status.
+/// Prints the script of what `ip` printed, or runs it over a database, and returns the exit status.
 ///
-/// The status is 1 where a line can't be kept, which standard error names, unless the kernel makes it itself, and where the
-/// database refuses a line. It is 3 where the listing can't be read, for want of memory, for a fault of opening or of the
-/// store, and where the script or a reply can't be written.
+/// The status is 1 if a line can't be kept, which standard error names, unless the kernel makes it itself. It is also 1 if
+/// the database refuses a line. It is 3 if the listing can't be read, for want of memory, and for a fault of opening or of
+/// the store. It is also 3 if the script or a reply can't be written.
 pub(crate) fn import_listing<
     S: Alter + Drop,
     M: Machine<Connection<S>> + Drop,
@@ -199,7 +199,7 @@ pub(crate) fn import_listing<
     }
 }
 
-/// Asks what differs at a source, prints nothing of it, and gives the exit status: 1 where anything differs.
+/// Finds what differs at a source, prints nothing of it, and returns the exit status: 1 if anything differs.
 fn compare<
     S: Alter + Drop,
     M: Machine<Connection<S>> + Drop,
@@ -231,12 +231,12 @@ fn compare<
     }
 }
 
-/// Prints the lines that bring what `ip` printed to the tables at a source, within a fence, and gives the exit status. Before
-/// them it may say which packets they send another way, as comments. Or it shows only whether anything differs.
+/// Prints the lines that bring what `ip` printed to the tables at a source, within a fence, and returns the exit status.
+/// Before them it may say which packets they send another way, as comments. Or it shows only whether anything differs.
 ///
-/// What stands in the place of a line that can't be kept is left alone. The status is 1 if anything differs of which the
-/// status alone is shown, if a line can't be kept, as of `import_listing`, and if a rule is left that should go. It is 3 as of
-/// `ask` and `import_listing`.
+/// What is in the place of a line that can't be kept is left alone. The status is 1 if anything differs of which the status
+/// alone is shown, and if a rule is left that should go. It is also 1 if a line can't be kept, as of `import_listing`. It is
+/// 3 as of `ask` and `import_listing`.
 pub(crate) fn diff<
     S: Alter + Drop,
     M: Machine<Connection<S>> + Drop,

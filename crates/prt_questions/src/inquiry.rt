@@ -1,4 +1,4 @@
-//! What is asked of tables, and how an answer calls them.
+//! What is asked about tables, and how an answer calls them.
 ghost use Rattle.std.specs.Prelude.{◌≡◌, IfOk};
 ghost use Rattle.prt_questions.specs.Asking.{called, said, text_form};
 ghost use Rattle.prt_import.specs.TableNames.{names_of};
@@ -19,7 +19,7 @@ pub(crate) struct Inquiry<'a> {
     pub(crate) names: &'a Names,
 }
 
-/// Gives the form of a text in which names are put.
+/// Returns the form of a text in which names are put.
 fn text_form(form: Form) -> Text
     ensures { result ≡ text_form form }
 {
@@ -29,7 +29,7 @@ fn text_form(form: Form) -> Text
     }
 }
 
-/// Gives a text with tables called as these labels do.
+/// Returns a text with tables called as these labels do.
 pub(crate) fn called(
     alloc: Global,
     inquiry: &Inquiry<'_>,
@@ -46,7 +46,7 @@ pub(crate) fn called(
     }
 }
 
-/// Gives what a version answers, and what a person is told of it.
+/// Returns what a version answers, and what is reported of it to a person.
 ///
 /// # Errors
 ///

@@ -1,4 +1,4 @@
-//! What is told of lines that are left out.
+//! What is reported of lines that are left out.
 ghost use Rattle.std.specs.Prelude.{◌≡◌, ◌⊎◌, false};
 ghost use Rattle.std.specs.List.{list_all};
 ghost use Rattle.prt_questions.specs.Asking.{AreKernels, destination_of, is_kernels};
@@ -21,21 +21,21 @@ fn left_message(alloc: Global, left: &Left) -> Result<String, AllocError> {
     format!(in alloc; "prt: {left}\n")
 }
 
-/// Tells whether the kernel makes a line itself.
+/// Checks whether the kernel makes a line itself.
 fn is_kernels(line: &Left) -> bool
     ensures { result ≡ is_kernels line.now }
 {
     matches!(line.reason, Reason::Kernel)
 }
 
-/// Tells whether the kernel makes each of the lines itself.
+/// Checks whether the kernel makes each of the lines itself.
 fn are_kernels(left: &[Left]) -> bool
     ensures { result ≡ list_all is_kernels left.now }
 {
     left.iter().all(|line| is_kernels(line))
 }
 
-/// Tells what was left out, but for what the kernel makes itself.
+/// Reports what was left out, except what the kernel makes itself.
 fn tell_others<E: Write>(alloc: Global, left: &[Left], errors: &mut E) {
     for line in left {
         if !is_kernels(line) {
@@ -44,7 +44,7 @@ fn tell_others<E: Write>(alloc: Global, left: &[Left], errors: &mut E) {
     }
 }
 
-/// Tells what was left out, and gives the exit status for it. What the kernel makes itself isn't told.
+/// Reports what was left out, and returns the exit status for it. What the kernel makes itself isn't reported.
 pub(crate) fn tell_left<E: Write>(alloc: Global, left: &[Left], errors: &mut E) -> u8
     ensures status { (result ≡ DONE) ⊎ (result ≡ REFUSED) }
     ensures kernels { result ≡ DONE → AreKernels left.now }
@@ -54,7 +54,7 @@ pub(crate) fn tell_left<E: Write>(alloc: Global, left: &[Left], errors: &mut E) 
     if are_kernels(left) { DONE } else { REFUSED }
 }
 
-/// Gives the destination of the packet that is asked about, if one is.
+/// Returns the destination of the packet of the question, if it has one.
 fn destination_of(question: &Question<'_>) -> Option<Addr>
     ensures { result ≡ destination_of question.now }
 {
@@ -75,7 +75,7 @@ fn comment_message(alloc: Global, script: &str, said: &[u8]) -> Result<String, A
     Ok(message)
 }
 
-/// Tells what the comments of a script say that was left out of it when it was made of a listing. Of a packet that is asked
+/// Reports what the comments of a script say that was left out of it when it was made of a listing. Of a packet that is asked
 /// about this is what could have decided on it.
 pub(crate) fn tell_left_out<E: Write>(
     alloc: Global,

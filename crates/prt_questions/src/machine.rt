@@ -1,12 +1,12 @@
 //! What the program asks of the machine that it runs on.
-ghost use Rattle.std.specs.Prelude.{IfOk, OnErr};
+ghost use Rattle.std.specs.Prelude.{◌≡◌, IfOk, OnErr, OnOk};
 
 use sqlite::Error;
 
 /// Which files an opening takes.
 #[derive(Clone, Copy)]
 pub enum Wanted {
-    /// Any; one is made where there is none.
+    /// Any; one is made if there is none.
     Any,
     /// One that is there, and has a table of ours.
     Ours,
@@ -16,23 +16,27 @@ pub enum Wanted {
 pub trait Machine<C> {
     ghost use Rattle.std.specs.Prelude.{List, ℕ};
 
-    /// What an opening of the file at a path makes of the machine, where it gives this connection.
+    /// What an opening of the file at a path makes of the machine, if it returns this connection.
     ghost opens: { Self → Self → List ℕ → C → Type 0 };
 
-    /// What an opening makes of it that gives none. No database is open then.
+    /// What an opening makes of it that returns none. No database is open then.
     ghost refuses: { Self → Self → List ℕ → Type 0 };
 
     /// What the closing of this connection makes of it.
     ghost closes: { Self → Self → C → Type 0 };
 
-    /// Opens the database file at a path, where it is one that is wanted.
+    /// That a database file is at a path.
+    ghost is_there: { Self → List ℕ → Type 0 };
+
+    /// Opens the database file at a path, if it is one that is wanted.
     ///
     /// # Errors
     ///
-    /// The library's; `CannotOpen` where there is none, and `NotADatabase` where it has no table of ours, if such a one is
-    /// wanted. No database is open then, and none was made.
+    /// The library's; `CannotOpen` if there is none, and `NotADatabase` if it has no table of ours and such a one is wanted. No
+    /// database is open then, and none was made.
     fn open(&mut self, path: &str, wanted: Wanted) -> Result<C, Error>
         ensures opened { IfOk result (λ conn. opens self.old self.new path.now conn) }
+        ensures there { wanted ≡ Wanted.Ours → OnOk result (is_there self.old path.now) }
         ensures unopened { OnErr result (refuses self.old self.new path.now) };
 
     /// Closes a database, so that its file alone has all of it.

@@ -1,5 +1,5 @@
 //! Publishers and desks over the databases of a machine.
-ghost use Rattle.std.specs.Prelude.{◌≡◌, IfErr, IfOk};
+ghost use Rattle.std.specs.Prelude.{◌≡◌, IfErr, IfOk, OnOk};
 ghost use Rattle.prt_refusals.specs.Opening.{IsOpenRefusal};
 ghost use Rattle.prt_desk.specs.StoreDesk.{StandsFor, published};
 ghost use Rattle.prt_front.specs.Line.{line_state};
@@ -20,11 +20,11 @@ use std::alloc::Global;
 use std::fs::Files;
 use std::sync::Wait;
 
-/// Opens a publisher over the database at a path of the machine, where it is one that is wanted.
+/// Opens a publisher over the database at a path of the machine, if it is one that is wanted.
 ///
 /// # Errors
 ///
-/// As of `publisher_over`, with the cause where it is known. No database is open then: one that was refused was closed
+/// As of `publisher_over`, with the cause if it is known. No database is open then: one that was refused was closed
 /// again, and after the refusal only read.
 pub fn open_publisher<S: Alter + Drop, M: Machine<Connection<S>>, F: Files>(
     machine: &mut M,
@@ -37,6 +37,7 @@ pub fn open_publisher<S: Alter + Drop, M: Machine<Connection<S>>, F: Files>(
     ensures quiet { IfOk result (λ made. IsQuiet made.0.phase) }
     ensures sound { IfOk result (λ made. IsSound (line_state made.0.line)) }
     ensures opened { IfOk result (λ made. OpensOne S.Store (M.opens machine.old machine.new path.now) made.0) }
+    ensures there { wanted ≡ Wanted.Ours → OnOk result (M.is_there machine.old path.now) }
     ensures reason { IfErr result (λ refused. IsOpenRefusal refused.0) }
     ensures closed { IfErr result (λ refused. LeavesNoneOpen M.opens M.refuses M.closes S.Store refused.0 machine.old machine.new path.now) }
 {
@@ -52,7 +53,7 @@ pub fn open_publisher<S: Alter + Drop, M: Machine<Connection<S>>, F: Files>(
     }
 }
 
-/// Opens a desk over the database at a path of the machine, where it is one that is wanted.
+/// Opens a desk over the database at a path of the machine, if it is one that is wanted.
 ///
 /// # Errors
 ///
@@ -72,6 +73,7 @@ pub(crate) fn open_desk<
 ) -> Result<StoreDesk<S, H>, (Refusal, Option<Cause>)>
     ensures stands { IfOk result (λ desk. IsSound (published desk) × IsOpenOn (StandsFor S.Store) desk (published desk)) }
     ensures opened { IfOk result (OpensOne S.Store (M.opens machine.old machine.new path.now)) }
+    ensures there { wanted ≡ Wanted.Ours → OnOk result (M.is_there machine.old path.now) }
     ensures reason { IfErr result (λ refused. IsOpenRefusal refused.0) }
     ensures closed { IfErr result (λ refused. LeavesNoneOpen M.opens M.refuses M.closes S.Store refused.0 machine.old machine.new path.now) }
 {

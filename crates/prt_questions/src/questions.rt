@@ -19,7 +19,7 @@ use std::net::Net;
 use std::rt::Clock;
 use std::sync::Wait;
 
-/// Answers what is asked, and gives the exit status: that of `ask`, `diff`, `follow_server`, `wait_for`, `import_listing`,
+/// Answers what is asked, and returns the exit status: that of `ask`, `diff`, `follow_server`, `wait_for`, `import_listing`,
 /// `rehearse`, `assert_claims` or `search`.
 pub fn answer_question<
     S: Alter + Drop,

@@ -12,7 +12,7 @@ use std::io::{self, Read, Write};
 
 /// Where iproute2 has names of one kind. Of two names of one number it shows the last one.
 struct Places {
-    /// The first of these that there is counts.
+    /// The first of these that exists counts.
     files: [&'static str; 2],
     /// Each file of these whose name ends with `.conf` counts.
     folders: [&'static str; 2],
@@ -43,7 +43,7 @@ fn read_file<F: Files>(files: &F, alloc: Global, path: &str) -> io::Result<Vec<u
     Ok(text)
 }
 
-/// Reads a file whole, or the input where none is named.
+/// Reads a file whole, or the input if none is named.
 fn read_text<F: Files, R: Read>(
     files: &F,
     alloc: Global,
@@ -58,7 +58,7 @@ fn read_text<F: Files, R: Read>(
     read_file(files, alloc, path)
 }
 
-/// Tells why a file, or the input where none is named, can't be read, and gives the exit status for it.
+/// Reports why a file, or the input if none is named, can't be read, and returns the exit status for it.
 pub(crate) fn report_unread<D: Display, W: Write, E: Write>(
     alloc: Global,
     file: Option<&str>,
@@ -75,11 +75,11 @@ pub(crate) fn report_unread<D: Display, W: Write, E: Write>(
     status
 }
 
-/// Reads a file whole, or the input where none is named.
+/// Reads a file whole, or the input if none is named.
 ///
 /// # Errors
 ///
-/// The exit status, where it can't be read; why is told.
+/// The exit status, if it can't be read; the cause is reported.
 pub(crate) fn read_whole<F: Files, R: Read, W: Write, E: Write>(
     files: &F,
     alloc: Global,
@@ -97,7 +97,7 @@ pub(crate) fn read_whole<F: Files, R: Read, W: Write, E: Write>(
     }
 }
 
-/// Tells that memory was refused, and gives the exit status for it.
+/// Reports that memory was refused, and returns the exit status for it.
 pub(crate) fn report_no_memory<W: Write, E: Write>(output: &mut W, errors: &mut E) -> u8
     ensures status { result ≡ FAULT }
     ensures unwritten { W.contents output.new ≡ W.contents output.old }
@@ -144,7 +144,7 @@ fn add_first_names<F: Files>(
     Ok(())
 }
 
-/// Reads the names that iproute2 has in these places. A file that can't be read gives none.
+/// Reads the names that iproute2 has in these places. A file that can't be read has none.
 fn read_names<F: Files + Alloc + Clone + Drop>(
     files: &F,
     alloc: Global,
@@ -158,7 +158,7 @@ fn read_names<F: Files + Alloc + Clone + Drop>(
     Ok(names)
 }
 
-/// Reads the names of tables and of routing protocols that iproute2 has. A file that can't be read gives none.
+/// Reads the names of tables and of routing protocols that iproute2 has. A file that can't be read has none.
 pub(crate) fn host_names<F: Files + Alloc + Clone + Drop>(
     files: &F,
     alloc: Global,
@@ -169,7 +169,7 @@ pub(crate) fn host_names<F: Files + Alloc + Clone + Drop>(
     })
 }
 
-/// Gives the names of tables that an answer with these labels needs.
+/// Returns the names of tables that an answer with these labels needs.
 pub(crate) fn names_for<F: Files + Alloc + Clone + Drop>(
     files: &F,
     alloc: Global,

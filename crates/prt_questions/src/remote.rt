@@ -3,7 +3,7 @@ use prt_feed::{NotRead, read_opening};
 use prt_program::Refusal;
 use prt_version::Version;
 use std::alloc::{AllocError, Global};
-use std::io::{self, BufRead, BufReader, Read, Write};
+use std::io::{self, BufRead, BufReader, ErrorKind, Read, Write};
 use std::net::{Net, OpenStream, Shutdown, SocketAddr, SocketAddrV4, TcpStream};
 use std::time::Duration;
 use thiserror::Error;
@@ -20,6 +20,9 @@ const TRY: u64 = 1;
 /// The first byte of a feed, which begins with `state`. No reply of a session begins with it.
 const FEED: u8 = b's';
 
+/// A query, which a session answers at once. A feed doesn't read it.
+const QUERY: &[u8] = b"route get 127.0.0.1\n";
+
 /// What the last line of a whole reply to a query begins with: that of `route get`, and that of a listing.
 const LAST_LINES: [&[u8]; 2] = [b"answer ", b"end "];
 
@@ -34,6 +37,8 @@ pub(crate) enum NotTold {
     Tables(Refusal),
     #[error("the session gave no whole answer")]
     NoAnswer,
+    #[error("this is no feed: tables come from the port after --feed, 7801 in the package")]
+    NoFeed,
 }
 
 impl From<io::Error> for NotTold {
@@ -69,6 +74,33 @@ pub(crate) enum Told {
     Reply(Vec<u8>),
 }
 
+/// Returns the first byte that comes, if the connection isn't closed before.
+fn first_byte<R: Read>(reader: &mut BufReader<R>) -> io::Result<Option<u8>> {
+    Ok(reader.fill_buf()?.first().copied())
+}
+
+/// Checks whether a feed is at the other end, or one that was closed at once. What is silent for a second gets a query, which a
+/// session answers.
+fn is_feed<T: Read + Write + OpenStream>(
+    reader: &mut BufReader<T>,
+    stream: &mut T,
+) -> io::Result<bool> {
+    stream.set_read_timeout(Some(Duration::from_secs(TRY)))?;
+    let came = first_byte(reader);
+    stream.set_read_timeout(Some(Duration::from_secs(PATIENCE)))?;
+    let first = match came {
+        Ok(first) => first,
+        Err(error) => match error.kind() {
+            ErrorKind::WouldBlock | ErrorKind::TimedOut => {
+                stream.write_all(QUERY)?;
+                first_byte(reader)?
+            }
+            _ => return Err(error),
+        },
+    };
+    Ok(first.is_none() || first == Some(FEED))
+}
+
 /// Connects to a server.
 pub(crate) fn connect<N: Net>(rt: &N, place: SocketAddrV4) -> io::Result<N::Stream> {
     let patience = Some(Duration::from_secs(PATIENCE));
@@ -83,15 +115,22 @@ pub(crate) fn connect<N: Net>(rt: &N, place: SocketAddrV4) -> io::Result<N::Stre
     Ok(stream)
 }
 
-/// Connects to the feed of a server, and reads the tables as they are now. The reader stands behind them.
+/// Connects to the feed of a server, and reads the tables as they are now. The reader is behind them.
+///
+/// # Errors
+///
+/// `NoFeed` if something else answers, as a session does. Otherwise what befell the connection, or the tables.
 pub(crate) fn open_feed<N: Net>(
     rt: &N,
     alloc: Global,
     place: SocketAddrV4,
 ) -> Result<(BufReader<N::Stream>, Version), NotTold> {
     let stream = connect(rt, place)?;
-    let same = stream.try_clone()?;
+    let mut same = stream.try_clone()?;
     let mut reader = BufReader::new(alloc, stream)?;
+    if !is_feed(&mut reader, &mut same)? {
+        return Err(NotTold::NoFeed);
+    }
     let opening = read_opening(alloc, &mut reader)?;
     let version = opening.into_version(alloc)?;
     // After its tables a feed may be silent for longer.
@@ -109,19 +148,19 @@ pub(crate) fn read_tables<N: Net>(
     Ok(version)
 }
 
-/// Tells whether a server says something at a place: its feed the tables, or a session the reply to a query.
+/// Checks whether a server says something at a place: its feed the tables, or a session the reply to a query.
 pub(crate) fn is_there<N: Net>(rt: &N, place: SocketAddrV4) -> io::Result<bool> {
     let patience = Duration::from_secs(TRY);
     let mut stream = TcpStream::connect_timeout(rt, &SocketAddr::V4(place), patience)?;
     stream.set_read_timeout(Some(patience))?;
     stream.set_write_timeout(Some(patience))?;
-    stream.write_all(b"route get 127.0.0.1\n")?;
+    stream.write_all(QUERY)?;
     let mut byte = [0u8; 1];
     let count = stream.read(&mut byte)?;
     Ok(count != 0)
 }
 
-/// Tells whether a reply to a query is whole.
+/// Checks whether a reply to a query is whole.
 fn is_whole(reply: &[u8]) -> bool {
     let Some(lines) = reply.strip_suffix(b"\n") else {
         return false;
@@ -145,7 +184,7 @@ pub(crate) fn ask_line<N: Net>(
     // A session ends with its last line.
     stream.shutdown(Shutdown::Write)?;
     let mut reader = BufReader::new(alloc, stream)?;
-    if reader.fill_buf()?.first() == Some(&FEED) {
+    if first_byte(&mut reader)? == Some(FEED) {
         let opening = read_opening(alloc, &mut reader)?;
         return Ok(Told::Tables(opening.into_version(alloc)?));
     }

@@ -30,7 +30,7 @@ fn text_of(alloc: Global, found: &Unused) -> Result<Vec<u8>, Refusal>
     }
 }
 
-/// Tells whether nothing is unused.
+/// Checks whether nothing is unused.
 fn is_nothing(found: &Unused) -> bool
     ensures { result ≡ true → (found.now.rules.items ≡ []) × (found.now.routes.items ≡ []) }
 {
@@ -67,7 +67,7 @@ fn search_over<W: Write, E: Write>(
     }
 }
 
-/// Writes the rules at a source that decide no packet, and the routes that no packet gets, and gives the exit status.
+/// Writes the rules at a source that decide no packet, and the routes that no packet gets, and returns the exit status.
 ///
 /// The status is 0 if there are none, and 1 if there are any or a line of the script is refused. It is 3 as of `ask`, and if
 /// the rules divide packets into too many kinds. No rule and no route changes.

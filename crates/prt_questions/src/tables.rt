@@ -1,5 +1,5 @@
 //! The tables of a source, read once for a question about all packets.
-ghost use Rattle.std.specs.Prelude.{◌≡◌, ◌⊎◌, IfErr, IfOk, List, ℕ};
+ghost use Rattle.std.specs.Prelude.{◌≡◌, ◌⊎◌, IfErr, IfOk, List, OnOk, ℕ};
 ghost use Rattle.prt_import.specs.Accepted.{IsExecuted};
 ghost use Rattle.prt_import.specs.declared.accepted.Accepted.{Accepted as AcceptedOf};
 ghost use Rattle.prt_questions.specs.Analyses.{HaveTables, IsNotRead};
@@ -51,6 +51,7 @@ fn database_tables<
     errors: &mut E,
 ) -> Result<Tables, u8>
     ensures read { IfOk result (λ tables. IsAskedAt S.Store M.opens M.refuses M.closes databases.old.machine databases.new.machine path.now (λ state. tables.version ≡ state)) }
+    ensures there { OnOk result (M.is_there databases.old.machine path.now) }
     ensures unread { IfErr result (λ status. IsNotOpened S.Store M.opens M.refuses M.closes databases.old.machine databases.new.machine path.now ⊎ IsAskedAt S.Store M.opens M.refuses M.closes databases.old.machine databases.new.machine path.now (λ state. Unit {0})) }
     ensures left { IfOk result (λ tables. (tables.left ≡ DONE) ⊎ (tables.left ≡ REFUSED)) }
     ensures fault { IfErr result (λ status. status ≡ FAULT) }

@@ -1,4 +1,4 @@
-//! What is told on standard error beside an answer.
+//! What is reported on standard error beside an answer.
 use std::alloc::AllocError;
 use std::io::Write;
 

@@ -1,4 +1,4 @@
--- What the statements that read the four tables tell.
+-- What the statements that read the four tables report.
 use Rattle.std.proofs.Common.{List, [], Ok, Err, Result, subst}
 use Rattle.std.specs.Prelude.{Vec}
 use Rattle.std.specs.declared.alloc.Global.{Global}
@@ -38,7 +38,7 @@ shows ours.Suppress old new rows shown t sound = suppress_is_read t.tables t.ind
 
 -- ---- one table after another
 
--- what the first reads gave, and what the next one does
+-- what the first reads returned, and what the next one does
 pub next_shown : {S X : Type 0} (g : Ghosts S) (start : Held S) (Before : Database → Type 0) {P : X → Type 0} {a b : Held S} (table : DatabaseTable) (x : X) → ReadsShown g P ⊥ start a (Ok x) → (P x → OfOurs Before (state g start).now) → (result : Result (Vec ReadRow Global) Refusal)
     → ReadsShown g (λ (rows : Vec ReadRow Global). OfOurs (λ db. ShowsRows table db rows.items) (state g a).now) ⊥ a b result → ReadsShown g (λ (rows : Vec ReadRow Global). OfOurs (λ db. Before db × ShowsRows table db rows.items) (state g start).now) ⊥ start b result
 next_shown g start Before table x one before result next =

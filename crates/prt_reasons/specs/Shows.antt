@@ -47,7 +47,8 @@ pub record IsReadable (conn : Conn) : Type 0 where
 abbrev pub OfOurs : (Database → Type 0) → Database → Type 0
 OfOurs P db = IsFormat2 db.schema → IsDatabase db → P db
 
--- Where the first tables are ours, what was read is what they spell, and `Damaged` comes only where they spell no such thing. Nothing is changed.
+-- If the first tables are ours, what was read is what they encode, and `Damaged` comes only if they encode no such thing.
+-- Nothing is changed.
 pub record Reads {S X V : Type 0} (g : Ghosts S) (seen : X → V) (Spells : Database → V → Type 0) (old new : Held S) (result : Result X Refusal) : Type 0 where
   pub ok : HasCleanDisk (state g new) → IsReadable (state g old) → IfOk result (λ value. Spells (state g old).now (seen value))
   pub damaged : HasCleanDisk (state g new) → IsReadable (state g old) → IfErr result (λ reason. reason ≡ Damaged → (value : V) → Spells (state g old).now value → ⊥)

@@ -1,4 +1,4 @@
--- What single rows spell.
+-- What single rows encode.
 use Rattle.std.specs.Prelude.{◌≡◌, ℕ, List, true, drop}
 use Rattle.sqlite_value.specs.Order.{Row}
 use Rattle.prt_route.specs.Storable.{is_storable_route}

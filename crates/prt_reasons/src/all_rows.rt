@@ -1,4 +1,4 @@
-//! The first row that spells nothing, among the rows of the four tables.
+//! The first row that encodes nothing, among the rows of the four tables.
 
 ghost use Rattle.std.specs.Prelude.{IfSome};
 ghost use Rattle.prt_reasons.specs.Explains.{Explains, NamesBadRow, NamesNoRow};
@@ -21,7 +21,7 @@ pub(crate) struct AllRows {
     pub(crate) routes: Vec<Row>,
 }
 
-/// Gives the rowid and the fault of the first row of `rule` that spells no rule with an id of 1 to `last`.
+/// Finds the rowid and the fault of the first row of `rule` that encodes no rule with an id of 1 to `last`.
 fn first_rule(rows: &[Row], last: u64) -> Option<(i64, RowFault)>
     ensures { IfSome result (λ found. HasBadRow (SpellsRule last) rows.now found.0) }
 {
@@ -33,8 +33,7 @@ fn first_rule(rows: &[Row], last: u64) -> Option<(i64, RowFault)>
     None
 }
 
-/// Gives the rowid and the fault of the first row of `suppress` that spells no length of a rule with an id of 1 to
-/// `last`.
+/// Finds the rowid and fault of the first row of `suppress` that encodes no length of a rule with an id of 1 to `last`.
 fn first_length(rows: &[Row], last: u64) -> Option<(i64, RowFault)>
     ensures { IfSome result (λ found. HasBadRow (SpellsLength last) rows.now found.0) }
 {
@@ -46,7 +45,7 @@ fn first_length(rows: &[Row], last: u64) -> Option<(i64, RowFault)>
     None
 }
 
-/// Gives the rowid and the fault of the first row of `route` that spells no route.
+/// Finds the rowid and the fault of the first row of `route` that encodes no route.
 fn first_route(rows: &[Row]) -> Option<(i64, RowFault)>
     ensures { IfSome result (λ found. HasBadRow SpellsRoute rows.now found.0) }
 {
@@ -58,7 +57,7 @@ fn first_route(rows: &[Row]) -> Option<(i64, RowFault)>
     None
 }
 
-/// Gives the length in the row of `suppress` of a rule, if it has one.
+/// Finds the length in the row of `suppress` of a rule, if it has one.
 fn length_of(rows: &[Row], rule: u64, last: u64) -> Option<u8> {
     for row in rows {
         if let Some(length) = length_of_row(row, last) {
@@ -70,14 +69,14 @@ fn length_of(rows: &[Row], rule: u64, last: u64) -> Option<u8> {
     None
 }
 
-/// Gives the rule that a row spells, with its length.
+/// Reads the rule that a row encodes, with its length.
 fn whole_rule(row: &Row, lengths: &[Row], last: u64) -> Option<Rule> {
     let mut rule = rule_of_row(row, last)?;
     rule.suppress = length_of(lengths, rule.id, last);
     Some(rule)
 }
 
-/// Gives the rowid of the first of the rows that spells this rule, but for the id.
+/// Finds the rowid of the first of the rows that encodes this rule, except for the id.
 fn first_same(rule: &Rule, rows: &[Row], lengths: &[Row], last: u64) -> Option<i64> {
     for row in rows {
         if let (Some(id), Some(other)) = (integer(row, 0), whole_rule(row, lengths, last)) {
@@ -89,7 +88,7 @@ fn first_same(rule: &Rule, rows: &[Row], lengths: &[Row], last: u64) -> Option<i
     None
 }
 
-/// Gives why a rule of this id can't stand beside those of the rows before it.
+/// Finds why a rule of this id can't coexist with those of the rows before it.
 fn rule_reason(id: i64, rule: &Rule, before: &[Row], lengths: &[Row], last: u64) -> Option<Reason>
     ensures { IfSome result NamesNoRow }
 {
@@ -100,7 +99,7 @@ fn rule_reason(id: i64, rule: &Rule, before: &[Row], lengths: &[Row], last: u64)
     Some(Reason::SameRule(id, other))
 }
 
-/// Gives why the rule of a row can't stand beside those of the rows before it.
+/// Finds why the rule of a row can't coexist with those of the rows before it.
 fn rule_beside(row: &Row, before: &[Row], lengths: &[Row], last: u64) -> Option<Reason>
     ensures { IfSome result NamesNoRow }
 {
@@ -110,7 +109,7 @@ fn rule_beside(row: &Row, before: &[Row], lengths: &[Row], last: u64) -> Option<
     }
 }
 
-/// Gives why the rows, of which each spells something, spell no rules together.
+/// Finds why the rows, of which each encodes something, encode no rules together.
 fn rules_together(rules: &[Row], lengths: &[Row], last: u64) -> Option<Reason>
     ensures { IfSome result NamesNoRow }
 {
@@ -123,7 +122,7 @@ fn rules_together(rules: &[Row], lengths: &[Row], last: u64) -> Option<Reason>
     None
 }
 
-/// Gives which table has more rows than there may be.
+/// Finds which table has more rows than there may be.
 fn too_many(rules: usize, routes: usize) -> Option<Reason>
     ensures { IfSome result NamesNoRow }
 {
@@ -136,7 +135,7 @@ fn too_many(rules: usize, routes: usize) -> Option<Reason>
     None
 }
 
-/// Names the first row of `rule`, `suppress` or `route` that spells nothing, where the greatest id is `last`.
+/// Names the first row of `rule`, `suppress` or `route` that encodes nothing, if the greatest id is `last`.
 fn first_row(rows: &AllRows, last: u64) -> Option<Reason>
     ensures { IfSome result (NamesBadRow rows.now last) }
 {
@@ -152,7 +151,7 @@ fn first_row(rows: &AllRows, last: u64) -> Option<Reason>
     None
 }
 
-/// Gives why rows of which each spells something spell no state together.
+/// Finds why rows of which each encodes something encode no state together.
 fn together(rules: &[Row], lengths: &[Row], routes: usize, last: u64) -> Option<Reason>
     ensures { IfSome result NamesNoRow }
 {
@@ -163,8 +162,8 @@ fn together(rules: &[Row], lengths: &[Row], routes: usize, last: u64) -> Option<
     rules_together(rules, lengths, last)
 }
 
-/// Gives why the rows of `rule`, `suppress` and `route` spell nothing, where the greatest id is `last`: the first row
-/// that spells nothing, or else what the rows are together.
+/// Finds why the rows of `rule`, `suppress` and `route` encode nothing, if the greatest id is `last`: the first row
+/// that encodes nothing, or else what the rows are together.
 fn reason_below(rows: &AllRows, last: u64) -> Option<Reason>
     ensures { IfSome result (NamesBadRow rows.now last) }
 {
@@ -176,8 +175,8 @@ fn reason_below(rows: &AllRows, last: u64) -> Option<Reason>
     together(rows.rules.as_slice(), rows.lengths.as_slice(), routes, last)
 }
 
-/// Gives why the rows spell no state: the rows of `meta` that spell no count, or else the first row that spells nothing,
-/// or else what the rows are together.
+/// Finds why the rows encode no state: the rows of `meta` that encode no count, or else the first row that encodes
+/// nothing, or else what the rows are together.
 pub(crate) fn reason_in(rows: &AllRows) -> Option<Reason>
     ensures { IfSome result (Explains rows.now) }
 {

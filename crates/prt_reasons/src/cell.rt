@@ -13,7 +13,7 @@ use sqlite_schema::schema::Kind;
 /// The greatest number of 32 bits.
 pub(crate) const LARGEST: i64 = 4_294_967_295;
 
-/// What stands in a column for an address, a mark or a mask that is not there.
+/// What is in a column for an address, a mark or a mask that is not there.
 pub(crate) const ABSENT: i64 = -1;
 
 /// The values that a column takes (`FILE-FORMAT.md`).
@@ -29,7 +29,7 @@ pub(crate) enum Domain {
     Name,
 }
 
-/// Gives the integer in a cell.
+/// Reads the integer in a cell.
 pub(crate) fn integer(row: &Row, at: usize) -> Option<i64>
     ensures { IfSome result (λ n. column row.now at ≡ Int n) }
 {
@@ -39,7 +39,7 @@ pub(crate) fn integer(row: &Row, at: usize) -> Option<i64>
     }
 }
 
-/// Tells whether an integer is one of a domain.
+/// Checks whether an integer is one of a domain.
 fn takes_integer(domain: Domain, n: i64) -> bool {
     match domain {
         Domain::Number(low, high) => low <= n && n <= high,
@@ -49,7 +49,7 @@ fn takes_integer(domain: Domain, n: i64) -> bool {
     }
 }
 
-/// Tells whether a text is the name of an interface, or empty.
+/// Checks whether a text is the name of an interface, or empty.
 fn takes_text(domain: Domain, text: &[u8]) -> bool {
     match domain {
         Domain::Name => text.is_empty() || read_dev(text).is_ok(),
@@ -57,7 +57,7 @@ fn takes_text(domain: Domain, text: &[u8]) -> bool {
     }
 }
 
-/// Tells whether a cell has a value of a domain.
+/// Checks whether a cell has a value of a domain.
 fn takes(domain: Domain, row: &Row, at: usize) -> bool {
     match row.get_ref(at) {
         Ok(ValueRef::Int(n)) => takes_integer(domain, n),
@@ -66,7 +66,7 @@ fn takes(domain: Domain, row: &Row, at: usize) -> bool {
     }
 }
 
-/// Gives the name of the first of the columns that has a value which is not in its domain. The columns stand after the
+/// Finds the name of the first of the columns that has a value which is not in its domain. The columns come after the
 /// rowid.
 pub(crate) fn wrong_column(
     row: &Row,
@@ -81,7 +81,7 @@ pub(crate) fn wrong_column(
     None
 }
 
-/// Tells whether the address in a cell has bits after the length in another.
+/// Checks whether the address in a cell has bits after the length in another.
 pub(crate) fn has_host_bits(row: &Row, bits_at: usize, len_at: usize) -> bool {
     let (Some(bits), Some(len)) = (integer(row, bits_at), integer(row, len_at)) else {
         return false;

@@ -1,11 +1,11 @@
-//! What is told of tables that another program has changed.
+//! What is reported of tables that another program has changed.
 
 use crate::{columns_reason, rows_reason};
 use sqlite::Connection;
 use std::alloc::Global;
 use std::test::Fail;
 
-/// The tables of a new database in which a route stands.
+/// The tables of a new database that holds a route.
 const TABLES: &str = "
     CREATE TABLE rule (id INTEGER PRIMARY KEY NOT NULL, priority INTEGER NOT NULL, inverted INTEGER NOT NULL, src_net INTEGER NOT NULL, src_len INTEGER NOT NULL, dst_net INTEGER NOT NULL, dst_len INTEGER NOT NULL, iif TEXT NOT NULL, mark INTEGER NOT NULL, mask INTEGER NOT NULL, act INTEGER NOT NULL, tbl INTEGER NOT NULL) STRICT;
     CREATE TABLE route (tbl INTEGER NOT NULL, net INTEGER NOT NULL, len INTEGER NOT NULL, metric INTEGER NOT NULL, kind INTEGER NOT NULL, via INTEGER NOT NULL, dev TEXT NOT NULL, src INTEGER NOT NULL, proto INTEGER NOT NULL, scope INTEGER NOT NULL, PRIMARY KEY (tbl, net, len, metric)) STRICT;
@@ -15,7 +15,7 @@ const TABLES: &str = "
     INSERT INTO route VALUES (254, 167772160, 8, 0, 1, -1, 'eth0', -1, 3, 253);
     INSERT INTO meta VALUES (1, 2, 2)";
 
-/// Gives what is told of the tables after these statements.
+/// Collects what is reported of the tables after these statements.
 fn told(alloc: Global, statements: &str) -> Result<String, Fail> {
     let mut conn = Connection::open_in_memory(alloc)?;
     conn.execute_batch(TABLES)?;

@@ -1,4 +1,4 @@
-//! Why a database is refused, for a person: the first row that spells nothing, or the table that has other columns.
+//! Why a database is refused, for a person: the first row that encodes nothing, or the table that has other columns.
 #![tactic(auto)]
 
 mod all_rows;

@@ -1,4 +1,4 @@
-//! Rows of the table `meta` that spell no count.
+//! Rows of the table `meta` that encode no count.
 
 ghost use Rattle.std.specs.Prelude.{◌↔◌, IsNone};
 ghost use Rattle.prt_reasons.specs.Spelling.{SpellsCount};
@@ -9,7 +9,7 @@ use prt_rows::{MetaColumn as At, count_of_rows};
 use prt_version::MOST_COMMANDS;
 use sqlite::Row;
 
-/// Tells whether a number is that of an accepted command, or 0.
+/// Checks whether a number is that of an accepted command, or 0.
 fn is_count(n: i64) -> bool {
     match u64::try_from(n) {
         Ok(n) => n <= MOST_COMMANDS,
@@ -17,7 +17,7 @@ fn is_count(n: i64) -> bool {
     }
 }
 
-/// Names the fault of a row that spells no count.
+/// Names the fault of a row that encodes no count.
 fn name_fault(row: &Row) -> MetaFault {
     match (
         integer(row, At::Id as usize),
@@ -37,7 +37,7 @@ fn name_fault(row: &Row) -> MetaFault {
     }
 }
 
-/// Gives the fault of the rows of the table `meta`, if they spell no count of accepted commands.
+/// Finds the fault of the rows of the table `meta`, if they encode no count of accepted commands.
 pub fn meta_fault(rows: &[Row]) -> Option<MetaFault>
     ensures { IsNone result ↔ SpellsCount rows.now }
 {

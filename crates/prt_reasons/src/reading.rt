@@ -11,7 +11,7 @@ use crate::{DatabaseTable, Reason};
 use prt_refusals::Refusal;
 use sqlite::{Alter, Connection, Row};
 
-/// Gives the statement that reads a table.
+/// Returns the statement that reads a table.
 fn text(table: DatabaseTable) -> &'static str
     ensures { result.now ≡ text table }
 {
@@ -25,7 +25,7 @@ fn text(table: DatabaseTable) -> &'static str
     }
 }
 
-/// Gives the rows of a table, in the order of their rowids.
+/// Reads the rows of a table, in the order of their rowids.
 fn rows_of<S: Alter>(conn: &mut Connection<S>, table: DatabaseTable) -> Result<Vec<Row>, Refusal>
     ensures { ReadsShown S.Store (λ (rows : _). OfOurs (λ db. ShowsRows table db rows.items) (state S.Store conn.old).now) ⊥ conn.old conn.new result }
 {
@@ -35,7 +35,7 @@ fn rows_of<S: Alter>(conn: &mut Connection<S>, table: DatabaseTable) -> Result<V
     }
 }
 
-/// Gives the rows of the four tables.
+/// Reads the rows of the four tables.
 fn all_rows<S: Alter>(conn: &mut Connection<S>) -> Result<AllRows, Refusal>
     ensures { ReadsShown S.Store (λ rows. OfOurs (λ db. ShowsAll db rows) (state S.Store conn.old).now) ⊥ conn.old conn.new result }
 {
@@ -51,14 +51,14 @@ fn all_rows<S: Alter>(conn: &mut Connection<S>) -> Result<AllRows, Refusal>
     })
 }
 
-/// Gives why the rows of the four tables spell no state, if that is known: the first row that spells nothing, or what is
-/// wrong with the rows together.
+/// Finds why the rows of the four tables encode no state, if that is known: the first row that encodes nothing, or what
+/// is wrong with the rows together.
 ///
-/// Nothing is changed. A row that is named is one that the table keeps, and it spells nothing.
+/// Nothing is changed. A row that is named is one that the table keeps, and it encodes nothing.
 ///
 /// # Errors
 ///
-/// `OpenFailed` where a store call fails.
+/// `OpenFailed` if a store call fails.
 pub fn rows_reason<S: Alter>(conn: &mut Connection<S>) -> Result<Option<Reason>, Refusal>
     ensures { Reads S.Store (λ reason. reason) IsReasonIfAny conn.old conn.new result }
 {

@@ -23,7 +23,7 @@ impl fmt::Display for DatabaseTable {
     }
 }
 
-/// What is wrong with a row that spells nothing (`FILE-FORMAT.md`).
+/// What is wrong with a row that encodes nothing (`FILE-FORMAT.md`).
 #[derive(Clone, Copy, Debug, Error)]
 pub enum RowFault {
     /// This column has a value that it doesn't take.
@@ -38,10 +38,10 @@ pub enum RowFault {
     /// A route of another kind has a gateway, an interface, a source or a scope.
     #[error("next hop, source or scope of a route that is not unicast")]
     NextHopNotAllowed,
-    /// A mark stands without its mask, or a mask without its mark.
+    /// A mark comes without its mask, or a mask without its mark.
     #[error("mark or mask alone")]
     HalfMark,
-    /// A table stands beside an action that looks up none.
+    /// A table comes with an action that looks up none.
     #[error("table that is not looked up")]
     TableNotAllowed,
 }
@@ -66,16 +66,16 @@ pub enum MetaFault {
 /// Why a database is refused.
 #[derive(Clone, Copy, Debug, Error)]
 pub enum Reason {
-    /// The row of this rowid spells nothing.
+    /// The row of this rowid encodes nothing.
     #[error("{0}, row {1}: {2}")]
     Row(DatabaseTable, i64, RowFault),
     /// The row of `suppress` of this rowid is of a rule that looks up no table.
     #[error("suppress, row {0}: length of a rule that looks up no table")]
     Suppressing(i64),
-    /// The row of `rule` of the first rowid spells the rule of the second, but for the id.
+    /// The row of `rule` of the first rowid encodes the rule of the second, except for the id.
     #[error("rule, row {0}: same rule as row {1}")]
     SameRule(i64, i64),
-    /// The rows of `meta` spell no count.
+    /// The rows of `meta` encode no count.
     #[error("meta: {0}")]
     Meta(MetaFault),
     /// The table has this many rows, which are more than the second number.

@@ -1,4 +1,4 @@
-//! Rows of the table `route` that spell no route.
+//! Rows of the table `route` that encode no route.
 
 ghost use Rattle.std.specs.Prelude.{◌↔◌, IsNone, IsTrue};
 ghost use Rattle.prt_reasons.specs.Spelling.{SpellsRoute};
@@ -25,7 +25,7 @@ const DOMAINS: [Domain; 10] = [
 /// The number of the kind unicast.
 const UNICAST: i64 = 1;
 
-/// Names the fault of a row that spells no route.
+/// Names the fault of a row that encodes no route.
 fn name_fault(row: &Row) -> RowFault {
     if let Some(column) = wrong_column(row, &ROUTE_COLUMNS, &DOMAINS) {
         return RowFault::Value(column);
@@ -39,7 +39,7 @@ fn name_fault(row: &Row) -> RowFault {
     }
 }
 
-/// Tells whether a row of the table `route`, its rowid first, spells a route that a table may hold.
+/// Checks whether a row of the table `route`, its rowid first, encodes a route that a table may hold.
 fn spells_route(row: &Row) -> bool
     ensures { IsTrue result ↔ SpellsRoute row.now }
 {
@@ -49,7 +49,7 @@ fn spells_route(row: &Row) -> bool
     }
 }
 
-/// Gives the fault of a row of the table `route`, its rowid first, if it spells no route that a table may hold.
+/// Finds the fault of a row of the table `route`, its rowid first, if it encodes no route that a table may hold.
 pub fn route_fault(row: &Row) -> Option<RowFault>
     ensures { IsNone result ↔ SpellsRoute row.now }
 {

@@ -1,4 +1,4 @@
-//! Rows of the tables `rule` and `suppress` that spell no rule and no length.
+//! Rows of the tables `rule` and `suppress` that encode no rule and no length.
 
 ghost use Rattle.std.specs.Prelude.{◌↔◌, IsNone, IsTrue};
 ghost use Rattle.prt_reasons.specs.Spelling.{SpellsLength, SpellsRule};
@@ -26,7 +26,7 @@ const DOMAINS: [Domain; 11] = [
 /// The number of the action that looks up a table.
 const LOOKUP: i64 = 1;
 
-/// Tells whether the first cell has an id of 1 to `last`.
+/// Checks whether the first cell has an id of 1 to `last`.
 fn has_id(row: &Row, last: u64) -> bool {
     match integer(row, At::Id as usize) {
         Some(id) => match u64::try_from(id) {
@@ -37,12 +37,12 @@ fn has_id(row: &Row, last: u64) -> bool {
     }
 }
 
-/// Tells whether a cell says that its value is not there.
+/// Checks whether a cell says that its value is not there.
 fn is_absent(row: &Row, at: usize) -> bool {
     integer(row, at) == Some(ABSENT)
 }
 
-/// Names the fault of a row that spells no rule.
+/// Names the fault of a row that encodes no rule.
 fn name_fault(row: &Row, last: u64) -> RowFault {
     if !has_id(row, last) {
         return RowFault::Value("id");
@@ -64,7 +64,7 @@ fn name_fault(row: &Row, last: u64) -> RowFault {
     }
 }
 
-/// Tells whether a row of the table `rule` spells a rule that a database may hold, with an id of 1 to `last`.
+/// Checks whether a row of the table `rule` encodes a rule that a database may hold, with an id of 1 to `last`.
 fn spells_rule(row: &Row, last: u64) -> bool
     ensures { IsTrue result ↔ SpellsRule last row.now }
 {
@@ -74,7 +74,7 @@ fn spells_rule(row: &Row, last: u64) -> bool
     }
 }
 
-/// Gives the fault of a row of the table `rule`, if it spells no rule that a database may hold, with an id of 1 to `last`.
+/// Finds the fault of a row of `rule`, if it encodes no rule with an id of 1 to `last` that a database may hold.
 pub fn rule_fault(row: &Row, last: u64) -> Option<RowFault>
     ensures { IsNone result ↔ SpellsRule last row.now }
 {
@@ -85,7 +85,7 @@ pub fn rule_fault(row: &Row, last: u64) -> Option<RowFault>
     }
 }
 
-/// Gives the fault of a row of the table `suppress`, if it spells no length of a rule with an id of 1 to `last`.
+/// Finds the fault of a row of the table `suppress`, if it encodes no length of a rule with an id of 1 to `last`.
 pub fn length_fault(row: &Row, last: u64) -> Option<RowFault>
     ensures { IsNone result ↔ SpellsLength last row.now }
 {

@@ -10,7 +10,7 @@ use prt_rows::{
 use sqlite_schema::names::same_name;
 use sqlite_schema::schema::{Column, Kind, Schema, Table as Declared};
 
-/// Tells whether the column at a place is the one of this name and type.
+/// Checks whether the column at a place is the one of this name and type.
 fn has_column(columns: &[Column], at: usize, name: &str, kind: Kind) -> bool {
     match columns.get(at) {
         Some(column) => is_column(column, name, kind),
@@ -35,7 +35,7 @@ fn other_column(
     None
 }
 
-/// Tells which of the four tables has this name, in whatever case of ASCII letters.
+/// Looks up which of the four tables has this name, in whatever case of ASCII letters.
 fn table_named(name: &[u8]) -> Option<DatabaseTable> {
     if same_name(b"rule".as_slice(), name) {
         return Some(DatabaseTable::Rule);
@@ -78,10 +78,10 @@ fn first_column(tables: &[Declared]) -> Option<Reason> {
     None
 }
 
-/// Gives which table has the name of one of the four and other columns, keys or constraints, with the first column that
-/// is not as in format 2 (`FILE-FORMAT.md`).
+/// Finds which table has the name of one of the four and other columns, keys or constraints. The first column that is
+/// not as in format 2 (`FILE-FORMAT.md`) comes with it.
 ///
-/// None where each table that has such a name is that one.
+/// None if each table that has such a name is that one.
 pub fn columns_reason(schema: &Schema) -> Option<Reason>
     ensures { IsNone result ↔ SuitsFormat2 schema.now }
 {

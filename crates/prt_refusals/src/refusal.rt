@@ -84,7 +84,7 @@ pub enum Refusal {
     NotPublished,
     /// A reader could not fetch a version.
     NotFetched,
-    /// The stored rows spell no state.
+    /// The stored rows encode no state.
     Damaged,
     /// The store could not be opened or loaded.
     OpenFailed,
@@ -97,7 +97,7 @@ pub enum Refusal {
 }
 
 impl Refusal {
-    /// Gives the number and the name: the one table of both.
+    /// Returns the number and the name: the one table of both.
     fn entry(&self) -> (u32, &'static str)
         ensures { (result.0, result.1.now) ≡ entry_of self.now }
     {
@@ -139,14 +139,14 @@ impl Refusal {
         }
     }
 
-    /// Gives the number of the refusal, from 1 to 34.
+    /// Returns the number of the refusal, from 1 to 34.
     pub fn code(&self) -> u32
         ensures { result ≡ code_of self.now }
     {
         self.entry().0
     }
 
-    /// Gives the name of the refusal.
+    /// Returns the name of the refusal.
     pub fn name(&self) -> &'static str
         ensures { result.now ≡ name_of self.now }
     {

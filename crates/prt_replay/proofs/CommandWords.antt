@@ -1,4 +1,4 @@
--- Commands that stand in one line: the words of each are put together again.
+-- Commands that are in one line: the words of each are put together again.
 use Rattle.std.proofs.Common.{◌≡◌, ℕ, Bool, true, false, List, [], ◌∷◌, ◌++◌, Result, Ok, Err, codes, refl, sym, ap, ◌∙◌, cond, ◌⊎◌, inl, inr, append_assoc, filter}
 use Rattle.std.specs.List.{onto_first, slice_split, AllByRecursion as Each}
 use Rattle.std.proofs.lemmas.List.{append-nil}
@@ -120,7 +120,7 @@ joined : (before : List Command) (last : Command) (r : Commands) → map_ok (λ 
 joined before last (Ok more) = ap (λ xs. ok_result xs) (sym (append_assoc before (last ∷ []) more))
 joined before last (Err e) = refl
 
--- what the words of the first command give, and the others
+-- what the words of the first command yield, and the others
 abbrev first_gives : List Command → Result Command Refusal → List (List Word) → Commands
 first_gives before r parts = map_ok (λ more. before ++ more) (r >>= λ first. map_ok (λ more. first ∷ more) (each_command parts))
 

@@ -75,7 +75,7 @@ pub no_lines_left : (read : List Event) (left : ℕ) → with_lines read left []
 unfolding events_of_lines
 no_lines_left read left = ap (λ xs. ok_result xs) (append-nil read)
 
--- an event that was read, where memory may be refused
+-- an event that was read, if memory may be refused
 pub read_event : (r s : Result (Option Event) Refusal) (event : Option Event) → (r ≡ s) ⊎ (r ≡ Err NoMemory) → r ≡ Ok event → s ≡ Ok event
 read_event r s event (inl same) is = sym same ∙ is
 read_event r s event (inr memory) is = absurd cc
@@ -101,7 +101,7 @@ added read after line event (Err e) h is room fault = not_added read line event 
 not_longer : (n m : ℕ) → n ≤ m → nat_lt m n ≡ false
 not_longer n m h = grind (arith, nat_tests)
 
--- The lines read so far have given these events, and so many lines may come with the rest.
+-- The lines read so far have yielded these events, and so many lines may come with the rest.
 pub record HasRead (bytes : List ℕ) (read : List Event) (left : ℕ) (rest : List ℕ) : Type 0 where
   pub so_far : events_of_lines limits.lines most_events (contents bytes) ≡ with_lines read left (contents rest)
 

@@ -26,7 +26,7 @@ line_before (b ∷ bs) (suc at) within ends before =
     let later = line_before bs at (omega arith) ends (λ k h. before (suc k) (omega (arith, h))) in
     simp none (onto_contents b (lines_of bs) (take at bs) (contents (drop (suc at) bs)) later)
 
--- the first line, where a newline ends it
+-- the first line, if a newline ends it
 pub line_at : (bs : List ℕ) (at : ℕ) → position is_newline bs ≡ Some at → (contents bs ≡ take at bs ∷ contents (from bs (at + 1))) × (length (from bs (at + 1)) < length bs)
 line_at bs at h =
     let found = position-Some is_newline bs at 0 h in

@@ -96,7 +96,7 @@ pub record SimulatesStep (m : MachineStep) (w : Step) : Type 0 where
   pub shows : m.outcome ≡ w.outcome
   pub simulates : Simulates m.machine w.world
 
--- ---- what stands for the published version
+-- ---- what represents the published version
 
 shown_is : (m : MachineState) (w : World) → Holds w → Simulates m w → m.published ≡ published_version w
 shown_is m w h s = s.versions.published ∙ sym (shown_version w h)

@@ -24,7 +24,7 @@ event_words =
     ∷ (codes "reopen", Reopen)
     ∷ []
 
--- what a word stands for in such a list
+-- what a word means in such a list
 abbrev pub word_in : List (Word × EventWord) → Word → Option EventWord
 word_in [] w = None
 word_in (row ∷ rows) w = if bytes_eq row.0 w then Some row.1 else word_in rows w

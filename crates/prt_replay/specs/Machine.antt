@@ -66,7 +66,7 @@ hold lookers looker held = record { registry = lookers.registry; seats = slice_s
 abbrev pub with_registry : LookersState → RegistryState → LookersState
 with_registry lookers registry = record { registry = registry; seats = lookers.seats }
 
--- the number of the version that the looker holds, which it can announce where it is online with that number or a lower one
+-- the number of the version that the looker holds, which it can announce if it is online with that number or a lower one
 abbrev pub announceable : Option ℕ → Option State → Option ℕ
 announceable None held = None
 announceable (Some before) None = None
@@ -125,7 +125,7 @@ submit_some machine (first ∷ more) = submit_by machine (first ∷ more) machin
 abbrev pub at_stage : MachineState → Stage → Outcome → MachineStep
 at_stage machine stage outcome = record { machine = record machine { stage = stage }; outcome = outcome }
 
--- the rows of a command are written, where those of so many were still to be
+-- the rows of a command are written, if those of so many were still to be
 abbrev pub after_write : ℕ → Stage
 after_write left = if nat_lt 1 left then Prepared (left - 1) calls.Write else Prepared 0 calls.Count
 

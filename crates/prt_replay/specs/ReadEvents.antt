@@ -26,7 +26,7 @@ use Rattle.prt_replay.specs.declared.words.EventWord.TheVariants.{Submit, Submit
 
 -- ---- the values of an event
 
--- this, where no word stands after it
+-- this, if no word comes after it
 abbrev pub at_end : {X : Type 0} → X → List Word → Result X Refusal
 at_end x [] = Ok x
 at_end x (w ∷ ws) = Err UnknownWord
@@ -64,7 +64,7 @@ command_of (requests.Query query) = Err UnknownVerb
 abbrev pub command : List Word → Result Command Refusal
 command ws = line_request ws >>= command_of
 
--- the word that stands between two commands
+-- the word that separates two commands
 abbrev pub is_between : Word → Bool
 is_between w = bytes_eq (codes ";") w
 
@@ -133,7 +133,7 @@ abbrev pub and_events : ℕ → Option Event → (ℕ → Result (List Event) Re
 and_events left None after = after left
 and_events left (Some event) after = refuse_if (left == 0) TooManyLines >>= λ _. map_ok (λ others. event ∷ others) (after (left - 1))
 
--- the events of lines, where so many lines and so many events may come
+-- the events of lines, if so many lines and so many events may come
 unfoldable pub events_of_lines : ℕ → ℕ → List (List ℕ) → Result (List Event) Refusal
 events_of_lines lines left [] = Ok []
 events_of_lines lines left (line ∷ others) =

@@ -39,7 +39,7 @@ pub record IsAllOf (reader0 : Option (List ℕ)) (input : Input) : Type 0 where
   pub bytes_before : IfSome reader0 (λ bytes. bytes ≡ input.bytes ++ beyond)
   pub whole : input.ending ≡ end_of_input → beyond ≡ []
 
--- The file that the reader had has these events, or none for this reason; where memory is refused, none for that.
+-- The file that the reader had has these events, or none for this reason; if memory is refused, none for that.
 pub record Finds (reader0 : Option (List ℕ)) (found : Result (List Event) Refusal) : Type 0 where
   pub input : Input
   pub is_all : IsAllOf reader0 input
@@ -51,13 +51,13 @@ is_refusal {X} (Ok x) = false
 is_refusal {X} (Err ReadFault) = false
 is_refusal {X} (Err reason) = true
 
--- the fault of a run, where all of the answer was written or where it was not
+-- the fault of a run, if all of the answer was written or if it was not
 abbrev pub fault_by : {X : Type 0} → Bool → Result X Refusal → Option Refusal
 fault_by {X} false found = Some WriteFault
 fault_by {X} true (Err ReadFault) = Some ReadFault
 fault_by {X} true found = None
 
--- A replay was run: the writer got the trace of the events of the file, or the line of the refusal in its place; or a part of that, where the writer failed.
+-- A replay was run: the writer got the trace of the events of the file, or the line of the refusal in its place; or a part of that, if the writer failed.
 pub record ReplayIs (reader0 writer0 writer : Option (List ℕ)) (end : ScriptEnd) : Type 0 where
   pub found : Result (List Event) Refusal
   pub finds : Finds reader0 found

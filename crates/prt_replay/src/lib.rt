@@ -1,4 +1,4 @@
-//! Replays: lists of events that are read, played over real versions and the real registry, and told of line by line.
+//! Replays: lists of events that are read, played over real versions and the real registry, and reported line by line.
 #![tactic(auto)]
 
 mod event_examples;

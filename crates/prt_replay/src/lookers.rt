@@ -30,7 +30,7 @@ impl Model for Seat {
 }
 
 impl Seat {
-    /// Gives the number of the version that the looker holds, where it is online and has announced no later one.
+    /// Returns the number of the version that the looker holds, if it is online and has announced no later one.
     fn announceable(&self) -> Option<u64>
         ensures number { result ≡ announceable self.now.place.announced self.now.held }
         ensures online { IfSome result (λ _. IsSome self.now.place.announced) }
@@ -60,7 +60,7 @@ impl Model for Lookers {
     ghost invariant = { λ lookers. AreSeated lookers.registry lookers.seats.items };
 }
 
-/// Gives the index of the seat of a looker.
+/// Returns the index of the seat of a looker.
 fn seat_index(looker: LookerNumber) -> usize
     ensures value { result ≡ looker }
     ensures low { result < 64 }
@@ -119,7 +119,7 @@ impl Lookers {
         self.registry.offline(&mut seat.place);
     }
 
-    /// Tells whether a looker is online.
+    /// Returns whether a looker is online.
     pub(crate) fn is_online(&self, looker: LookerNumber) -> bool
         ensures { result ≡ is_some (announced_at self.now looker) }
     {
@@ -127,7 +127,7 @@ impl Lookers {
         seat.place.announced().is_some()
     }
 
-    /// Gives a looker this version in the place of the one that it holds.
+    /// Hands a looker this version in the place of the one that it holds.
     pub(crate) fn hold(&mut self, looker: LookerNumber, version: Arc<Version>)
         ensures { self.new ≡ hold self.old looker (Some (arc_value version)) }
     {
@@ -135,7 +135,7 @@ impl Lookers {
         seat.held = Some(version);
     }
 
-    /// Gives the version that a looker holds.
+    /// Returns the version that a looker holds.
     pub(crate) fn held(&self, looker: LookerNumber) -> Option<&Version>
         ensures { option_map (λ version. version.now) result ≡ (seat_of self.now looker).held }
     {
@@ -146,21 +146,21 @@ impl Lookers {
         }
     }
 
-    /// Gives the number of the version noted last.
+    /// Returns the number of the version noted last.
     pub(crate) fn noted(&self) -> u64
         ensures { result ≡ self.now.registry.noted.count }
     {
         self.registry.noted()
     }
 
-    /// Tells whether one more version can be retired.
+    /// Returns whether one more version can be retired.
     pub(crate) fn has_room(&self) -> bool
         ensures { result ≡ nat_lt (length self.now.registry.retired) MOST_RETIRED }
     {
         self.registry.has_room()
     }
 
-    /// Notes a version with a later number than the noted one, which is retired, where there is room for it.
+    /// Notes a version with a later number than the noted one, which is retired, if there is room for it.
     pub(crate) fn note(&mut self, version: Arc<Version>)
         requires room { length self.old.registry.retired < MOST_RETIRED }
         requires later { self.old.registry.noted.count < (arc_value version).count }
@@ -169,7 +169,7 @@ impl Lookers {
         self.registry.note(version);
     }
 
-    /// Gives up the versions that no looker can hold any more, and tells how many went.
+    /// Releases the versions that no looker can hold any more, and returns how many went.
     pub(crate) fn reclaim(&mut self) -> usize
         ensures after { self.new ≡ with_registry self.old (reclaimed self.old.registry) }
         ensures number { result + length self.new.registry.retired ≡ length self.old.registry.retired }

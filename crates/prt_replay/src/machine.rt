@@ -64,7 +64,7 @@ impl Machine {
         Machine::opened(alloc, Arc::new(alloc, version)?)
     }
 
-    /// Checks commands together where none is under way.
+    /// Checks commands together if none is under way.
     fn submit(&mut self, alloc: Global, commands: &[Command]) -> Result<Outcome, AllocError>
         ensures { IfOk result (λ outcome. record { machine = self.new; outcome = outcome } ≡ submit_some self.old commands.now) }
     {
@@ -113,7 +113,7 @@ impl Machine {
         Outcome::Called(call)
     }
 
-    /// Lets the write call of one command succeed, where so many are to be written.
+    /// Lets the write call of one command succeed, if so many are to be written.
     fn write(&mut self, left: usize) -> Outcome
         ensures { record { machine = self.new; outcome = result } ≡ call_by self.old (Prepared left Write) }
     {
@@ -150,7 +150,7 @@ impl Machine {
         }
     }
 
-    /// Gives what a failure or a stop leaves on the disk.
+    /// Finds what a failure or a stop leaves on the disk.
     fn left(&self, fate: Fate) -> Result<Arc<Version>, AllocError>
         ensures { IfOk result (λ disk. arc_value disk ≡ left_by self.now fate self.now.stage) }
     {
@@ -302,7 +302,7 @@ impl Machine {
         }
     }
 
-    /// Gives up the versions that no looker can hold any more.
+    /// Releases the versions that no looker can hold any more.
     fn reclaim(&mut self) -> Outcome
         ensures { record { machine = self.new; outcome = result } ≡ reclaim_by self.old }
     {
@@ -348,7 +348,7 @@ impl Machine {
         }
     }
 
-    /// Tells whether everything is stopped.
+    /// Returns whether everything is stopped.
     fn is_stopped(&self) -> bool
         ensures { result ≡ is_stopped_at self.now.stage }
     {

@@ -8,7 +8,7 @@ use crate::machine::Machine;
 use crate::{Event, Refusal, Trace};
 use std::alloc::Global;
 
-/// Plays these events on a machine, and gives the outcome of each.
+/// Plays these events on a machine, and returns the outcome of each.
 fn play_on(alloc: Global, machine: &mut Machine, events: &[Event]) -> Result<Trace, Refusal>
     ensures value { IfOk result (λ trace. trace ≡ machine_outcomes machine.old events.now) }
     ensures reason { IfErr result (λ reason. reason ≡ NoMemory) }
@@ -23,7 +23,7 @@ fn play_on(alloc: Global, machine: &mut Machine, events: &[Event]) -> Result<Tra
     Ok(trace)
 }
 
-/// Plays these events from a new database with no looker online, and gives the outcome of each.
+/// Plays these events from a new database with no looker online, and returns the outcome of each.
 ///
 /// It keeps real versions and the real registry, and in the place of a disk the version that is durable.
 ///

@@ -21,7 +21,7 @@ fn value_word(text: &[u8]) -> Result<(&[u8], &[u8]), Refusal>
     next_word(text).ok_or(Refusal::MissingValue)
 }
 
-/// Gives this back where no word stands after it.
+/// Returns this if no word comes after it.
 fn at_end<T: Drop>(value: T, text: &[u8]) -> Result<T, Refusal>
     ensures { result ≡ at_end value (words text.now) }
 {
@@ -144,7 +144,7 @@ fn add_word(line: &mut Vec<u8>, word: &[u8]) -> Result<(), Refusal>
     Ok(())
 }
 
-/// Reads commands that stand in one line, with a word `;` between each and the next.
+/// Reads commands that are in one line, with a word `;` between each and the next.
 fn read_commands(alloc: Global, text: &[u8]) -> Result<Vec<Command>, Refusal>
     ensures { MatchResult result
         (λ them. commands (words text.now) ≡ Ok them.items)
@@ -208,7 +208,7 @@ fn read_event(alloc: Global, first: EventWord, text: &[u8]) -> Result<Event, Ref
     }
 }
 
-/// Reads the event of a line; None where the line is blank or a comment.
+/// Reads the event of a line; None if the line is blank or a comment.
 ///
 /// # Errors
 ///

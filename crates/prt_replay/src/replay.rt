@@ -38,9 +38,9 @@ fn read_file<R: Read>(alloc: Global, reader: &mut R) -> Result<Vec<u8>, Refusal>
     Ok(bytes)
 }
 
-/// Tells an observer of the line for which a file was refused.
+/// Reports to an observer the line for which a file was refused.
 ///
-/// Where there are too many lines or events, or memory was refused, it is no line's own fault, and none is told.
+/// If there are too many lines or events, or memory was refused, it is no line's own fault, and none is reported.
 fn tell_refused<O: Observer>(alloc: Global, bytes: &[u8], refusal: Refusal, observer: &mut O) {
     if let Refusal::TooManyLines | Refusal::NoMemory = refusal {
         return;
@@ -55,7 +55,7 @@ fn tell_refused<O: Observer>(alloc: Global, bytes: &[u8], refusal: Refusal, obse
 ///
 /// # Errors
 ///
-/// `TooManyLines` where the file is too long, `ReadFault` where it can't be read to its end, the refusal of its first
+/// `TooManyLines` if the file is too long, `ReadFault` if it can't be read to its end, the refusal of its first
 /// refused line, or `NoMemory`.
 fn trace_of<R: Read, O: Observer>(
     alloc: Global,
@@ -78,7 +78,7 @@ fn trace_of<R: Read, O: Observer>(
     trace_text(alloc, &trace)
 }
 
-/// Tells how a replay ends whose answer is written.
+/// Determines how a replay ends whose answer is written.
 fn end_with(answer: &Result<Vec<u8>, Refusal>) -> ScriptEnd
     ensures refused { result.refused ≡ is_refusal answer.now }
     ensures fault { result.fault ≡ fault_by true answer.now }
@@ -93,12 +93,12 @@ fn end_with(answer: &Result<Vec<u8>, Refusal>) -> ScriptEnd
 
 /// Replays a list of events, one a line, from a new database with no looker online, and writes what came of each.
 ///
-/// The whole file is read first, of at most `LONGEST_REPLAY` bytes. A file that is longer or can't be read to its end,
-/// a line that is refused, and want of memory are answered by the one line `error C NAME` in place of the trace.
-/// `refused` says that there is such an answer, `fault` is `ReadFault` in its place where the reader failed, and
-/// `WriteFault` where the writer failed: then a part of the answer was written.
+/// The whole file is read first, of at most `LONGEST_REPLAY` bytes. A file that is longer or can't be read to its end
+/// is answered by the one line `error C NAME` in place of the trace. So are a line that is refused, and want of memory.
+/// `refused` says that there is such an answer, `fault` is `ReadFault` in its place if the reader failed, and
+/// `WriteFault` if the writer failed: then a part of the answer was written.
 ///
-/// The observer is told of the refused line, if there is one, before the answer is written.
+/// The refused line, if there is one, is reported to the observer before the answer is written.
 pub fn run_replay<R: Read, W: Write, O: Observer>(
     alloc: Global,
     reader: &mut R,

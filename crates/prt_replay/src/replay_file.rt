@@ -23,7 +23,7 @@ fn first_newline(bytes: &[u8]) -> Option<usize>
     bytes.iter().position(|byte| *byte == b'\n')
 }
 
-/// Takes the first line of a file: the line without its newline, and what stands after it.
+/// Takes the first line of a file: the line without its newline, and what comes after it.
 fn next_line(bytes: &[u8]) -> Option<(&[u8], &[u8])>
     ensures { MatchOption result (contents bytes.now ≡ [])
         (λ next. (contents bytes.now ≡ next.0.now ∷ contents next.1.now) × (length next.1.now < length bytes.now)) }
@@ -63,7 +63,7 @@ fn add_line(alloc: Global, events: &mut Vec<Event>, line: &[u8]) -> Result<(), R
 
 /// Finds the first line of a replay file that is refused by itself: its number, from 1, and the line.
 ///
-/// None where none of the first `MOST_LINES` lines is, or memory was refused.
+/// None if none of the first `MOST_LINES` lines is, or memory was refused.
 pub(crate) fn first_refused(alloc: Global, bytes: &[u8]) -> Option<(u64, &[u8])>
     ensures { IfSome result (λ found. refused_from 1 (contents bytes.now) ≡ Some (found.0, found.1.now)) }
 {
@@ -87,9 +87,9 @@ pub(crate) fn first_refused(alloc: Global, bytes: &[u8]) -> Option<(u64, &[u8])>
 ///
 /// # Errors
 ///
-/// `TooManyLines` where the file is longer than `LONGEST_REPLAY`; otherwise the refusal of the first line that is
-/// refused, where each line after `MOST_LINES` lines, and each event after `MOST_EVENTS` events, is refused by
-/// `TooManyLines`; or `NoMemory`.
+/// `TooManyLines` if the file is longer than `LONGEST_REPLAY`; otherwise the refusal of the first line that is
+/// refused; or `NoMemory`. Each line after `MOST_LINES` lines, and each event after `MOST_EVENTS` events, is refused by
+/// `TooManyLines`.
 #[tactic(auto, unfolding(crate::specs::ReadEvents::events_of))]
 pub fn read_events(alloc: Global, bytes: &[u8]) -> Result<Vec<Event>, Refusal>
     ensures { MatchResult result

@@ -10,7 +10,7 @@ use prt_refusals::{Refusal, StoreCall};
 use prt_world::{LookerNumber, Outcome};
 use std::alloc::{AllocError, Global};
 
-/// Appends a text; where memory is refused, none of it.
+/// Appends a text; if memory is refused, none of it.
 fn push_text(out: &mut Vec<u8>, text: &str) -> Result<(), AllocError>
     ensures { OnOk result (out.new.items ≡ out.old.items ++ text.now) }
 {
@@ -46,7 +46,7 @@ fn push_of_looker(
     push_number(out, number)
 }
 
-/// Gives the word for a store call.
+/// Returns the word for a store call.
 pub fn call_name(call: StoreCall) -> &'static str
     ensures { result.now ≡ call_name call }
 {

@@ -35,7 +35,7 @@ impl Trace {
     ///
     /// # Errors
     ///
-    /// `NoMemory` where memory is refused; the trace is as it was.
+    /// `NoMemory` if memory is refused; the trace is as it was.
     pub fn push(&mut self, outcome: Outcome) -> Result<(), Refusal>
         ensures ok { OnOk result (self.new ≡ self.old ++ outcome ∷ []) }
         ensures err { OnErr result (self.new ≡ self.old) }
@@ -45,7 +45,7 @@ impl Trace {
         Ok(())
     }
 
-    /// Gives the outcomes, in order.
+    /// Returns the outcomes, in order.
     pub fn outcomes(&self) -> &[Outcome]
         ensures { result.now ≡ self.now }
     {

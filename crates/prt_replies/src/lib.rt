@@ -1,4 +1,4 @@
-//! Replies: how they are written, who is told of them, and how a run of a script ends by them.
+//! Replies: how they are written, who observes them, and how a run of a script ends by them.
 #![tactic(auto)]
 
 mod observer;

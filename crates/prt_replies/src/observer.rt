@@ -1,8 +1,8 @@
 use crate::reply::Reply;
 
-/// Is told of each line of a session, and changes nothing of it.
+/// Is notified of each line of a session, and changes nothing of it.
 ///
-/// The refusal of what follows the last line that a session may have is a reply to no line, and is not told.
+/// The refusal of what follows the last line that a session may have is a reply to no line, and is not reported.
 pub trait Observer {
     /// Comes before a line is executed. Lines are numbered from 1.
     fn before(&mut self, line: u64);

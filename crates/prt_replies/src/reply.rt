@@ -32,7 +32,7 @@ impl Text {
         Text { bytes }
     }
 
-    /// Gives its bytes.
+    /// Returns its bytes.
     pub fn as_slice(&self) -> &[u8]
         ensures { result.now ≡ self.now }
     {
@@ -74,7 +74,7 @@ pub fn refused_line(refusal: Refusal) -> ArrayString<32>
     line
 }
 
-/// Writes some of these bytes by one call, and tells how many; none where the writer takes none or fails.
+/// Writes some of these bytes by one call, and returns how many; none if the writer takes none or fails.
 fn write_some<W: Write>(writer: &mut W, bytes: &[u8]) -> Option<usize>
     ensures some { IfSome result (λ count. (0 < count) × (count ≤ length bytes.now) × Appends (W.contents writer.old) (W.contents writer.new) (take count bytes.now)) }
     ensures none { MatchOption result (Keeps (W.contents writer.old) (W.contents writer.new)) (λ _. ⊤) }
@@ -86,7 +86,7 @@ fn write_some<W: Write>(writer: &mut W, bytes: &[u8]) -> Option<usize>
     }
 }
 
-/// Writes these bytes and flushes; tells whether all of it went well.
+/// Writes these bytes and flushes; returns whether all of it went well.
 pub fn write_bytes<W: Write>(writer: &mut W, bytes: &[u8]) -> bool
     ensures { Written result (W.contents writer.old) (W.contents writer.new) bytes.now }
 {
@@ -100,9 +100,9 @@ pub fn write_bytes<W: Write>(writer: &mut W, bytes: &[u8]) -> bool
     writer.flush().is_ok()
 }
 
-/// Writes a reply and flushes; tells whether all of it went well.
+/// Writes a reply and flushes; returns whether all of it went well.
 ///
-/// Where it did not, a part of the reply was written, perhaps none or all of it. `Silent` writes nothing, and always
+/// If it did not, a part of the reply was written, perhaps none or all of it. `Silent` writes nothing, and always
 /// goes well.
 pub fn write_reply<W: Write>(writer: &mut W, reply: &Reply) -> bool
     ensures written { Written result (W.contents writer.old) (W.contents writer.new) (reply_text reply.now) }

@@ -9,6 +9,6 @@ kept_from_one : (number : Option ℕ) → IfSome (keep (λ n. nat_le 1 n) number
 kept_from_one None = search rules
 kept_from_one (Some n) = search rules
 
--- a table that a word spells is from 1 on
+-- a table that a word expresses is from 1 on
 pub table_from_one : (w : Word) → IfSome (table w) (λ n. 1 ≤ n)
 table_from_one w = kept_from_one (spelled_number tables w)

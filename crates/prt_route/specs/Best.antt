@@ -13,6 +13,6 @@ is_candidate table addr route = route.table == table && contains route.prefix ad
 abbrev pub candidates : List Route → ℕ → Addr → List Route
 candidates routes table addr = filter (is_candidate table addr) routes
 
--- the candidate that no candidate is better than: it is the only one where no two routes have the same key
+-- the candidate that no candidate is better than: it is the only one if no two routes have the same key
 abbrev pub best : List Route → ℕ → Addr → Option Route
 best routes table addr = first_by is_better (candidates routes table addr)

@@ -12,7 +12,7 @@ use Rattle.prt_route.specs.declared.route.RouteKey.{RouteKey}
 abbrev pub has_key : RouteKey → List Route → Bool
 has_key key routes = list_any (λ route. is_same_key (key_of route) key) routes
 
--- the routes but for the one that has this key
+-- the routes except the one that has this key
 abbrev pub without_key : RouteKey → List Route → List Route
 without_key key routes = filter (λ route. not (is_same_key (key_of route) key)) routes
 

@@ -3,7 +3,7 @@ use Rattle.std.specs.Prelude.{ℕ, Bool, not, ◌&&◌, ◌||◌, ◌==◌, nat_
 use Rattle.std.specs.List.{list_any}
 use Rattle.prt_addr.specs.Word.{Word, is_white, is_one_of}
 
--- `/`, `:` and white space stand in no name
+-- `/`, `:` and white space are in no name
 abbrev pub is_barred : ℕ → Bool
 is_barred b = b == 47 || b == 58 || is_white b
 

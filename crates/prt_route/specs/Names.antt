@@ -41,11 +41,11 @@ abbrev pub number_in : List (Word × ℕ) → Word → Option ℕ
 number_in [] w = None
 number_in (row ∷ rows) w = if bytes_eq row.0 w then Some row.1 else number_in rows w
 
--- the number that a word spells, by one of these names or in digits
+-- the number that a word expresses, by one of these names or in digits
 abbrev pub spelled_number : List (Word × ℕ) → Word → Option ℕ
 spelled_number names w = option_or (number_in names w) (number w)
 
--- the table that a word spells: from 1 on
+-- the table that a word expresses: from 1 on
 abbrev pub table : Word → Option ℕ
 table w = keep (λ n. nat_le 1 n) (spelled_number tables w)
 

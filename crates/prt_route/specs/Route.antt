@@ -18,7 +18,7 @@ is_better route other = nat_lt other.prefix.len route.prefix.len || (route.prefi
 abbrev pub is_same_key : RouteKey → RouteKey → Bool
 is_same_key a b = a.table == b.table && is_same_prefix a.prefix b.prefix && a.metric == b.metric
 
--- the first number is less, or they are the same and what is asked next holds
+-- the first number is less, or they are the same and what is compared next holds
 abbrev pub less_then : ℕ → ℕ → Bool → Bool
 less_then a b next = nat_lt a b || (a == b && next)
 

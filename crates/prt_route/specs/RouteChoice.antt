@@ -1,4 +1,4 @@
--- Which routes a command names, by what it gives: ip-route(8).
+-- Which routes a command names, by what it specifies: ip-route(8).
 use Rattle.std.specs.Prelude.{ℕ, Bool, true, false, ◌&&◌, ◌||◌, ◌==◌, List, filter, Option, Some, None, bytes_eq}
 use Rattle.prt_addr.specs.Block.{Block}
 use Rattle.prt_addr.specs.Given.{agrees, agrees_there}

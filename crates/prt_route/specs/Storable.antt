@@ -18,6 +18,6 @@ abbrev pub suits : Kind → Route → Bool
 suits Unicast route = has_next_hop route
 suits _ route = is_bare route
 
--- a route of a table from 1 on that has what its kind asks for
+-- a route of a table from 1 on that has what its kind requires
 abbrev pub is_storable_route : Route → Bool
 is_storable_route route = nat_le 1 route.table && nat_lt route.table (2 ^ 32) && suits route.kind route

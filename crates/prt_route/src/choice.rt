@@ -19,7 +19,7 @@ pub enum Range {
 }
 
 impl Range {
-    /// Tells whether the prefix is one of the range.
+    /// Checks whether the prefix is one of the range.
     fn takes(&self, prefix: &Prefix) -> bool
         ensures { result ≡ in_range self.now prefix.now }
     {
@@ -76,15 +76,15 @@ pub struct RouteChoice {
     pub scope: Option<u8>,
 }
 
-/// Tells whether the kind is the one that is given, if one is.
-// A function of its own, since the proof of `RouteChoice::takes` gives up where it has to compare the kinds too.
+/// Checks whether the kind is the one that is given, if one is.
+// A function of its own, since the proof of `RouteChoice::takes` gives up if it has to compare the kinds too.
 fn agrees_in_kind(given: &Option<Kind>, kind: &Kind) -> bool
     ensures { result ≡ agrees is_same_kind given.now kind.now }
 {
     agrees(given, kind)
 }
 
-/// Tells whether the metric is the one that is given; 0 counts as not given.
+/// Checks whether the metric is the one that is given; 0 counts as not given.
 fn takes_metric(given: Option<u32>, metric: u32) -> bool
     ensures { result ≡ takes_metric given metric }
 {
@@ -95,7 +95,7 @@ fn takes_metric(given: Option<u32>, metric: u32) -> bool
 }
 
 impl Selector {
-    /// Tells whether the route agrees with all that is given (`ip-route(8)`, `show`).
+    /// Checks whether the route agrees with all that is given (`ip-route(8)`, `show`).
     pub fn takes(&self, route: &Route) -> bool
         ensures { result ≡ is_selected self.now route.now }
     {
@@ -109,7 +109,7 @@ impl Selector {
 }
 
 impl RouteChoice {
-    /// Tells whether the route agrees with all that is given (`ip-route(8)`, `delete`).
+    /// Checks whether the route agrees with all that is given (`ip-route(8)`, `delete`).
     pub fn takes(&self, route: &Route) -> bool
         ensures { result ≡ is_chosen self.now route.now }
     {

@@ -61,7 +61,7 @@ impl Dev {
         Dev { bytes, len: 2 }
     }
 
-    /// Gives the bytes of the name, 1 to 15.
+    /// Returns the bytes of the name, 1 to 15.
     pub fn as_bytes(&self) -> &[u8]
         ensures { result.now ≡ self.now }
     {
@@ -73,7 +73,7 @@ impl Dev {
 ///
 /// # Errors
 ///
-/// `BadName` where the word is no such name.
+/// `BadName` if the word is not such a name.
 pub fn read_dev(word: &[u8]) -> Result<Dev, Refusal>
     ensures { result ≡ ok_or (device word.now) BadName }
 {
@@ -88,28 +88,28 @@ pub fn read_dev(word: &[u8]) -> Result<Dev, Refusal>
     })
 }
 
-/// Tells whether the byte stands in no name.
+/// Checks whether the byte is barred from names.
 fn is_barred(byte: u8) -> bool
     ensures { result ≡ is_barred byte }
 {
     matches!(byte, b'/' | b':' | b' ' | b'\t' | b'\r')
 }
 
-/// Tells whether the word is the name of a folder in itself or of the one above it.
+/// Checks whether the word is the name of a folder in itself or of the one above it.
 fn is_dots(word: &[u8]) -> bool
     ensures { result ≡ is_one_of word.now (codes "." ∷ codes ".." ∷ []) }
 {
     word == b".".as_slice() || word == b"..".as_slice()
 }
 
-/// Tells whether a byte of the word stands in no name.
+/// Checks whether a byte of the word is barred from names.
 fn has_barred(word: &[u8]) -> bool
     ensures { result ≡ list_any is_barred word.now }
 {
     word.iter().any(|byte| is_barred(*byte))
 }
 
-/// Tells whether the word is a name.
+/// Checks whether the word is a name.
 fn is_name(word: &[u8]) -> bool
     ensures { result ≡ is_name word.now }
 {

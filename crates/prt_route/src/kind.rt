@@ -17,7 +17,7 @@ pub enum Kind {
 }
 
 impl Kind {
-    /// Gives the word for the kind (`ip-route(8)`).
+    /// Returns the word for the kind (`ip-route(8)`).
     pub fn name(self) -> &'static str
         ensures { result.now ≡ kind_name self }
     {

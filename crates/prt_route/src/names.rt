@@ -10,7 +10,7 @@ use prt_addr::read_number;
 /// The table of the host's own addresses.
 pub const LOCAL_TABLE: u32 = 255;
 
-/// The table that a command means where it names none.
+/// The table that a command means if it names none.
 pub const MAIN_TABLE: u32 = 254;
 
 /// The table that the last of the opening rules looks up.
@@ -19,10 +19,10 @@ pub const DEFAULT_TABLE: u32 = 253;
 /// The protocol of a route that is added without one.
 pub const BOOT_PROTOCOL: u8 = 3;
 
-/// The scope of a route through a gateway, where none is given.
+/// The scope of a route through a gateway, if none is given.
 pub const GLOBAL_SCOPE: u8 = 0;
 
-/// The scope of a route without a gateway, where none is given.
+/// The scope of a route without a gateway, if none is given.
 pub const LINK_SCOPE: u8 = 253;
 
 /// A name and its number.
@@ -80,21 +80,21 @@ fn number_in(names: &[Named], word: &[u8]) -> Option<u32>
     None
 }
 
-/// Gives the name of a routing protocol's number, where it has one (`ip-route(8)`).
+/// Looks up the name of a routing protocol's number, if it has one (`ip-route(8)`).
 pub fn protocol_name(number: u8) -> Option<&'static str>
     ensures { option_map (λ s. s.now) result ≡ name_in protocols number }
 {
     name_in(&PROTOCOLS, u32::from(number))
 }
 
-/// Gives the name of a scope's number, where it has one (`ip-route(8)`).
+/// Looks up the name of a scope's number, if it has one (`ip-route(8)`).
 pub fn scope_name(number: u8) -> Option<&'static str>
     ensures { option_map (λ s. s.now) result ≡ name_in scopes number }
 {
     name_in(&SCOPES, u32::from(number))
 }
 
-/// Gives the name of a table's number, where it has one (`ip-route(8)`).
+/// Looks up the name of a table's number, if it has one (`ip-route(8)`).
 pub fn table_name(number: u32) -> Option<&'static str>
     ensures { option_map (λ s. s.now) result ≡ name_in tables number }
 {
@@ -122,7 +122,7 @@ fn spelled_byte(names: &[Named], word: &[u8]) -> Option<u8>
 ///
 /// # Errors
 ///
-/// `BadTable` where the word spells no table.
+/// `BadTable` if the word is not a table.
 pub fn read_table(word: &[u8]) -> Result<u32, Refusal>
     ensures { result ≡ ok_or (table word.now) BadTable }
 {
@@ -137,7 +137,7 @@ pub fn read_table(word: &[u8]) -> Result<u32, Refusal>
 ///
 /// # Errors
 ///
-/// `BadNumber` where the word spells no protocol.
+/// `BadNumber` if the word is not a protocol.
 pub fn read_protocol(word: &[u8]) -> Result<u8, Refusal>
     ensures { result ≡ ok_or (protocol word.now) BadNumber }
 {
@@ -148,7 +148,7 @@ pub fn read_protocol(word: &[u8]) -> Result<u8, Refusal>
 ///
 /// # Errors
 ///
-/// `BadNumber` where the word spells no scope.
+/// `BadNumber` if the word is not a scope.
 pub fn read_scope(word: &[u8]) -> Result<u8, Refusal>
     ensures { result ≡ ok_or (scope word.now) BadNumber }
 {

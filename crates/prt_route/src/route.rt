@@ -4,7 +4,7 @@ ghost use Rattle.prt_route.specs.Storable.{is_storable_route};
 
 use crate::{Addr, Dev, GLOBAL_SCOPE, Kind, Prefix};
 
-/// What tells a route from the others: no two routes have the same key.
+/// What distinguishes a route from the others: no two routes have the same key.
 #[derive(Clone, Copy, Debug, PartialEq, Eq)]
 pub struct RouteKey {
     /// The number of the table, from 1 on.
@@ -50,9 +50,9 @@ impl Route {
         }
     }
 
-    /// Gives what listings compare: the table, the address and the length of the prefix, and the metric.
+    /// Returns what listings compare: the table, the address and the length of the prefix, and the metric.
     ///
-    /// The route with the lower one is listed first. Two routes have the same one exactly where they have the same key.
+    /// The route with the lower one is listed first. Two routes have the same one exactly when they have the same key.
     pub fn listing_key(&self) -> (u32, u32, u8, u32)
         ensures { result ≡ (self.now.table, self.now.prefix.bits, self.now.prefix.len, self.now.metric) }
     {
@@ -64,7 +64,7 @@ impl Route {
         )
     }
 
-    /// Tells whether a table may hold the route (`ip-route(8)`).
+    /// Checks whether a table may hold the route (`ip-route(8)`).
     ///
     /// Its table is one from 1 on. A unicast route has a gateway or an interface; a route of another kind has neither, no
     /// source and scope global.
@@ -81,7 +81,7 @@ impl Route {
         self.table > 0 && suits
     }
 
-    /// Tells whether this route is better than the other one of its table for an address in both.
+    /// Checks whether this route is better than the other one of its table for an address in both.
     ///
     /// The longer prefix is better, and of equal lengths the lower metric (RFC 1812, section 5.2.4.3).
     pub fn better(&self, other: &Route) -> bool

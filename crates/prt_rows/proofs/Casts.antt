@@ -63,7 +63,7 @@ row_kept table id values given keep = λ i. given i ∷ all_kept table.columns v
 pub cast_rule : (rule : Rule) → cast_row rule_table (kept_rule rule) ≡ kept_rule rule
 cast_rule rule = row_kept rule_table _ _ (cast_number rule.id) (cast_null, (cast_number rule.priority, (cast_flag rule.inverted, (cast_number rule.from.bits, (cast_number rule.from.len, (cast_number rule.to.bits, (cast_number rule.to.len, (cast_name rule.iif, (cast_optional (mark_of rule.mark), (cast_optional (mask_of rule.mark), (cast_number (action_code rule.action), (cast_number (action_table rule.action), tt))))))))))))
 
--- of a route with this rowid, also where it isn't given yet
+-- of a route with this rowid, also if it isn't given yet
 pub cast_route : (rowid : Value) (route : Route) → cast kind.Integer rowid ≡ rowid → cast_row route_table (kept_route rowid route) ≡ kept_route rowid route
 cast_route rowid route given = row_kept route_table rowid _ given (cast_number route.table, (cast_number route.prefix.bits, (cast_number route.prefix.len, (cast_number route.metric, (cast_number (kind_code route.kind), (cast_optional (option_map (λ addr. addr.0) route.via), (cast_name route.dev, (cast_optional (option_map (λ addr. addr.0) route.src), (cast_number route.proto, (cast_number route.scope, tt))))))))))
 

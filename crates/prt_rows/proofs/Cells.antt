@@ -1,4 +1,4 @@
--- What stands in a cell tells the value.
+-- What is in a cell determines the value.
 use Rattle.std.proofs.Common.{◌≡◌, ℕ, true, false, Bool, [], ◌∷◌, Option, Some, None, refl, ap}
 use Rattle.prt_addr.specs.Word.{Word}
 use Rattle.prt_addr.specs.declared.addr.Addr.{Addr}

@@ -45,7 +45,7 @@ lost old itself = and_from _ _ itself (ap not (never old))
     never : (old : Row) → agree order (0 ∷ []) old (0 ∷ []) [] ≡ false
     never old = not-true _ (sym (no_heir order (0 ∷ []) old))
 
--- where a row with an id went, there is work
+-- if a row with an id went, there is work
 pub due_with : (olds : List Row) (old : Row) → Has olds old → same_id old old ≡ true → is_due olds ≡ true
 due_with olds old among itself = some_from (loses order (0 ∷ [])) (pairs olds []) (old, []) (pair_of olds old among) (lost old itself)
 

@@ -31,7 +31,7 @@ module _ {X : Type 0} (P : X → Type 0) (xs : List X) where
   pub each_of_all : (at : ℕ) → at ≡ length xs → ((y : X) → Has (take at xs) y → P y) → (y : X) → Has xs y → P y
   each_of_all at end so_far y there = so_far y (subst (λ l. Has l y) (sym (ap (λ n. take n xs) end ∙ take-length xs)) there)
 
-  -- and where it fails of one, not of all
+  -- and if it fails of one, not of all
   pub not_of_all : (at : ℕ) (x : X) → at < length xs → x ≡ get_or xs at x → (P x → ⊥) → ((y : X) → Has xs y → P y) → ⊥
   not_of_all at x within here fails all = fails (all x (has_at xs at x within here))
 

@@ -31,7 +31,7 @@ keeps_then old mid new one two = record {
   ];
 }
 
--- tables that keep their rows are empty where they were
+-- tables that keep their rows are empty if they were
 pub empty_before : (old new : Database) → KeepsTables old new → AreEmpty new → AreEmpty old
 empty_before old new keeps empty table ours there = let now = keeps.kept table there in sym now.1 ∙ empty table ours now.0
 

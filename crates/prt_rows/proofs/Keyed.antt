@@ -1,4 +1,4 @@
--- Rowids that are integers and stand once each.
+-- Rowids that are integers and occur once each.
 use Rattle.std.proofs.Common.{◌≡◌, inl, inr, Bool, true, false, Equal, Less, Greater, Ordering, List, [], ◌∷◌, cond, filter, IsPermutation, refl, sym, ap, ◌∙◌, true≢false, ℤ}
 use Rattle.std.proofs.lemmas.Bool.{and_parts, false_from_ne_true, not-true}
 use Rattle.std.proofs.lemmas.Cmp.{tied_back}
@@ -21,7 +21,7 @@ equal_is Less is = absurd (cc)
 equal_is Equal is = refl
 equal_is Greater is = absurd (cc)
 
--- who differs from another in its rowid, differs whichever of the two is asked
+-- a row that differs from another in its rowid differs in whichever order the two are compared
 other_back : (a b : Row) → has_same_rowid a b ≡ false → has_same_rowid b a ≡ false
 other_back a b other = false_from_ne_true _ (λ same.
     true≢false (sym (ap is_eq (tied_back value_cmp_total (rowid b) (rowid a) (equal_is _ same))) ∙ other))

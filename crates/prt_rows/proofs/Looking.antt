@@ -1,4 +1,4 @@
--- What the statements that look whether a table has rows tell.
+-- What the statements report that look whether a table has rows.
 use Rattle.std.proofs.Common.{◌≡◌, inl, ℕ, List, [], ◌∷◌, refl, subst}
 use Rattle.std.specs.Prelude.{codes}
 use Rattle.sqlite.proofs.Callers.{reads_as}
@@ -17,7 +17,7 @@ use Rattle.prt_rows.specs.Meanings.{look_at, rowid_term}
 use Rattle.prt_rows.specs.Statements.{look_at_meta, look_at_routes, look_at_rules, look_at_suppress}
 use Rattle.prt_rows.specs.Tables.{schema_with}
 
--- what is found tells whether there is a row
+-- what is found determines whether there is a row
 pub record Looks (rows found : List Row) : Type 0 where
   pub none : found ≡ [] → rows ≡ []
   pub some : rows ≡ [] → found ≡ []

@@ -11,7 +11,7 @@ use Rattle.prt_rows.specs.Tables.{rule_table}
 use Rattle.std.specs.List.{IsDistinct}
 
 module _ (table : Table) (row : Row) (rows : List Row) (old new : Database) (adds : Adds table row old new) where
-  -- a row that is put stands beside those that were there
+  -- a row that is put lies beside those that were there
   pub one_more_row : HasSame (old.trees table.tree) rows → HasSame (new.trees table.tree) (row ∷ rows)
   one_more_row same = record {
     sound = λ x there. elim (adds.sound x there) [ inl is ↦ inl is | inr was ↦ inr (same.sound x was) ];

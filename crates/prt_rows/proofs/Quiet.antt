@@ -139,7 +139,7 @@ module _ (sql : Word) (old new : State) (quiet : IsQuiet (understood old.now.sch
       let bare = subst IsQuiet shown.1.is quiet in
       (rw (bare.0) at shown.2).3
 
-  -- where it fails the connection is as it was, or without what was pending
+  -- if it fails, the connection is as it was, or without what was pending
   pub failed_query : (e : Error) → FailsToQuery sql [] old new e → IsUnchanged old new ⊎ IsRolledBack old new
   unfolding FailsToQuery IsNotRun
   failed_query e (inl (inl refused)) = inl refused.1

@@ -115,7 +115,7 @@ module _ (tree : ℕ) (terms : List Term) where
         let shown = keyed-permutation rows (map (projection shows []) table) back (λ x there. has_permuted rows _ x back there) (keyed_if_rising rows rise) in
         record { ints = λ x there. shown.ints (projection shows [] x) (mapped_has (projection shows []) table x there); once = once_if_shown table shown.once }
 
-    -- and where each names one row of the table, they rise
+    -- and if each names one row of the table, they rise
     pub read_rising_if_keyed : IsKeyed table → rowids_rise rows ≡ true
     read_rising_if_keyed keyed =
         let shown : IsKeyed (map (projection shows []) table) = record {

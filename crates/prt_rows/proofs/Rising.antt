@@ -1,4 +1,4 @@
--- Rowids that rise stand once each, and those that stand once each and never fall rise.
+-- Rowids that rise occur once each, and those that occur once each and never fall rise.
 use Rattle.std.proofs.Common.{◌≡◌, ◌<◌, ℕ, suc, inr, inl, ℤ, true, false, List, [], ◌∷◌, Option, Some, None, length, drop, get_or, refl, sym, ap, ◌∙◌, arith, drop-cons, int_lt, ◌&&◌}
 use Rattle.std.proofs.lemmas.Bool.{and_from, and_parts}
 use Rattle.std.proofs.lemmas.Grind.{common_steps}

@@ -1,4 +1,4 @@
--- A row spells at most one route.
+-- A row encodes at most one route.
 use Rattle.std.proofs.Common.{◌≡◌, ap}
 use Rattle.sqlite_value.specs.Order.{Row, column}
 use Rattle.prt_route.specs.declared.route.Route.{Route}

@@ -1,4 +1,4 @@
--- A row spells at most one rule.
+-- A row encodes at most one rule.
 use Rattle.std.proofs.Common.{◌≡◌, ap, Option, Some, None, refl, sym, ◌∙◌}
 use Rattle.sqlite_value.specs.Order.{Row, column}
 use Rattle.prt_rule.specs.declared.rule.Mark.{Mark}

@@ -70,7 +70,7 @@ length_after : (row : Row) → 0 < length row → length row ≡ length (drop 1 
 length_after [] some = absurd (omega arith)
 length_after (v ∷ row) some = omega arith
 
--- no value stands after the last column, which has one
+-- no value comes after the last column, which has one
 whole_row : (key : Option ℕ) (columns : List Column) (row : Row) → are_typed key 0 columns (drop 1 row) ≡ true → is_null (column row (length columns)) ≡ false → row ≡ cells 0 (length columns + 1) row
 whole_row key columns row typed last =
     let most : length (drop 1 row) ≤ length columns = no_longer key 0 columns (drop 1 row) typed in
@@ -84,7 +84,7 @@ null_is (Real x) is = cc
 null_is (Text t) is = cc
 null_is (Blob b) is = cc
 
--- NULL stands in the column that the rowid stands for
+-- NULL is in the column that the rowid stands for
 key_is_null : (columns : List Column) (x : Row) → are_typed (Some 0) 0 columns (drop 1 x) ≡ true → column x 1 ≡ Null
 key_is_null columns [] typed = refl
 key_is_null columns (v ∷ []) typed = refl

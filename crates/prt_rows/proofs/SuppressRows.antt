@@ -1,4 +1,4 @@
--- A row spells at most one length.
+-- A row encodes at most one length.
 use Rattle.std.proofs.Common.{◌≡◌, ap}
 use Rattle.sqlite_value.specs.Order.{Row, column}
 use Rattle.prt_rows.specs.SuppressRow.{suppress_row}

@@ -35,7 +35,7 @@ found : (listed r : Result Compiled CompileError) (command : Command) → IsComm
 found listed (Ok c) command is = (is.0, is.1, refl)
 found listed (Err e) command is = absurd is
 
--- so a text is compiled once to tell all that is said of it
+-- so a text is compiled once to determine all that is said of it
 asks : (schema : Schema) (text : Word) (command : Command) → IsCommand (compiled schema text) command → Asks schema text command
 unfolding understood
 asks schema text command is = found (if_select (compiled listing_schema text)) (compiled schema text) command is

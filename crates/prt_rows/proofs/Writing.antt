@@ -19,7 +19,7 @@ use Rattle.sqlite_value.specs.Order.{Row}
 use Rattle.prt_rows.proofs.Texts.{Means}
 use Rattle.prt_rows.specs.Effects.{ChangesOnly}
 
--- a part that gave a value did not stop on the way
+-- a part that returned a value did not stop on the way
 pub went : {B E R : Type 0} {b : B} {Stops : E → Type 0} → ((stop : E) × Stops stop × (Ok b ≡ Err stop)) ⊎ R → R
 went (inl stopped) = absurd (let e = stopped.2 in cc)
 went (inr on) = on

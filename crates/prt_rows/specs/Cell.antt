@@ -1,4 +1,4 @@
--- What stands in a cell for a value.
+-- What is in a cell for a value.
 use Rattle.std.specs.Prelude.{◌≡◌, ◌≤◌, ℕ, pos, negsuc, Bool, true, false, List, [], ◌∷◌, Option, Some, None, IfSome, option_map}
 use Rattle.sqlite_value.specs.declared.value.Value.{Value}
 use Rattle.sqlite_value.specs.declared.value.Value.TheVariants.{Int, Text}
@@ -21,7 +21,7 @@ IsByte = IsWithin 0 255
 abbrev pub number : ℕ → Value
 number n = Int (pos n)
 
--- -1 where there is none
+-- -1 if there is none
 abbrev pub optional_number : Option ℕ → Value
 optional_number None = Int (negsuc 0)
 optional_number (Some n) = number n
@@ -32,7 +32,7 @@ optional_addr addr = optional_number (option_map (λ addr. addr.0) addr)
 abbrev pub IsOptionalAddr : Option Addr → Type 0
 IsOptionalAddr addr = IfSome addr (λ addr. IsNumber addr.0)
 
--- the empty text where there is none
+-- the empty text if there is none
 abbrev pub optional_name : Option Word → Value
 optional_name None = Text []
 optional_name (Some name) = Text name

@@ -22,7 +22,7 @@ use Rattle.prt_rows.specs.Tables.{meta_table, our_tables, route_table, rule_tabl
 abbrev pub has_same_rowid : Row → Row → Bool
 has_same_rowid a b = is_eq (value_cmp (rowid a) (rowid b))
 
--- each rowid is an integer, and stands once
+-- each rowid is an integer, and occurs once
 pub record IsKeyed (rows : List Row) : Type 0 where
   pub ints : (row : Row) → Has rows row → is_int (rowid row) ≡ true
   pub once : IsDistinct has_same_rowid rows
@@ -82,7 +82,8 @@ pub record IsOfFormat1 (db : Database) (count : ℕ) : Type 0 where
   pub row : db.trees meta_table.tree ≡ kept_count_1 count ∷ []
   pub none : Has db.schema.tables suppress_table → db.trees suppress_table.tree ≡ []
 
--- Where the file was of format 1 its row of `meta` is now that of format 2, with the count that it had. Otherwise nothing has changed.
+-- If the file was of format 1, its row of `meta` is now that of format 2, with the count that it had. Otherwise nothing has
+-- changed.
 abbrev pub Migrates : Database → Database → Type 0
 Migrates old new = (((count : ℕ) → IsOfFormat1 old count → ⊥) × (new ≡ old)) ⊎ ((count : ℕ) × IsOfFormat1 old count × Sets meta_table (kept_count count) old new)
 

@@ -18,7 +18,7 @@ abbrev pub with_key_column : Row → Row
 with_key_column [] = []
 with_key_column (id ∷ row) = id ∷ Null ∷ row
 
--- the rowid of a rule is its id, and NULL stands in the id's own column
+-- the rowid of a rule is its id, and NULL is in the id's own column
 abbrev pub kept_rule : Rule → Row
 kept_rule rule = number rule.id ∷ Null ∷ drop 1 (rule_row rule)
 

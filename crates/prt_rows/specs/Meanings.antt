@@ -62,7 +62,7 @@ has_id = equals 0 0 ∷ []
 abbrev pub has_priority : List Term
 has_priority = op2 (Compare Ne Binary) (col 1 2) (lit (Int (pos 0))) ∷ []
 
--- the parameter compares so with what the term gives of the row
+-- the parameter compares so with what the term yields of the row
 abbrev pub compares : CompareOp → Term → ℕ → Term
 compares op term parameter = op2 (Compare op Binary) term (col 0 parameter)
 
@@ -125,7 +125,7 @@ same_rowid = equals 0 10 ∷ []
 abbrev pub replaced_terms : List Term
 replaced_terms = col 1 0 ∷ col 1 0 ∷ col 1 1 ∷ col 1 2 ∷ col 1 3 ∷ col 1 4 ∷ col 0 4 ∷ col 0 5 ∷ col 0 6 ∷ col 0 7 ∷ col 0 8 ∷ col 0 9 ∷ []
 
--- where the key is there, all but the key is replaced
+-- if the key is there, all but the key is replaced
 abbrev pub on_key : Upsert
 on_key = record { target = Some key_places; update = Some (program 1 same_rowid replaced_terms) }
 

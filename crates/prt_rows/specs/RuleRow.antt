@@ -17,7 +17,7 @@ action_code Blackhole = 6
 action_code Unreachable = 7
 action_code Prohibit = 8
 
--- the table that is looked up, and 0 where none is
+-- the table that is looked up, and 0 if none is
 abbrev pub action_table : Action → ℕ
 action_table (Lookup table) = table
 action_table _ = 0
@@ -62,7 +62,7 @@ IsOptionalMark mark = IfSome (mark_of mark) IsNumber × IfSome (mask_of mark) Is
 abbrev pub IsAction : Action → Type 0
 IsAction action = IsNumber (action_table action)
 
--- a rule that a row may spell, where `last` is the greatest id that was given
+-- a rule that a row may encode, where `last` is the greatest id that was given
 pub record IsRule (last : ℕ) (rule : Rule) : Type 0 where
   pub id : IsWithin 1 last rule.id
   pub priority : IsNumber rule.priority

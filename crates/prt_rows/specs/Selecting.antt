@@ -1,4 +1,4 @@
--- What the statement that deletes routes by a selector is told of the selector.
+-- What is passed of a selector to the statement that deletes routes by it.
 use Rattle.std.specs.Prelude.{◌+◌, ◌-◌, ◌^◌, [], ◌∷◌, option_map}
 use Rattle.sqlite_value.specs.Order.{Row}
 use Rattle.prt_addr.specs.Sound.{IsPrefix}

@@ -60,7 +60,8 @@ delete_rule = codes "DELETE FROM rule WHERE id = ?1"
 abbrev pub flush_rules : Word
 flush_rules = codes "DELETE FROM rule WHERE priority <> 0"
 
--- the table; the least and the greatest address and length; an address that is before the end; kind, protocol, scope and name: -1, or the empty text, where all are taken
+-- the table; the least and the greatest address and length; an address that is before the end; kind, protocol, scope and
+-- name: -1, or the empty text, if all are taken
 abbrev pub flush_routes : Word
 flush_routes = codes "DELETE FROM route WHERE (?1 = -1 OR tbl = ?1) AND net >= ?2 AND net <= ?3 AND len >= ?4 AND len <= ?5 AND net + (4294967296 >> len) > ?6 AND (?7 = -1 OR kind = ?7) AND (?8 = -1 OR proto = ?8) AND (?9 = -1 OR scope = ?9) AND (?10 = '' OR dev = ?10)"
 

@@ -76,7 +76,7 @@ schema_with tables indexes views = record { tables = rule_table ∷ route_table 
 abbrev pub our_tables : List Table
 our_tables = rule_table ∷ route_table ∷ meta_table ∷ suppress_table ∷ []
 
--- what stands in a file after none, one, two and three of the four tables were made; three are those of format 1
+-- what is in a file after none, one, two and three of the four tables were made; three are those of format 1
 abbrev pub no_tables : Schema
 no_tables = record { tables = []; indexes = []; views = [] }
 

@@ -12,7 +12,7 @@ use prt_route::{Dev, read_dev};
 use sqlite::Row;
 use sqlite::types::ValueRef;
 
-/// Gives the integer in a cell.
+/// Reads the integer in a cell.
 pub(crate) fn integer(row: &Row, at: usize) -> Option<i64>
     ensures { Decodes Int (λ _. ⊤) (column row.now at) result }
 {
@@ -22,21 +22,21 @@ pub(crate) fn integer(row: &Row, at: usize) -> Option<i64>
     }
 }
 
-/// Gives the number of 32 bits in a cell.
+/// Reads the 32-bit number in a cell.
 pub(crate) fn number(row: &Row, at: usize) -> Option<u32>
     ensures { Decodes number IsNumber (column row.now at) result }
 {
     u32::try_from(integer(row, at)?).ok()
 }
 
-/// Gives the number of 8 bits in a cell.
+/// Reads the 8-bit number in a cell.
 pub(crate) fn byte(row: &Row, at: usize) -> Option<u8>
     ensures { Decodes number IsByte (column row.now at) result }
 {
     u8::try_from(integer(row, at)?).ok()
 }
 
-/// Gives the number from `low` to `high` in a cell.
+/// Reads the number from `low` to `high` in a cell.
 pub(crate) fn number_within(row: &Row, at: usize, low: u64, high: u64) -> Option<u64>
     ensures { Decodes number (IsWithin low high) (column row.now at) result }
 {
@@ -47,7 +47,7 @@ pub(crate) fn number_within(row: &Row, at: usize, low: u64, high: u64) -> Option
     Some(n)
 }
 
-/// Gives the flag in a cell: 0 or 1.
+/// Reads the flag in a cell: 0 or 1.
 pub(crate) fn flag(row: &Row, at: usize) -> Option<bool>
     ensures { Decodes flag (λ _. ⊤) (column row.now at) result }
 {
@@ -58,7 +58,7 @@ pub(crate) fn flag(row: &Row, at: usize) -> Option<bool>
     }
 }
 
-/// Gives the number of 32 bits in a cell, or none for -1.
+/// Reads the 32-bit number in a cell, or none for -1.
 pub(crate) fn optional_number(row: &Row, at: usize) -> Option<Option<u32>>
     ensures { Decodes optional_number (λ n. IfSome n IsNumber) (column row.now at) result }
 {
@@ -68,14 +68,14 @@ pub(crate) fn optional_number(row: &Row, at: usize) -> Option<Option<u32>>
     }
 }
 
-/// Gives the address in a cell, or none for -1.
+/// Reads the address in a cell, or none for -1.
 pub(crate) fn optional_addr(row: &Row, at: usize) -> Option<Option<Addr>>
     ensures { Decodes optional_addr IsOptionalAddr (column row.now at) result }
 {
     Some(optional_number(row, at)?.map(Addr))
 }
 
-/// Gives the name of an interface in a cell, or none for the empty text.
+/// Reads the name of an interface in a cell, or none for the empty text.
 pub(crate) fn optional_name(row: &Row, at: usize) -> Option<Option<Dev>>
     ensures { Decodes optional_name IsOptionalName (column row.now at) result }
 {
@@ -91,7 +91,7 @@ pub(crate) fn optional_name(row: &Row, at: usize) -> Option<Option<Dev>>
     }
 }
 
-/// Gives the prefix in two cells.
+/// Reads the prefix in two cells.
 pub(crate) fn prefix(row: &Row, bits_at: usize, len_at: usize) -> Option<Prefix>
     ensures { Decodes prefix_cells IsPrefix (column row.now bits_at ∷ column row.now len_at ∷ []) result }
 {

@@ -1,4 +1,4 @@
-//! The numbers that stand in a row for a kind of route and for an action of a rule (`FILE-FORMAT.md`).
+//! The numbers that are in a row for a kind of route and for an action of a rule (`FILE-FORMAT.md`).
 
 ghost use Rattle.std.specs.Prelude.{◌≡◌, [], ◌∷◌, ⊤};
 ghost use Rattle.prt_rows.specs.Cell.{number};
@@ -50,7 +50,7 @@ pub(crate) fn action_codes(action: Action) -> (u32, u32)
     }
 }
 
-/// The action that a code and a table stand for, if they stand for one: the table is 0 where none is looked up.
+/// The action that a code and a table stand for, if they stand for one: the table is 0 if none is looked up.
 pub(crate) fn action_of_codes(code: u32, table: u32) -> Option<Action>
     ensures { Decodes action_cells IsAction (number code ∷ number table ∷ []) result }
 {

@@ -16,7 +16,7 @@ use sqlite_schema::schema::{Action, Column, Index, Kind, Reference, Schema, Tabl
 use sqlite_value::keys::Collation;
 use sqlite_value::value::{Bytes, Value};
 
-/// Tells whether it is a column of this name and type of a STRICT table, and takes no NULL.
+/// Checks whether a column has this name and type, is one of a STRICT table, and takes no NULL.
 pub fn is_column(column: &Column, name: &str, kind: Kind) -> bool
     ensures { IsTrue result ↔ (column.now ≡ strict_column name.now kind) }
 {
@@ -28,7 +28,7 @@ pub fn is_column(column: &Column, name: &str, kind: Kind) -> bool
         && column.collation == Collation::Binary
 }
 
-/// Tells whether they are columns of these names and types.
+/// Checks whether the columns have these names and types.
 fn are_columns(columns: &[Column], wanted: &[(&str, Kind)]) -> bool
     ensures { IsTrue result ↔ (columns.now ≡ map (λ w. strict_column w.0.now w.1) wanted.now) }
 {
@@ -44,7 +44,7 @@ fn are_columns(columns: &[Column], wanted: &[(&str, Kind)]) -> bool
     true
 }
 
-/// Tells whether nothing is said of the table but its name, columns, keys and references.
+/// Checks whether the table declares nothing except its name, columns, keys and references.
 fn is_unchecked(table: &Table) -> bool
     ensures { IsTrue result ↔ (table.now ≡ record table.now { checks = []; computed = []; stamps = record { places = []; terms = []; formats = [] }; is_counted = false }) }
 {
@@ -56,21 +56,21 @@ fn is_unchecked(table: &Table) -> bool
         && !table.is_counted
 }
 
-/// Tells whether nothing is said of the table but its name, columns and keys.
+/// Checks whether the table declares nothing except its name, columns and keys.
 fn is_plain(table: &Table) -> bool
     ensures { IsTrue result ↔ (table.now ≡ record table.now { checks = []; references = []; computed = []; stamps = record { places = []; terms = []; formats = [] }; is_counted = false }) }
 {
     table.references.is_empty() && is_unchecked(table)
 }
 
-/// Tells whether it is the name of the column `id`.
+/// Checks whether the name is that of the column `id`.
 fn is_id(name: &Bytes) -> bool
     ensures { IsTrue result ↔ (name.now ≡ codes "id") }
 {
     name.as_slice() == b"id".as_slice()
 }
 
-/// Tells whether the names are that of the column `id` alone.
+/// Checks whether the names are that of the column `id` alone.
 fn are_id_alone(names: &[Bytes]) -> bool
     ensures { IsTrue result ↔ (names.now ≡ codes "id" ∷ []) }
 {
@@ -80,7 +80,7 @@ fn are_id_alone(names: &[Bytes]) -> bool
     }
 }
 
-/// Tells whether the reference is that of a row of `suppress` to the rule that it goes with.
+/// Checks whether the reference is that of a row of `suppress` to the rule that it goes with.
 fn is_to_rule(reference: &Reference) -> bool
     ensures { IsTrue result ↔ (reference.now ≡ to_rule) }
 {
@@ -92,7 +92,7 @@ fn is_to_rule(reference: &Reference) -> bool
         && !reference.is_deferred
 }
 
-/// Tells whether the only reference of the table is that one.
+/// Checks whether the only reference of the table is that one.
 fn refers_to_rule(table: &Table) -> bool
     ensures { IsTrue result ↔ (table.now ≡ record table.now { references = to_rule ∷ [] }) }
 {
@@ -102,7 +102,7 @@ fn refers_to_rule(table: &Table) -> bool
     }
 }
 
-/// Tells whether the primary key of the table is its first column, and it has no other key.
+/// Checks whether the primary key of the table is its first column, and it has no other key.
 fn is_keyed_by_first(table: &Table) -> bool
     ensures { IsTrue result ↔ (table.now ≡ record table.now { key = Some 0; primary = 0 ∷ []; uniques = []; orders = [] }) }
 {
@@ -112,7 +112,7 @@ fn is_keyed_by_first(table: &Table) -> bool
         && table.orders.is_empty()
 }
 
-/// Tells whether it is a plain table of this name and these columns.
+/// Checks whether the table is a plain one of this name and these columns.
 fn is_table_by_id(table: &Table, name: &str, columns: &[(&str, Kind)]) -> bool
     ensures { IsTrue result ↔ (table.now ≡ plain_table name.now table.now.tree (map (λ w. strict_column w.0.now w.1) columns.now)) }
 {
@@ -122,21 +122,21 @@ fn is_table_by_id(table: &Table, name: &str, columns: &[(&str, Kind)]) -> bool
         && is_plain(table)
 }
 
-/// Tells whether it is the table of rules, in whatever tree.
+/// Checks whether the table is that of rules, in whatever tree.
 fn is_rule_table(table: &Table) -> bool
     ensures { IsTrue result ↔ (table.now ≡ record rule_table { tree = table.now.tree }) }
 {
     is_table_by_id(table, "rule", &RULE_COLUMNS)
 }
 
-/// Tells whether it is the table `meta`, in whatever tree.
+/// Checks whether the table is `meta`, in whatever tree.
 fn is_meta_table(table: &Table) -> bool
     ensures { IsTrue result ↔ (table.now ≡ record meta_table { tree = table.now.tree }) }
 {
     is_table_by_id(table, "meta", &META_COLUMNS)
 }
 
-/// Tells whether it is the table `suppress`, in whatever tree.
+/// Checks whether the table is `suppress`, in whatever tree.
 fn is_suppress_table(table: &Table) -> bool
     ensures { IsTrue result ↔ (table.now ≡ record suppress_table { tree = table.now.tree }) }
 {
@@ -147,14 +147,14 @@ fn is_suppress_table(table: &Table) -> bool
         && is_unchecked(table)
 }
 
-/// Tells whether the places are those of table, address, length and metric.
+/// Checks whether the places are those of table, address, length and metric.
 fn are_key_places(places: &[usize]) -> bool
     ensures { IsTrue result ↔ (places.now ≡ key_places) }
 {
     places == [1usize, 2, 3, 4].as_slice()
 }
 
-/// Tells whether the only UNIQUE of the table is the key of routes, in the default order.
+/// Checks whether the only UNIQUE of the table is the key of routes, in the default order.
 fn has_route_key(table: &Table) -> bool
     ensures { IsTrue result ↔ (table.now ≡ record table.now { uniques = key_places ∷ []; orders = (record { digits = 0 }) ∷ [] }) }
 {
@@ -164,7 +164,7 @@ fn has_route_key(table: &Table) -> bool
     }
 }
 
-/// Tells whether it is the table of routes, in whatever tree.
+/// Checks whether the table is that of routes, in whatever tree.
 fn is_route_table(table: &Table) -> bool
     ensures { IsTrue result ↔ (table.now ≡ record route_table { tree = table.now.tree }) }
 {
@@ -176,7 +176,7 @@ fn is_route_table(table: &Table) -> bool
         && is_plain(table)
 }
 
-/// Tells whether it is the index of the key of routes, in its place.
+/// Checks whether the index is that of the key of routes, in its place.
 fn is_route_index(index: &Index) -> bool
     ensures { IsTrue result ↔ (index.now ≡ route_key) }
 {
@@ -188,7 +188,7 @@ fn is_route_index(index: &Index) -> bool
         && index.is_unique
 }
 
-/// Tells whether the reference names none of the four tables.
+/// Checks whether the reference names none of the four tables.
 fn is_elsewhere(reference: &Reference) -> bool
     ensures { IsTrue result ↔ IsElsewhere reference.now }
 {
@@ -199,7 +199,7 @@ fn is_elsewhere(reference: &Reference) -> bool
         && !same_name(b"suppress".as_slice(), parent)
 }
 
-/// Tells whether none of the references names one of the four tables.
+/// Checks whether none of the references names one of the four tables.
 fn are_elsewhere(references: &[Reference]) -> bool
     ensures { IsTrue result ↔ ((reference : Referring) → Has references.now reference → IsElsewhere reference) }
 {
@@ -211,7 +211,7 @@ fn are_elsewhere(references: &[Reference]) -> bool
     true
 }
 
-/// Tells whether the table is apart from the four tables, and refers to none of them.
+/// Checks whether the table is apart from the four tables, and refers to none of them.
 fn is_other(table: &Table) -> bool
     ensures { IsTrue result ↔ IsOther table.now }
 {
@@ -222,7 +222,7 @@ fn is_other(table: &Table) -> bool
         && are_elsewhere(table.references.as_slice())
 }
 
-/// Tells whether each of the tables is apart from the four tables, and refers to none of them.
+/// Checks whether each of the tables is apart from the four tables, and refers to none of them.
 fn are_others(tables: &[Table]) -> bool
     ensures { IsTrue result ↔ AreOthers tables.now }
 {
@@ -234,14 +234,14 @@ fn are_others(tables: &[Table]) -> bool
     true
 }
 
-/// Tells whether the index is no unique one of the table of routes.
+/// Checks whether the index is not a unique one of the table of routes.
 fn is_not_of_routes(index: &Index) -> bool
     ensures { IsTrue result ↔ (guards index.now route_table ≡ false) }
 {
     !(index.is_unique && index.table == 1)
 }
 
-/// Tells whether none of the indexes is a unique one of the table of routes.
+/// Checks whether none of the indexes is a unique one of the table of routes.
 fn are_not_of_routes(indexes: &[Index]) -> bool
     ensures { IsTrue result ↔ AreNotOfRoutes indexes.now }
 {
@@ -253,35 +253,35 @@ fn are_not_of_routes(indexes: &[Index]) -> bool
     true
 }
 
-/// Tells whether it is the table of rules, in its place.
+/// Checks whether the table is that of rules, in its place.
 fn is_rule_in_place(table: &Table) -> bool
     ensures { IsTrue result ↔ (table.now ≡ rule_table) }
 {
     table.tree == 0 && is_rule_table(table)
 }
 
-/// Tells whether it is the table of routes, in its place.
+/// Checks whether the table is that of routes, in its place.
 fn is_route_in_place(table: &Table) -> bool
     ensures { IsTrue result ↔ (table.now ≡ route_table) }
 {
     table.tree == 1 && is_route_table(table)
 }
 
-/// Tells whether it is the table `meta`, in its place.
+/// Checks whether the table is `meta`, in its place.
 fn is_meta_in_place(table: &Table) -> bool
     ensures { IsTrue result ↔ (table.now ≡ meta_table) }
 {
     table.tree == 3 && is_meta_table(table)
 }
 
-/// Tells whether it is the table `suppress`, in its place.
+/// Checks whether the table is `suppress`, in its place.
 fn is_suppress_in_place(table: &Table) -> bool
     ensures { IsTrue result ↔ (table.now ≡ suppress_table) }
 {
     table.tree == 4 && is_suppress_table(table)
 }
 
-/// Tells whether they are the first three tables and the index of the key of routes, each in its place.
+/// Checks whether these are the first three tables and the index of the key of routes, each in its place.
 fn are_first(rule: &Table, route: &Table, meta: &Table, key: &Index) -> bool
     ensures { IsTrue result ↔ ((rule.now ≡ rule_table) × (route.now ≡ route_table) × (meta.now ≡ meta_table) × (key.now ≡ route_key)) }
 {
@@ -291,8 +291,9 @@ fn are_first(rule: &Table, route: &Table, meta: &Table, key: &Index) -> bool
         && is_route_index(key)
 }
 
-/// Tells whether the first tables of the file are those of format 2 (`FILE-FORMAT.md`), as the first opening makes them
-/// in an empty file, and no other table refers to them and no other unique index is on the table of routes.
+/// Checks whether the first tables of the file are those of format 2 (`FILE-FORMAT.md`), as the first opening makes
+/// them in an empty file. Then no other table refers to them either, and no other unique index is on the table of
+/// routes.
 pub fn is_format_2(schema: &Schema) -> bool
     ensures { IsTrue result ↔ IsFormat2 schema.now }
 {
@@ -313,14 +314,14 @@ pub fn is_format_2(schema: &Schema) -> bool
     are_not_of_routes(&indexes[1..])
 }
 
-/// Tells whether the file has no tables.
+/// Checks whether the file has no tables.
 fn has_no_tables(schema: &Schema) -> bool
     ensures { IsTrue result ↔ (schema.now ≡ no_tables) }
 {
     schema.tables.is_empty() && schema.indexes.is_empty() && schema.views.is_empty()
 }
 
-/// Tells whether the file has the table of rules alone.
+/// Checks whether the file has the table of rules alone.
 fn has_rule_alone(schema: &Schema) -> bool
     ensures { IsTrue result ↔ (schema.now ≡ rule_alone) }
 {
@@ -330,7 +331,7 @@ fn has_rule_alone(schema: &Schema) -> bool
     }
 }
 
-/// Tells whether the file has the tables of rules and of routes alone.
+/// Checks whether the file has the tables of rules and of routes alone.
 fn has_rule_and_route(schema: &Schema) -> bool
     ensures { IsTrue result ↔ (schema.now ≡ rule_and_route) }
 {
@@ -345,7 +346,7 @@ fn has_rule_and_route(schema: &Schema) -> bool
     }
 }
 
-/// Tells whether the file has the tables of format 1 alone: rules, routes and `meta`.
+/// Checks whether the file has the tables of format 1 alone: rules, routes and `meta`.
 fn has_format_1_alone(schema: &Schema) -> bool
     ensures { IsTrue result ↔ (schema.now ≡ format_1_alone) }
 {
@@ -356,8 +357,8 @@ fn has_format_1_alone(schema: &Schema) -> bool
     }
 }
 
-/// Tells whether the file has no tables, those that an opening of an empty file had made when it was stopped, or those
-/// of format 1 first.
+/// Checks whether the file has no tables, those that a stopped opening of an empty file had made, or those of format 1
+/// first.
 pub fn begins_format_2(schema: &Schema) -> bool
     ensures { IsTrue result ↔ BeginsFormat2 schema.now }
 {
@@ -368,7 +369,7 @@ pub fn begins_format_2(schema: &Schema) -> bool
         || is_format_2(schema)
 }
 
-/// Tells whether the file has a table of this name, in whatever case of ASCII letters, as SQLite compares names.
+/// Checks whether the file has a table of this name, in whatever case of ASCII letters, as SQLite compares names.
 pub fn has_table(schema: &Schema, name: &str) -> bool
     ensures { result ≡ has_table name.now schema.now }
 {
@@ -379,14 +380,14 @@ pub fn has_table(schema: &Schema, name: &str) -> bool
         .any(|table| same_name(table.name.as_slice(), name.as_bytes()))
 }
 
-/// Tells whether the table is ours, or has another name than this.
+/// Checks whether the table is ours, or has another name than this.
 fn suits(table: &Table, name: &str, is_ours: bool) -> bool
     ensures { IsTrue result ↔ (same_name name.now table.now.name ≡ true → IsTrue is_ours) }
 {
     is_ours || !same_name(name.as_bytes(), table.name.as_slice())
 }
 
-/// Tells whether a table that has the name of one of the four tables is that one, in whatever tree.
+/// Checks whether a table that has the name of one of the four tables is that table, in whatever tree.
 fn suits_name(table: &Table) -> bool
     ensures { IsTrue result ↔ SuitsName table.now }
 {
@@ -396,7 +397,7 @@ fn suits_name(table: &Table) -> bool
         && suits(table, "suppress", is_suppress_table(table))
 }
 
-/// Tells whether each of the tables that has the name of one of the four tables is that one.
+/// Checks whether each of the tables that has the name of one of the four tables is that table.
 fn suit_names(tables: &[Table]) -> bool
     ensures { IsTrue result ↔ ((table : Declared) → Has tables.now table → SuitsName table) }
 {
@@ -408,7 +409,7 @@ fn suit_names(tables: &[Table]) -> bool
     true
 }
 
-/// Tells whether each table of the file that has the name of one of the four tables has its columns too, in whatever
+/// Checks whether each table of the file that has the name of one of the four tables has its columns too, in whatever
 /// tree. A file without tables has no other columns.
 pub fn suits_format_2(schema: &Schema) -> bool
     ensures { IsTrue result ↔ SuitsFormat2 schema.now }
@@ -416,7 +417,7 @@ pub fn suits_format_2(schema: &Schema) -> bool
     suit_names(schema.tables.as_slice())
 }
 
-/// Tells whether the file has the four tables of format 2 (`FILE-FORMAT.md`), column by column, in whatever trees and
+/// Checks whether the file has the four tables of format 2 (`FILE-FORMAT.md`), column by column, in whatever trees and
 /// order.
 pub fn has_format_2(schema: &Schema) -> bool
     ensures { IsTrue result ↔ HasFormat2 schema.now }

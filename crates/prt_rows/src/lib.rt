@@ -1,4 +1,4 @@
-//! The rows of the database file, format 2: what stands in the tables `rule`, `route`, `meta` and `suppress`, written and
+//! The rows of the database file, format 2: what is in the tables `rule`, `route`, `meta` and `suppress`, written and
 //! read back.
 #![tactic(auto)]
 

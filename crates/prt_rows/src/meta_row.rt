@@ -22,7 +22,7 @@ const EARLIER_FORMAT: u32 = 1;
 /// The most commands that a database accepts.
 const LARGEST_COUNT: u64 = 1_000_000_000_000_000;
 
-/// Gives the count that the row of `meta` spells in a file of this format, if it spells one.
+/// Reads the count that the row of `meta` encodes in a file of this format, if it encodes one.
 fn count_of_row(row: &Row, format: u32) -> Option<u64>
     ensures { Decodes (meta_row_in format) IsCount row.now result }
 {
@@ -39,7 +39,7 @@ fn count_of_row(row: &Row, format: u32) -> Option<u64>
     }
 }
 
-/// Gives the count of accepted commands, 0 to 10^15, that the rows of the table `meta` spell, if they spell one.
+/// Reads the count of accepted commands, 0 to 10^15, that the rows of the table `meta` encode, if they encode one.
 ///
 /// There is one row, with id 1 and format 2 (`FILE-FORMAT.md`).
 pub fn count_of_rows(rows: &[Row]) -> Option<u64>
@@ -51,7 +51,7 @@ pub fn count_of_rows(rows: &[Row]) -> Option<u64>
     }
 }
 
-/// Gives the count that the rows of the table `meta` spell in a file of format 1, if they spell one.
+/// Reads the count that the rows of the table `meta` encode in a file of format 1, if they encode one.
 ///
 /// There is one row, with id 1 and format 1.
 pub fn count_in_format_1(rows: &[Row]) -> Option<u64>
@@ -63,8 +63,8 @@ pub fn count_in_format_1(rows: &[Row]) -> Option<u64>
     }
 }
 
-/// Gives the values of the row of `meta` for a count of at most 10^15, in the order of the columns, to be bound to a
-/// statement.
+/// Builds the values of the row of `meta` for a count of at most 10^15, in the order of the columns. They are to be
+/// bound to a statement.
 pub fn meta_values(count: u64) -> [ValueRef<'static>; META_WIDTH]
     requires { IsCount count }
     ensures { bound result ≡ meta_row count }

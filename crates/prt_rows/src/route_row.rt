@@ -21,10 +21,10 @@ fn kind(row: &Row, at: usize) -> Option<Kind>
     kind_of_code(cell::number(row, at)?)
 }
 
-/// The route that a row of the table `route`, its rowid first, spells, if it spells one.
+/// The route that a row of the table `route`, its rowid first, encodes, if it encodes one.
 ///
-/// The ten cells after the rowid stand in the order of the columns, each in its range (`FILE-FORMAT.md`). Whether a table
-/// may hold the route says `Route::is_storable`.
+/// The ten cells after the rowid come in the order of the columns, each in its range (`FILE-FORMAT.md`).
+/// `Route::is_storable` says whether a table may hold the route.
 pub fn route_of_row(row: &Row) -> Option<Route>
     ensures { Decodes route_row IsInRange (drop 1 row.now) result }
 {

@@ -14,7 +14,7 @@ use prt_rule::{Action, Mark, Rule};
 use sqlite::Row;
 use sqlite::types::ValueRef;
 
-/// The mark of these two parts, or none where neither is there.
+/// The mark of these two parts, or none if neither is there.
 fn both(mark: Option<u32>, mask: Option<u32>) -> Option<Option<Mark>>
     ensures { Decodes mark_cells IsOptionalMark (optional_number mark ∷ optional_number mask ∷ []) result }
 {
@@ -42,11 +42,11 @@ fn action(row: &Row, act_at: usize, table_at: usize) -> Option<Action>
     action_of_codes(cell::number(row, act_at)?, cell::number(row, table_at)?)
 }
 
-/// The rule that a row of the table `rule` spells, if it spells one with an id of 1 to `last`. It suppresses nothing.
+/// The rule that a row of the table `rule` encodes, if it encodes one with an id of 1 to `last`. It suppresses nothing.
 ///
-/// Its twelve cells stand in the order of the columns, each in its range (`FILE-FORMAT.md`). Mark and mask are there
-/// together or not at all, and no table stands beside an action that looks up none. Whether a database may hold the rule
-/// says `Rule::is_storable`.
+/// Its twelve cells come in the order of the columns, each in its range (`FILE-FORMAT.md`). Mark and mask are there
+/// together or not at all, and no table comes with an action that looks up none. `Rule::is_storable` says whether a
+/// database may hold the rule.
 pub fn rule_of_row(row: &Row, last: u64) -> Option<Rule>
     ensures { Decodes rule_row (IsRule last) row.now result }
 {

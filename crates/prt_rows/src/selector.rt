@@ -1,4 +1,4 @@
-//! What the statement that deletes routes by a selector is told of the selector.
+//! What is passed of a selector to the statement that deletes routes by it.
 
 ghost use Rattle.std.specs.Prelude.{◌≡◌, ◌<◌, ◌+◌, ◌-◌, ◌^◌, option_map};
 ghost use Rattle.sqlite.specs.Values.{bound, bound_value};
@@ -24,11 +24,11 @@ pub(crate) struct Bounds {
     shortest: u8,
     /// The greatest length, in bits.
     longest: u8,
-    /// An address that stands before the end of each.
+    /// An address that comes before the end of each.
     inside: u32,
 }
 
-/// Gives the last address of a prefix.
+/// Computes the last address of a prefix.
 fn last_addr(block: &Prefix) -> u64
     ensures value { result ≡ block.now.bits + (2 ^ (32 - block.now.len) - 1) }
     ensures fits { result < 2 ^ 63 }
@@ -36,7 +36,7 @@ fn last_addr(block: &Prefix) -> u64
     u64::from(block.bits()) + ((1u64 << (32 - block.len())) - 1)
 }
 
-/// Gives the bounds of the prefixes of a range.
+/// Computes the bounds of the prefixes of a range.
 fn bounds_of(range: &Range) -> Bounds
     ensures value { result ≡ bounds_of range.now }
     ensures fits { result.high < 2 ^ 63 }
@@ -74,7 +74,7 @@ fn bounds_of(range: &Range) -> Bounds
     }
 }
 
-/// Gives the cell of a kind that may be left out: -1 where it is.
+/// Builds the cell of a kind that may be left out: -1 if it is.
 fn optional_kind(kind: Option<Kind>) -> ValueRef<'static>
     ensures { bound_value (owned result) ≡ optional_number (option_map kind_code kind) }
 {
@@ -84,7 +84,7 @@ fn optional_kind(kind: Option<Kind>) -> ValueRef<'static>
     }
 }
 
-/// Gives the cell of a number of 8 bits that may be left out: -1 where it is.
+/// Builds the cell of an 8-bit number that may be left out: -1 if it is.
 fn optional_byte(n: Option<u8>) -> ValueRef<'static>
     ensures { bound_value (owned result) ≡ optional_number n }
 {
@@ -94,11 +94,11 @@ fn optional_byte(n: Option<u8>) -> ValueRef<'static>
     }
 }
 
-/// Gives the values that tell the statement that deletes routes by a selector which ones to delete, in the order of its
-/// parameters.
+/// Builds the values by which the statement that deletes routes by a selector knows which ones to delete, in the order
+/// of its parameters.
 ///
 /// These are the table, the least and the greatest address, the shortest and the longest length in bits, an address
-/// that stands before the end of each prefix, kind, protocol, scope and interface. What the selector leaves open is -1,
+/// that comes before the end of each prefix, kind, protocol, scope and interface. What the selector leaves open is -1,
 /// or the empty text for the interface.
 pub fn selector_values(selector: &Selector) -> [ValueRef<'_>; 10]
     ensures value { bound result ≡ selector_row selector.now }

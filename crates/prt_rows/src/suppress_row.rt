@@ -22,9 +22,9 @@ pub struct RuleLength {
     pub len: u8,
 }
 
-/// The length that a row of the table `suppress` spells, if it spells one of a rule with an id of 1 to `last`.
+/// The length that a row of the table `suppress` encodes, if it encodes one of a rule with an id of 1 to `last`.
 ///
-/// Its two cells stand in the order of the columns, each in its range (`FILE-FORMAT.md`).
+/// Its two cells come in the order of the columns, each in its range (`FILE-FORMAT.md`).
 pub fn length_of_row(row: &Row, last: u64) -> Option<RuleLength>
     ensures { Decodes suppress_row (IsLength last) row.now result }
 {

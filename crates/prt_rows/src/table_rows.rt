@@ -16,7 +16,7 @@ use prt_rule::Rule;
 use sqlite::Row;
 use std::alloc::Global;
 
-/// Tells whether the number is greater than the last one, if there is one.
+/// Checks whether the number is greater than the last one, if there is one.
 fn is_above(last: Option<i64>, id: i64) -> bool
     ensures { result ≡ is_above last id }
 {
@@ -26,7 +26,7 @@ fn is_above(last: Option<i64>, id: i64) -> bool
     }
 }
 
-/// Tells whether each rowid is an integer greater than the one before it.
+/// Checks whether each rowid is an integer greater than the one before it.
 fn rowids_rise(rows: &[Row]) -> bool
     ensures { result ≡ rowids_rise rows.now }
 {
@@ -51,10 +51,10 @@ trait RowReader {
 
     ghost Fits: { Self → Self.Value → Type 0 };
 
-    // the cells of a row that spell its value
+    // the cells of a row that encode its value
     ghost part: { Values → Values };
 
-    /// The value that a row spells, if it spells one.
+    /// The value that a row encodes, if it encodes one.
     fn value_of_row(&self, row: &Row) -> Option<Self::Value>
         ensures { Decodes row_of (Fits self.now) (part row.now) result };
 }
@@ -117,7 +117,7 @@ impl RowReader for LengthReader {
     }
 }
 
-/// The values that the rows spell, in the order of the rows, where the rowids rise.
+/// The values that the rows encode, in the order of the rows, if the rowids rise.
 fn values_of_rows<R: RowReader>(
     alloc: Global,
     rows: &[Row],
@@ -140,12 +140,12 @@ fn values_of_rows<R: RowReader>(
     Ok(values)
 }
 
-/// The routes that the rows of the table `route` spell, their rowids first, in the order of the rowids.
+/// The routes that the rows of the table `route` encode, their rowids first, in the order of the rowids.
 ///
 /// # Errors
 ///
-/// `Damaged` only where the rowids aren't integers that rise, or one of the rows spells no route. `NoMemory` where
-/// memory is refused.
+/// `Damaged` only if the rowids aren't integers that rise, or one of the rows encodes no route. `NoMemory` if memory is
+/// refused.
 pub fn routes_of_rows(alloc: Global, rows: &[Row]) -> Result<Vec<Route>, Refusal>
     ensures rise { IfOk result (λ _. IsTrue (rowids_rise rows.now)) }
     ensures ok { IfOk result (λ routes. Decodes (map route_row) (All IsInRange) (map (drop 1) rows.now) (Some routes.items)) }
@@ -154,12 +154,12 @@ pub fn routes_of_rows(alloc: Global, rows: &[Row]) -> Result<Vec<Route>, Refusal
     values_of_rows(alloc, rows, &RouteReader)
 }
 
-/// The rules that the rows of the table `rule` spell, in the order of their ids.
+/// The rules that the rows of the table `rule` encode, in the order of their ids.
 ///
 /// # Errors
 ///
-/// `Damaged` only where the ids aren't integers that rise, or one of the rows spells no rule with an id of 1 to `last`.
-/// `NoMemory` where memory is refused.
+/// `Damaged` only if the ids aren't integers that rise, or one of the rows encodes no rule with an id of 1 to `last`.
+/// `NoMemory` if memory is refused.
 pub fn rules_of_rows(alloc: Global, rows: &[Row], last: u64) -> Result<Vec<Rule>, Refusal>
     ensures rise { IfOk result (λ _. IsTrue (rowids_rise rows.now)) }
     ensures ok { IfOk result (λ rules. Decodes (map rule_row) (All (IsRule last)) rows.now (Some rules.items)) }
@@ -168,12 +168,12 @@ pub fn rules_of_rows(alloc: Global, rows: &[Row], last: u64) -> Result<Vec<Rule>
     values_of_rows(alloc, rows, &RuleReader { last })
 }
 
-/// The lengths that the rows of the table `suppress` spell, in the order of the ids of their rules.
+/// The lengths that the rows of the table `suppress` encode, in the order of the ids of their rules.
 ///
 /// # Errors
 ///
-/// `Damaged` only where the ids aren't integers that rise, or one of the rows spells no length of a rule with an id of 1
-/// to `last`. `NoMemory` where memory is refused.
+/// `Damaged` only if the ids aren't integers that rise, or a row encodes no length of a rule with an id of 1 to `last`.
+/// `NoMemory` if memory is refused.
 pub fn lengths_of_rows(alloc: Global, rows: &[Row], last: u64) -> Result<Vec<RuleLength>, Refusal>
     ensures rise { IfOk result (λ _. IsTrue (rowids_rise rows.now)) }
     ensures ok { IfOk result (λ lengths. Decodes (map suppress_row) (All (IsLength last)) rows.now (Some lengths.items)) }

@@ -1,4 +1,4 @@
-//! What stands in one cell, written.
+//! What is in one cell, written.
 
 ghost use Rattle.std.specs.Prelude.{◌≡◌, ◌<◌, ◌^◌, IfSome, true};
 ghost use Rattle.sqlite.specs.Values.{bound_value};
@@ -10,7 +10,7 @@ use prt_addr::Addr;
 use prt_route::Dev;
 use sqlite::types::ValueRef;
 
-/// Gives the cell of a number.
+/// Builds the cell of a number.
 pub(crate) fn number(n: u32) -> ValueRef<'static>
     ensures value { bound_value (owned result) ≡ number n }
     ensures number { IsNumber n }
@@ -18,7 +18,7 @@ pub(crate) fn number(n: u32) -> ValueRef<'static>
     ValueRef::Int(i64::from(n))
 }
 
-/// Gives the cell of a number below 2^63.
+/// Builds the cell of a number below 2^63.
 pub(crate) fn large_number(n: u64) -> ValueRef<'static>
     requires { n < 2 ^ 63 }
     ensures { bound_value (owned result) ≡ number n }
@@ -26,7 +26,7 @@ pub(crate) fn large_number(n: u64) -> ValueRef<'static>
     ValueRef::Int(n as i64)
 }
 
-/// Gives the cell of a number that may be absent: -1 where it is.
+/// Builds the cell of a number that may be absent: -1 if it is.
 pub(crate) fn optional_number(n: Option<u32>) -> ValueRef<'static>
     ensures value { bound_value (owned result) ≡ optional_number n }
     ensures number { IfSome n IsNumber }
@@ -37,7 +37,7 @@ pub(crate) fn optional_number(n: Option<u32>) -> ValueRef<'static>
     }
 }
 
-/// Gives the cell of an address that may be absent: -1 where it is.
+/// Builds the cell of an address that may be absent: -1 if it is.
 pub(crate) fn optional_addr(addr: Option<Addr>) -> ValueRef<'static>
     ensures value { bound_value (owned result) ≡ optional_addr addr }
     ensures addr { IsOptionalAddr addr }
@@ -45,13 +45,13 @@ pub(crate) fn optional_addr(addr: Option<Addr>) -> ValueRef<'static>
     optional_number(addr.map(|addr| addr.0))
 }
 
-/// Recalls that the bytes of a `Dev` are a name, which its type keeps. One that is passed as a value tells it, one behind a
-/// reference doesn't.
+/// Recalls that the bytes of a `Dev` are a name, which its type keeps. One that is passed as a value shows it, one
+/// behind a reference doesn't.
 fn recall_name(dev: Dev)
     ensures { is_name dev ≡ true }
 {}
 
-/// Gives the cell of a name that may be absent: the empty text where it is, which is no name.
+/// Builds the cell of a name that may be absent: the empty text if it is, which is no name.
 pub(crate) fn optional_name(dev: &Option<Dev>) -> ValueRef<'_>
     ensures value { bound_value (owned result) ≡ optional_name dev.now }
     ensures name { IsOptionalName dev.now }
@@ -65,7 +65,7 @@ pub(crate) fn optional_name(dev: &Option<Dev>) -> ValueRef<'_>
     }
 }
 
-/// Gives the cell of a flag: 1 where it is set, and 0 where it is not.
+/// Builds the cell of a flag: 1 if it is set, and 0 if it is not.
 pub(crate) fn flag(is_set: bool) -> ValueRef<'static>
     ensures { bound_value (owned result) ≡ flag is_set }
 {

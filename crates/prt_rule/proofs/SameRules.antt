@@ -53,7 +53,7 @@ selectors a b =
 abbrev rule_by_parts : Rule → Rule
 rule_by_parts b = record { id = b.id; priority = b.priority; inverted = b.inverted; from = b.from; to = b.to; iif = b.iif; mark = b.mark; action = b.action; suppress = b.suppress }
 
--- equal parts make equal rules, but for the id
+-- equal parts make equal rules, except for the id
 equal : (a b : Rule) → a.priority ≡ b.priority → a.inverted ≡ b.inverted → a.from ≡ b.from → a.to ≡ b.to → a.iif ≡ b.iif → a.mark ≡ b.mark → a.action ≡ b.action → a.suppress ≡ b.suppress → record a { id = b.id } ≡ b
 equal a b priority inverted from to iif mark action suppress = let e : record a { id = b.id } ≡ rule_by_parts b = cc in e
 
@@ -70,7 +70,7 @@ rules_same a b =
 abbrev with_id : ℕ → Rule → Rule
 with_id id rule = record rule { id = id }
 
--- one rule with the other's id, turned round
+-- one rule with the other's id, swapped
 turned : (a b : Rule) → record a { id = b.id } ≡ b → record b { id = a.id } ≡ a
 turned a b e = ap (with_id a.id) (sym e)
 

@@ -20,11 +20,11 @@ takes_mark (Some m) mark = bit_and (bit_xor m.mark mark) m.mask == 0
 abbrev pub selects : Rule → Packet → Bool
 selects rule packet = contains rule.from packet.src && contains rule.to packet.dst && takes_interface rule.iif packet.iif && takes_mark rule.mark packet.mark
 
--- `not` turns the whole answer round
+-- `not` inverts the whole answer
 abbrev pub matches : Rule → Packet → Bool
 matches rule packet = if rule.inverted then not (selects rule packet) else selects rule packet
 
--- the rule is asked before the other: by priority, then by id
+-- the rule is tried before the other: by priority, then by id
 abbrev pub is_before : Rule → Rule → Bool
 is_before rule other = nat_lt rule.priority other.priority || (rule.priority == other.priority && nat_lt rule.id other.id)
 

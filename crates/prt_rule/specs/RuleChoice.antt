@@ -1,4 +1,4 @@
--- Which rules a command names, by what it gives: ip-rule(8).
+-- Which rules a command names, by what it specifies: ip-rule(8).
 use Rattle.std.specs.Prelude.{Bool, not, ◌&&◌, ◌||◌, ◌==◌, bytes_eq}
 use Rattle.prt_addr.specs.Given.{agrees, agrees_there}
 use Rattle.prt_addr.specs.Prefix.{is_same_prefix}

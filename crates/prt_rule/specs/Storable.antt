@@ -8,7 +8,7 @@ abbrev pub is_length : Option ℕ → Bool
 is_length None = true
 is_length (Some len) = nat_le len 32
 
--- A rule of this action that suppresses prefixes up to this length: a table that is looked up is one from 1 on, and a length stands with a lookup alone.
+-- A rule of this action that suppresses prefixes up to this length. A table that is looked up is one from 1 on, and a length comes only with a lookup.
 abbrev pub is_storable_rule : Action → Option ℕ → Bool
 is_storable_rule (Lookup table) suppress = nat_le 1 table && is_length suppress
 is_storable_rule _ suppress = is_none suppress

@@ -28,9 +28,9 @@ pub struct RuleChoice {
 }
 
 impl RuleChoice {
-    /// Tells whether the rule agrees with all that is given (`ip-rule(8)`, `delete`).
+    /// Checks whether the rule agrees with all that is given (`ip-rule(8)`, `delete`).
     ///
-    /// A mark agrees where mark and mask are equal, and `from` 0.0.0.0/0 with a rule for all sources.
+    /// A mark agrees if mark and mask are equal, and `from` 0.0.0.0/0 with a rule for all sources.
     pub fn agrees(&self, rule: &Rule) -> bool
         ensures { result ≡ is_named self.now rule.now }
     {

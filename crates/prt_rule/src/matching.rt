@@ -3,7 +3,7 @@ ghost use Rattle.prt_rule.specs.Rule.{matches, selects, takes_interface, takes_m
 
 use crate::{Dev, Mark, Packet, Rule};
 
-/// Tells whether the rule matches the packet (`ip-rule(8)`).
+/// Checks whether the rule matches the packet (`ip-rule(8)`).
 ///
 /// The selector names sources, destinations, an incoming interface and a mark, and takes a packet of which all that it
 /// names holds. An inverted rule matches exactly the packets that its selector does not take.
@@ -13,7 +13,7 @@ pub fn matches(rule: &Rule, packet: &Packet) -> bool
     selects(rule, packet) != rule.inverted
 }
 
-/// Tells whether all that the selector names holds of the packet.
+/// Checks whether all that the selector names holds of the packet.
 fn selects(rule: &Rule, packet: &Packet) -> bool
     ensures { result ≡ selects rule.now packet.now }
 {
@@ -23,7 +23,7 @@ fn selects(rule: &Rule, packet: &Packet) -> bool
         && takes_mark(&rule.mark, packet.mark)
 }
 
-/// Tells whether the interface is the one that is given, if one is.
+/// Checks whether the interface is the one that is given, if one is.
 fn takes_interface(given: &Option<Dev>, iif: &Dev) -> bool
     ensures { result ≡ takes_interface given.now iif.now }
 {
@@ -33,7 +33,7 @@ fn takes_interface(given: &Option<Dev>, iif: &Dev) -> bool
     }
 }
 
-/// Tells whether the marks agree in the bits of the mask, if a mark is given.
+/// Checks whether the marks agree in the bits of the mask, if a mark is given.
 fn takes_mark(given: &Option<Mark>, mark: u32) -> bool
     ensures { result ≡ takes_mark given.now mark }
 {

@@ -5,10 +5,10 @@ use crate::{Addr, Dev};
 pub struct Packet {
     /// The destination.
     pub dst: Addr,
-    /// The source; 0.0.0.0 where none is named.
+    /// The source; 0.0.0.0 if none is named.
     pub src: Addr,
-    /// The interface that it came in by; `lo` where none is named.
+    /// The interface that it came in by; `lo` if none is named.
     pub iif: Dev,
-    /// The firewall mark; 0 where none is named.
+    /// The firewall mark; 0 if none is named.
     pub mark: u32,
 }

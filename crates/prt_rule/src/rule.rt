@@ -28,9 +28,9 @@ pub enum Action {
 /// A rule of the policy database (`ip-rule(8)`).
 #[derive(Clone, Copy, Debug, PartialEq, Eq)]
 pub struct Rule {
-    /// Tells the rule from the others: 1 to 3 for the opening rules, then 3 more than the number of its command.
+    /// Distinguishes the rule from the others: 1 to 3 for the opening rules, then 3 more than the number of its command.
     pub id: u64,
-    /// The lower, the earlier it is asked; of equal ones the lower id.
+    /// The lower, the earlier it is tried; of equal ones the lower id.
     pub priority: u32,
     /// Whether it matches the packets that its selector does not.
     pub inverted: bool,
@@ -38,19 +38,19 @@ pub struct Rule {
     pub from: Prefix,
     /// The destinations; 0.0.0.0/0 for any.
     pub to: Prefix,
-    /// The incoming interface, where it matters.
+    /// The incoming interface, if it matters.
     pub iif: Option<Dev>,
-    /// The mark, where it matters.
+    /// The mark, if it matters.
     pub mark: Option<Mark>,
     /// What becomes of the packets that it matches.
     pub action: Action,
-    /// The length, 0 to 32, up to which prefixes are suppressed (`suppress_prefixlength`); with None none are. Where the
+    /// The length, 0 to 32, up to which prefixes are suppressed (`suppress_prefixlength`); with None none are. If the
     /// lookup finds a unicast route of that length or less, the rule says nothing.
     pub suppress: Option<u8>,
 }
 
 impl Rule {
-    /// Tells whether a database may hold the rule (`ip-rule(8)`).
+    /// Checks whether a database may hold the rule (`ip-rule(8)`).
     ///
     /// A table that it looks up is one from 1 on. Only a rule that looks up a table suppresses prefixes, of up to 32 bits.
     pub fn is_storable(&self) -> bool

@@ -4,7 +4,7 @@ ghost use Rattle.prt_rule.specs.Same.{is_same_rule, is_same_selector};
 
 use crate::Rule;
 
-/// Tells whether the rules are equal in all but their ids.
+/// Checks whether the rules are equal in all but their ids.
 pub fn same(rule: &Rule, other: &Rule) -> bool
     ensures { result ≡ is_same_rule rule.now other.now }
 {
@@ -15,7 +15,7 @@ pub fn same(rule: &Rule, other: &Rule) -> bool
         && rule.suppress == other.suppress
 }
 
-/// Tells whether the rules select by the same sources, destinations, interface and mark.
+/// Checks whether the rules select by the same sources, destinations, interface and mark.
 fn is_same_selector(rule: &Rule, other: &Rule) -> bool
     ensures { result ≡ is_same_selector rule.now other.now }
 {

@@ -42,17 +42,19 @@ without_comments lines = filter (λ line. not (is_comment line)) lines
 
 -- ---- what was written
 
--- a heartbeat or nothing was written; where not all of it went well, a part of that
+-- a heartbeat or nothing was written; if not all of it went well, a part of that
 abbrev pub Beats : Bool → Option (List ℕ) → Option (List ℕ) → Type 0
 Beats whole writer0 writer = Written whole writer0 writer [] ⊎ Written whole writer0 writer (heartbeat ++ codes "\n")
 
--- The lines of the commands that were learned were written, with heartbeats between them; where not all of it went well, a part of them.
+-- The lines of the commands that were learned were written, with heartbeats between them; if not all of it went well, a
+-- part of them.
 pub record Tells (known0 known : Line) (whole : Bool) (writer0 writer : Option (List ℕ)) : Type 0 where
   pub pieces : List (Option Command)
   pub grows : known ≡ grown_by known0 (commands_in pieces)
   pub written : Written whole writer0 writer (lines_text (told_lines (number_of known0) pieces))
 
--- The text of a feed was written: the tables after a published list, and each command that was published after it and learned, with heartbeats between them; where not all of it went well, a part of that.
+-- The text of a feed was written: the tables after a published list, and each command that was published after it and
+-- learned, with heartbeats between them; if not all of it went well, a part of that.
 pub record Feeds (opening known : Line) (whole : Bool) (writer0 writer : Option (List ℕ)) : Type 0 where
   pub pieces : List (Option Command)
   pub grows : known ≡ grown_by opening (commands_in pieces)

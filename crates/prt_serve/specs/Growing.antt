@@ -4,7 +4,7 @@ use Rattle.prt_front.specs.Line.{Begins}
 use Rattle.prt_service.specs.Look.{Look}
 use Rattle.prt_session.specs.Preorder.{IsPreorder}
 
--- the list that the looker knew begins the one that it knows
+-- the list that the looker knew is a prefix of the one that it knows
 abbrev pub Grows : Look → Look → Type 0
 Grows old new = Begins old.known new.known
 

@@ -36,17 +36,17 @@ taken_in (x ∷ xs) = taken_by x.mishap ++ taken_in xs
 
 -- ---- how they begin one another
 
--- this list begins the first of these, and each of them begins the next
+-- this list is a prefix of the first of these, and each of them is a prefix of the next
 abbrev pub Rises : Line → List Line → Type 0
 Rises line [] = Unit {0}
 Rises line (next ∷ lines) = Begins line next × Rises next lines
 
--- this list begins each of these
+-- this list is a prefix of each of these
 abbrev pub BeginsAll : Line → List Line → Type 0
 BeginsAll line [] = Unit {0}
 BeginsAll line (later ∷ lines) = Begins line later × BeginsAll line lines
 
--- each of these begins this list
+-- each of these is a prefix of this list
 abbrev pub AllBegin : List Line → Line → Type 0
 AllBegin [] line = Unit {0}
 AllBegin (earlier ∷ lines) line = Begins earlier line × AllBegin lines line
@@ -64,7 +64,7 @@ abbrev pub AreReplies : List (Exchange Event) → Type 0
 AreReplies [] = Unit {0}
 AreReplies (x ∷ xs) = (x.reply ≡ reply_on (reading x.line) x.mishap) × AreReplies xs
 
--- a receipt's list ends with the command of its line, and begins the list of each later query
+-- a receipt's list ends with the command of its line, and is a prefix of the list of each later query
 abbrev pub IsTold : Result (Option Request) Refusal → Option Event → List Line → Type 0
 IsTold (Ok (Some (requests.Command command))) (Some (taken receipt line)) later = EndsWith receipt.list command × BeginsAll receipt later
 IsTold asked event later = Unit {0}
@@ -73,10 +73,10 @@ abbrev pub AreTold : List (Exchange Event) → Type 0
 AreTold [] = Unit {0}
 AreTold (x ∷ xs) = IsTold (reading x.line) x.mishap (seen_in xs) × AreTold xs
 
--- What the exchanges of a session show, where its looker knew the one list before and knows the other after.
+-- What the exchanges of a session show, if its looker knew the one list before and knows the other after.
 pub record Shows (known0 known : Line) (exchanges : List (Exchange Event)) : Type 0 where
   pub replies : AreReplies exchanges
-  -- each query's list begins the next one's, and what was known begins the first
+  -- each query's list is a prefix of the next one's, and what was known is a prefix of the first
   pub seen_rises : Rises known0 (seen_in exchanges)
   pub receipts : AreTold exchanges
   -- all of them begin what is known at the end

@@ -46,7 +46,7 @@ known_after known (Some (unseen line)) = line
 known_after known (Some (taken receipt line)) = line
 known_after known (Some (refused reason)) = known
 
--- a request's turn, where this list is known
+-- a request's turn, if this list is known
 abbrev pub service_turn : Line → Request → Option Event → Turn Line
 service_turn known request event = record { reply = reply_to request event; desk = known_after known event }
 

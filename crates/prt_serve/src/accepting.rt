@@ -17,13 +17,13 @@ const PERMANENT: [i32; 5] = [9, 14, 22, 88, 95];
 pub(crate) enum Accepted<T> {
     /// A connection.
     Stream(T),
-    /// None, and the next `accept` may give one.
+    /// None, and the next `accept` may return one.
     Nobody,
     /// None, and there will be none.
     Never,
 }
 
-/// Tells whether nobody waited to be accepted, so that there is nothing to tell.
+/// Checks whether nobody waited to be accepted, so that there is nothing to report.
 fn is_nobody(error: &io::Error) -> bool {
     matches!(
         error.kind(),
@@ -31,8 +31,9 @@ fn is_nobody(error: &io::Error) -> bool {
     )
 }
 
-/// Tells whether each later try would fail too, of an `accept` or of making a second end. Whatever else the system answers may pass: no descriptor or no memory
-/// is left, or a client broke its connection off. An error that isn't the system's is permanent.
+/// Checks whether each later try would fail too, of an `accept` or of making a second end. Whatever else the system
+/// answers may pass: no descriptor or no memory is left, or a client broke its connection off. An error that isn't the
+/// system's is permanent.
 pub(crate) fn is_permanent(error: &io::Error) -> bool {
     match error.raw_os_error() {
         Some(code) => PERMANENT.contains(&code),
@@ -40,7 +41,7 @@ pub(crate) fn is_permanent(error: &io::Error) -> bool {
     }
 }
 
-/// Accepts a connection. After an error that may pass it tells the gate, and pauses.
+/// Accepts a connection. After an error that may pass it notifies the gate, and pauses.
 pub(crate) fn accept_one<H: Clock, G: Gate, L: OpenListener>(
     rt: &H,
     gate: &G,

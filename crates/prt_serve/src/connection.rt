@@ -8,8 +8,8 @@ use std::io::{self, BufReader, BufWriter, ErrorKind, Read, Write};
 use std::sync::Arc;
 use std::sync::atomic::{AtomicBool, Ordering};
 
-/// Tells whether a block begins with a whole line that has a word, and so gets a reply. It may miss one with white space in
-/// front.
+/// Checks whether a block begins with a whole line that has a word, and so gets a reply. It may miss one with white
+/// space in front.
 fn begins_with_line(block: &[u8]) -> bool
     ensures { result ≡ true → BeginsWithLine block.now }
 {
@@ -19,7 +19,7 @@ fn begins_with_line(block: &[u8]) -> bool
     }
 }
 
-/// What one end of a connection tells the other of the line that comes next.
+/// What one end of a connection reports to the other of the line that comes next.
 #[derive(Drop)]
 struct NextLine {
     /// Whether all that was read are whole lines, and the next one lies whole in the block and gets a reply.
@@ -62,7 +62,7 @@ pub struct Lines<T: Read + Drop> {
 #[derive(Drop)]
 pub struct Replies<T: Write + Drop> {
     blocks: BufWriter<T>,
-    /// What `Lines` tells of the line after the one that is replied to.
+    /// What `Lines` reports of the line after the one that is replied to.
     next: Arc<NextLine>,
 }
 
@@ -96,7 +96,7 @@ impl<T: Read + Drop> Lines<T> {
         self.next.note(is_at_hand, block);
     }
 
-    /// Tells whether the last read failed since nothing came in time.
+    /// Checks whether the last read failed because nothing came in time.
     pub(crate) fn is_timed_out(&self) -> bool {
         matches!(
             self.fault,

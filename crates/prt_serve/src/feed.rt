@@ -37,7 +37,7 @@ pub struct Fed {
     pub left: Unfollowed,
 }
 
-/// Writes the tables of a version; tells whether all of it went well.
+/// Writes the tables of a version; returns whether all of it went well.
 fn write_opening<W: Write>(writer: &mut W, alloc: Global, version: &Version) -> bool
     ensures { Written result (W.contents writer.old) (W.contents writer.new) (opening_text version.now) }
 {
@@ -47,7 +47,7 @@ fn write_opening<W: Write>(writer: &mut W, alloc: Global, version: &Version) -> 
     }
 }
 
-/// Writes the line of a command; tells whether all of it went well.
+/// Writes the line of a command; returns whether all of it went well.
 fn write_change<W: Write>(writer: &mut W, alloc: Global, number: u64, command: &Command) -> bool
     ensures { Written result (W.contents writer.old) (W.contents writer.new) (change_line number command.now ++ codes "\n") }
 {
@@ -57,15 +57,15 @@ fn write_change<W: Write>(writer: &mut W, alloc: Global, number: u64, command: &
     }
 }
 
-/// Writes a line that says nothing, by which a peer that has gone is found; tells whether all of it went well.
+/// Writes a line that says nothing, by which a peer that has gone is found; returns whether all of it went well.
 fn write_heartbeat<W: Write>(writer: &mut W) -> bool
     ensures { Written result (W.contents writer.old) (W.contents writer.new) (heartbeat ++ codes "\n") }
 {
     write_bytes(writer, b"#\n")
 }
 
-/// Looks at the peer while nothing is published, and writes a heartbeat where one is due; tells whether all of it went
-/// well. It didn't where the peer has gone.
+/// Looks at the peer while nothing is published, and writes a heartbeat if one is due; returns whether all of it went
+/// well. It didn't if the peer has gone.
 fn write_quiet<R: Read, W: Write>(watch: &mut Watch<'_, R>, writer: &mut W) -> bool
     ensures { Beats result (W.contents writer.old) (W.contents writer.new) }
 {
@@ -79,7 +79,7 @@ fn write_quiet<R: Read, W: Write>(watch: &mut Watch<'_, R>, writer: &mut W) -> b
     }
 }
 
-/// Writes each command that the follower learns, until it learns none, and heartbeats; tells whether all of it went well.
+/// Writes each command that the follower learns, until it learns none, and heartbeats; returns whether all of it went well.
 fn tell_on<H: Wait + Clock, J: Naming, R: Read, W: Write>(
     rt: &H,
     alloc: Global,
@@ -108,7 +108,7 @@ fn tell_on<H: Wait + Clock, J: Naming, R: Read, W: Write>(
     true
 }
 
-/// Takes a place, for which it waits up to a second. `None` where none gets free, or the peer sends nothing more: it then
+/// Takes a place, for which it waits up to a second. `None` if none gets free, or the peer sends nothing more: it then
 /// has most likely gone.
 fn place_for<'a, H: Wait + Clock, R: Read>(
     rt: &H,
@@ -128,7 +128,7 @@ fn place_for<'a, H: Wait + Clock, R: Read>(
 }
 
 /// Writes what is published: the tables of a version, and, with a place, each command that the follower learns after it;
-/// tells whether all of it went well.
+/// returns whether all of it went well.
 fn feed<H: Wait + Clock, J: Naming, R: Read, W: Write>(
     rt: &H,
     alloc: Global,
@@ -143,7 +143,7 @@ fn feed<H: Wait + Clock, J: Naming, R: Read, W: Write>(
 {
     let _number = follower.number();
     let is_written = write_opening(writer, alloc, &version);
-    // Gives the version back before it waits.
+    // Releases the version before it waits.
     drop(version);
     if !is_written {
         return false;
@@ -159,13 +159,13 @@ fn feed<H: Wait + Clock, J: Naming, R: Read, W: Write>(
 /// Feeds a writer: the tables of the published version, with its number, as the lines of a dump; and then each command that
 /// is published after it, with its number, as it is acknowledged. `Feeds` defines the text.
 ///
-/// After the tables it needs a place, and ends where none gets free within a second. With one it goes on until following
+/// After the tables it needs a place, and ends if none gets free within a second. With one it goes on until following
 /// ends, the writer falls behind by more than 1,000 commands, or the peer has gone; nobody waits for the writer. The
 /// reader, whose reads hardly wait, shows whether the peer is there; while nothing is published it is looked at once a
 /// second, and a line `#` is written after each 15 seconds.
 ///
-/// Tells whether all of it was written. It was not where the writer fails, where no line can spell a rule, a route or a
-/// command, and where memory is refused: then a part of it was written.
+/// Returns whether all of it was written. It was not if the writer fails, if no line can express a rule, a route or a
+/// command, or if memory is refused: then a part of it was written.
 ///
 /// # Errors
 ///

@@ -26,7 +26,7 @@ const FEEDERS: usize = 80;
 /// the system's buffer, so a connection that takes nothing is closed after 10 seconds at most.
 const PATIENCE: u64 = 5;
 
-/// How many milliseconds the loop pauses where no connection waits.
+/// How many milliseconds the loop pauses if no connection waits.
 const PAUSE: u64 = 50;
 
 /// How many seconds a connection waits for a feeder that is free.
@@ -35,14 +35,14 @@ const FOR_FEEDER: u64 = 10;
 /// The two ends of a connection that is fed.
 #[derive(Drop)]
 struct FeedEnds<T: Drop> {
-    /// The end at which is looked whether the peer is there. A read hardly waits.
+    /// The end at which it is checked whether the peer is there. A read hardly waits.
     reader: T,
     writer: T,
 }
 
 /// Makes the ends of a connection, with the time limits of both.
 fn feed_ends<T: OpenStream + Drop>(stream: T) -> io::Result<FeedEnds<T>> {
-    // Sends all the same where this is refused: a change then may come late.
+    // Sends all the same if this is refused: a change then may come late.
     let _at_once = stream.set_nodelay(true).is_ok();
     stream.set_read_timeout(Some(Duration::from_millis(1)))?;
     // A thread that waited for its client without end would never end.

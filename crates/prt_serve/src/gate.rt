@@ -3,8 +3,8 @@
 use prt_session::{Observer, Reply};
 use std::io;
 
-/// Is called round each line's execution and reply, by the thread that serves the session. Sessions and their lines are
-/// numbered from 1.
+/// Is called around each line's execution and reply, by the thread that serves the session. Sessions and their lines
+/// are numbered from 1.
 pub trait Gate {
     /// Comes before a line is executed.
     fn before(&self, session: u64, line: u64);
@@ -12,7 +12,7 @@ pub trait Gate {
     /// Comes once the writer took this reply to the line, or failed.
     fn after(&self, session: u64, line: u64, reply: &Reply);
 
-    /// Comes where a connection wasn't accepted and the next one may be, before accepting is tried again.
+    /// Comes when a connection wasn't accepted and the next one may be, before accepting is tried again.
     fn not_accepted(&self, _error: &io::Error) {}
 }
 

@@ -1,4 +1,4 @@
-//! What a client reads whose session ends since it sent nothing for too long.
+//! What a client reads whose session ends because it sent nothing for too long.
 ghost use Rattle.std.specs.Prelude.{◌≡◌, ◌++◌};
 ghost use Rattle.prt_serve.specs.Idle.{idle_line};
 
@@ -11,7 +11,7 @@ use prt_session::Refusal;
 use std::io::{Read, Write};
 use std::time::Duration;
 
-/// Gives a comment that says for how many seconds nothing came.
+/// Formats a comment that says for how many seconds nothing came.
 pub(crate) fn idle_line(seconds: u64) -> ArrayString<64>
     ensures { result.bytes ≡ idle_line seconds }
 {
@@ -27,8 +27,8 @@ pub(crate) fn idle_line(seconds: u64) -> ArrayString<64>
     line
 }
 
-/// Tells the client that nothing came for too long, if that is how its session ended. Lets the connection go, which closes
-/// it.
+/// Informs the client that nothing came for too long, if that is how its session ended. Lets the connection go, which
+/// closes it.
 pub(crate) fn close<T: Read + Write + Drop>(
     served: Served<Lines<T>, Replies<T>>,
     idle: Option<Duration>,
@@ -39,7 +39,7 @@ pub(crate) fn close<T: Read + Write + Drop>(
     };
     let is_cut = matches!(end.fault, Some(Refusal::ReadFault));
     if is_cut && job.reader.is_timed_out() {
-        // It is closed all the same where this fails.
+        // It is closed all the same if this fails.
         let _told = write_bytes(&mut job.writer, idle_line(idle.as_secs()).as_bytes());
     }
 }

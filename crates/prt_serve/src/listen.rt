@@ -48,7 +48,7 @@ pub enum Accepting {
 pub struct ServeEnd {
     /// How accepting sessions ended.
     pub accepting: Accepting,
-    /// How accepting connections of a feed ended: by `Failed` or `Ended`, which it is too where there is no feed.
+    /// How accepting connections of a feed ended: by `Failed` or `Ended`, which it is too if there is no feed.
     pub feeding: Accepting,
     /// Why a worker got no looker, if one got none.
     pub refused: Option<Refusal>,
@@ -57,7 +57,7 @@ pub struct ServeEnd {
 /// Accepts connections, numbers them from 1 and hands them over, and ends after the last that may come. Closes the channel
 /// behind it.
 ///
-/// After an error that may pass it tells the gate, pauses and tries again.
+/// After an error that may pass it notifies the gate, pauses and tries again.
 pub fn accept<H: Wait + Clock, G: Gate, T: Drop, L: OpenListener<Stream = T>>(
     rt: &H,
     gate: &G,
@@ -220,8 +220,8 @@ fn accept_among_workers<
 /// end can't be made for want of a descriptor waits for one. One whose buffer or time limit is refused is closed without a
 /// reply; it keeps its number and counts.
 ///
-/// Accepting stops for good where the listener fails for good, where a thread or a channel can't be made, and where no
-/// worker is left. A worker that gets no looker ends, and the others serve on.
+/// Accepting stops for good if the listener fails for good, if a thread or a channel can't be made, or if no worker is
+/// left. A worker that gets no looker ends, and the others serve on.
 pub fn serve_all<
     H: Threads + Wait + Clock + Sync,
     S: Alter + Drop + Send,

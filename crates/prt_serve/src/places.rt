@@ -8,7 +8,7 @@ pub struct Places {
     free: Mutex<u64>,
 }
 
-/// A place that was taken. It can't be let go: whoever has it has to give it back.
+/// A place that was taken. It can't be let go: its holder has to return it.
 pub(crate) struct Place<'a> {
     places: &'a Places,
 }
@@ -33,7 +33,7 @@ impl Places {
 }
 
 impl<'a> Place<'a> {
-    /// Gives it back.
+    /// Returns the place.
     pub(crate) fn leave<H: Wait>(self, rt: &H) {
         let Place { places } = self;
         let mut free = places.free.lock(rt);

@@ -51,7 +51,7 @@ struct Guest<T: Drop> {
     stream: T,
     /// When it came or, once its client has spoken, when that was seen, by the clock that never goes back.
     since: Duration,
-    /// Whether a call on it gives an error where it would wait.
+    /// Whether a call on it returns an error if it would wait.
     is_nonblocking: bool,
 }
 
@@ -68,7 +68,7 @@ impl<T: OpenStream + Drop> Guest<T> {
         }
     }
 
-    /// Tells whether its client has sent something, has ended or broken the connection off, or can't be looked at.
+    /// Checks whether its client has sent something, has ended or broken the connection off, or can't be looked at.
     fn has_spoken(&self) -> bool {
         if !self.is_nonblocking {
             return true;
@@ -83,7 +83,7 @@ impl<T: OpenStream + Drop> Guest<T> {
         }
     }
 
-    /// Gives how long it has been here or, once its client has spoken, since then.
+    /// Computes how long it has been here or, once its client has spoken, how long ago that was.
     fn age(&self, now: Duration) -> Duration {
         now.saturating_sub(self.since)
     }
@@ -103,7 +103,7 @@ fn make_ready<T: OpenStream + Drop>(guest: Guest<T>, idle: Option<Duration>) -> 
         stream.set_read_timeout(idle)?;
         stream.set_write_timeout(idle)?;
     }
-    // Serves all the same where this is refused: a reply then may come late.
+    // Serves all the same if this is refused: a reply then may come late.
     let _at_once = stream.set_nodelay(true).is_ok();
     Ok(stream)
 }
@@ -135,7 +135,7 @@ enum Readied<T: Read + Write + OpenStream + Drop> {
     Waits,
 }
 
-/// Tells the client of a connection that nothing came from it for so long, and closes it.
+/// Informs the client of a connection that nothing came from it for so long, and closes it.
 fn turn_out<T: Write + Drop>(mut guest: Guest<T>, idle: Duration) {
     // A client that has read nothing has room for one line.
     let line = idle_line(idle.as_secs());
@@ -190,7 +190,7 @@ impl<T: Read + Write + OpenStream + Drop> Room<T> {
         self.silent.is_empty() && !self.has_spoken_ones()
     }
 
-    /// Gives how long to wait before the next look.
+    /// Chooses how long to wait before the next look.
     fn pause(&self, now: Duration) -> Duration {
         let youngest = self.silent.back();
         let is_young = youngest.is_some_and(|guest| guest.age(now) < Duration::from_millis(YOUTH));
@@ -204,12 +204,12 @@ impl<T: Read + Write + OpenStream + Drop> Room<T> {
         Duration::from_millis(pause)
     }
 
-    /// Puts one that was looked at and sent nothing back to its place; the oldest goes where there are too many.
+    /// Puts one that was looked at and sent nothing back to its place; the oldest goes if there are too many.
     fn keep_silent(&mut self, guest: Guest<T>) {
         if self.silent.len() >= MOST {
             drop(self.silent.pop_front());
         }
-        // Closed where there is no memory for it.
+        // Closed if there is no memory for it.
         let _kept = self.silent.push_back(guest).is_ok();
     }
 
@@ -272,7 +272,7 @@ impl<T: Read + Write + OpenStream + Drop> Room<T> {
         }
     }
 
-    /// Gives the first session for the workers, if one is ready. A connection of which none can be made is closed.
+    /// Takes the first session for the workers, if one is ready. A connection of which none can be made is closed.
     fn next_job(&mut self, now: Duration) -> Option<Connected<T>> {
         if let Some(job) = self.next.take() {
             return Some(job);
@@ -288,7 +288,7 @@ impl<T: Read + Write + OpenStream + Drop> Room<T> {
         None
     }
 
-    /// Hands those that have spoken to the workers, as far as there is room. Tells whether a worker is left.
+    /// Hands those that have spoken to the workers, as far as there is room. Returns whether a worker is left.
     fn hand_over<H: Wait>(&mut self, rt: &H, jobs: &Sender<Connected<T>>, now: Duration) -> bool {
         for _ in 0..TURN {
             let Some(job) = self.next_job(now) else {
@@ -330,15 +330,15 @@ impl<T: Read + Write + OpenStream + Drop> Room<T> {
     }
 }
 
-/// Reads the clock that never goes back; 0 where it can't be read.
+/// Reads the clock that never goes back; 0 if it can't be read.
 fn time<H: Clock>(rt: &H) -> Duration {
     rt.monotonic().unwrap_or(Duration::ZERO)
 }
 
 /// Keeps connections until their clients have sent something, and then hands each to the workers, until no more come and
-/// none waits. Ends where no worker is left.
+/// none waits. Ends if no worker is left.
 ///
-/// One whose client sends nothing for longer than `idle` is closed. So is the oldest of 1,024 of them where one more
+/// One whose client sends nothing for longer than `idle` is closed. So is the oldest of 1,024 of them if one more
 /// comes.
 pub(crate) fn attend<H: Wait + Clock, T: Read + Write + OpenStream + Drop>(
     rt: &H,

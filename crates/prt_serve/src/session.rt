@@ -24,11 +24,11 @@ pub struct Visit<'a, H: Wait + Clock, S: Alter + Drop, J: Naming> {
     service: &'a Service<S, J>,
 }
 
-/// Gives the lines that answer a query from a version.
+/// Builds the lines that answer a query from a version.
 ///
 /// # Errors
 ///
-/// `NoMemory` where memory is refused.
+/// `NoMemory` if memory is refused.
 fn answer_from(alloc: Global, version: &Version, query: &Query) -> Result<Text, Refusal>
     ensures text { IfOk result (λ text. text ≡ query_text version.now query.now) }
     ensures reason { IfErr result (λ reason. reason ≡ Refusal.NoMemory) }
@@ -39,7 +39,7 @@ fn answer_from(alloc: Global, version: &Version, query: &Query) -> Result<Text, 
 }
 
 /// Answers a query from the version that a looker holds, which is offline then. It goes offline before it makes a listing,
-/// which may take long; an answer on a packet is made of the version where it is held.
+/// which may take long; an answer on a packet is made of the version while it is held.
 fn answer<H: Wait + Clock, S: Alter + Drop, J: Naming>(
     visit: &Visit<'_, H, S, J>,
     looker: &mut Looker,
@@ -60,8 +60,8 @@ fn answer<H: Wait + Clock, S: Alter + Drop, J: Naming>(
     }
 }
 
-/// A looker executes requests as the service's guest: it submits each command and learns its receipt, and looks for each
-/// query anew. Between two requests it is offline, so a client that doesn't read its replies holds back no version.
+/// A looker executes requests as the service's guest: it submits each command and learns its receipt, and looks again
+/// for each query. Between two requests it is offline, so a client that doesn't read its replies holds back no version.
 impl<'a, H: Wait + Clock, S: Alter + Drop, J: Naming> Executor<Visit<'a, H, S, J>> for Looker {
     ghost use Rattle.std.specs.Prelude.{◌≡◌, None};
     ghost use Rattle.prt_front.specs.Line.{Line};
@@ -110,7 +110,7 @@ impl<'a, H: Wait + Clock, S: Alter + Drop, J: Naming> Executor<Visit<'a, H, S, J
 /// Serves one session: executes each line and replies to it before the next is read, and goes on after a refused line.
 ///
 /// Before each query the looker refreshes, after an accepted command it learns the receipt, and it is offline after each
-/// line and at the end. Only an answer takes memory of `alloc` beside the command's own; where there is none, its query
+/// line and at the end. Only an answer takes memory of `alloc` beside the command's own; if there is none, its query
 /// alone is refused. The session ends as `run_session` says; what the gate does beside waiting is no part of it.
 pub fn serve_session<H: Wait + Clock, S: Alter + Drop, J: Naming, G: Gate, R: Read, W: Write>(
     rt: &H,

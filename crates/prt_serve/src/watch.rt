@@ -61,7 +61,7 @@ impl<'a, R: Read> Watch<'a, R> {
         }
     }
 
-    /// Gives how long to wait for a command before the next look.
+    /// Returns how long to wait for a command before the next look.
     pub(crate) fn pause(&self) -> Duration {
         Duration::from_millis(self.pause)
     }

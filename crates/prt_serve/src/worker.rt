@@ -61,7 +61,7 @@ fn serve_job<H: Wait + Clock, S: Alter + Drop, J: Naming, G: Gate, R: Read + Dro
 }
 
 /// Serves jobs until no more come, each with all that the looker learned from those before. A fault ends its own session
-/// alone. Gives each job to `after` once its session has ended.
+/// alone. Passes each job to `after` once its session has ended.
 fn serve_jobs<
     H: Wait + Clock,
     S: Alter + Drop,
@@ -124,11 +124,11 @@ fn work_with<
 }
 
 /// Serves jobs until no more come, with a looker of its own, which then leaves. The departure has the list that it knew at
-/// the end. Gives each job to `after` once its session has ended.
+/// the end. Passes each job to `after` once its session has ended.
 ///
 /// # Errors
 ///
-/// `Full`, where the service has no looker left; no job is taken then.
+/// `Full` if the service has no looker left; no job is taken then.
 pub fn work<
     H: Wait + Clock,
     S: Alter + Drop,

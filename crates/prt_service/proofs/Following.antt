@@ -11,7 +11,7 @@ use Rattle.prt_service.specs.Service.{EndsWith}
 use Rattle.prt_version.specs.Accepted.{IsAccepted}
 use Rattle.prt_version.specs.State.{State}
 
--- of two beginnings of one list the one that has one command more, and ends with this one, is the other and this command
+-- of two prefixes of one list the one that has one command more, and ends with this one, is the other and this command
 one_more : (known told whole : Line) (command : Command) → Begins known whole → Begins told whole → EndsWith told.list command → length told.list ≡ length known.list + 1 → told ≡ grown known command
 one_more known told whole command p q ends long =
     let before : List Command = ends.0 in
@@ -26,12 +26,13 @@ one_more known told whole command p q ends long =
     let list : told.list ≡ known.list ++ command ∷ [] = its ∙ ap (λ (list : List Command). list ++ command ∷ []) same in
     λ i. record { book = book i; base = base i; list = list i }
 
--- Two lists are told of, each with a list that it begins; of these one begins the other. So both begin the longer of these.
+-- Two lists are reported, each with a list that it is a prefix of; of these one is a prefix of the other. So both are
+-- prefixes of the longer of these.
 one_more_of : (b : Bool) (known told mine theirs : Line) (command : Command) → MatchBool b (Begins mine theirs) (Begins theirs mine) → Begins known mine → Begins told theirs → EndsWith told.list command → length told.list ≡ length known.list + 1 → told ≡ grown known command
 one_more_of true known told mine theirs command before p q ends long = one_more known told theirs command (begins_trans known mine theirs p before) q ends long
 one_more_of false known told mine theirs command before p q ends long = one_more known told mine command p (begins_trans told theirs mine q before) ends long
 
--- what a follower is told, with the number after its own, is what it knows with one command more
+-- what is reported to a follower, with the number after its own, is what it knows with one command more
 pub learned : (b : Bool) (known told mine theirs : Line) (command : Command) (count number : ℕ) → MatchBool b (Begins mine theirs) (Begins theirs mine) → Begins known mine → Begins told theirs → EndsWith told.list command → told.base ≡ known.base → count ≡ known.base.count + length known.list → number ≡ told.base.count + length told.list → number - 1 ≡ count → told ≡ grown known command
 learned b known told mine theirs command count number before p q ends base counted numbered next =
     let long : length told.list ≡ length ends.0 + 1 = omega (arith, ap length ends.1, length-append ends.0 (command ∷ [])) in

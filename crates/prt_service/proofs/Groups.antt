@@ -8,7 +8,7 @@ use Rattle.prt_version.specs.Accepted.{IsAccepted}
 use Rattle.prt_version.specs.Change.{apply, fold, refusal}
 use Rattle.prt_version.specs.State.{State}
 
--- the group so far, the version after it where one was made, and the commands that are left of all
+-- the group so far, the version after it if one was made, and the commands that are left of all
 pub record SoFar (published : State) (last : Option State) (group rest all : List Command) : Type 0 where
   pub version : version_met published last ≡ fold published group
   pub accepted : IsAccepted published group

@@ -16,7 +16,7 @@ use Rattle.prt_route.specs.contracts.route
 use Rattle.prt_rule.specs.contracts.choice as rule_choice
 use Rattle.prt_rule.specs.contracts.rule
 
--- Where this `==` holds the two are the same.
+-- If this `==` holds, the two are the same.
 abbrev IsExact : {A : Type 0} → (A → A → Bool) → Type 0
 IsExact {A} equal = (a b : A) → equal a b ≡ true → a ≡ b
 

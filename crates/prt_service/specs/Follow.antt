@@ -1,4 +1,4 @@
--- What a follower learns, and who is told of commands.
+-- What a follower learns, and to whom commands are reported.
 use Rattle.std.specs.Prelude.{◌≡◌, ◌==◌, ℕ, List, filter, not}
 use Rattle.prt_front.specs.Line.{Line, grown}
 use Rattle.prt_service.specs.declared.news.News.{News}

@@ -8,7 +8,8 @@ pub record Look : Type 0 where
   pub held : Option Line
   pub announced : Option ℕ
 
--- Offline it holds nothing. Online it has announced the number of the version that it holds, whose list begins the known one.
+-- Offline it holds nothing. Online it has announced the number of the version that it holds, whose list is a prefix of the
+-- known one.
 abbrev pub AgreesOn : Option Line → Option ℕ → Line → Type 0
 AgreesOn None None known = Unit {0}
 AgreesOn None (Some number) known = ⊥

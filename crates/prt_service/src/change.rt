@@ -1,4 +1,4 @@
-//! Commands that were published, as followers are told of them.
+//! Commands that were published, as they are reported to followers.
 ghost use Rattle.std.specs.Prelude.{◌≡◌, ◌-◌, ◌<◌, length, take};
 ghost use Rattle.prt_service.specs.Service.{EndsWith};
 
@@ -31,7 +31,7 @@ impl<J: Naming> Model for Change<J> {
         × (change.number ≡ change.told.base.count + length change.told.list) × (change.number ≡ (line_state change.told).count) };
 }
 
-/// Tells the same list once more.
+/// Reports the same list once more.
 fn same(told: &Told) -> Told
     ensures { result ≡ told.now }
 {
@@ -39,7 +39,7 @@ fn same(told: &Told) -> Told
 }
 
 impl<J: Naming> Change<J> {
-    /// Tells of the command that was accepted so many commands before the last of a receipt.
+    /// Reports the command that was accepted so many commands before the last of a receipt.
     pub(crate) fn new(last: &Receipt, later: u64, command: &Command) -> Change<J>
         requires of { (last.now.book ≡ J.book) × (last.now.base ≡ J.base) }
         requires earlier { later < length last.now.list }
@@ -55,7 +55,7 @@ impl<J: Naming> Change<J> {
         }
     }
 
-    /// Tells of it once more.
+    /// Reports it once more.
     pub(crate) fn again(&self) -> Change<J>
         ensures { result ≡ self.now }
     {

@@ -4,8 +4,8 @@ ghost use Rattle.std.specs.Prelude.{◌≡◌};
 use crate::spare::Returned;
 use std::marker::Model;
 
-/// Says that a looker gave its version, its reader and its place back. [`Looker::leave`] alone makes one. Contracts see it
-/// as the list that the looker knew.
+/// Says that a looker returned its version, its reader and its place. [`Looker::leave`] alone makes one. Contracts see
+/// it as the list that the looker knew.
 ///
 /// [`Looker::leave`]: crate::Looker::leave
 #[derive(Drop)]
@@ -22,7 +22,7 @@ impl Model for Departure {
 }
 
 impl Departure {
-    /// Says it of a looker whose reader was given back.
+    /// Says it of a looker whose reader was returned.
     pub(crate) fn new(returned: Returned) -> Departure
         ensures { result ≡ returned }
     {

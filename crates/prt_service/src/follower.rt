@@ -22,7 +22,7 @@ pub(crate) struct Changes<J: Naming> {
     pub(crate) follower: FollowerNumber,
 }
 
-/// Follows what a service publishes: it knows a beginning of the published list, and learns one command after the other.
+/// Follows what a service publishes: it knows a prefix of the published list, and learns one command after the other.
 /// One thread has it. Contracts see it as the list that it knows.
 ///
 /// Nobody waits for it, and it has no reader. One that is let go without `leave` keeps its channel until a command is
@@ -61,7 +61,7 @@ impl<J: Naming> Follower<J> {
         }
     }
 
-    /// Gives the number of the last command that it knows; before the first, that of the state that was loaded.
+    /// Returns the number of the last command that it knows; before the first, that of the state that was loaded.
     pub fn number(&self) -> u64
         ensures value { result ≡ self.now.base.count + length self.now.list }
         ensures count { result ≡ (line_state self.now).count }
@@ -71,8 +71,8 @@ impl<J: Naming> Follower<J> {
 
     /// Waits, at most for this time, for the command that is published after those that it knows, and knows it from then on.
     ///
-    /// `Ended` where 1,000 commands waited for it and there was one more, or following has ended, once it has learned those
-    /// that waited. `Quiet` and `Ended` leave it with what it knew. A clock that can't be read ends the wait.
+    /// `Ended` if 1,000 commands waited for it and there was one more, or following has ended, once it has learned
+    /// those that waited. `Quiet` and `Ended` leave it with what it knew. A clock that can't be read ends the wait.
     pub fn next_within<W: Wait + Clock>(&mut self, rt: &W, patience: Duration) -> News
         ensures { IsNews self.old result self.new }
     {
@@ -89,15 +89,15 @@ impl<J: Naming> Follower<J> {
         if number - 1 != self.number {
             return News::Ended;
         }
-        // Recalls that of two lists of one front the shorter begins the longer.
+        // Recalls that of two lists of one front the shorter is a prefix of the longer.
         let _is_before = self.told.known().is_before(told.known());
         self.number = number;
         self.told = told;
         News::Command(command)
     }
 
-    /// Ends its channel: the service that it is of tells it nothing more. That it left says the result, with the list that it
-    /// knew.
+    /// Ends its channel: the service that it is of reports nothing more to it. The result says that it left, with the
+    /// list that it knew.
     pub fn leave<S: Alter + Drop, W: Wait>(self, rt: &W, service: &Service<S, J>) -> Unfollowed
         ensures { result ≡ self }
     {

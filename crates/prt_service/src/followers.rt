@@ -1,4 +1,4 @@
-//! Who is told of each command that is published.
+//! The followers to which each published command is reported.
 ghost use Rattle.std.specs.Prelude.{◌≡◌, ◌-◌, ◌<◌, [], ◌∷◌, ◌++◌, Contains, MatchOption, length, take};
 ghost use Rattle.prt_service.specs.Follow.{others};
 ghost use Rattle.prt_service.specs.Service.{EndsWith, EndsWithAll};
@@ -45,7 +45,7 @@ impl Model for Unfollowed {
     ghost view = { λ unfollowed. unfollowed.told };
 }
 
-/// Where one follower is told of commands. Contracts see it as the follower's number.
+/// Where commands are reported to one follower. Contracts see it as the follower's number.
 #[derive(Drop)]
 struct Recipient<J: Naming> {
     number: u64,
@@ -60,8 +60,8 @@ impl<J: Naming> Model for Recipient<J> {
     ghost view = { λ recipient. recipient.number };
 }
 
-/// Where the followers of a service are told of commands. Each has a channel of its own, and nobody waits for it. Contracts
-/// see it as their numbers.
+/// Where commands are reported to the followers of a service. Each has a channel of its own, and nobody waits for it.
+/// Contracts see it as their numbers.
 #[derive(Drop)]
 pub(crate) struct Followers<J: Naming> {
     recipients: Vec<Recipient<J>>,
@@ -92,7 +92,7 @@ impl<J: Naming> Followers<J> {
         }
     }
 
-    /// Adds one, and gives its number. `None` where following has ended, or where there is no memory for it.
+    /// Adds one, and returns its number. `None` if following has ended, or if there is no memory for it.
     pub(crate) fn add(&mut self, sender: Sender<Change<J>, Global>) -> Option<FollowerNumber>
         ensures { MatchOption result (self.new ≡ self.old) (λ number. (self.new ≡ self.old ++ number ∷ []) × (Contains self.old number → ⊥)) }
     {
@@ -123,13 +123,13 @@ impl<J: Naming> Followers<J> {
         self.is_ended = true;
     }
 
-    /// Tells each of a command, and lets those go that have no room for it, or have left.
+    /// Reports a command to each, and lets those go that have no room for it, or have left.
     fn tell<W: Wait>(&mut self, rt: &W, change: &Change<J>) {
         self.recipients
             .retain(|one| one.sender.try_send(rt, change.again()).is_ok());
     }
 
-    /// Tells each of the commands of a receipt, one after the other.
+    /// Reports the commands of a receipt to each, one after the other.
     pub(crate) fn tell_all<W: Wait>(&mut self, rt: &W, last: &Receipt, commands: &[Command])
         requires of { (last.now.book ≡ J.book) × (last.now.base ≡ J.base) }
         requires ends { EndsWithAll last.now.list commands.now }

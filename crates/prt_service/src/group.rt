@@ -48,7 +48,7 @@ impl<J: Naming> Group<J> {
         }
     }
 
-    /// Adds a command, and tells whether it did. It lets the command go where there is no memory for it.
+    /// Adds a command, and returns whether it did. It lets the command go if there is no memory for it.
     fn add(&mut self, one: Waiting<J>) -> bool
         ensures added { result ≡ true → self.new ≡ self.old ++ one ∷ [] }
         ensures let_go { result ≡ false → self.new ≡ self.old }
@@ -109,14 +109,14 @@ impl<J: Naming> Group<J> {
     }
 }
 
-/// Tells whether commands that are refused for this may be stored.
+/// Checks whether commands that are refused for this may be stored.
 fn have_unknown_fate(reason: &Refusal) -> bool
     ensures { result ≡ have_unknown_fate reason.now }
 {
     matches!(reason, Refusal::StoreFailed(_) | Refusal::NotPublished)
 }
 
-/// Gives the version that the next command meets: the last one that was made, or the published one.
+/// Picks the version that the next command meets: the last one that was made, or the published one.
 fn version_met<'a>(published: &'a Version, last: &'a Option<Version>) -> &'a Version
     ensures { result.now ≡ version_met published.now last.now }
 {
@@ -126,7 +126,7 @@ fn version_met<'a>(published: &'a Version, last: &'a Option<Version>) -> &'a Ver
     }
 }
 
-/// Gives the version after a command.
+/// Computes the version after a command.
 ///
 /// # Errors
 ///
@@ -143,7 +143,8 @@ fn version_after(version: &Version, command: &Command) -> Result<Version, Refusa
 }
 
 /// Submits the commands that wait, in one transaction those that are accepted one after the other. The others are let go, as
-/// are all where the publisher has no room or no memory for them together: who waits for one submits it by itself.
+/// are all if the publisher has no room or no memory for them together: a thread that waits for one submits it by
+/// itself.
 pub(crate) fn submit_waiting<S: Alter + Drop, J: Naming, W: Wait>(
     publisher: &mut QuietPublisher<S, J>,
     rt: &W,

@@ -35,14 +35,14 @@ impl HeldVersion {
         HeldVersion { version, known }
     }
 
-    /// Gives the version.
+    /// Returns the version.
     pub(crate) fn version(&self) -> &Version
         ensures { result.now ≡ line_state self.now }
     {
         &self.version
     }
 
-    /// Gives the version, and lets the list go.
+    /// Returns the version, and lets the list go.
     pub(crate) fn into_version(self) -> Arc<Version>
         ensures { arc_value result ≡ line_state self }
     {

@@ -1,5 +1,5 @@
 //! The service: one publisher that any number of threads submit commands to, lookers that read what it publishes, and
-//! followers that are told of it.
+//! followers that learn of it.
 //!
 //! There are four locks. Under the publisher's the domain's is taken, step by step, that of the lobby, where commands wait,
 //! and those of the channels of answers and of followers. The lock of the spare readers is held with no other. A looker

@@ -28,7 +28,7 @@ impl<J: Naming> Model for Lobby<J> {
 
 /// How a command entered the lobby.
 pub(crate) enum Entered {
-    /// Nobody waited: who brings it submits all that wait once the publisher is free.
+    /// Nobody waited: the thread that brings it submits all that wait once the publisher is free.
     First,
     /// Others wait, of whom the first submits it too.
     Later,

@@ -48,14 +48,14 @@ impl Looker {
         }
     }
 
-    /// Tells whether it holds a version.
+    /// Returns whether it holds a version.
     pub fn is_online(&self) -> bool
         ensures { IsTrue result ↔ IsSome self.now.held }
     {
         self.held.is_some()
     }
 
-    /// Gives the version that it holds, until it refreshes or rests. It is online.
+    /// Returns the version that it holds, until it refreshes or rests. It is online.
     pub fn version(&self) -> &Version
         requires { IsSome self.now.held }
         ensures { IfSome self.now.held (λ line. result.now ≡ line_state line) }
@@ -66,7 +66,7 @@ impl Looker {
         }
     }
 
-    /// Tells what becomes of a packet by the version that it holds, and the number of that version. It is online. Takes
+    /// Finds what becomes of a packet by the version that it holds, and the number of that version. It is online. Takes
     /// no lock and no memory.
     pub fn look(&self, packet: &Packet) -> Answer
         requires { IsSome self.now.held }
@@ -91,8 +91,8 @@ impl Looker {
     ///
     /// # Errors
     ///
-    /// `NotFetched`, where the front can't be entered, its version has as many owners as can be counted, or the version
-    /// is older than what the looker has announced. It then holds and has announced what it had, and may know more.
+    /// `NotFetched` if the front can't be entered, its version has as many owners as can be counted, or the version is
+    /// older than what the looker has announced. It then holds and has announced what it had, and may know more.
     pub fn refresh<S: Alter + Drop, J: Naming, W: Wait>(
         &mut self,
         rt: &W,
@@ -109,7 +109,7 @@ impl Looker {
         if let Ok(version) = self.reader.fetch() {
             let number = version.number();
             if least <= number {
-                // Gives the old version back before it says so.
+                // Releases the old version before it says so.
                 self.held = Some(HeldVersion::new(version, self.reader.known()));
                 domain.announce(rt, &mut self.place, number);
                 return Ok(());
@@ -121,7 +121,7 @@ impl Looker {
         Err(Refusal::NotFetched)
     }
 
-    /// Gives its version back, and goes offline. What it knows stays.
+    /// Releases its version, and goes offline. What it knows stays.
     pub fn rest<S: Alter + Drop, J: Naming, W: Wait>(&mut self, rt: &W, service: &Service<S, J>)
         ensures { self.new ≡ record self.old { held = None; announced = None } }
     {
@@ -129,7 +129,7 @@ impl Looker {
         service.domain().offline(rt, &mut self.place);
     }
 
-    /// Gives the version that it holds to the caller, and goes offline: however long the caller keeps the version, no
+    /// Hands the version that it holds to the caller, and goes offline: however long the caller keeps the version, no
     /// publication waits for it. What it knows stays. It is online.
     pub fn keep<S: Alter + Drop, J: Naming, W: Wait>(
         &mut self,
@@ -148,7 +148,7 @@ impl Looker {
         held.into_version()
     }
 
-    /// Gives its version, then its reader, and then its place back, to the service that it is of: a looker that gets the
+    /// Hands its version, then its reader, and then its place back to the service that it is of: a looker that gets the
     /// place finds a reader. The departure says so, with the list that it knew.
     pub fn leave<S: Alter + Drop, J: Naming, W: Wait>(
         self,

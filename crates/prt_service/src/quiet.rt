@@ -27,7 +27,7 @@ use std::marker::{Model, PhantomData};
 use std::slice;
 use std::sync::{Arc, Wait};
 
-/// A publisher of the named front with no command under way, and who follows it.
+/// A publisher of the named front with no command under way, and its followers.
 #[derive(Drop)]
 pub(crate) struct QuietPublisher<S: Alter + Drop, J: Naming> {
     publisher: Publisher<S>,
@@ -62,8 +62,8 @@ impl<S: Alter + Drop, J: Naming> QuietPublisher<S, J> {
         }
     }
 
-    /// Prepares, commits and publishes a command, and tells the followers. The published list is then the one before with
-    /// this command, and the receipt is of it.
+    /// Prepares, commits and publishes a command, and reports it to the followers. The published list is then the one
+    /// before with this command, and the receipt is of it.
     ///
     /// # Errors
     ///
@@ -96,8 +96,8 @@ impl<S: Alter + Drop, J: Naming> QuietPublisher<S, J> {
         Ok(receipt)
     }
 
-    /// Prepares, commits and publishes commands together, and tells the followers. The published list is then the one before
-    /// with all of them, in their order, and the receipt is of it.
+    /// Prepares, commits and publishes commands together, and reports them to the followers. The published list is then
+    /// the one before with all of them, in their order, and the receipt is of it.
     ///
     /// # Errors
     ///
@@ -130,7 +130,7 @@ impl<S: Alter + Drop, J: Naming> QuietPublisher<S, J> {
         Ok(last)
     }
 
-    /// Gives the version that was published last.
+    /// Returns the version that was published last.
     pub(crate) fn published(&self) -> &Version
         ensures { result.now ≡ line_state self.now.line }
     {
@@ -141,7 +141,7 @@ impl<S: Alter + Drop, J: Naming> QuietPublisher<S, J> {
     ///
     /// # Errors
     ///
-    /// `NotFetched` where the version has as many owners as can be counted.
+    /// `NotFetched` if the version has as many owners as can be counted.
     pub(crate) fn share(&self) -> Result<(Arc<Version>, Known), Refusal>
         ensures version { IfOk result (λ shared. arc_value shared.0 ≡ line_state self.now.line) }
         ensures list { IfOk result (λ shared. shared.1 ≡ self.now.line) }
@@ -152,7 +152,7 @@ impl<S: Alter + Drop, J: Naming> QuietPublisher<S, J> {
         self.publisher.share()
     }
 
-    /// Adds a follower, and gives its number. `None` where following has ended, or where there is no memory for it.
+    /// Adds a follower, and returns its number. `None` if following has ended, or if there is no memory for it.
     pub(crate) fn add_follower(
         &mut self,
         sender: Sender<Change<J>, Global>,
@@ -177,12 +177,12 @@ impl<S: Alter + Drop, J: Naming> QuietPublisher<S, J> {
         self.followers.end();
     }
 
-    /// Gives the library's error of the commit that closed it, if one did.
+    /// Returns the library's error of the commit that closed it, if one did.
     pub(crate) fn failure(&self) -> Option<Error> {
         self.publisher.failure()
     }
 
-    /// Gives the connection back, with its tables as they are. It waits for nobody, as `Publisher::release`.
+    /// Returns the connection, with its tables as they are. It waits for nobody, as `Publisher::release`.
     pub(crate) fn release(self) -> Connection<S>
         ensures tables { result ≡ self.tables }
         ensures quiet { IsQuiet self.phase }
@@ -192,7 +192,7 @@ impl<S: Alter + Drop, J: Naming> QuietPublisher<S, J> {
         self.publisher.release()
     }
 
-    /// Ends its front, as `Publisher::end`, and gives the connection back, with its tables as they are.
+    /// Ends its front, as `Publisher::end`, and returns the connection, with its tables as they are.
     pub(crate) fn end<W: Wait>(self, rt: &W) -> Connection<S>
         ensures tables { result ≡ self.tables }
         ensures quiet { IsQuiet self.phase }

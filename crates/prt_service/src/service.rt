@@ -42,11 +42,11 @@ const MOST_PAUSES: u32 = 200;
 /// or it is closed. The domain has its own lock, which a submission takes under the publisher's. The spare readers lie
 /// under a third, held with no other.
 ///
-/// While the publisher is held, up to 64 commands wait in a lobby, under a lock of its own. Who came first submits those in
-/// one transaction that are accepted one after the other, and each thread gets the receipt of its own command. A thread
-/// whose command was left out submits it by itself.
+/// While the publisher is held, up to 64 commands wait in a lobby, under a lock of its own. The thread that came first
+/// submits in one transaction those that are accepted one after the other, and each thread gets the receipt of its own
+/// command. A thread whose command was left out submits it by itself.
 ///
-/// End it by `end`: the drop of its front gives no memory back.
+/// End it by `end`: the drop of its front frees no memory.
 #[derive(Drop)]
 pub struct Service<S: Alter + Drop, J: Naming> {
     publisher: Mutex<QuietPublisher<S, J>>,
@@ -113,7 +113,7 @@ impl<S: Alter + Drop, J: Naming> Service<S, J> {
         }
     }
 
-    /// Has a command submitted together with those that wait. `None` where it can't wait, or was left out of its group.
+    /// Has a command submitted together with those that wait. `None` if it can't wait, or was left out of its group.
     fn submit_in_group<W: Wait>(
         &self,
         rt: &W,
@@ -189,7 +189,7 @@ impl<S: Alter + Drop, J: Naming> Service<S, J> {
     ///
     /// # Errors
     ///
-    /// `Full` where 64 lookers have places, or no reader is left. The service is then as it was.
+    /// `Full` if 64 lookers have places, or no reader is left. The service is then as it was.
     pub fn looker<W: Wait>(&self, rt: &W) -> Result<Looker, Refusal>
         ensures of { IfOk result (λ looker. (looker.known.book ≡ J.book) × (looker.known.base ≡ J.base)) }
         ensures offline { IfOk result (λ looker. (looker.held ≡ None) × (looker.announced ≡ None)) }
@@ -209,12 +209,12 @@ impl<S: Alter + Drop, J: Naming> Service<S, J> {
         }
     }
 
-    /// Makes a follower, which knows the published list, and gives the published version. Each command that is published
-    /// from then on comes to the follower, in order. It needs no reader and no place.
+    /// Makes a follower, which knows the published list, and returns the published version. Each command that is
+    /// published from then on comes to the follower, in order. It needs no reader and no place.
     ///
     /// # Errors
     ///
-    /// `NotFetched` where the version has as many owners as can be counted, `NoMemory`, and `Closed` where following has
+    /// `NotFetched` if the version has as many owners as can be counted, `NoMemory`, and `Closed` if following has
     /// ended or there is no memory for one more. The service is then as it was.
     pub fn follow<W: Wait>(&self, rt: &W) -> Result<(Follower<J>, Arc<Version>), Refusal>
         ensures of { IfOk result (λ made. (made.0.book ≡ J.book) × (made.0.base ≡ J.base)) }
@@ -268,22 +268,22 @@ impl<S: Alter + Drop, J: Naming> Service<S, J> {
         self.spare.lock(rt).take_back(reader)
     }
 
-    /// Gives the library's error of the commit that closed the publisher, if one did.
+    /// Returns the library's error of the commit that closed the publisher, if one did.
     pub fn failure<W: Wait>(&self, rt: &W) -> Option<Error> {
         self.publisher.lock(rt).failure()
     }
 
-    /// Ends the service, and gives the connection back, with its tables as the lock keeps them. Of a file that is known,
-    /// a ready publisher's tables hold the published state, and those of a closed one that or the state after one
+    /// Ends the service, and returns the connection, with its tables as the lock keeps them. Of a file that is known, a
+    /// ready publisher's tables hold the published state, and those of a closed one that or the state after one
     /// submission more, the same one whatever a crash leaves; a crash leaves no other. It waits for nobody: the front's
-    /// readers go on, and its memory is never given back.
+    /// readers go on, and its memory is never freed.
     pub fn release(self) -> Connection<S>
         ensures { IsReleased S.Store J.book J.base J.ours_first result }
     {
         self.publisher.into_inner().release()
     }
 
-    /// Ends the service and its front, which waits for readers that are inside, and gives the connection back, as `release`.
+    /// Ends the service and its front, which waits for readers that are inside, and returns the connection, as `release`.
     pub fn end<W: Wait>(self, rt: &W) -> Connection<S>
         ensures { IsReleased S.Store J.book J.base J.ours_first result }
     {
@@ -291,7 +291,7 @@ impl<S: Alter + Drop, J: Naming> Service<S, J> {
     }
 }
 
-/// Tells whether there was no room for one more retired version.
+/// Checks whether there was no room for one more retired version.
 fn is_busy(became: &Result<Receipt, Refusal>) -> bool {
     matches!(became, Err(Refusal::Busy))
 }

@@ -7,7 +7,7 @@ use prt_front::{FrontReader, Known};
 use prt_publisher::Seats;
 use std::marker::{Model, PhantomData};
 
-/// Says that a reader was given back. [`SpareReaders::take_back`] alone makes one. Contracts see it as the list that the
+/// Says that a reader was returned. [`SpareReaders::take_back`] alone makes one. Contracts see it as the list that the
 /// reader knew.
 #[derive(Drop)]
 pub(crate) struct Returned {
@@ -51,7 +51,7 @@ impl<J: Naming> SpareReaders<J> {
         }
     }
 
-    /// Lends one of them. `None` where none is left.
+    /// Lends one of them. `None` if none is left.
     pub(crate) fn lend(&mut self) -> Option<FrontReader>
         ensures same { self.new ≡ self.old }
         ensures of { IfSome result (λ reader. (reader.book ≡ J.book) × (reader.base ≡ J.base)) }

@@ -35,8 +35,8 @@ impl<J: Naming> Submitted<J> {
     }
 }
 
-/// Gives the answer to the command that was submitted so many commands before the last, of what became of all: its own
-/// receipt, or the one reason.
+/// Derives from what became of all the answer to the command that was submitted so many commands before the last: its
+/// own receipt, or the one reason.
 fn answer_before(became: &Result<Receipt, Refusal>, later: u64) -> Result<Receipt, Refusal>
     requires { IfOk became.now (λ last. later < length last.list) }
     ensures value { result ≡ answer_before became.now later }

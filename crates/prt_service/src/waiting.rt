@@ -31,7 +31,7 @@ impl<J: Naming> Model for Answer<J> {
 }
 
 impl<J: Naming> Answer<J> {
-    /// Gives what became of this command. `None` where the answer is to another one.
+    /// Returns what became of this command. `None` if the answer is to another one.
     pub(crate) fn for_command(self, command: &Command) -> Option<Result<Receipt, Refusal>>
         ensures { IfSome result (IsAnswer J.book J.base command.now) }
     {
@@ -78,7 +78,7 @@ impl<J: Naming> Waiting<J> {
         }
     }
 
-    /// Gives the command.
+    /// Returns the command.
     pub(crate) fn command(&self) -> &Command
         ensures value { result.now ≡ self.now }
         ensures storable { IsStorable result.now }
@@ -86,7 +86,7 @@ impl<J: Naming> Waiting<J> {
         &self.command
     }
 
-    /// Answers who waits for the command.
+    /// Answers the one that waits for the command.
     pub(crate) fn answer<W: Wait>(self, rt: &W, became: Result<Receipt, Refusal>)
         requires { IsAnswer J.book J.base self became }
     {
@@ -95,7 +95,7 @@ impl<J: Naming> Waiting<J> {
             result: became,
             of: PhantomData,
         };
-        // There is room, since a command is answered once, and who waits keeps the other end.
+        // There is room, since a command is answered once, and the one that waits keeps the other end.
         let _sent = self.reply_to.send(rt, answer).is_ok();
     }
 }

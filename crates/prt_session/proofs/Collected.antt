@@ -152,7 +152,7 @@ its_refusal (Answered text ∷ told) more reply h is_written = absurd h
 
 -- ---- a reading whose reader fails where the bytes end
 
--- It has the same commands, and leaves nothing where the other does.
+-- It has the same commands, and leaves nothing if the other does.
 pub record IsAlike (commands : List Command) (one other : Session (List Command) Mishap) : Type 0 where
   pub same : other.desk ≡ one.desk
   pub unread : one.unread ≡ [] → other.unread ≡ []

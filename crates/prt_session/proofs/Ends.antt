@@ -53,7 +53,7 @@ nothing_read_by reader0 reader content stops.End count read counted stopped e =
     let k : content ≡ [] = empty_list content (counted ∙ z) in
     (rw (ap (λ (xs : List ℕ). xs ++ []) k) at read, stopped.1)
 
--- where there is no line the reader is at its end
+-- if there is no line, the reader is at its end
 pub nothing_read : (reader0 reader : Option (List ℕ)) (kept : List ℕ) (line : LineRead) → LineIs reader0 reader kept line → is_nothing line ≡ true → Consumes reader0 reader [] × IsAtEnd reader
 nothing_read reader0 reader kept line is e = nothing_read_by reader0 reader is.content line.stop line.length is.read is.count is.stopped e
 
@@ -130,7 +130,7 @@ module _ {D M : Type 0} (turn : TurnsOf D M) (may : Mishaps D M) (mode : OnRefus
     read = line.read;
   }
 
-  -- the last line, and what stands after it
+  -- the last line, and what comes after it
   pub closes : (stop : Stop) (content : List ℕ) → LineAnswered turn may now later stop content reply → ends_after mode stop reply ≡ true → Closes turn may mode left now later (reply ∷ [])
   unfolding session_lines lines_of
   closes stops.Newline content line over = record {
@@ -192,7 +192,7 @@ module _ {D M : Type 0} (turn : TurnsOf D M) (may : Mishaps D M) (mode : OnRefus
 -- ---- after the last line
 
 module _ {D M : Type 0} (turn : TurnsOf D M) (may : Mishaps D M) (mode : OnRefusal) (now later : Moment D) (same : later.desk ≡ now.desk) where
-  -- one more byte is read where no line is left
+  -- one more byte is read if no line is left
   pub too_many_alone : (b : ℕ) → Consumes now.reader later.reader (b ∷ []) → ClosesAlone turn may mode 0 now later (Refused TooManyLines)
   too_many_alone b read = record { more = b ∷ []; ending = end_of_input; exchanges = []; last = Refused TooManyLines ∷ []; law = rw same (too_many turn limits mode end_of_input now.desk [] b [] (lines_of (b ∷ [])) refl); are = refl; path = same; is_due = inr ([], ap (λ (s : Session D M). replies s) (too_many turn limits mode read_fault now.desk [] b [] (lines_of (b ∷ [])) refl)); read = read }
 
@@ -267,13 +267,13 @@ line_served {D} {M} form turn may mode left start now later end end' number repl
       fault_is = rw all (fault_is ∙ ap (λ last. fault_after last reply) s.fault_is ∙ sym (one_fault (fault_in None told) reply) ∙ sym (fault_append told (reply ∷ []) None));
     }
 
--- ---- the desks that may stand before and after a line
+-- ---- the desks that may be there before and after a line
 
--- from a desk that may have stood at first, lines were served up to this one
+-- from a desk that may have been there at first, lines were served up to this one
 abbrev pub ServedTo : {D M : Type 0} → Form → TurnsOf D M → Mishaps D M → OnRefusal → (D → Type 0) → (reader0 reader writer0 writer : Option (List ℕ)) → ℕ → ScriptEnd → D → Type 0
 ServedTo {D} {M} form turn may mode stood reader0 reader writer0 writer left end desk = (first : D) × stood first × Served form turn may mode (moment first reader0 writer0) (moment desk reader writer) left end
 
--- the run is one from a desk that may have stood at first
+-- the run is one from a desk that may have been there at first
 abbrev pub RunTo : {D M : Type 0} → Form → TurnsOf D M → Mishaps D M → OnRefusal → (D → Type 0) → (reader0 reader writer0 writer : Option (List ℕ)) → ScriptEnd → D → Type 0
 RunTo {D} {M} form turn may mode stood reader0 reader writer0 writer end desk = (first : D) × stood first × RunsIn form turn may mode first desk reader0 reader writer0 writer end
 
@@ -293,21 +293,21 @@ module _ {D M : Type 0} (form : Form) (turn : TurnsOf D M) (may : Mishaps D M) (
   answered : LineAnswered turn may this_moment next_moment line.stop is.content reply
   answered = answered_line turn may this_moment next_moment kept line reply is something answer.2
 
-  -- where the reply could not be written
+  -- if the reply could not be written
   pub ends_cut : reply ≢ Silent → Written false writer writer' (reply_in form number reply) → end'.refused ≡ refused_after end.refused reply → end'.fault ≡ Some WriteFault → RunTo form turn may mode stood reader0 reader' writer0 writer' end' after
   ends_cut told written refused_is fault_is =
       let before = served answer.0 answer.1 in
       let alone = closes_alone turn may mode left some_left this_moment next_moment reply line.stop is.content answered in
       (before.0, before.1, cut_from form turn may mode (first_moment before.0) this_moment next_moment left end before.2 end' number reply next alone told written refused_is fault_is)
 
-  -- where the session ends with the reply
+  -- if the session ends with the reply
   pub ends_there : ends_after mode line.stop reply ≡ true → Appends writer writer' (reply_in form number reply) → end'.refused ≡ refused_after end.refused reply → end'.fault ≡ fault_after end.fault reply → RunTo form turn may mode stood reader0 reader' writer0 writer' end' after
   ends_there over wrote refused_is fault_is =
       let before = served answer.0 answer.1 in
       let last = closes turn may mode left some_left this_moment next_moment reply line.stop is.content answered over in
       (before.0, before.1, ran_from form turn may mode (first_moment before.0) this_moment next_moment left end before.2 end' number reply next last wrote refused_is fault_is)
 
-  -- where it goes on
+  -- if it goes on
   pub goes_on : ends_after mode line.stop reply ≡ false → Appends writer writer' (reply_in form number reply) → end'.refused ≡ refused_after end.refused reply → end'.fault ≡ fault_after end.fault reply → ServedTo form turn may mode stood reader0 reader' writer0 writer' (left - 1) end' after
   goes_on over wrote refused_is fault_is =
       let before = served answer.0 answer.1 in

@@ -35,7 +35,7 @@ unfolding lines_of
 bytes_of_lines [] = refl
 bytes_of_lines (b ∷ bs) = bytes_of_lines_by b bs (lines_of bs) (b == 10) refl (bytes_of_lines bs)
 
--- The first line has at least so many bytes.
+-- The first line has at least this many bytes.
 pub record FirstHas (bytes : List ℕ) (count : ℕ) : Type 0 where
   pub line : Line
   pub others : List Line
@@ -51,7 +51,7 @@ first_has_more : (b : ℕ) (bs : List ℕ) (count : ℕ) → b ≢ 10 → FirstH
 unfolding lines_of
 first_has_more b bs count h f = record { line = record { content = b ∷ f.line.content; ended = f.line.ended }; others = f.others; is = rw (not_newline b h, f.is); long = omega (arith, f.long) }
 
--- bytes without a newline stand in the first line, whatever follows
+-- bytes without a newline are in the first line, whatever follows
 pub first_has : (b : ℕ) (bs rest : List ℕ) → HasNoNewline (b ∷ bs) → FirstHas (b ∷ (bs ++ rest)) (length (b ∷ bs))
 first_has b [] rest h = first_has_one b rest (lines_of rest) h.0 refl
 first_has b (c ∷ bs) rest h = let f = first_has c bs rest h.1 in let e : length (c ∷ bs) + 1 ≡ length (b ∷ (c ∷ bs)) = omega arith in rw (← e) (first_has_more b (c ∷ (bs ++ rest)) (length (c ∷ bs)) h.0 f)

@@ -56,7 +56,7 @@ numbered_more line (first ∷ told) reply =
     ap (λ text. numbered_text line first ++ text) (numbered_more (line + 1) told reply ∙ ap (λ n. numbered_from (line + 1) told ++ numbered_text n reply) there)
     ∙ sym (append_assoc (numbered_text line first) (numbered_from (line + 1) told) (numbered_text (line + length (first ∷ told)) reply))
 
--- the text of one more reply stands at the end
+-- the text of one more reply is at the end
 pub one_more_in : (form : Form) (told : List Reply) (reply : Reply) → replies_in form (told ++ reply ∷ []) ≡ replies_in form told ++ reply_in form (length told + 1) reply
 one_more_in Plain told reply = text_append told (reply ∷ []) ∙ ap (λ text. replies_text told ++ text) (one_text reply)
 one_more_in Numbered told reply =

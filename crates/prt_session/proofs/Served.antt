@@ -1,4 +1,4 @@
--- What a run keeps from line to line, and what follows of the whole run where it ends.
+-- What a run keeps from line to line, and what follows of the whole run when it ends.
 use Rattle.std.proofs.Common.{◌≡◌, ◌≢◌, ◌⊎◌, inl, inr, ℕ, ◌+◌, Bool, false, List, [], ◌∷◌, ◌++◌, Option, Some, None, length, refl, sym, ◌∙◌, ap, arith}
 use Rattle.std.proofs.lemmas.List.{append-nil}
 use Rattle.std.specs.Io.KnownBytes.{Consumes, Appends, IsAtEnd}
@@ -46,7 +46,7 @@ pub record Served {D M : Type 0} (form : Form) (turn : TurnsOf D M) (may : Misha
   pub refused_is : end.refused ≡ refused_in false (replies_of exchanges)
   pub fault_is : end.fault ≡ fault_in None (replies_of exchanges)
 
--- The session on what is read last, and on what stands after it, gives these replies and ends.
+-- The session on what is read last, and on what comes after it, yields these replies and ends.
 pub record Closes {D M : Type 0} (turn : TurnsOf D M) (may : Mishaps D M) (mode : OnRefusal) (left : ℕ) (now later : Moment D) (told : List Reply) : Type 0 where
   pub more : List ℕ
   pub ending : Ending
@@ -65,7 +65,7 @@ abbrev pub IsDue : {D M : Type 0} → TurnsOf D M → OnRefusal → ℕ → Mome
 IsDue {D} {M} turn mode left now later more exchanges reply =
     IsAtEnd later.reader ⊎ ((rest : List Reply) × (replies (session_lines turn limits mode read_fault left (lines_of more) (mishaps_of exchanges) now.desk) ≡ reply ∷ rest))
 
--- The session on no more than what is read last gives this reply and ends.
+-- The session on no more than what is read last yields this reply and ends.
 pub record ClosesAlone {D M : Type 0} (turn : TurnsOf D M) (may : Mishaps D M) (mode : OnRefusal) (left : ℕ) (now later : Moment D) (reply : Reply) : Type 0 where
   pub more : List ℕ
   pub ending : Ending
@@ -110,7 +110,7 @@ module _ {D M : Type 0} (form : Form) (turn : TurnsOf D M) (may : Mishaps D M) (
   reply_next : (line : ℕ) (reply : Reply) → line + left ≡ limits.lines + 1 → reply_in form line reply ≡ reply_in form (length (replies_of served.exchanges) + 1) reply
   reply_next line reply next = let counted = served.counted in let is : line ≡ length (replies_of served.exchanges) + 1 = omega arith in ap (λ n. reply_in form n reply) is
 
-  -- all replies are written where that to the next line is
+  -- all replies are written if that to the next line is
   pub reply_written : (line : ℕ) (reply : Reply) → line + left ≡ limits.lines + 1 → Appends now.writer later.writer (reply_in form line reply) → Appends start.writer later.writer (replies_in form (replies_of served.exchanges ++ reply ∷ []))
   reply_written line reply next wrote =
       let told = replies_of served.exchanges in

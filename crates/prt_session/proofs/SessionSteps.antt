@@ -27,7 +27,7 @@ drop_front xs rest = grind (arith, common_steps)
 drop_many : (b : ℕ) (bs rest : List ℕ) (n : ℕ) → length (b ∷ bs) ≡ n + 1 → drop (n + 1) (b ∷ (bs ++ rest)) ≡ rest
 drop_many b bs rest n e = rw (← e) (drop_front (b ∷ bs) rest)
 
--- where no line is left, one more byte ends the session
+-- if no line is left, one more byte ends the session
 pub too_many : {D M : Type 0} (turn : TurnsOf D M) (limit : Limits) (mode : OnRefusal) (ending : Ending) (desk : D) (mishaps : List (Option M)) (b : ℕ) (rest : List ℕ) (lines : List Line) → lines_of (b ∷ rest) ≡ lines → session_lines turn limit mode ending 0 lines mishaps desk ≡ ends (Refused TooManyLines ∷ []) desk rest
 unfolding session_lines
 too_many {D} {M} turn limit mode ending desk mishaps b rest [] e = let h : [] ≡ b ∷ rest = ap bytes_of (sym e) ∙ bytes_of_lines (b ∷ rest) in absurd (cc)

@@ -73,7 +73,7 @@ grow number count (suc more) =
     let line = reply_text (Accepted (number + (count + more) + 1)) in
     (before.0 ++ line, rw next (one_more_line number (count + more) ∙ ap (λ text. text ++ line) before.1 ∙ append_assoc (replies_text (accepted_after number count)) before.0 line))
 
--- the first lines stand at the front
+-- the first lines are at the front
 pub lines_begin : (number count all : ℕ) → count ≤ all → (rest : List ℕ) × (replies_text (accepted_after number all) ≡ replies_text (accepted_after number count) ++ rest)
 lines_begin number count all h =
     let e : count + (all - count) ≡ all = omega arith in

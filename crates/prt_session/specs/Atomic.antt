@@ -47,12 +47,12 @@ pub record Outcome : Type 0 where
   pub replies : List Reply
   pub desk : DeskState
 
--- `ok N` for each of so many numbers after this one, in order
+-- `ok N` for each of this many numbers after this one, in order
 abbrev pub accepted_after : ℕ → ℕ → List Reply
 accepted_after number zero = []
 accepted_after number (suc count) = accepted_after number count ++ Accepted (number + suc count) ∷ []
 
--- each command has a number of its own; a refusal stands alone
+-- each command has a number of its own; a refusal is alone
 abbrev pub list_replies : DeskState → List Command → Result ℕ Refusal → List Reply
 list_replies desk commands (Ok last) = accepted_after desk.published.count (length commands)
 list_replies desk commands (Err reason) = Refused reason ∷ []
@@ -65,7 +65,7 @@ submitted desk (command ∷ commands) mishap = record {
   desk = (commands_turn desk (command ∷ commands) mishap).desk;
 }
 
--- where the reading was refused that is the reply, and nothing is submitted
+-- if the reading was refused, that is the reply, and nothing is submitted
 abbrev pub after_reading : DeskState → Option Reply → List Command → Option Mishap → Outcome
 after_reading desk (Some refused) commands mishap = record { replies = refused ∷ []; desk = desk }
 after_reading desk None commands mishap = submitted desk commands mishap
@@ -76,7 +76,7 @@ atomic_output desk input mishaps mishap = after_reading desk (find is_refused (r
 
 -- ---- all or none
 
--- the desk after commands that were made; where there are none, it stays as it was
+-- the desk after commands that were made; if there are none, it stays as it was
 abbrev pub desk_after : DeskState → List Command → DeskState
 desk_after desk [] = desk
 desk_after desk (command ∷ commands) = settled (fold desk.published (command ∷ commands))
@@ -112,7 +112,7 @@ pub record SubmittedIs (may : Mishap → Type 0) (desk0 desk : DeskState) (comma
   pub refused_is : end.refused ≡ refused_in false (submitted desk0 commands mishap).replies
   pub wrote : WroteReplies (submitted desk0 commands mishap).replies writer0 writer end.fault
 
--- A run of an atomic file is the outcome of what the reader had, up to its fault if one came, where memory alone failed its reading, and what befell the list may befall it. What the reading leaves unread is still to be read.
+-- A run of an atomic file is the outcome of what the reader had, up to its fault if one came. Memory alone may have failed its reading, and what befell the list may befall it. What the reading leaves unread is still to be read.
 pub record AtomicIs (may : Mishap → Type 0) (desk0 desk : DeskState) (reader0 reader writer0 writer : Option (List ℕ)) (end : ScriptEnd) : Type 0 where
   pub input : Input
   pub mishaps : List (Option Mishap)

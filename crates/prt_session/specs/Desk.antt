@@ -15,7 +15,7 @@ use Rattle.prt_version.specs.Accepted.{refusal_all}
 use Rattle.prt_version.specs.Change.{refusal, apply, fold}
 use Rattle.prt_version.specs.State.{State}
 
--- What a desk stands for: the state that its queries are answered from, the state that is stored, which is the same while the desk is open, and whether it is closed.
+-- What a desk represents: the state that its queries are answered from, the state that is stored, and whether it is closed. The two states are the same while the desk is open.
 pub record DeskState : Type 0 where
   pub published : State
   pub stored : State
@@ -74,7 +74,7 @@ submit_all desk commands (Some (store_fails call)) = record { result = Err (Stor
 submit_all desk commands (Some commit_kept) = record { result = Err (StoreFailed Commit); desk = shut desk (fold desk.published commands) }
 submit_all desk commands (Some publication_fails) = record { result = Err NotPublished; desk = shut desk (fold desk.published commands) }
 
--- A list with a refused command. Where memory is refused at that command or at one before it, that is why the list is not made.
+-- A list with a refused command. If memory is refused at that command or at one before it, that is why the list is not made.
 abbrev pub refuse_all : DeskState → Refusal → Option Mishap → ListTurn
 refuse_all desk reason (Some no_memory) = record { result = Err NoMemory; desk = desk }
 refuse_all desk reason mishap = record { result = Err reason; desk = desk }
@@ -89,7 +89,7 @@ commands_or_refusal desk commands false None mishap = submit_all desk commands m
 abbrev pub commands_turn : DeskState → List Command → Option Mishap → ListTurn
 commands_turn desk commands mishap = commands_or_refusal desk commands desk.closed (refusal_all desk.published commands) mishap
 
--- a query is answered from the published state, also where the desk is closed
+-- a query is answered from the published state, even if the desk is closed
 abbrev pub query_turn : DeskState → Query → Option Mishap → Turn DeskState
 query_turn desk query (Some no_memory) = record { reply = Refused NoMemory; desk = desk }
 query_turn desk query mishap = record { reply = Answered (query_text desk.published query); desk = desk }

@@ -22,7 +22,7 @@ replies_to mode bytes ending mishaps = replies_text (replies (session_on mode by
 abbrev pub refusals_of : List ℕ → Ending → List ℕ
 refusals_of bytes ending = numbered_from 1 (replies (session nothing_turn tt (record { bytes = bytes; ending = ending }) GoOn []))
 
--- what comes of an atomic file, where nothing befalls it
+-- what comes of an atomic file, if nothing befalls it
 abbrev pub atomic_on : List ℕ → Outcome
 atomic_on bytes = atomic_output (settled opening_state) (record { bytes = bytes; ending = end_of_input }) [] None
 

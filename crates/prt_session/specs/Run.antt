@@ -48,7 +48,7 @@ pub record Cut {D M : Type 0} (form : Form) (input : Input) (session faulty : Se
   pub wrote : Appends writer0 writer (replies_in form told ++ part)
   pub fault_is : fault ≡ Some WriteFault
 
--- A run is the session on what was read, with its replies in this form, where what befell each line may befall it, and it went on to the session's end or was cut off by a fault of the writer.
+-- A run is the session on what was read, with its replies in this form. What befell each line may befall it. The run went on to the session's end or was cut off by a fault of the writer.
 pub record RunsIn {D M : Type 0} (form : Form) (turn : TurnsOf D M) (may : Mishaps D M) (mode : OnRefusal) (desk0 desk : D) (reader0 reader writer0 writer : Option (List ℕ)) (end : ScriptEnd) : Type 0 where
   pub input : Input
   pub mishaps : List (Option M)

@@ -41,7 +41,7 @@ MayOn {D} {M} may desk (Err reason) mishap = mishap ≡ None
 MayOn {D} {M} may desk (Ok None) mishap = mishap ≡ None
 MayOn {D} {M} may desk (Ok (Some request)) mishap = may desk request mishap
 
--- what may befall a whole line: nothing, where it asks for nothing
+-- what may befall a whole line: nothing, if it asks for nothing
 unfoldable pub LineMay : {D M : Type 0} → Mishaps D M → D → List ℕ → Option M → Type 0
 LineMay {D} {M} may desk line mishap = MayOn may desk (reading line) mishap
 
@@ -77,7 +77,7 @@ abbrev pub at_ending : Ending → List Reply
 at_ending end_of_input = []
 at_ending read_fault = Refused ReadFault ∷ []
 
--- each line has its mishap; where the list has none left, there is none
+-- each line has its mishap; if the list has none left, there is none
 abbrev pub first_mishap : {M : Type 0} → List (Option M) → Option M
 first_mishap {M} [] = None
 first_mishap {M} (mishap ∷ mishaps) = mishap
@@ -92,7 +92,7 @@ exchange_of {D} {M} turn desk line mishap = record { line = line; mishap = misha
 abbrev pub after_exchange : {D M : Type 0} → Exchange M → Session D M → Session D M
 after_exchange {D} {M} x session = record session { exchanges = x ∷ session.exchanges }
 
--- the session on these lines, where so many more may come
+-- the session on these lines, if this many more may come
 unfoldable pub session_lines : {D M : Type 0} → TurnsOf D M → Limits → OnRefusal → Ending → ℕ → List Line → List (Option M) → D → Session D M
 session_lines {D} {M} turn limit mode ending left [] mishaps desk = ends (at_ending ending) desk []
 session_lines {D} {M} turn limit mode ending left (line ∷ lines) mishaps desk =

@@ -42,7 +42,7 @@ newline_read stops.End = []
 newline_read stops.Fault = []
 newline_read stops.Endless = []
 
--- whether reading may stop there after so many bytes of a line
+-- whether reading may stop there after this many bytes of a line
 abbrev pub StopIs : Stop → ℕ → Option (List ℕ) → Type 0
 StopIs stops.Newline count reader = count ≤ limits.unended
 StopIs stops.End count reader = (count ≤ limits.unended) × IsAtEnd reader

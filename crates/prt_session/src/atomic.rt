@@ -18,7 +18,7 @@ use prt_replies::{Observer, Reply, ScriptEnd};
 use std::alloc::Global;
 use std::io::{Read, Write};
 
-/// Writes `ok N` for each of so many numbers after this one, and flushes each; tells whether all of it went well.
+/// Writes `ok N` for each of the `count` numbers after this one, and flushes each; returns whether all of it went well.
 fn write_accepted<W: Write>(writer: &mut W, number: u64, count: usize) -> bool
     requires { number + count < 2 ^ 64 }
     ensures { Written result (W.contents writer.old) (W.contents writer.new) (replies_text (accepted_after number count)) }
@@ -65,9 +65,9 @@ fn submit<D: Desk, W: Write>(desk: &mut D, commands: &Vec<Command>, writer: &mut
 ///
 /// The lines are read as in `run_session`, up to the first that is refused. Beyond what is refused of any line, a query
 /// is (`UnknownVerb`), and each command after `MOST_TOGETHER` (`TooManyCommands`); the commands are kept in memory of
-/// `alloc`. A refusal, of a line or by the desk, is all that is written. Where there is none, `ok N` is written for each
+/// `alloc`. A refusal, of a line or by the desk, is all that is written. If there is none, `ok N` is written for each
 /// command, without memory. A file without commands writes nothing, and nothing is submitted. The observer is called as
-/// in `run_session`; what comes of the commands is no reply to a line, and is not told.
+/// in `run_session`; what comes of the commands is no reply to a line, and is not reported.
 pub fn run_atomic<D: Desk, R: Read, W: Write, O: Observer>(
     alloc: Global,
     desk: &mut D,

@@ -1,4 +1,4 @@
-//! Checks of an input: what a session would refuse of its lines, where nothing is executed.
+//! Checks of an input: what a session would refuse of its lines, with nothing executed.
 ghost use Rattle.prt_session.specs.Check.{ChecksLines};
 
 use crate::executor::Executor;

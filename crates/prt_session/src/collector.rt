@@ -9,7 +9,7 @@ use prt_command::{Command, Refusal, Request};
 use prt_replies::Reply;
 use std::alloc::Global;
 
-/// Gives the command that is asked for, unless it is a query.
+/// Returns the command that is asked for, unless it is a query.
 fn command_of(request: &Request) -> Option<&Command>
     ensures { MatchOption result ((query : Query) × (request.now ≡ requests.Query query)) (λ command. request.now ≡ requests.Command command.now) }
 {

@@ -3,7 +3,7 @@ ghost use Rattle.std.specs.Prelude.{◌++◌, IfErr, OnErr, OnOk};
 use crate::limits::MOST_TOGETHER;
 use prt_command::{Command, Query, Refusal};
 
-/// Where commands go, and who answers queries.
+/// Where commands go, and what answers queries.
 pub trait Desk {
     ghost use Rattle.std.specs.Prelude.{◌≡◌, ◌≤◌, length};
     ghost use Rattle.std.specs.List.{All};
@@ -14,7 +14,7 @@ pub trait Desk {
     ghost use Rattle.prt_session.specs.Stands.{Explained, StandsForSome};
     ghost use Rattle.prt_session.specs.Steps.{CommandGives, CommandsGive};
 
-    /// The states that the desk may stand for: more than one where it can't be known which is stored.
+    /// The states that the desk may represent: more than one if it can't be known which is stored.
     ghost stands: { Self → DeskState → Type 0 };
 
     /// What may befall a request.
@@ -23,7 +23,7 @@ pub trait Desk {
     /// What every request leaves as it was.
     ghost keeps: { Self → Self → Type 0 };
 
-    /// Checks, stores and publishes a command, whose routes and rules may be stored; gives the number of commands ever
+    /// Checks, stores and publishes a command, whose routes and rules may be stored; returns the number of commands ever
     /// accepted.
     ///
     /// # Errors
@@ -36,7 +36,7 @@ pub trait Desk {
         ensures keeps { keeps self.old self.new };
 
     /// Checks, stores and publishes commands together or not at all: 1 to `MOST_TOGETHER` of them, whose routes and rules
-    /// may be stored. Gives the number of the last, and each has a number of its own.
+    /// may be stored. Returns the number of the last, and each has a number of its own.
     ///
     /// # Errors
     ///
@@ -64,6 +64,6 @@ pub trait Desk {
         ensures err { IfErr result (λ e. (e ≡ Refusal.NoMemory) × may no_memory) }
         ensures unchanged { OnErr result (out.new.items ≡ out.old.items) };
 
-    /// So it stays over any number of requests.
+    /// This holds over any number of requests.
     ghost keeps_over_all: { IsPreorder keeps };
 }

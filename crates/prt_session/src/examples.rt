@@ -5,7 +5,7 @@ ghost use Rattle.prt_session.specs.Desk.{commit_kept, no_memory, publication_fai
 ghost use Rattle.prt_replies.specs.Input.{end_of_input, read_fault};
 ghost use Rattle.prt_refusals.specs.declared.on_refusal.OnRefusal.TheVariants.{GoOn, Stop};
 
-/// What stands after a refused line is left unread.
+/// What comes after a refused line is left unread.
 pub fn unread_rest()
     ensures { (session_on Stop (codes "route add 10/8 via 192.0.2.1\nroute add 10/8 via 192.0.2.2\nroute show\n") end_of_input []).unread ≡ codes "route show\n" }
 {}

@@ -3,8 +3,8 @@ use prt_replies::Reply;
 
 /// Executes the requests of a session, in a context.
 ///
-/// What it may stand for, and what may befall a request, are types of its own: a desk stands for the states of its
-/// tables, and who shares them with others for what it knows of them.
+/// What it may represent, and what may befall a request, are types of its own. A desk represents the states of its
+/// tables, and an executor that shares them with others represents what it knows of them.
 pub trait Executor<C> {
     ghost use Rattle.std.specs.Prelude.{Option};
     ghost use Rattle.prt_command.specs.Storable.{IsStorableRequest};
@@ -14,19 +14,19 @@ pub trait Executor<C> {
     ghost use Rattle.prt_session.specs.Stands.{Explained, StandsForSome};
     ghost use Rattle.prt_session.specs.Steps.{Gives};
 
-    /// What it may stand for.
+    /// What it may represent.
     ghost Desk: { Type 0 };
 
     /// What may befall a request.
     ghost Mishap: { Type 0 };
 
-    /// The reply to a request, and what it stands for after it.
+    /// The reply to a request, and what it represents after it.
     ghost turn: { Desk → Request → Option Mishap → Turn Desk };
 
     /// Which of the mishaps may befall a request there.
     ghost may: { Desk → Request → Option Mishap → Type 0 };
 
-    /// Whether it may stand for this.
+    /// Whether it may represent this.
     ghost stands: { Self → Desk → Type 0 };
 
     /// What every request leaves as it was.
@@ -35,7 +35,7 @@ pub trait Executor<C> {
     /// Whether it belongs to the context.
     ghost fits: { Self → Type 0 };
 
-    /// Executes a request, whose routes and rules may be stored, and gives the reply to it.
+    /// Executes a request, whose routes and rules may be stored, and returns the reply to it.
     fn execute(&mut self, context: &C, request: &Request) -> Reply
         requires fits { fits self.old }
         requires storable { IsStorableRequest request.now }
@@ -44,6 +44,6 @@ pub trait Executor<C> {
         ensures left { StandsForSome stands self.old → StandsForSome stands self.new }
         ensures keeps { keeps self.old self.new };
 
-    /// So it stays over any number of requests.
+    /// This holds over any number of requests.
     ghost keeps_over_all: { IsPreorder keeps };
 }

@@ -31,9 +31,9 @@ fn numbered_line(line: u64, refusal: Refusal) -> ArrayString<64>
 }
 
 impl Form {
-    /// Writes the reply to the line of this number, and flushes; tells whether all of it went well.
+    /// Writes the reply to the line of this number, and flushes; returns whether all of it went well.
     ///
-    /// Where it did not, a part of the reply was written, perhaps none or all of it. A reply without a text always goes
+    /// If it did not, a part of the reply was written, perhaps none or all of it. A reply without a text always goes
     /// well.
     pub(crate) fn write<W: Write>(self, writer: &mut W, line: u64, reply: &Reply) -> bool
         ensures written { Written result (W.contents writer.old) (W.contents writer.new) (reply_in self line reply.now) }

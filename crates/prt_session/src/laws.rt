@@ -38,7 +38,7 @@ pub fn closed_replies()
 {}
 
 /// Of an atomic file all commands are made, stored and published, in the order of their lines and each with a number of its
-/// own. Or one refusal is the only reply, and queries are answered as before. What is stored then is what was or, where a
+/// own. Or one refusal is the only reply, and queries are answered as before. What is stored then is what was or, if a
 /// commit or a publication failed, perhaps what all of them make. A refusal with a number up to that of `NoMemory` leaves
 /// the desk as it was.
 pub fn all_or_none()

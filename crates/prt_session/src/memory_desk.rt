@@ -45,7 +45,7 @@ impl MemoryDesk {
         Ok(MemoryDesk { version })
     }
 
-    /// Runs a script over this desk, as `run_script` does: nothing but want of memory can befall its requests.
+    /// Runs a script over this desk, as `run_script` does: only want of memory can befall its requests.
     pub fn run_script<R: Read, W: Write, O: Observer>(
         &mut self,
         alloc: Global,
@@ -73,7 +73,7 @@ impl Desk for MemoryDesk {
 
     ghost keeps_over_all = { record { reflexive = λ _. tt; transitive = λ _ _ _ _ _. tt } };
 
-    /// An `Err` is what the command is refused for or, where it is refused for nothing, want of memory. It leaves the
+    /// An `Err` is what the command is refused for or, if it is refused for nothing, want of memory. It leaves the
     /// desk as it was.
     fn command(&mut self, command: &Command) -> Result<u64, Refusal>
         ensures turn { CommandGives IsNoMemory (settled self.old) command.now result (settled self.new) }

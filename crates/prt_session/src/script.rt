@@ -51,7 +51,7 @@ impl<D: Desk> Executor<Global> for D {
 
 /// Runs a script over a desk, as `run_session` does with any executor.
 ///
-/// Only an answer takes memory of `alloc`; where there is none, its query alone is refused.
+/// Only an answer takes memory of `alloc`; if there is none, its query alone is refused.
 pub fn run_script<D: Desk, R: Read, W: Write, O: Observer>(
     alloc: Global,
     desk: &mut D,

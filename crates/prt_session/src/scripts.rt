@@ -4,7 +4,7 @@ ghost use Rattle.prt_session.specs.Example.{replies_to};
 ghost use Rattle.prt_replies.specs.Input.{end_of_input};
 ghost use Rattle.prt_refusals.specs.declared.on_refusal.OnRefusal.TheVariants.{GoOn, Stop};
 
-/// Gives the scripts of `tests/cases`, each by the name of its case.
+/// Lists the scripts of `tests/cases`, each by the name of its case.
 pub fn scripts()
     ensures blank_lines { replies_to Stop (codes "\n  \n# a comment\n\t\nroute get 1#\n") end_of_input []
         ≡ codes "answer 0 none\n" }

@@ -30,7 +30,7 @@ fn execute_line<C, E: Executor<C>>(context: &C, executor: &mut E, line: &[u8]) -
     }
 }
 
-/// Replies to a whole line of so many bytes, which `line` has if they are not too many.
+/// Replies to a whole line of this many bytes, which `line` has if they are not too many.
 fn reply_to_whole<C, E: Executor<C>>(
     context: &C,
     executor: &mut E,
@@ -68,7 +68,7 @@ fn reply_to<C, E: Executor<C>>(context: &C, executor: &mut E, read: LineRead, li
     }
 }
 
-/// Tells whether the input ended where a line would begin.
+/// Checks whether the input ended where a line would begin.
 fn is_no_line(read: LineRead) -> bool
     ensures { result ≡ is_nothing read }
 {
@@ -78,7 +78,7 @@ fn is_no_line(read: LineRead) -> bool
     }
 }
 
-/// Tells whether the session ends with this reply to a line that has its newline.
+/// Checks whether the session ends with this reply to a line that has its newline.
 #[tactic(auto, unfolding(crate::specs::Session::stops_after))]
 fn is_stopping(mode: OnRefusal, reply: &Reply) -> bool
     ensures { result ≡ stops_after mode reply.now }
@@ -89,7 +89,7 @@ fn is_stopping(mode: OnRefusal, reply: &Reply) -> bool
     }
 }
 
-/// Tells whether nothing is read after this reply.
+/// Checks whether nothing is read after this reply.
 fn is_last(mode: OnRefusal, read: LineRead, reply: &Reply) -> bool
     ensures { result ≡ ends_after mode read.stop reply.now }
 {

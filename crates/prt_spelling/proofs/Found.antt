@@ -1,4 +1,4 @@
--- A line can spell each command that a line asks for.
+-- A line can express each command that a line asks for.
 use Rattle.std.proofs.Common.{◌≡◌, ℕ, ◌+◌, suc, Bool, true, false, not, List, [], ◌∷◌, ◌++◌, Option, Some, None, IfOk, IfSome, Result, Ok, Err, is_some, rules, refl, sym, ap, subst, arith, nat_le}
 use Rattle.std.specs.Prelude.{bytes_eq, codes, nat_lt, ◌==◌, ◌&&◌, ◌||◌, if◌then◌else◌, unwrap_or}
 use Rattle.std.specs.List.{list_all, onto_first, slice_split, AllByRecursion as Each}
@@ -99,7 +99,7 @@ line_plain line ws h = line_by _ (list_all is_text_byte (before_comment line)) (
 
 -- ---- the items that they are
 
--- what an item says of a table, a name and a length can be spelled
+-- what an item says of a table, a name and a length can be expressed
 abbrev AreFoundTables : WhichTables → Type 0
 AreFoundTables which.All = Unit {0}
 AreFoundTables (which.One n) = nat_le 1 n ≡ true
@@ -237,7 +237,7 @@ abbrev pub IsRuleWord : ItemWord → Type 0
 IsRuleWord (Keyword slot) = IsOfRules slot
 IsRuleWord (Alone x) = IsOfRules (slot_of x)
 
--- which item may stand from a place on
+-- which item may come from a place on
 abbrev MayStand : ItemPlace → Slot → Type 0
 MayStand start slot = IsOfRules slot
 MayStand (after_to other) slot = slot ≡ other
@@ -290,7 +290,7 @@ all_give : (ws : List Word) (taken : List Item) (given : Items) → AreItems rul
 all_give ws taken given none some = some
 all_give ws taken given (more w own rest x others i a) some = all_give rest others (put x given) a (put_gives x given (item_of_rules start w own x i))
 
--- where an item is given, something is said of the rule
+-- if an item is given, something is said of the rule
 rules_give : (ws : List Word) (taken : List Item) → AreItems rule_edit_line ws taken → is_empty (put_all taken no_items) ≡ false → gives (put_all taken no_items) ≡ true
 rules_give ws taken none some = absurd cc
 rules_give ws taken (more w own rest x others i a) some = all_give rest others (put x no_items) a (put_gives x no_items (item_of_rules start w own x i))
@@ -312,7 +312,7 @@ abbrev IsFound : Request → Type 0
 IsFound (requests.Command command) = IsFoundCommand command
 IsFound (requests.Query query) = Unit {0}
 
--- whatever a reading gives is such
+-- whatever a reading yields is such
 abbrev Gives : {X : Type 0} → (X → Type 0) → Result X Refusal → Type 0
 Gives {X} P r = (x : X) → r ≡ Ok x → P x
 
@@ -428,7 +428,7 @@ is_spelled_by (commands.RuleAdd rule) may found = and_from (is_storable_rule rul
 is_spelled_by (commands.RuleDel choice) may found = found
 is_spelled_by commands.RuleFlush may found = refl
 
--- a line can spell each command that a line asks for
+-- a line can express each command that a line asks for
 pub found_is_spelled : (line : List ℕ) (command : Command) → reading line ≡ Ok (Some (requests.Command command)) → is_spelled command ≡ true
 found_is_spelled line command h =
     let both : Gives (λ (o : Option Request). IsStorableLine o × IsFoundLine o) (reading line) =

@@ -1,4 +1,4 @@
--- The mark of a rule, with its mask where `ip` needs it.
+-- The mark of a rule, with its mask if `ip` needs it.
 use Rattle.std.proofs.Common.{◌≡◌, ◌^◌, ◌-◌, ◌<◌, Bool, true, false, Ok, refl, ap, ◌∙◌, arith}
 use Rattle.std.specs.Prelude.{codes, ◌==◌, if◌then◌else◌}
 use Rattle.std.proofs.lemmas.Bool.Decides.{nat_tests}

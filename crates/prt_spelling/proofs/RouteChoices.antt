@@ -33,7 +33,7 @@ choice_items choice = record no_items {
   metric = choice.metric;
 }
 
--- how long a text of all its parts may be, where others follow
+-- how long a text of all its parts may be, if others follow
 abbrev pub choice_length : ℕ → ℕ
 choice_length k = 11 + (1 + (18 + (1 + (19 + (1 + (19 + (1 + (16 + (1 + (16 + (1 + (16 + (1 + (19 + (1 + (17 + (1 + k)))))))))))))))))
 

@@ -40,7 +40,7 @@ use Rattle.prt_spelling.proofs.Words.{address_word, both_true, decimal_word, nam
 
 -- ---- what a line says of each part
 
--- the number, where it does not go without saying
+-- the number, if it is not implied
 abbrev pub said : ℕ → ℕ → Option ℕ
 said unsaid n = if n == unsaid then None else Some n
 
@@ -162,7 +162,7 @@ word_by : (word : Word) (p : Block) (b : Bool) → net word ≡ Some everything 
 word_by word p true is shown fits all = (is ∙ ap (λ p. Some p) (everything_is p all), shown)
 word_by word p false is shown fits all = (net_back p fits, prefix_is_word p fits)
 
--- a prefix, where this word is shown for all addresses
+-- a prefix, if this word is shown for all addresses
 pub word_of_block : (word : Word) (p : Block) → net word ≡ Some everything → IsWord 18 word → IsPrefix p → (net (prefix_or word p) ≡ Some p) × IsWord 18 (prefix_or word p)
 word_of_block word p is shown fits = word_by word p (is_everything p) is shown fits refl
 

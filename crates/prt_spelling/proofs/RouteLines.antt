@@ -46,7 +46,7 @@ abbrev said_kind : Kind → Option Kind
 said_kind Unicast = None
 said_kind kind = Some kind
 
--- what is given of a route to be put, but for scope global where a new one would not have it
+-- what is given of a route to be put, except for scope global if a new one would not have it
 abbrev given_of : Route → RouteChoice
 given_of route = record {
   table = route.table;
@@ -92,7 +92,7 @@ parts_are route =
     ∙ ap (λ scope. parts_by route (kind_part route.kind) (unless 3 route.proto (name_or_number protocols route.proto)) scope (option_map decimal (said 0 route.metric))) (sym (said_as (name_or_number scopes) route.scope (route.scope == 0)))
     ∙ ap (λ metric. parts_by route (kind_part route.kind) (unless 3 route.proto (name_or_number protocols route.proto)) (unless 0 route.scope (name_or_number scopes route.scope)) metric) (sym (said_as decimal route.metric (route.metric == 0)))
 
--- scope global, where it stands at the end
+-- scope global, if it is at the end
 abbrev said_global : Bool → Option ℕ → Option ℕ
 said_global b o = if b then Some 0 else o
 

@@ -71,7 +71,7 @@ not_reads true given new =
     reads_alone rule_edit_line 3 given (codes "not") item.Inverted (λ rest. ap (λ b. and_items rule_edit_line given (if b then Err Repeated else Ok (item.Inverted, 0)) rest) new)
     (record { some = omega arith; plain = refl; short = omega arith })
 
--- the word of a prefix, where `all` is shown for all addresses
+-- the word of a prefix, if `all` is shown for all addresses
 all_word : (p : Block) → IsPrefix p → (net (prefix_or (codes "all") p) ≡ Some p) × IsWord 18 (prefix_or (codes "all") p)
 all_word p is = word_of_block (codes "all") p refl (record { some = omega arith; plain = refl; short = omega arith }) is
 

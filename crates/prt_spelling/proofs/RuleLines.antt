@@ -45,7 +45,7 @@ choice_items choice = record no_items {
   suppress = choice.suppress;
 }
 
--- What each line of a rule has to spell.
+-- What each line of a rule has to express.
 record IsSpelledChoice (choice : RuleChoice) : Type 0 where
   action : is_spelled_action choice.action ≡ true
   suppress : is_length choice.suppress ≡ true

@@ -27,7 +27,7 @@ pushed_more f parts i part before old new within is held pushed =
 
 -- ---- a line
 
--- what follows where a call succeeds
+-- what follows if a call succeeds
 pub ok_then : {T E : Type 0} (r : Result T E) (P Q : Type 0) → (P → Q) → OnOk r P → OnOk r Q
 ok_then (Ok x) P Q gives p = gives p
 ok_then (Err e) P Q gives p = tt

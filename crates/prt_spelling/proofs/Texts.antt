@@ -132,7 +132,7 @@ pub record Reads (line : LineKind) (n : ℕ) (given after : Items) (parts : List
 pub reads_none : (line : LineKind) (given : Items) → Reads line 0 given given []
 reads_none line given = record { ws = []; text = record { words = refl; plain = refl; short = omega arith }; goes = λ rest. refl }
 
--- What stands in one part that may be left out.
+-- What is in one part that may be left out.
 pub record ReadsOne (line : LineKind) (n : ℕ) (given after : Items) (part : Option (List ℕ)) : Type 0 where
   pub more : (k : ℕ) (last : Items) (parts : List (Option (List ℕ))) → Reads line k after last parts → Reads line (n + (1 + k)) given last (part ∷ parts)
 

@@ -21,14 +21,14 @@ use Rattle.prt_listing.specs.declared.route.TablePart.TheVariants.{Shown}
 
 -- ---- routes
 
--- Scope global goes without saying in a listing. A new unicast route has it through a gateway alone.
+-- Scope global is implied in a listing. A new unicast route has it through a gateway alone.
 abbrev pub has_unsaid_scope : Route → Bool
 has_unsaid_scope route = is_same_kind Unicast route.kind && is_none route.via && route.scope == global_scope
 
 abbrev pub global_part : Route → Option (List ℕ)
 global_part route = if has_unsaid_scope route then Some (codes "scope global") else None
 
--- a route to be put: what a listing of all tables shows of it, and scope global where a new one would not have it
+-- a route to be put: what a listing of all tables shows of it, and scope global if a new one would not have it
 abbrev pub new_route_parts : Route → List (Option (List ℕ))
 new_route_parts route = route_parts route Shown ++ global_part route ∷ []
 
@@ -38,7 +38,7 @@ proto_part proto = part (codes "proto") (option_map (name_or_number protocols) p
 abbrev pub scope_part : Option ℕ → Option (List ℕ)
 scope_part scope = part (codes "scope") (option_map (name_or_number scopes) scope)
 
--- a route to be deleted: all that is given, also what a listing leaves out, but for table main
+-- a route to be deleted: all that is given, also what a listing leaves out, except for table main
 abbrev pub route_choice_parts : RouteChoice → List (Option (List ℕ))
 route_choice_parts choice =
     option_map kind_name choice.kind
@@ -107,7 +107,7 @@ rule_choice_parts choice =
     ∷ part (codes "suppress_prefixlength") (option_map decimal choice.suppress)
     ∷ []
 
--- what is given of a rule to be added: all but the destinations 0.0.0.0/0, which go without saying as in a listing
+-- what is given of a rule to be added: all except the destinations 0.0.0.0/0, which are implied as in a listing
 abbrev pub given_of : NewRule → RuleChoice
 given_of rule = record {
   priority = rule.priority;

@@ -1,4 +1,4 @@
--- Names that a line can spell.
+-- Names that a line can express.
 use Rattle.std.specs.Prelude.{ℕ, Bool, true, not, ◌&&◌, ◌==◌, nat_le, Option, Some, None}
 use Rattle.std.specs.List.{list_all}
 use Rattle.prt_addr.specs.Word.{Word}

@@ -24,7 +24,7 @@ abbrev pub is_from_one : Option ℕ → Bool
 is_from_one None = true
 is_from_one (Some n) = nat_le 1 n
 
--- a table from 1 on, no metric of 0, which a line can't tell from none, and a name that a line can spell
+-- a table from 1 on, no metric of 0, which a line can't distinguish from none, and a name that a line can express
 abbrev pub is_spelled_choice : RouteChoice → Bool
 is_spelled_choice choice = nat_le 1 choice.table && is_from_one choice.metric && is_plain_name choice.dev
 
@@ -53,7 +53,7 @@ abbrev pub is_spelled_action : Option Action → Bool
 is_spelled_action (Some (Lookup table)) = nat_le 1 table
 is_spelled_action other = true
 
--- something is given, and a line can spell it
+-- something is given, and a line can express it
 abbrev pub is_spelled_rule_choice : RuleChoice → Bool
 is_spelled_rule_choice choice = gives_some choice && is_spelled_action choice.action && is_length choice.suppress && is_plain_name choice.iif
 

@@ -1,11 +1,11 @@
-//! What the types of commands tell of the numbers of one that is read.
+//! What the types of commands say of the numbers of one that is read.
 ghost use Rattle.prt_spelling.specs.Fits.{CommandFits, NewRuleFits, RouteChoiceFits, RouteFits, RuleChoiceFits, SelectorFits};
 
 use prt_command::{Command, NewRule};
 use prt_route::{Route, RouteChoice, Selector};
 use prt_rule::RuleChoice;
 
-// A value that is passed tells what its type says of its numbers, one behind a reference doesn't.
+// A value that is passed shows what its type says of its numbers, one behind a reference doesn't.
 
 /// Recalls what the type of a route says of its numbers.
 fn recall_route(route: Route)

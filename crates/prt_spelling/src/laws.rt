@@ -30,12 +30,12 @@ pub fn values_read_back()
     ensures given_mark { (m : Mark) → m.mark < 2 ^ 32 → m.mask < 2 ^ 32 → mark (given_mark_text m) ≡ Ok m }
 {}
 
-/// The line of a command that can be spelled asks for the command.
+/// The line of a command that can be expressed asks for the command.
 pub fn lines_are_read()
     ensures { (command : Command) → CommandFits command → is_spelled command ≡ true → reading (command_line command) ≡ Ok (Some (requests.Command command)) }
 {}
 
-/// A line can spell each command that a line asks for.
+/// A line can express each command that a line asks for.
 pub fn what_is_read_is_spelled()
     ensures { (line : List ℕ) (command : Command) → reading line ≡ Ok (Some (requests.Command command)) → is_spelled command ≡ true }
 {}

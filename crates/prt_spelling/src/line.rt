@@ -48,7 +48,7 @@ fn push_new_route(out: &mut Vec<u8>, route: &Route) -> Result<(), AllocError>
     push_all(out, &[global_part(route)])
 }
 
-/// Gives the object and the verb of the command.
+/// Returns the object and the verb of the command.
 fn verb_words(command: &Command) -> &'static str
     ensures { result.now ≡ verb_words command.now }
 {
@@ -80,11 +80,11 @@ fn push_command(out: &mut Vec<u8>, command: &Command) -> Result<(), AllocError>
     }
 }
 
-/// Appends the line of the command, without a newline. It asks for the command where `is_spelled` is true of it.
+/// Appends the line of the command, without a newline. It asks for the command if `is_spelled` is true of it.
 ///
 /// # Errors
 ///
-/// Memory is refused; a part of the line may stand after what `out` had.
+/// Memory is refused; a part of the line may follow what `out` had.
 pub fn push_line(out: &mut Vec<u8>, command: &Command) -> Result<(), AllocError>
     ensures { OnOk result (out.new.items ≡ out.old.items ++ command_line command.now) }
 {
@@ -92,13 +92,13 @@ pub fn push_line(out: &mut Vec<u8>, command: &Command) -> Result<(), AllocError>
     push_command(out, command)
 }
 
-/// Gives the line that asks for the command, without a newline.
+/// Builds the line that asks for the command, without a newline.
 ///
 /// # Errors
 ///
-/// `NoLine` where no line asks for it: an interface has a name with `#`, a control byte or a byte above 0x7e; a table may
+/// `NoLine` if no line asks for it: an interface has a name with `#`, a control byte or a byte above 0x7e; a table may
 /// not hold the route or the rule; or of what is to be deleted or flushed a table or a metric is 0, a length is above 32,
-/// or nothing is given. `NoMemory` where memory is refused.
+/// or nothing is given. `NoMemory` if memory is refused.
 pub fn command_line(alloc: Global, command: &Command) -> Result<Vec<u8>, NotSpelled>
     ensures text { IfOk result (λ line. line.items ≡ command_line command.now) }
     ensures read { IfOk result (λ line. reading line.items ≡ Ok (Some (requests.Command command.now))) }

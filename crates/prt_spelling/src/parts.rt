@@ -14,14 +14,14 @@ use prt_listing::{
 use prt_route::{GLOBAL_SCOPE, Kind, Prefix, Range, Route, RouteChoice, Selector};
 use prt_rule::{Action, Mark, RuleChoice};
 
-/// Tells whether a listing leaves out the scope of the route, and a new route would have another.
+/// Checks whether a listing leaves out the scope of the route, and a new route would have another.
 fn has_unsaid_scope(route: &Route) -> bool
     ensures { result ≡ has_unsaid_scope route.now }
 {
     matches!(route.kind, Kind::Unicast) && route.via.is_none() && route.scope == GLOBAL_SCOPE
 }
 
-/// Says that the scope of a new route is global, where that has to be said.
+/// Says that the scope of a new route is global, if that has to be said.
 pub(crate) fn global_part(route: &Route) -> Option<Part>
     ensures { part_of result ≡ global_part route.now }
 {
@@ -32,7 +32,7 @@ pub(crate) fn global_part(route: &Route) -> Option<Part>
     }
 }
 
-/// Gives the kind before a destination, if one is given.
+/// Returns the kind before a destination, if one is given.
 fn kind_part(kind: Option<Kind>) -> Option<Part>
     ensures { part_of result ≡ option_map kind_name kind }
 {
@@ -42,7 +42,7 @@ fn kind_part(kind: Option<Kind>) -> Option<Part>
     }
 }
 
-/// Gives the kind of the routes to be flushed, if one is given.
+/// Returns the kind of the routes to be flushed, if one is given.
 fn type_part(kind: Option<Kind>) -> Option<Part>
     ensures { part_of result ≡ part (codes "type") (option_map kind_name kind) }
 {
@@ -52,7 +52,7 @@ fn type_part(kind: Option<Kind>) -> Option<Part>
     }
 }
 
-/// Gives the protocol, if one is given.
+/// Returns the protocol, if one is given.
 fn proto_part(proto: Option<u8>) -> Option<Part>
     ensures { part_of result ≡ proto_part proto }
 {
@@ -62,7 +62,7 @@ fn proto_part(proto: Option<u8>) -> Option<Part>
     }
 }
 
-/// Gives the scope, if one is given.
+/// Returns the scope, if one is given.
 fn scope_part(scope: Option<u8>) -> Option<Part>
     ensures { part_of result ≡ scope_part scope }
 {
@@ -72,7 +72,7 @@ fn scope_part(scope: Option<u8>) -> Option<Part>
     }
 }
 
-/// Gives a word and a number, if one is given.
+/// Builds a word and a number, if one is given.
 fn number_part(word: &'static str, number: Option<u32>) -> Option<Part>
     ensures { part_of result ≡ part word.now (option_map decimal number) }
 {
@@ -82,7 +82,7 @@ fn number_part(word: &'static str, number: Option<u32>) -> Option<Part>
     }
 }
 
-/// Gives what a line says of the route to be deleted.
+/// Lists what a line says of the route to be deleted.
 pub(crate) fn route_choice_parts(choice: &RouteChoice) -> [Option<Part>; 9]
     ensures { map part_of result ≡ route_choice_parts choice.now }
 {
@@ -99,14 +99,14 @@ pub(crate) fn route_choice_parts(choice: &RouteChoice) -> [Option<Part>; 9]
     ]
 }
 
-/// Gives a prefix after the word for what is taken by it.
+/// Builds a prefix after the word for what is taken by it.
 fn ranged(word: &'static str, block: &Prefix) -> Option<Part>
     ensures { part_of result ≡ ranged word.now block.now }
 {
     Some(Part::Named(word, prefix_or("default", block)))
 }
 
-/// Gives the prefixes of the routes to be flushed, if they are not all.
+/// Returns the prefixes of the routes to be flushed, if they are not all.
 fn range_part(range: &Range) -> Option<Part>
     ensures { part_of result ≡ range_part range.now }
 {
@@ -118,7 +118,7 @@ fn range_part(range: &Range) -> Option<Part>
     }
 }
 
-/// Gives a table, or the word for all of them.
+/// Returns a table, or the word for all of them.
 fn tables_value(table: Option<u32>) -> Value
     ensures { value_text result ≡ tables_text table }
 {
@@ -128,7 +128,7 @@ fn tables_value(table: Option<u32>) -> Value
     }
 }
 
-/// Gives what a line says of the routes to be flushed.
+/// Lists what a line says of the routes to be flushed.
 pub(crate) fn selector_parts(selector: &Selector) -> [Option<Part>; 6]
     ensures { map part_of result ≡ selector_parts selector.now }
 {
@@ -142,7 +142,7 @@ pub(crate) fn selector_parts(selector: &Selector) -> [Option<Part>; 6]
     ]
 }
 
-/// Gives a word and a prefix, if one is given.
+/// Builds a word and a prefix, if one is given.
 fn prefix_part(word: &'static str, block: Option<Prefix>) -> Option<Part>
     ensures { part_of result ≡ prefix_part word.now block }
 {
@@ -162,14 +162,14 @@ fn given_action(action: Option<Action>) -> Option<Part>
     }
 }
 
-/// Tells whether the mark is 0, and every bit of it counts.
+/// Checks whether the mark is 0, and every bit of it counts.
 fn is_zero_mark(mark: Mark) -> bool
     ensures { result ≡ is_zero_mark mark }
 {
     mark.mark == 0 && mark.mask == u32::MAX
 }
 
-/// Gives the mark as a line gives it: 0 with its mask, since `ip` reads it as no mark without one.
+/// Returns the mark as a line writes it: 0 with its mask, since `ip` reads it as no mark without one.
 fn mark_value(mark: Mark) -> Value
     ensures { value_text result ≡ given_mark_text mark }
 {
@@ -180,7 +180,7 @@ fn mark_value(mark: Mark) -> Value
     }
 }
 
-/// Gives the mark, if one is given.
+/// Returns the mark, if one is given.
 fn mark_part(mark: Option<Mark>) -> Option<Part>
     ensures { part_of result ≡ given_mark_part mark }
 {
@@ -190,7 +190,7 @@ fn mark_part(mark: Option<Mark>) -> Option<Part>
     }
 }
 
-/// Gives what a line says of a rule to be deleted.
+/// Lists what a line says of a rule to be deleted.
 pub(crate) fn rule_choice_parts(choice: &RuleChoice) -> [Option<Part>; 8]
     ensures { map part_of result ≡ rule_choice_parts choice.now }
 {
@@ -206,7 +206,7 @@ pub(crate) fn rule_choice_parts(choice: &RuleChoice) -> [Option<Part>; 8]
     ]
 }
 
-/// Gives what a line has to say of a rule to be added: all but the destinations, where they are all.
+/// Collects what a line has to say of a rule to be added: all except the destinations, if they are all.
 pub(crate) fn given_of(rule: &NewRule) -> RuleChoice
     ensures { result ≡ given_of rule.now }
 {

@@ -13,28 +13,28 @@ use prt_rule::{Action, RuleChoice};
 /// The longest prefix, in bits.
 const LONGEST: u8 = 32;
 
-/// Tells whether the byte stands in a word of a line: it is one from `!` to `~`, and no `#`.
+/// Checks whether the byte occurs in a word of a line: it is one from `!` to `~`, and no `#`.
 fn is_plain_byte(byte: u8) -> bool
     ensures { result ≡ is_plain_byte byte }
 {
     byte >= b'!' && byte <= b'~' && byte != b'#'
 }
 
-/// Tells whether the word is the name of an interface.
+/// Checks whether the word is the name of an interface.
 fn is_name(word: &[u8]) -> bool
     ensures { result ≡ is_name word.now }
 {
     read_dev(word).is_ok()
 }
 
-/// Tells whether each byte of the word stands in a word of a line.
+/// Checks whether each byte of the word occurs in a word of a line.
 fn has_plain_bytes(word: &[u8]) -> bool
     ensures { result ≡ list_all is_plain_byte word.now }
 {
     word.iter().all(|byte| is_plain_byte(*byte))
 }
 
-/// Tells whether a line can spell the name, if there is one.
+/// Checks whether a line can express the name, if there is one.
 fn is_plain_name(name: Option<Dev>) -> bool
     ensures { result ≡ is_plain_name name }
 {
@@ -44,7 +44,7 @@ fn is_plain_name(name: Option<Dev>) -> bool
     }
 }
 
-/// Tells whether the number is from 1 on, if there is one.
+/// Checks whether the number is from 1 on, if there is one.
 fn is_from_one(number: Option<u32>) -> bool
     ensures { result ≡ is_from_one number }
 {
@@ -54,28 +54,28 @@ fn is_from_one(number: Option<u32>) -> bool
     }
 }
 
-/// Tells whether a line can ask for the route to be put.
+/// Checks whether a line can ask for the route to be put.
 fn is_spelled_route(route: &Route) -> bool
     ensures { result ≡ is_spelled_route route.now }
 {
     route.is_storable() && is_plain_name(route.dev)
 }
 
-/// Tells whether a line can ask for the route to be deleted.
+/// Checks whether a line can ask for the route to be deleted.
 fn is_spelled_choice(choice: &RouteChoice) -> bool
     ensures { result ≡ is_spelled_choice choice.now }
 {
     choice.table >= 1 && is_from_one(choice.metric) && is_plain_name(choice.dev)
 }
 
-/// Tells whether a line can ask for the routes to be flushed.
+/// Checks whether a line can ask for the routes to be flushed.
 fn is_spelled_selector(selector: &Selector) -> bool
     ensures { result ≡ is_spelled_selector selector.now }
 {
     is_from_one(selector.table) && is_plain_name(selector.dev)
 }
 
-/// Tells whether the length is one of a prefix, if there is one.
+/// Checks whether the length is one of a prefix, if there is one.
 fn is_length(len: Option<u8>) -> bool
     ensures { result ≡ is_length len }
 {
@@ -85,7 +85,7 @@ fn is_length(len: Option<u8>) -> bool
     }
 }
 
-/// Tells whether a table may hold a rule of this action that suppresses prefixes up to this length.
+/// Checks whether a table may hold a rule of this action that suppresses prefixes up to this length.
 fn is_storable_rule(action: Action, suppress: Option<u8>) -> bool
     ensures { result ≡ is_storable_rule action suppress }
 {
@@ -95,14 +95,14 @@ fn is_storable_rule(action: Action, suppress: Option<u8>) -> bool
     }
 }
 
-/// Tells whether a line can ask for the rule to be added.
+/// Checks whether a line can ask for the rule to be added.
 fn is_spelled_rule(rule: &NewRule) -> bool
     ensures { result ≡ is_spelled_rule rule.now }
 {
     is_storable_rule(rule.action, rule.suppress) && is_plain_name(rule.iif)
 }
 
-/// Tells whether something is given of the rule to be deleted.
+/// Checks whether something is given of the rule to be deleted.
 fn gives_some(choice: &RuleChoice) -> bool
     ensures { result ≡ gives_some choice.now }
 {
@@ -116,7 +116,7 @@ fn gives_some(choice: &RuleChoice) -> bool
         || choice.suppress.is_some()
 }
 
-/// Tells whether the table is one from 1 on, where the action looks one up.
+/// Checks whether the table is one from 1 on, if the action looks one up.
 fn is_spelled_action(action: Option<Action>) -> bool
     ensures { result ≡ is_spelled_action action }
 {
@@ -126,7 +126,7 @@ fn is_spelled_action(action: Option<Action>) -> bool
     }
 }
 
-/// Tells whether a line can ask for the rule to be deleted.
+/// Checks whether a line can ask for the rule to be deleted.
 fn is_spelled_rule_choice(choice: &RuleChoice) -> bool
     ensures { result ≡ is_spelled_rule_choice choice.now }
 {
@@ -136,7 +136,7 @@ fn is_spelled_rule_choice(choice: &RuleChoice) -> bool
         && is_plain_name(choice.iif)
 }
 
-/// Tells whether a line can ask for the command.
+/// Checks whether a line can ask for the command.
 pub fn is_spelled(command: &Command) -> bool
     ensures { result ≡ is_spelled command.now }
 {

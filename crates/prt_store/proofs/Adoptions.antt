@@ -1,4 +1,4 @@
--- What the tables of a file that was adopted spell.
+-- What the tables of a file that was adopted encode.
 use Rattle.std.proofs.Common.{◌≡◌, ℕ, inl, inr, List, [], ◌∷◌, Ok, Result, IfOk, IfSome, None, Option, Some, drop, map, IsPermutation, refl, sym, ap, subst, ◌∙◌}
 use Rattle.std.proofs.lemmas.List.Sorted.{IsPermutation-refl}
 use Rattle.sqlite.specs.Effect.{Database}
@@ -23,7 +23,7 @@ use Rattle.prt_store.specs.Adopted.{Adopts, AdoptsOne, AdoptsPart, IsFilled, Mig
 use Rattle.prt_store.specs.Lengths.{lengths_of}
 use Rattle.prt_store.specs.Stored.{FitsTables, Stores, StoresFormat1}
 
--- tables that spell a state have a row
+-- tables that encode a state have a row
 has_row : (db : Database) (stored : State) → Stores db stored → AreEmpty db → ⊥
 has_row db stored held empty = let none : kept_count stored.count ∷ [] ≡ [] = sym held.count ∙ no_rows db held.tables empty ours.Meta in cc
 
@@ -31,7 +31,7 @@ has_row db stored held empty = let none : kept_count stored.count ∷ [] ≡ [] 
 not_stored_before : (db : Database) (stored : State) (count : ℕ) → Stores db stored → IsOfFormat1 db count → ⊥
 not_stored_before db stored count held was = let same : kept_count stored.count ∷ [] ≡ kept_count_1 count ∷ [] = sym held.count ∙ was.row in cc
 
--- our tables, where each keeps its rows
+-- our tables, if each keeps its rows
 module _ (old new : Database) (stored : State) (tables : IsFormat2 new.schema) (rules_stay : new.trees 0 ≡ old.trees 0) (routes_stay : new.trees 1 ≡ old.trees 1) (lengths : IsPermutation (new.trees 4) (map kept_length (lengths_of stored.rules))) (count : new.trees 3 ≡ kept_count stored.count ∷ []) where
   stores_on : IsPermutation (old.trees 0) (map kept_rule stored.rules) → IsPermutation (map (drop 1) (old.trees 1)) (map route_row stored.routes) → IsKeyed (old.trees 1) → FitsTables stored → Stores new stored
   stores_on rules routes keyed fits = record {
@@ -44,14 +44,14 @@ module _ (old new : Database) (stored : State) (tables : IsFormat2 new.schema) (
     fits = fits;
   }
 
--- tables that are kept spell what they spelt
+-- tables that are kept encode what they encoded
 pub kept_spell : (old new : Database) (stored : State) → KeepsTables old new → IsFormat2 new.schema → Stores old stored → Stores new stored
 kept_spell old new stored keeps tables held =
     let stays = λ (table : Table) (ours : Has our_tables table). (keeps.kept table (our_table old.schema held.tables table ours)).1 in
     stores_on old new stored tables (stays rule_table (inl refl)) (stays route_table (inr (inl refl))) (subst (λ rows. IsPermutation rows (map kept_length (lengths_of stored.rules))) (sym (stays suppress_table (inr (inr (inr (inl refl)))))) held.lengths) (stays meta_table (inr (inr (inl refl))) ∙ held.count)
     held.rules held.routes held.keyed held.fits
 
--- and spell it still
+-- and encode it still
 pub stored_still : (old new : Database) (stored : State) → Adopts old new → Stores old stored → Stores new stored
 stored_still old new stored adopts held = elim adopts.rows [
   | inl kept ↦ kept_spell old new stored kept.keeps adopts.tables held
@@ -61,7 +61,7 @@ stored_still old new stored adopts held = elim adopts.rows [
   ]
 ]
 
--- tables that had no rows spell the opening state
+-- tables that had no rows encode the opening state
 pub opening_stored : (old new : Database) → Adopts old new → AreEmpty old → Stores new opening_state
 opening_stored old new adopts empty = elim adopts.rows [
   | inl kept ↦ absurd (kept.some empty)
@@ -96,7 +96,7 @@ no_lengths_of stored rows empty none = subst (λ l. IsPermutation rows (map kept
 same_former : (db : Database) (count other : ℕ) → IsOfFormat1 db count → IsOfFormat1 db other → count ≡ other
 same_former db count other was too = let same : kept_count_1 count ∷ [] ≡ kept_count_1 other ∷ [] = sym was.row ∙ too.row in cc
 
--- a file of format 1 spells, once it is adopted, what it spelt
+-- a file of format 1 encodes, once it is adopted, what it encoded
 pub migrated_stores : (old new : Database) (stored : State) → Adopts old new → StoresFormat1 old stored → Stores new stored
 migrated_stores old new stored adopts held = elim adopts.rows [
   | inl kept ↦ absurd (kept.not_due stored.count held.format)
@@ -191,7 +191,7 @@ goes_on old mid new part adopts = elim part.rows [
   | inr changed ↦ elim changed [ inl migrated ↦ migrated_then old mid new migrated adopts | inr filled ↦ filled_then old mid new filled adopts ]
 ]
 
--- what an open says of the connection that it gave holds of the one that was adopted
+-- what an open says of the connection that it returned holds of the one that was adopted
 pub adopts_found : {S : Type 0} (g : Ghosts S) (IsFound : Held S → Type 0) (opened : Result (Held S) Error) → IfOk opened IsFound → (now : Held S) → AdoptsOne g (λ was. opened ≡ Ok was) now → AdoptsOne g IsFound now
 adopts_found {S = S} g IsFound opened found now one = record { was = one.was; found = subst (λ (r : Result (Held S) Error). IfOk r IsFound) one.found found; adopted = one.adopted; columns = one.columns; rest = one.rest; survives = one.survives }
 

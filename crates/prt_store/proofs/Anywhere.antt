@@ -112,7 +112,7 @@ module _ {S : Type 0} (g : Ghosts S) (P Q No : Type 0) (a b : Held S) where
   finds_as Other (Ok found) so not_so one = record { ok = λ clean. ((one.ok clean).0, either_way found so not_so (one.ok clean).1); err = one.err; quiet = one.quiet }
   finds_as Other (Err reason) so not_so one = record { ok = λ clean. tt; err = one.err; quiet = one.quiet }
 
-  -- the second look is asked where the first one found it so
+  -- the second look is tried if the first one found it so
   finds_both : (R Else Other : Type 0) → ((state g b).now ≡ (state g a).now → Q → R) → ((state g b).now ≡ (state g a).now → No → Other) → (c : Held S) (result : Result Bool Refusal) → Finds g P Else a b (Ok true) → Finds g Q No b c result → Finds g (P × R) Other a c result
   finds_both R Else Other so not_so c (Ok found) one two = record {
     ok = λ clean.
@@ -134,13 +134,13 @@ pub each_of_none : {X : Type 0} (P : X → Type 0) (xs : List X) → length xs �
 each_of_none P [] none = tt
 each_of_none P (x ∷ xs) none = absurd (omega (arith, none))
 
--- a table, and then those that are asked after it
+-- a table, and then those that are queried after it
 pub finds_next : {S : Type 0} (g : Ghosts S) (table : OurTable) (tables : List OurTable) (a b c : Held S) (result : Result Bool Refusal) → Finds g (ShowsNoRow g a table) (ShowsSomeRow g a table) a b (Ok true)
     → Finds g (Each (ShowsNoRow g b) tables) (ShowsContents g b) b c result → Finds g (Each (ShowsNoRow g a) (table ∷ tables)) (ShowsContents g a) a c result
 finds_next g table tables a b c result =
     finds_both g (ShowsNoRow g a table) (Each (ShowsNoRow g b) tables) (ShowsContents g b) a b (Each (ShowsNoRow g a) tables) (ShowsSomeRow g a table) (ShowsContents g a) (λ same. each_moved g a b same tables) (λ same some. (some.0, some_moved g a b same some.0 some.1)) c result
 
--- so each of the four is asked
+-- so each of the four is queried
 pub asked_all : {S : Type 0} (g : Ghosts S) (conn : Held S) → Each (ShowsNoRow g conn) (ours.Meta ∷ (ours.Rule ∷ (ours.Route ∷ (ours.Suppress ∷ [])))) → (table : OurTable) → ShowsNoRow g conn table
 asked_all g conn it ours.Meta = it.0
 asked_all g conn it ours.Rule = it.1.0
@@ -194,7 +194,7 @@ module _ {S : Type 0} (g : Ghosts S) (a made seen : Held S) (makes : HasCleanDis
         inr (record { empty = it.1; seen = seen; same = it.0; filled = done.0; settled = done.1 }),
       )) (commits.ok clean)
 
--- where the tables were there, none was made
+-- if the tables were there, none was made
 pub keeps_or_fills : {S : Type 0} (g : Ghosts S) (old new : Held S) → HasFormat2 (state g old).now.schema → MakesAndFills g old new → KeepsOrFills g old new
 keeps_or_fills {S = S} g old new tables all =
     let makes = all.1 in

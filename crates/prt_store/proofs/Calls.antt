@@ -12,7 +12,7 @@ use Rattle.prt_store.specs.Openings.{Ran, Works}
 use Rattle.prt_store.specs.Written.{CommitsNothing, RunsInside}
 use Rattle.prt_store.proofs.Transactions.{statement_works, works_then}
 
--- where all rows were written, the last statement ends what the transaction does
+-- if all rows were written, the last statement ends what the transaction does
 pub makes_changes : {S : Type 0} (g : Ghosts S) (changes : List Change) (number : ℕ) (begun mid last : Held S) (first second : Result ℕ Error) → is_err first ≡ false → Works g (WritesAll g changes) begun mid first → RunsInside g set_count (count_values number) mid last second
     → CommitsNothing g mid last → Works g (MakesChanges g changes number) begun last second
 makes_changes g changes number begun mid last (Ok n) second fine writes counts quiet_too =

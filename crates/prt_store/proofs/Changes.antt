@@ -122,7 +122,7 @@ covers_more rows rules rule covers none = record {
       ];
 }
 
--- and where it has one, its row is there beside the others
+-- and if it has one, its row is there beside the others
 covers_one_more : (rows more : List Row) (rules : List Rule) (rule : Rule) (length : RuleLength) → Covers IsLengthRow rows (lengths_of rules) → length_of rule ≡ Some length → ((row : Row) → Has more row → (row ≡ kept_length length) ⊎ Has rows row) → Has more (kept_length length)
     → ((row : Row) → Has rows row → Has more row) → Covers IsLengthRow more (lengths_of (insert_by is_before rule rules))
 covers_one_more rows more rules rule length covers own sound here complete = record {

@@ -70,7 +70,7 @@ module _ (old mid last : Conn) (state next : State) (held : Stores old.now state
   tables_kept : IsFormat2 mid.now.schema
   tables_kept = subst IsFormat2 (sym made.schema) held.tables
 
-  -- the count of the next state makes the tables spell it
+  -- the count of the next state makes the tables encode it
   pub counted : (rows : ℕ) → Executes set_count (count_values next.count) mid last (Ok rows) → MakesNext old.now next last.now
   counted rows ran =
       let t = tables_kept in

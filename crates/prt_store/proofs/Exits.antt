@@ -32,7 +32,7 @@ is_stored g adopted loaded version held same sound quiet leaves clean =
       ];
     }
 
--- an opening changes no tables that spell a state
+-- an opening changes no tables that encode a state
 pub found_is : (found : Database) (version stored : State) → Opens found version → IsDatabase found → Spells found.trees stored → version ≡ stored
 found_is found version stored opens sound spells =
     let db = opens.0 in
@@ -51,7 +51,7 @@ module _ {S : Type 0} (g : Ghosts S) (old new : Held S) (next : State) where
     durable = λ trees left. subst (λ (t : Trees). Spells t next) (sym (leaves trees left)) (next_spelled (state g old).now next (state g new).now.schema (state g new).now.trees made);
   }
 
-  -- a crash leaves the state before or, only where the commit call failed, the next one
+  -- a crash leaves the state before or, only if the commit call failed, the next one
   pub left_either : (before : State) (reason : Refusal) → IsStored g old before
       → ((trees : Trees) → (state g new).may_leave trees → (state g old).may_leave trees ⊎ ((reason ≡ StoreFailed Commit) × MakesNext (state g old).now next (database (state g old).now.schema trees)))
       → (left : State) → MayLeave g new left → (left ≡ before) ⊎ ((reason ≡ StoreFailed Commit) × (left ≡ next))
@@ -75,7 +75,7 @@ module _ {S : Type 0} (g : Ghosts S) (ours_first : Bool) (old new : Held S) (pub
   module _ (reason : Refusal)
       (leaves : HasCleanDisk (state g new) → (before : State) → AreNext before changes number → Stores (state g old).now before → (trees : Trees) → (state g new).may_leave trees
       → (state g old).may_leave trees ⊎ ((reason ≡ StoreFailed Commit) × MakesNext (state g old).now (put_all before changes) (database (state g old).now.schema trees))) where
-    -- whatever a crash leaves spells the state before or after
+    -- whatever a crash leaves encodes the state before or after
     pub keeps_after : IsKnown g ours_first new → (trees : Trees) → (state g new).may_leave trees → (left : State) × Spells trees left
     keeps_after known trees may = elim (leaves known.1 published next (held known).now trees may) [
       | inl was ↦ (published, (held known).durable trees was)

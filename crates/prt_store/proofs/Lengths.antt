@@ -136,7 +136,7 @@ same_rules last rules others distinct apart fit also_fit same lengths = unmapped
     let len = same_suppress rules others distinct apart lengths x y there also (ap (λ (rule : Rule). rule.id) one) in
     λ i. record (one i) { suppress = len i })
 
--- what is written for a length tells it
+-- what is written for a length determines it
 one_length : (a b : RuleLength) → kept_length a ≡ kept_length b → a ≡ b
 one_length a b same = λ i. record { rule = same_number a.rule b.rule (ap rowid same) i; len = same_number a.len b.len (ap (λ (cells : Row). column cells 2) same) i }
 
@@ -174,7 +174,7 @@ one_plain rule (length ∷ lengths) = go (length.rule == rule.id)
     go true = refl
     go false = refl
 
--- what does not look at the lengths gives the same of merged rules
+-- what does not look at the lengths yields the same for merged rules
 pub merged_map : {X : Type 0} (f : Rule → X) → ((rule : Rule) → f rule ≡ f (plain rule)) → (rules : List Rule) (lengths : List RuleLength) → map f (merged rules lengths) ≡ map f rules
 merged_map f apart [] lengths = refl
 merged_map f apart (rule ∷ rules) lengths = λ i. (apart (merge_one rule lengths).0 ∙ ap f (one_plain rule lengths) ∙ sym (apart rule)) i ∷ merged_map f apart rules (merge_one rule lengths).1 i
@@ -182,7 +182,7 @@ merged_map f apart (rule ∷ rules) lengths = λ i. (apart (merge_one rule lengt
 pub merged_rows : (rules : List Rule) (lengths : List RuleLength) → map kept_rule (merged rules lengths) ≡ map kept_rule rules
 merged_rows = merged_map kept_rule (λ rule. refl)
 
--- a merged rule is one of the rules, but for its length
+-- a merged rule is one of the rules, except for its length
 pub was_merged : (rules : List Rule) (lengths : List RuleLength) (x : Rule) → Has (merged rules lengths) x → (rule : Rule) × Has rules rule × (plain x ≡ plain rule)
 was_merged [] lengths x there = absurd there
 was_merged (rule ∷ rules) lengths x (inl is) = (rule, inl refl, ap plain is ∙ one_plain rule lengths)
@@ -233,7 +233,7 @@ ids_rise a (rule ∷ rules) rise =
       ids_rise (Some (pos rule.id)) rules later,
     )
 
--- of lists that rise, where each length is of one of the rules, none is left
+-- of lists that rise, if each length is of one of the rules, none is left
 pub none_left_over : (a b : Option ℤ) (rules : List Rule) (lengths : List RuleLength) → rise_from a (map rule_row rules) ≡ true → rise_from b (map suppress_row lengths) ≡ true → ((length : RuleLength) → Has lengths length → IsAmong rules length)
     → left_over rules lengths ≡ []
 none_left_over a b [] [] rise also among = refl
@@ -256,7 +256,7 @@ none_left_over a b (rule ∷ rules) (length ∷ lengths) rise also among =
           | inr there ↦ (w.0, there, w.2)
         ]
 
-    -- where the first length is not of the first rule, no length is
+    -- if the first length is not of the first rule, no length is
     past : (length.rule ≡ rule.id → ⊥) → (l : RuleLength) → Has (length ∷ lengths) l → IsAmong rules l
     past differ l there =
         let first = among length (inl refl) in

@@ -1,4 +1,4 @@
--- What the statements that read the tables tell of the state that they spell.
+-- What the statements that read the tables report of the state that they encode.
 use Rattle.std.proofs.Common.{◌≡◌, ◌≢◌, ◌⊎◌, false, inl, inr, ℕ, ◌+◌, ◌≤◌, true, List, [], ◌∷◌, drop, map, nat_le, All, Any, Some, None, Ok, Err, Result, IsPermutation, IsTrue, IfErr, IfOk, OnOk, refl, sym, ap, subst, ◌∙◌, true≢false, arith}
 use Rattle.std.proofs.lemmas.Bool.{and_parts}
 use Rattle.std.proofs.lemmas.Bool.Decides.{nat_tests}
@@ -85,7 +85,7 @@ module _ {S : Type 0} (g : Ghosts S) (old new : Held S) where
     pub shown_only : {X : Type 0} (rows : List Row) (result : Result X Refusal) → (HasCleanDisk (state g new) → Shown sql [] (state g old) (state g new) rows) → IfErr result IsOpenRefusal → ReadsOnly g old new result
     shown_only rows result shown = unchanged_only result (λ clean. shown_unchanged sql (state g old) (state g new) quiet rows (shown clean)) (shows_no_write sql (state g old) (state g new) quiet survives)
 
-    -- one that fails leaves nothing pending where nothing was
+    -- one that fails leaves nothing pending if nothing was
     pub failed_only : {X : Type 0} (e : Error) → (HasCleanDisk (state g new) → FailsToQuery sql [] (state g old) (state g new) e) → ReadsOnly {X = X} g old new (Err OpenFailed)
     failed_only e fails = record {
       reason = inr (inl refl);
@@ -231,7 +231,7 @@ module _ {S : Type 0} (g : Ghosts S) (conn : Held S) (tables : IsFormat2 (state 
   pub not_named_if_shown : ShowsOtherFormat g conn → NamesFormat1 now → ⊥
   not_named_if_shown it named = it.2 named.0 named.1 (row_shown 1 named.0 it.0 it.1 named.2)
 
-  -- the state whose rows were shown is the one that the tables spell
+  -- the state whose rows were shown is the one that the tables encode
   pub stores_shown : (stored : State) → ShowsState g conn stored → Stores now stored
   stores_shown stored it = record {
     tables = tables;
@@ -255,7 +255,7 @@ module _ (count : ℕ) (rules : List Rule) (lengths : List RuleLength) (fit : Al
   pub own_lengths : left_over rules lengths ≡ [] → lengths_of (merged rules lengths) ≡ lengths
   own_lengths over = merged_lengths rules lengths (λ rule there. (each_of (IsRule (count + 3)) rules fit rule there).plain) over
 
-  -- the state that they spell fits the tables
+  -- the state that they encode fits the tables
   pub fits_read : (routes : List Route) (stored : State) → All IsInRange routes → RowsSpell count (merged rules lengths) routes stored → FitsTables stored
   fits_read routes stored in_range spells = record {
     sound = spells.sound;
@@ -267,7 +267,7 @@ module _ (count : ℕ) (rules : List Rule) (lengths : List RuleLength) (fit : Al
 pub merged_alike : (rules : List Rule) (lengths : List RuleLength) → map rule_row (merged rules lengths) ≡ map rule_row rules
 merged_alike = merged_map rule_row (λ rule. refl)
 
--- where their rows rise, they have ids of their own
+-- if their rows rise, they have ids of their own
 pub merged_ids : (rules : List Rule) (lengths : List RuleLength) → rowids_rise (map rule_row rules) ≡ true → HaveOwnIds (merged rules lengths)
 merged_ids rules lengths rise = ids_rise None (merged rules lengths) (subst (λ rows. rowids_rise rows ≡ true) (sym (merged_alike rules lengths)) rise)
 
@@ -278,7 +278,7 @@ len_fits Blackhole len is = absurd (cc)
 len_fits Unreachable len is = absurd (cc)
 len_fits Prohibit len is = absurd (cc)
 
--- ---- tables that spell a state
+-- ---- tables that encode a state
 
 module _ (db : Database) (stored : State) (held : Stores db stored) where
   length_fits : (length : RuleLength) → Has (lengths_of stored.rules) length → IsLength (stored.count + 3) length
@@ -345,7 +345,7 @@ module _ {S : Type 0} (g : Ghosts S) (conn : Held S) (tables : IsFormat2 (state 
         none_left_over None None rules lengths some.rise (read_rising_if_keyed 4 read_suppress_terms (db.trees 4) (map suppress_row lengths) (lengths_listed g conn tables sound (map suppress_row lengths) known.shown) (lengths_are_keyed db stored held))
         (length_among db stored held rules lengths rule_rows length_rows)
 
-    -- the parts that are shown spell the state
+    -- the parts that are shown encode the state
     rows_spell : stored.count ≡ count → ShowsRoutes g conn routes → RowsSpell count (merged rules lengths) routes stored
     rows_spell number more = record {
       count = number;

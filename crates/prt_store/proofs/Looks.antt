@@ -1,4 +1,4 @@
--- What the statements that look at the tables tell, one after the other.
+-- What the statements that look at the tables report, one after the other.
 use Rattle.std.proofs.Common.{◌≡◌, ◌⊎◌, inl, inr, ℕ, Bool, List, [], ◌∷◌, length, IsTrue, refl, sym, ap, subst, ◌∙◌, arith}
 use Rattle.std.proofs.lemmas.Bool.{ne_eqb}
 use Rattle.std.specs.Prelude.{◌==◌, MatchBool}
@@ -41,7 +41,7 @@ looks_at ours.Route old new t found = looks_at_routes t.tables t.indexes t.views
 looks_at ours.Meta old new t found = looks_at_meta t.tables t.indexes t.views old new t.is found
 looks_at ours.Suppress old new t found = looks_at_suppress t.tables t.indexes t.views old new t.is found
 
--- whether it found nothing tells what it showed
+-- whether it found nothing determines what it showed
 module _ {S : Type 0} (g : Ghosts S) (table : OurTable) (conn : Held S) where
   pub look_tells : (found : List Row) (n : ℕ) (b : Bool) → n ≡ length found → b ≡ (n == 0) → ShowsRows g conn (look_at table) found → MatchBool b (ShowsNoRow g conn table) (ShowsSomeRow g conn table)
   look_tells [] n b long is it = subst (λ b. MatchBool b (ShowsNoRow g conn table) (ShowsSomeRow g conn table)) (sym (is ∙ ap (λ n. n == 0) long)) it
@@ -101,7 +101,7 @@ module _ {S : Type 0} (g : Ghosts S) (conn : Held S) (tables : IsFormat2 (state 
 
 -- ---- the format
 
--- the file is to be migrated where its `meta` names format 1 and it has no lengths
+-- the file is to be migrated if its `meta` names format 1 and it has no lengths
 pub is_due_if : (db : Database) → IsFormat2 db.schema → NamesFormat1 db × IsEmpty ours.Suppress db → IsDue db
 is_due_if db t found =
     let named = found.0 in

@@ -22,7 +22,7 @@ use Rattle.prt_store.specs.declared.opening.OurTable.TheVariants as ours
 use Rattle.prt_store.specs.Adopted.{LeavesMigrated}
 use Rattle.prt_store.specs.Openings.{Commits, Finds, HasDone, HasLeft, IsDue, Ran, begun_from}
 
--- ---- what was shown tells whether the file is to be migrated
+-- ---- what was shown determines whether the file is to be migrated
 
 module _ {S : Type 0} (g : Ghosts S) (a : Held S) (tables : IsFormat2 (state g a).now.schema) (sound : IsDatabase (state g a).now) where
   due_if_shown : ShowsDue g a → IsDue (state g a).now

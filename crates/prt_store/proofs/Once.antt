@@ -1,4 +1,4 @@
--- Lists whose members stand once are permutations of one another where they have the same members.
+-- Lists whose members occur once are permutations of one another if they have the same members.
 use Rattle.std.proofs.Common.{◌≡◌, ◌⊎◌, inl, inr, Bool, true, false, List, [], ◌∷◌, map, IsPermutation, refl, sym, subst, ◌∙◌, true≢false, ℕ, length, set, get_or, arith, ap}
 use Rattle.std.proofs.lemmas.List.Sorted.{IsPermutation-cons, IsPermutation-keeps, IsPermutation-middle, IsPermutation-refl, IsPermutation-swap, IsPermutation-sym, IsPermutation-trans}
 use Rattle.std.proofs.Math.ListN.{get_or-map}
@@ -9,12 +9,12 @@ use Rattle.sqlite_rules.proofs.ProbeLemmas.{has_mapped}
 use Rattle.sqlite_rules.specs.Lists.{Has}
 use Rattle.prt_rows.proofs.Found.{has_permuted}
 
--- no member stands twice
+-- no member occurs twice
 abbrev pub IsOnce : {X : Type 0} → List X → Type 0
 IsOnce [] = Unit {0}
 IsOnce (x ∷ xs) = (Has xs x → ⊥) × IsOnce xs
 
--- the list but for one place of x
+-- the list except for one place of x
 record Without {X : Type 0} (xs : List X) (x : X) : Type 0 where
   rest : List X
   same : IsPermutation (x ∷ rest) xs
@@ -60,7 +60,7 @@ same_members (x ∷ xs) ys once also there back =
     (λ z left. elim (back z (w.back z left)) [ inl is ↦ absurd (w.absent also (subst (Has w.rest) is left)) | inr later ↦ later ]) in
     IsPermutation-trans (x ∷ xs) (x ∷ w.rest) ys (IsPermutation-cons x xs w.rest more) w.same
 
--- what is made of members that are distinct stands once, where only the same ones make the same
+-- what is made of members that are distinct occurs once, if only the same ones make the same
 pub once_mapped : {X Y : Type 0} (make : X → Y) (same : X → X → Bool) (xs : List X) → IsDistinct same xs → ((a b : X) → Has xs a → Has xs b → make a ≡ make b → same a b ≡ true) → IsOnce (map make xs)
 unfolding IsDistinct
 once_mapped make same [] distinct tells = tt
@@ -104,7 +104,7 @@ same_by_members make (x ∷ xs) (y ∷ ys) is tells =
     let rest : map make xs ≡ map make ys = cc in
     λ i. tells x y (inl refl) (inl refl) first i ∷ same_by_members make xs ys rest (λ a b there also. tells a b (inr there) (inr also)) i
 
--- lists are permutations of one another where what is made of them is, and tells its members
+-- lists are permutations of one another if what is made of them is, and determines its members
 pub unmapped : {X Y : Type 0} (make : X → Y) (xs ys : List X) → IsPermutation (map make xs) (map make ys) → ((x y : X) → Has xs x → Has ys y → make x ≡ make y → x ≡ y) → IsPermutation xs ys
 unmapped make xs ys same tells =
     let made = made_of make xs (map make ys) same in

@@ -202,7 +202,7 @@ opens_nothing g conn reason = record {
   crash = λ tables. survives_itself (state g conn) (LeavesPart (state g conn).now);
 }
 
--- ---- a table that is made where it is missing
+-- ---- a table that is made if it is missing
 
 module _ {S : Type 0} (g : Ghosts S) (table : OurTable) (From To : Schema → Type 0) (from : Schema) (there : (schema : Schema) → From schema → has_table (table_of table).name schema ≡ true → To schema)
     (missing : (schema : Schema) → From schema → has_table (table_of table).name schema ≡ false → schema ≡ from) (begins : (schema : Schema) → From schema → BeginsFormat2 schema) (goes_on : (schema : Schema) → To schema → BeginsFormat2 schema)

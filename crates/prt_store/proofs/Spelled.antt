@@ -1,4 +1,4 @@
--- The same trees spell one state.
+-- The same trees encode one state.
 use Rattle.std.proofs.Common.{◌≡◌, ◌+◌, subst, sym}
 use Rattle.std.proofs.lemmas.List.Sorted.{Contains-permutation, IsPermutation-sym}
 use Rattle.sqlite.specs.Effect.{Database, IsDatabase}
@@ -17,7 +17,7 @@ use Rattle.prt_store.specs.Exits.{Spells}
 abbrev pub database : Schema → Trees → Database
 database schema trees = record { schema = schema; trees = trees }
 
--- the schema tells only where the tables are
+-- the schema says only where the tables are
 pub other_schema : (schema other : Schema) (trees : Trees) (stored : State) → IsFormat2 other → Stores (database schema trees) stored → Stores (database other trees) stored
 other_schema schema other trees stored tables held = record { tables = tables; rules = held.rules; routes = held.routes; keyed = held.keyed; lengths = held.lengths; count = held.count; fits = held.fits }
 

@@ -1,4 +1,4 @@
--- Rows that change change what they spell.
+-- Rows that change change what they encode.
 use Rattle.std.proofs.Common.{◌≡◌, ◌⊎◌, inl, inr, Bool, true, false, not, List, [], ◌∷◌, drop, filter, map, IsPermutation, refl, sym, ap, subst, ◌∙◌}
 use Rattle.std.proofs.lemmas.Bool.{not-false}
 use Rattle.std.proofs.lemmas.Cmp.{tied_itself}
@@ -110,7 +110,7 @@ filter_all (x ∷ xs) = ap (λ ys. x ∷ ys) (filter_all xs)
 once_if_keyed : (rows : List Row) → IsKeyed rows → IsOnce rows
 once_if_keyed rows keyed = subst IsOnce (map_id rows) (once_mapped (λ row. row) has_same_rowid rows keyed.once (λ row other there also same. ap (λ x. has_same_rowid row x) (sym same) ∙ ap is_eq (tied_itself value_cmp_total (rowid row))))
 
--- rows that cover values are theirs, where those of both are keyed
+-- rows that cover values are theirs, if those of both are keyed
 pub rows_if_covers : {X : Type 0} (kept : X → Row) (rows : List Row) (values : List X) → IsKeyed rows → IsKeyed (map kept values) → Covers (λ value row. row ≡ kept value) rows values → IsPermutation rows (map kept values)
 rows_if_covers kept rows values keyed also covers =
     subst (λ same. IsPermutation same (map kept values)) (map_id rows) (same_if_covers kept (λ row. row) rows values covers (subst IsOnce (sym (map_id rows)) (once_if_keyed rows keyed)) (once_if_keyed (map kept values) also))

@@ -1,4 +1,5 @@
--- What a crash finds where a stop falls into a store call of a commit: the state before its changes or, in the commit call alone, the one after all of them.
+-- What a crash finds if a stop falls into a store call of a commit: the state before its changes or, in the commit call
+-- alone, the one after all of them.
 use Rattle.std.proofs.Common.{◌≡◌, ◌⊎◌, inl, inr, ℕ, Bool, List, sym, subst, arith}
 use Rattle.sqlite.specs.Held.{Held, state}
 use Rattle.sqlite.specs.State.{HasCleanDisk}

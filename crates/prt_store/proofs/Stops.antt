@@ -1,4 +1,4 @@
--- The calls of a commit, and what is left where it is stopped in one of them.
+-- The calls of a commit, and what is left if it is stopped in one of them.
 use Rattle.std.proofs.Common.{◌≡◌, inl, inr, ℕ, List, [], ◌∷◌, false, IsTrue, Result, refl, sym, subst, arith}
 use Rattle.std.specs.List.{AllByRecursion as Each}
 use Rattle.std.specs.Result.{is_err}

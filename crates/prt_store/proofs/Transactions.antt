@@ -21,7 +21,7 @@ use Rattle.prt_store.specs.Written.{CommitsNothing, RunsInside}
 pub survives_itself : (a : Conn) (P : Trees → Type 0) → Survives a a P
 survives_itself a P = record { clean = omega arith; shield = λ h. h; counts = omega arith; limit = refl; closes = λ clean still_open. inl still_open; crash = λ clean db leaves. inl leaves }
 
--- the statement runs with these parameters, which are those that it was given
+-- the statement runs with these parameters, which are those that were passed to it
 pub runs_with : {S : Type 0} (g : Ghosts S) (sql : Word) (given params : Row) (old new : Held S) (result : Result ℕ Error) → RunsInside g sql given old new result → given ≡ params → RunsInside g sql params old new result
 runs_with g sql given params old new result runs same = subst (λ (values : Row). RunsInside g sql values old new result) same runs
 
@@ -100,7 +100,7 @@ module _ {S : Type 0} (g : Ghosts S) (Does : Held S → Held S → Type 0) (old 
     in_the_end : HasCleanDisk (state g last) → HasDone g Does old (state g last).now
     in_the_end clean = (last, subst (λ h. Does h last) was (of_ok result fine (works.done clean (rw was))).0, refl)
 
-    -- what a crash leaves, where the commit may have been made
+    -- what a crash leaves, if the commit may have been made
     pub crash_after : (end : Held S) → Survives (state g last) (state g end) (λ trees. trees ≡ (state g last).now.trees) → Survives (state g old) (state g end) (HasLeft g Does old)
     crash_after end done =
         survives_then (state g old) (state g last) (state g end) _ _ (HasLeft g Does old) (λ _ db none. absurd none) (λ clean trees is. ((state g last).now, in_the_end (omega (arith, done.clean)), is)) last_quiet done

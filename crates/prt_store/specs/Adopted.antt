@@ -23,7 +23,8 @@ pub record MigratesTables (old new : Database) : Type 0 where
   pub kept : (table : Table) → Has old.schema.tables table → table.tree ≢ meta_table.tree → Has new.schema.tables table × (new.trees table.tree ≡ old.trees table.tree)
   pub made : (table : Table) → Has new.schema.tables table → Has old.schema.tables table ⊎ (Has our_tables table × (new.trees table.tree ≡ []))
 
--- The four tables had no rows, and now spell the opening state. Each other table is there with its rows, and no other was made.
+-- The four tables had no rows, and now encode the opening state. Each other table is there with its rows, and no other was
+-- made.
 pub record IsFilled (old new : Database) : Type 0 where
   pub empty : AreEmpty old
   pub opening : Stores new opening_state

@@ -1,4 +1,4 @@
--- What the exits of a store's calls say of its file: what its tables spell, and what a crash may leave.
+-- What the exits of a store's calls say of its file: what its tables encode, and what a crash may leave.
 use Rattle.std.specs.Prelude.{◌≡◌, ◌⊎◌, Bool, true}
 use Rattle.sqlite.specs.Effect.{Database, IsDatabase}
 use Rattle.sqlite.specs.Held.{Held, state}
@@ -15,25 +15,25 @@ use Rattle.prt_store.specs.Adopted.{Adopts}
 use Rattle.prt_store.specs.Stored.{Stores, StoresFormat1}
 use Rattle.prt_version.specs.State.{State, opening_state}
 
--- These trees are those of a database whose tables spell the state.
+-- These trees are those of a database whose tables encode the state.
 pub record Spells (trees : Trees) (stored : State) : Type 0 where
   pub schema : Schema
   pub sound : IsDatabase (record { schema = schema; trees = trees })
   pub stores : Stores (record { schema = schema; trees = trees }) stored
 
--- a crash may leave a file that spells the state
+-- a crash may leave a file that encodes the state
 abbrev pub MayLeave : {S : Type 0} → Ghosts S → Held S → State → Type 0
 MayLeave g tables left = (trees : Trees) × (state g tables).may_leave trees × Spells trees left
 
--- what an opening makes of the file spells the state
+-- what an opening makes of the file encodes the state
 abbrev pub Opens : Database → State → Type 0
 Opens found opened = (db : Database) × Adopts found db × Stores db opened
 
--- The file has this state: its tables spell it, in format 2 or in format 1, or it is new, and they have no rows.
+-- The file has this state: its tables encode it, in format 2 or in format 1, or it is new, and they have no rows.
 abbrev pub HasState : Database → State → Type 0
 HasState db stored = Spells db.trees stored ⊎ (StoresFormat1 db stored ⊎ (BeginsFormat2 db.schema × AreEmpty db × (stored ≡ opening_state)))
 
--- The tables spell the state, and so does whatever a crash leaves.
+-- The tables encode the state, and so does whatever a crash leaves.
 pub record IsStored {S : Type 0} (g : Ghosts S) (tables : Held S) (stored : State) : Type 0 where
   pub now : Stores (state g tables).now stored
   pub durable : (trees : Trees) → (state g tables).may_leave trees → Spells trees stored

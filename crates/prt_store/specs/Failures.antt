@@ -23,7 +23,7 @@ use Rattle.prt_store.specs.Written.{length_put, text_of, values_of}
 abbrev pub Refuses : {S : Type 0} → Ghosts S → Word → Row → Error → Held S → Held S → Type 0
 Refuses g sql params error old new = ExecutesInside 0 sql params (state g old) (state g new) (Err error)
 
--- the statement was refused with this error or, where there is a length, ran and then the one that inserts it was refused
+-- the statement was refused with this error or, if there is a length, ran and then the one that inserts it was refused
 abbrev pub RefusesWith : {S : Type 0} → Ghosts S → Word → Row → Option RuleLength → Error → Held S → Held S → Type 0
 RefusesWith g text values None error old new = Refuses g text values error old new
 RefusesWith g text values (Some length) error old new = Refuses g text values error old new ⊎ InTurn (Ran g text values) (Refuses g insert_suppress (suppress_row length) error) old new

@@ -26,7 +26,7 @@ abbrev pub merge_one : Rule → List RuleLength → Rule × List RuleLength
 merge_one rule [] = (rule, [])
 merge_one rule (length ∷ lengths) = if length.rule == rule.id then (with_len rule length.len, lengths) else (rule, length ∷ lengths)
 
--- each rule with its own of these lengths, where both rise by the ids of the rules
+-- each rule with its own of these lengths, if both rise by the ids of the rules
 abbrev pub merged : List Rule → List RuleLength → List Rule
 merged [] lengths = []
 merged (rule ∷ rules) lengths = (merge_one rule lengths).0 ∷ merged rules (merge_one rule lengths).1

@@ -19,7 +19,7 @@ pub record ReadsOnly {S X : Type 0} (g : Ghosts S) (old new : Held S) (result : 
   pub err : HasCleanDisk (state g new) → IsTrue (state g new).is_open → IsSettled g old → OnErr result (StaysSettled g old new)
   pub quiet : Survives (state g old) (state g new) (λ _. ⊥)
 
--- What was read was shown so, and `Damaged` comes only where what was shown is damaged. Nothing is changed.
+-- What was read was shown so, and `Damaged` comes only if what was shown is damaged. Nothing is changed.
 pub record ReadsShown {S X : Type 0} (g : Ghosts S) (Shows : X → Type 0) (Damage : Type 0) (old new : Held S) (result : Result X Refusal) : Type 0 where
   pub shown : HasCleanDisk (state g new) → IfOk result Shows
   pub damage : HasCleanDisk (state g new) → IfErr result (λ reason. reason ≡ Damaged → IsTrue (state g old).is_open × Damage)

@@ -12,7 +12,7 @@ use Rattle.prt_version.specs.declared.change.Change.{Change}
 use Rattle.prt_store.specs.Openings.{InTurn, Ran}
 use Rattle.prt_store.specs.Written.{length_put, text_of, values_of}
 
--- the statement ran and, where there is a length, then the one that inserts it
+-- the statement ran and, if there is a length, then the one that inserts it
 abbrev pub RunsWith : {S : Type 0} → Ghosts S → Word → Row → Option RuleLength → Held S → Held S → Type 0
 RunsWith g text values None = Ran g text values
 RunsWith g text values (Some length) = InTurn (Ran g text values) (Ran g insert_suppress (suppress_row length))

@@ -20,7 +20,8 @@ pub record IsNext (state : State) (change : Change) (number : ℕ) : Type 0 wher
   pub makes : check state command ≡ Ok change
   pub counts : number ≡ state.count + 1
 
--- The tables spell the next state, and the rest is as it was: the tables of the schema, and the rows of each table that is not ours.
+-- The tables encode the next state, and the rest is as it was: the tables of the schema, and the rows of each table that is
+-- not ours.
 pub record MakesNext (old : Database) (next : State) (new : Database) : Type 0 where
   pub sound : IsDatabase new
   pub stores : Stores new next

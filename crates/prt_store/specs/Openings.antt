@@ -89,13 +89,13 @@ HasDone {S = S} g Does old db = (last : Held S) × Does (begun_from old) last ×
 abbrev pub HasLeft : {S : Type 0} → Ghosts S → (Held S → Held S → Type 0) → Held S → Trees → Type 0
 HasLeft g Does old trees = (db : Database) × HasDone g Does old db × (trees ≡ db.trees)
 
--- this was done and committed, or nothing was changed, but for a commit that failed
+-- this was done and committed, or nothing was changed, except for a commit that failed
 pub record Commits {S : Type 0} (g : Ghosts S) (Does : Held S → Held S → Type 0) (old new : Held S) (result : Result (Unit {0}) Refusal) : Type 0 where
   pub ok : HasCleanDisk (state g new) → OnOk result (HasDone g Does old (state g new).committed × IsSettled g new)
   pub err : HasCleanDisk (state g new) → IsTrue (state g new).is_open → OnErr result ((state g new).now ≡ (state g old).now)
   pub crash : Survives (state g old) (state g new) (HasLeft g Does old)
 
--- the table was made where there was none of its name, and nothing was done where there was
+-- the table was made if there was none of its name, and nothing was done if there was
 pub record MakesMissing {S : Type 0} (g : Ghosts S) (table : OurTable) (old new : Held S) (result : Result (Unit {0}) Refusal) : Type 0 where
   pub there : has_table (table_of table).name (state g old).now.schema ≡ true → new ≡ old
   pub missing : has_table (table_of table).name (state g old).now.schema ≡ false → Commits g (Takes g (step.Make table)) old new result
@@ -120,7 +120,8 @@ NamesFormat1 db = (count : ℕ) × IsCount count × (db.trees meta_table.tree �
 abbrev pub IsDue : Database → Type 0
 IsDue db = (count : ℕ) × IsOfFormat1 db count
 
--- What an opening does to a connection, where the file has no tables or ours first. A crash leaves what it could leave before or what an opening leaves.
+-- What an opening does to a connection, if the file has no tables or ours first. A crash leaves what it could leave before
+-- or what an opening leaves.
 pub record OpensTables {S : Type 0} (g : Ghosts S) (old new : Held S) (result : Result (Unit {0}) Refusal) : Type 0 where
   pub ok : HasCleanDisk (state g new) → BeginsFormat2 (state g old).now.schema → OnOk result (Adopts (state g old).now (state g new).now × IsSettled g new)
   pub err : HasCleanDisk (state g new) → IsTrue (state g new).is_open → BeginsFormat2 (state g old).now.schema → OnErr result (AdoptsPart (state g old).now (state g new).now)
@@ -136,7 +137,8 @@ pub record MakesTable {S : Type 0} (g : Ghosts S) (table : OurTable) (old new : 
 abbrev pub MakesTables : {S : Type 0} → Ghosts S → Held S → Held S → Type 0
 MakesTables g = InTurn (MakesTable g ours.Rule) (InTurn (MakesTable g ours.Route) (InTurn (MakesTable g ours.Meta) (MakesTable g ours.Suppress)))
 
--- Nothing was changed. `Yes` holds where the answer was true, `No` where it was false. After a refusal the tables show what they showed, if the connection is still open and nothing was pending.
+-- Nothing was changed. `Yes` holds if the answer was true, `No` if it was false. After a refusal the tables show what they
+-- showed, if the connection is still open and nothing was pending.
 pub record Finds {S : Type 0} (g : Ghosts S) (Yes No : Type 0) (old new : Held S) (result : Result Bool Refusal) : Type 0 where
   pub ok : HasCleanDisk (state g new) → IfOk result (λ found. IsUnchanged (state g old) (state g new) × MatchBool found Yes No)
   pub err : HasCleanDisk (state g new) → IsTrue (state g new).is_open → (IsTrue (state g old).is_open → (state g old).now ≡ (state g old).committed) → OnErr result ((state g new).now ≡ (state g old).now)

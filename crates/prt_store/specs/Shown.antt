@@ -58,7 +58,8 @@ pub record ShowsRoutes {S : Type 0} (g : Ghosts S) (conn : Held S) (routes : Lis
 abbrev pub ShowsInSomeOrder : {S : Type 0} → Ghosts S → Held S → Word → List Row → Type 0
 ShowsInSomeOrder g conn sql rows = (shown : List Row) × ShowsRows g conn sql shown × IsPermutation shown rows
 
--- The four SELECTs showed exactly the rows of this state. `meta` gave its count. The others gave one row for each rule, length and route, in any order. A route's row begins with its rowid, which is left out; these rise.
+-- The four SELECTs showed exactly the rows of this state. `meta` showed its count. The others showed one row for each rule,
+-- length and route, in any order. A route's row begins with its rowid, which is left out; these rise.
 pub record ShowsState {S : Type 0} (g : Ghosts S) (conn : Held S) (stored : State) : Type 0 where
   pub count : ShowsRows g conn read_meta (meta_rows stored.count)
   pub rules : ShowsInSomeOrder g conn read_rules (map rule_row stored.rules)
@@ -68,7 +69,8 @@ pub record ShowsState {S : Type 0} (g : Ghosts S) (conn : Held S) (stored : Stat
 
 -- ---- damage
 
--- The rows that the statement showed spell no list: their rowids don't rise, or a part of one of them is written for nothing that fits.
+-- The rows that the statement showed encode no list: their rowids don't rise, or a part of one of them is written for
+-- nothing that fits.
 abbrev pub ShowsBadRows : {S X : Type 0} → Ghosts S → Held S → Word → (X → Row) → (X → Type 0) → (Row → Row) → Type 0
 ShowsBadRows g conn sql write Fits part = (rows : List Row) × ShowsRows g conn sql rows × ((rowids_rise rows ≡ false) ⊎ Any (λ v. Decodes write Fits v None) (map part rows))
 
@@ -76,7 +78,7 @@ ShowsBadRows g conn sql write Fits part = (rows : List Row) × ShowsRows g conn 
 abbrev pub ShowsNoCount : {S : Type 0} → Ghosts S → Held S → Type 0
 ShowsNoCount g conn = (rows : List Row) × ShowsRows g conn read_meta rows × ((count : ℕ) → IsCount count → rows ≢ meta_rows count)
 
--- after this count, one of the other tables showed rows that spell no list
+-- after this count, one of the other tables showed rows that encode no list
 abbrev pub ShowsBadTable : {S : Type 0} → Ghosts S → Held S → ℕ → Type 0
 ShowsBadTable g conn count =
     ShowsBadRows g conn read_rules rule_row (IsRule (count + 3)) (λ row. row)
@@ -92,7 +94,7 @@ pub record ShowsNoState {S : Type 0} (g : Ghosts S) (conn : Held S) (count : ℕ
   pub show_routes : ShowsRoutes g conn routes
   pub none : (left_over rules lengths ≢ []) ⊎ RowsSpellNone count (merged rules lengths) routes
 
--- The SELECTs showed rows that spell no state: of `meta`, of another table, or of all four together.
+-- The SELECTs showed rows that encode no state: of `meta`, of another table, or of all four together.
 abbrev pub ShowsDamage : {S : Type 0} → Ghosts S → Held S → Type 0
 ShowsDamage g conn = ShowsNoCount g conn ⊎ ((count : ℕ) × ShowsCount g conn count × (ShowsBadTable g conn count ⊎ ShowsNoState g conn count))
 

@@ -1,4 +1,4 @@
--- The calls that a commit makes in turn, and what is left where it is stopped in one of them.
+-- The calls that a commit makes in turn, and what is left if it is stopped in one of them.
 use Rattle.std.specs.Prelude.{◌≡◌, ◌⊎◌, ℕ, List}
 use Rattle.std.specs.List.{AllByRecursion as Each}
 use Rattle.sqlite.specs.Held.{Held, state}
@@ -52,7 +52,8 @@ StoppedIn g made number old Write left = CommitsNothing g (begun_from old) left
 StoppedIn {S = S} g made number old Count left = (written : Held S) × Writes g made old written × CommitsNothing g written left
 StoppedIn {S = S} g made number old Commit left = (written : Held S) × Writes g made old written × (counted : Held S) × Counts g number written counted × MayCommit g counted left
 
--- Whichever call a commit is stopped in, a crash finds the rows as they were before it or, only where it was stopped in the call that commits, those of the next state.
+-- Whichever call a commit is stopped in, a crash finds the rows as they were before it, or those of the next state. The
+-- latter it finds only if the commit was stopped in the call that commits.
 abbrev pub LeavesAState : {S : Type 0} → Ghosts S → Type 0
 LeavesAState {S = S} g = (before : State) (made : Change) (number : ℕ) (old left : Held S) (call : StoreCall) → IsNext before made number → Stores (state g old).now before → IsAtRest g old
     → StoppedIn g made number old call left → HasCleanDisk (state g left) → (trees : Trees) → (state g left).may_leave trees

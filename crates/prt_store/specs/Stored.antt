@@ -1,4 +1,4 @@
--- The state that the tables of a database spell.
+-- The state that the tables of a database encode.
 use Rattle.std.specs.Prelude.{◌≡◌, ◌+◌, [], ◌∷◌, drop, map, IsPermutation}
 use Rattle.sqlite.specs.Effect.{Database}
 use Rattle.sqlite_rules.specs.Lists.{Has}
@@ -22,7 +22,8 @@ pub record FitsTables (state : State) : Type 0 where
   pub routes : (route : Route) → Has state.routes route → IsInRange route
   pub storable : IsStorableState state
 
--- The tables spell this state: in some order their rows are those of its rules, of its routes, of its count and of the lengths of its rules. The rowid of a rule is its id; a route has any.
+-- The tables encode this state: in some order their rows are those of its rules, of its routes, of its count and of the
+-- lengths of its rules. The rowid of a rule is its id; a route has any.
 pub record Stores (db : Database) (state : State) : Type 0 where
   pub tables : IsFormat2 db.schema
   pub rules : IsPermutation (db.trees rule_table.tree) (map kept_rule state.rules)
@@ -32,7 +33,8 @@ pub record Stores (db : Database) (state : State) : Type 0 where
   pub count : db.trees meta_table.tree ≡ kept_count state.count ∷ []
   pub fits : FitsTables state
 
--- The tables of a file of format 1 spell this state, of which no rule has a length: as those of format 2 do, but that the row of the count names format 1. The table of lengths may be missing.
+-- The tables of a file of format 1 encode this state, of which no rule has a length: as those of format 2 do, except that
+-- the row of the count names format 1. The table of lengths may be missing.
 pub record StoresFormat1 (db : Database) (state : State) : Type 0 where
   pub tables : BeginsWithMeta db.schema
   pub rules : IsPermutation (db.trees rule_table.tree) (map kept_rule state.rules)

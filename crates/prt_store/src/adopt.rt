@@ -19,14 +19,14 @@ use prt_refusals::Refusal;
 use sqlite::{Alter, Connection, Error, File, FileStore};
 
 impl<S: Alter + Drop> Store<S> {
-    /// Gives the store over a connection on which nothing is pending. The tables `rule`, `route`, `meta` and `suppress`
-    /// are made where they are missing, each by itself; where the four have no rows they are filled with the opening
-    /// state, in one transaction, with the row of `meta` last. A file of format 1 is migrated. All other rows stay as
-    /// they are, whether they spell a state or not.
+    /// Builds the store over a connection on which nothing is pending. The tables `rule`, `route`, `meta` and
+    /// `suppress` are made if they are missing, each by itself; if the four have no rows, they are filled with the
+    /// opening state, in one transaction, with the row of `meta` last. A file of format 1 is migrated. All other rows
+    /// stay as they are, whether they encode a state or not.
     ///
     /// After `Ok`, whatever the file, the four tables have the columns of format 2, nothing is pending, and a crash
     /// leaves what the tables show. Each missing table was made by its statement. Then the statements that look at the
-    /// four showed no rows, and those that fill them ran. Or they showed some. Then, where `meta` showed the row of format
+    /// four showed no rows, and those that fill them ran. Or they showed some. Then, if `meta` showed the row of format
     /// 1 and `suppress` no row, the format was set; otherwise nothing was changed.
     ///
     /// The other clauses speak of four kinds of file: without tables, left by a stopped opening, with the tables of format
@@ -34,10 +34,10 @@ impl<S: Alter + Drop> Store<S> {
     ///
     /// # Errors
     ///
-    /// `OpenFailed`, with the connection. Where one of the four tables has other columns than those of format 2, the
-    /// connection is as it was, whatever the file. Where a store call fails in a file of those four kinds, no row is
-    /// changed. But four empty tables may have been filled, and a file of format 1 migrated. The connection is to be closed
-    /// and opened again before it is used.
+    /// `OpenFailed`, with the connection. If one of the four tables has other columns than those of format 2, the
+    /// connection is as it was, whatever the file. If a store call fails in a file of those four kinds, no row is
+    /// changed. But four empty tables may have been filled, and a file of format 1 migrated. The connection is to be
+    /// closed and opened again before it is used.
     pub fn adopt(mut conn: Connection<S>) -> Result<Store<S>, (Refusal, Connection<S>)>
         ensures ok { IfOk result (λ store. HasCleanDisk (state S.Store store.conn) → BeginsFormat2 (state S.Store conn).now.schema →
             Adopts (state S.Store conn).now (state S.Store store.conn).now) }
@@ -75,7 +75,7 @@ impl<S: Alter + Drop> Store<S> {
     }
 }
 
-/// Gives the store over the connection that an open gave.
+/// Builds the store over the connection that an open returned.
 fn adopt_opened<S: Alter + Drop>(
     opened: Result<Connection<S>, Error>,
 ) -> Result<Store<S>, (Refusal, Option<Connection<S>>)>
@@ -93,13 +93,13 @@ fn adopt_opened<S: Alter + Drop>(
 }
 
 impl Store<FileStore<File>> {
-    /// Gives the store of the database file at this path, which is made where there is none. Beside it stands its
+    /// Opens the store of the database file at this path, which is made if there is none. Beside it lies its
     /// write-ahead log; each commit is forced to the disk (SQLite's `synchronous` is FULL).
     ///
     /// # Errors
     ///
-    /// `OpenFailed` where the path can't be opened or the file is no database; and, with the connection, where the
-    /// database can't be adopted: it is then as `adopt` leaves it.
+    /// `OpenFailed` if the path can't be opened or the file is no database; and, with the connection, if the database
+    /// can't be adopted: it is then as `adopt` leaves it.
     pub fn open(
         rt: &HostRuntime,
         path: &str,

@@ -25,7 +25,7 @@ use prt_rule::Rule;
 use prt_version::Change;
 use sqlite::{Alter, Connection, Error, Transaction};
 
-/// Inserts a rule and, where it suppresses prefixes, its length.
+/// Inserts a rule and, if it suppresses prefixes, its length.
 fn add_rule<S: Alter>(tx: &mut Transaction<'_, S>, rule: &Rule) -> Result<usize, Error>
     requires { rule.now.id < 2 ^ 63 }
     ensures same_reference { tx.new.conn.ghost_name ≡ tx.old.conn.ghost_name }
@@ -93,7 +93,7 @@ fn write_all<S: Alter>(tx: &mut Transaction<'_, S>, changes: &[Change]) -> Resul
 }
 
 /// Makes the changes and sets the count in one transaction: begin, a write for each, count, commit. Keeps the library's
-/// error in `failure`, where one of its calls fails.
+/// error in `failure` if one of its calls fails.
 ///
 /// # Errors
 ///

@@ -11,8 +11,9 @@ pub fn openings_go_on()
     ensures { (before between after : Database) → AdoptsPart before between → Adopts between after → Adopts before after }
 {}
 
-/// Whichever of its calls a commit is stopped in, a crash finds the rows as they were or, only where it was stopped in
-/// the call that commits, those of the next state; of several changes those of the state after all of them.
+/// Whichever of its calls a commit is stopped in, a crash finds the rows as they were, or those of the next state. The
+/// latter it finds only if the commit was stopped in the call that commits. Of several changes the next state is the
+/// one after all of them.
 pub fn stops_leave_a_state<S: Alter>()
     ensures one { LeavesAState S.Store }
     ensures several { LeavesAllOrNone S.Store }

@@ -1,4 +1,4 @@
-//! The state that the tables spell, read.
+//! The state that the tables encode, read.
 
 ghost use Rattle.std.specs.Prelude.{IfOk, drop};
 ghost use Rattle.prt_rows.specs.MetaRow.{IsCount};
@@ -18,7 +18,7 @@ use prt_version::Version;
 use sqlite::{Alter, Connection};
 use std::alloc::Global;
 
-/// Gives the count that the table `meta` spells.
+/// Reads the count that the table `meta` encodes.
 fn read_count<S: Alter>(conn: &mut Connection<S>) -> Result<u64, Refusal>
     ensures read { ReadsShown S.Store (ShowsCount S.Store conn.old) (ShowsNoCount S.Store conn.old) conn.old conn.new result }
     ensures fits { IfOk result IsCount }
@@ -32,8 +32,8 @@ fn read_count<S: Alter>(conn: &mut Connection<S>) -> Result<u64, Refusal>
     }
 }
 
-/// Gives the rules that the table `rule` spells, with ids of at most `last`, without their lengths, in the order of the
-/// ids.
+/// Reads the rules that the table `rule` encodes, with ids of at most `last`, without their lengths, in the order of
+/// the ids.
 fn read_rules<S: Alter>(
     alloc: Global,
     conn: &mut Connection<S>,
@@ -51,7 +51,7 @@ fn read_rules<S: Alter>(
     }
 }
 
-/// Gives the lengths that the table `suppress` spells, of rules with ids of at most `last`, in the order of the ids.
+/// Reads the lengths that the table `suppress` encodes, of rules with ids of at most `last`, in the order of the ids.
 fn read_lengths<S: Alter>(
     alloc: Global,
     conn: &mut Connection<S>,
@@ -66,7 +66,7 @@ fn read_lengths<S: Alter>(
     }
 }
 
-/// Gives the routes that the table `route` spells.
+/// Reads the routes that the table `route` encodes.
 fn read_routes<S: Alter>(alloc: Global, conn: &mut Connection<S>) -> Result<Vec<Route>, Refusal>
     ensures { ReadsShown S.Store (λ (routes : _). ShowsRoutes S.Store conn.old routes.items)
         (ShowsBadRows S.Store conn.old read_routes route_row IsInRange (drop 1)) conn.old conn.new result }
@@ -80,11 +80,11 @@ fn read_routes<S: Alter>(alloc: Global, conn: &mut Connection<S>) -> Result<Vec<
     }
 }
 
-/// Gives the version that the tables spell: the one whose rows the statements that read them showed.
+/// Loads the version that the tables encode: the one whose rows the statements that read them showed.
 ///
 /// # Errors
 ///
-/// `Damaged` only where the rows that were read spell none; `OpenFailed` where a store call fails; `NoMemory`.
+/// `Damaged` only if the rows that were read encode none; `OpenFailed` if a store call fails; `NoMemory`.
 pub(crate) fn load<S: Alter>(alloc: Global, conn: &mut Connection<S>) -> Result<Version, Refusal>
     ensures { ReadsShown S.Store (ShowsState S.Store conn.old) (ShowsDamage S.Store conn.old) conn.old conn.new result }
 {

@@ -9,7 +9,7 @@ use prt_rows::RuleLength;
 use prt_rule::Rule;
 use std::alloc::Global;
 
-/// Gives the rule with the first of the lengths, if that is its own, and the lengths that are left.
+/// Merges the rule with the first of the lengths, if that is its own, and returns it with the lengths that are left.
 fn merge_one<'a>(rule: &Rule, lengths: &'a [RuleLength]) -> (Rule, &'a [RuleLength])
     ensures rule { result.0 ≡ (merge_one rule.now lengths.now).0 }
     ensures left { result.1.now ≡ (merge_one rule.now lengths.now).1 }
@@ -25,11 +25,11 @@ fn merge_one<'a>(rule: &Rule, lengths: &'a [RuleLength]) -> (Rule, &'a [RuleLeng
     (merged, rest)
 }
 
-/// Gives the rules, each with its own of the lengths. Rules and lengths rise by the ids of the rules.
+/// Builds the rules, each with its own of the lengths. Rules and lengths rise by the ids of the rules.
 ///
 /// # Errors
 ///
-/// `Damaged` only where a length is left that is of none of the rules; `NoMemory`.
+/// `Damaged` only if a length is left that is of none of the rules; `NoMemory`.
 pub(crate) fn merge(
     alloc: Global,
     rules: &[Rule],

@@ -1,5 +1,5 @@
-//! The opening of a file: the four tables are made where they are missing, filled where they have no rows, and migrated
-//! where they are of format 1.
+//! The opening of a file: the four tables are made if they are missing, filled if they have no rows, and migrated if
+//! they are of format 1.
 
 ghost use Rattle.std.specs.Prelude.{◌≡◌, ◌<◌, ◌^◌, [], ◌∷◌, false, Err, IfErr, IsTrue, OnErr, OnOk};
 ghost use Rattle.std.specs.List.{AllByRecursion as Each};
@@ -43,7 +43,7 @@ enum Step {
     Fill,
 }
 
-/// Gives the statement that makes a table.
+/// Returns the statement that makes a table.
 fn create(table: OurTable) -> &'static str
     ensures { result.now ≡ create table }
 {
@@ -146,7 +146,7 @@ fn take<S: Alter>(conn: &mut Connection<S>, step: Step) -> Result<(), Refusal>
     tx.commit().or(Err(Refusal::OpenFailed))
 }
 
-/// Gives the name of a table.
+/// Returns the name of a table.
 fn name(table: OurTable) -> &'static str
     ensures { result.now ≡ (table_of table).name }
 {
@@ -158,7 +158,7 @@ fn name(table: OurTable) -> &'static str
     }
 }
 
-/// Makes a table, where the file has none of its name.
+/// Makes a table if the file has none of its name.
 fn make_missing<S: Alter>(conn: &mut Connection<S>, table: OurTable) -> Result<(), Refusal>
     ensures reason { IfErr result (λ reason. reason ≡ OpenFailed) }
     ensures makes { MakesMissing S.Store table conn.old conn.new result }
@@ -169,7 +169,7 @@ fn make_missing<S: Alter>(conn: &mut Connection<S>, table: OurTable) -> Result<(
     take(conn, Step::Make(table))
 }
 
-/// Makes the four tables, each where it is missing.
+/// Makes each of the four tables that is missing.
 fn make_tables<S: Alter>(conn: &mut Connection<S>) -> Result<(), Refusal>
     ensures reason { IfErr result (λ reason. reason ≡ OpenFailed) }
     ensures advances { Advances S.Store BeginsFormat2 IsFormat2 conn.old conn.new result }
@@ -181,7 +181,7 @@ fn make_tables<S: Alter>(conn: &mut Connection<S>) -> Result<(), Refusal>
     make_missing(conn, OurTable::Suppress)
 }
 
-/// Gives the statement that shows the rowid of each row of a table.
+/// Returns the statement that shows the rowid of each row of a table.
 fn look_at(table: OurTable) -> &'static str
     ensures { result.now ≡ look_at table }
 {
@@ -193,7 +193,7 @@ fn look_at(table: OurTable) -> &'static str
     }
 }
 
-/// Tells whether a table has no rows.
+/// Checks whether a table has no rows.
 fn is_empty<S: Alter>(conn: &mut Connection<S>, table: OurTable) -> Result<bool, Refusal>
     ensures reason { IfErr result (λ reason. reason ≡ OpenFailed) }
     ensures finds { Finds S.Store (ShowsNoRow S.Store conn.old table) (ShowsSomeRow S.Store conn.old table) conn.old conn.new result }
@@ -204,7 +204,7 @@ fn is_empty<S: Alter>(conn: &mut Connection<S>, table: OurTable) -> Result<bool,
     }
 }
 
-/// Tells whether a table and the others have no rows. Asks them in turn, up to the first that has one.
+/// Checks whether a table and the others have no rows. Queries them in turn, up to the first that has one.
 fn have_no_rows<S: Alter>(
     conn: &mut Connection<S>,
     table: OurTable,
@@ -222,8 +222,8 @@ fn have_no_rows<S: Alter>(
     }
 }
 
-/// Tells whether the four tables have no rows. Asks the table `meta` first, since it has a row in every file but a new
-/// one.
+/// Checks whether the four tables have no rows. Queries the table `meta` first, since it has a row in every file but a
+/// new one.
 fn are_empty<S: Alter>(conn: &mut Connection<S>) -> Result<bool, Refusal>
     ensures reason { IfErr result (λ reason. reason ≡ OpenFailed) }
     ensures finds { Finds S.Store ((table : OneTable) → ShowsNoRow S.Store conn.old table) (ShowsContents S.Store conn.old) conn.old conn.new result }
@@ -232,7 +232,7 @@ fn are_empty<S: Alter>(conn: &mut Connection<S>) -> Result<bool, Refusal>
     have_no_rows(conn, OurTable::Meta, &others)
 }
 
-/// Tells whether the row of `meta` is that of format 1.
+/// Checks whether the row of `meta` is that of format 1.
 fn names_format_1<S: Alter>(conn: &mut Connection<S>) -> Result<bool, Refusal>
     ensures reason { IfErr result (λ reason. reason ≡ OpenFailed) }
     ensures finds { Finds S.Store (ShowsFormat1 S.Store conn.old) (ShowsOtherFormat S.Store conn.old) conn.old conn.new result }
@@ -243,7 +243,7 @@ fn names_format_1<S: Alter>(conn: &mut Connection<S>) -> Result<bool, Refusal>
     }
 }
 
-/// Tells whether the file is to be migrated: its `meta` names format 1, and there are no lengths.
+/// Checks whether the file is to be migrated: its `meta` names format 1, and there are no lengths.
 fn is_due<S: Alter>(conn: &mut Connection<S>) -> Result<bool, Refusal>
     ensures reason { IfErr result (λ reason. reason ≡ OpenFailed) }
     ensures finds { Finds S.Store (ShowsDue S.Store conn.old) (ShowsNotDue S.Store conn.old) conn.old conn.new result }
@@ -254,16 +254,16 @@ fn is_due<S: Alter>(conn: &mut Connection<S>) -> Result<bool, Refusal>
     is_empty(conn, OurTable::Suppress)
 }
 
-/// Makes a file of format 1 one of format 2 with the same count, in one transaction, where no rule of it suppresses
+/// Turns a file of format 1 into one of format 2 with the same count, in one transaction, if no rule of it suppresses
 /// prefixes. Any other file stays as it is.
 ///
 /// After `Ok` that has happened, and nothing else has changed. A crash leaves what it could leave before, or the file so
-/// migrated. Of a file whose first tables are others it is known which statements ran. The format was set exactly where
+/// migrated. Of a file whose first tables are others it is known which statements ran. The format was set exactly if
 /// `meta` showed the row of format 1 and `suppress` no row.
 ///
 /// # Errors
 ///
-/// `OpenFailed` where a store call fails, and nothing is changed then; or where something is pending.
+/// `OpenFailed` if a store call fails, and nothing is changed then; or if something is pending.
 pub fn migrate<S: Alter>(conn: &mut Connection<S>) -> Result<(), Refusal>
     ensures reason { IfErr result (λ reason. reason ≡ OpenFailed) }
     ensures ok { HasCleanDisk (state S.Store conn.new) → IsFormat2 (state S.Store conn.old).now.schema →
@@ -287,7 +287,7 @@ pub fn migrate<S: Alter>(conn: &mut Connection<S>) -> Result<(), Refusal>
     take(conn, Step::Migrate)
 }
 
-/// Tells whether the four tables have the columns of format 2, and nothing is pending.
+/// Checks whether the four tables have the columns of format 2, and nothing is pending.
 fn is_ready<S: Alter>(conn: &Connection<S>) -> bool
     ensures columns { IsTrue result → HasFormat2 (state S.Store conn.now).now.schema }
     ensures alone { IsTrue result → (state S.Store conn.now).in_transaction ≡ false }
@@ -296,8 +296,8 @@ fn is_ready<S: Alter>(conn: &Connection<S>) -> bool
     has_format_2(conn.schema()) && conn.is_autocommit()
 }
 
-/// Makes the four tables where they are missing, compares their columns, and fills them where they have no rows. Where
-/// they have some, a file of format 1 is migrated.
+/// Makes the four tables if they are missing, compares their columns, and fills them if they have no rows. If they have
+/// some, a file of format 1 is migrated.
 fn make_and_fill<S: Alter>(conn: &mut Connection<S>) -> Result<(), Refusal>
     ensures reason { IfErr result (λ reason. reason ≡ OpenFailed) }
     ensures opens { OpensTables S.Store conn.old conn.new result }
@@ -313,12 +313,12 @@ fn make_and_fill<S: Alter>(conn: &mut Connection<S>) -> Result<(), Refusal>
     take(conn, Step::Fill)
 }
 
-/// Makes the four tables where they are missing, fills them where they have no rows, and migrates a file of format 1.
+/// Makes the four tables if they are missing, fills them if they have no rows, and migrates a file of format 1.
 ///
 /// # Errors
 ///
-/// `OpenFailed` where one of the tables has other columns than those of format 2, which is asked before anything is
-/// made, or a store call fails.
+/// `OpenFailed` if one of the tables has other columns than those of format 2, or a store call fails. The columns are
+/// checked before anything is made.
 pub(crate) fn open_tables<S: Alter>(conn: &mut Connection<S>) -> Result<(), Refusal>
     ensures reason { IfErr result (λ reason. reason ≡ OpenFailed) }
     ensures columns { OnOk result (HasFormat2 (state S.Store conn.new).now.schema) }
@@ -331,7 +331,7 @@ pub(crate) fn open_tables<S: Alter>(conn: &mut Connection<S>) -> Result<(), Refu
         return Err(Refusal::OpenFailed);
     }
     make_and_fill(conn)?;
-    // Asks again: what the statements leave alone is known only of files whose first tables are ours.
+    // Checks again: what the statements leave alone is known only of files whose first tables are ours.
     if is_ready(conn) {
         Ok(())
     } else {

@@ -17,7 +17,7 @@ use prt_rule::Rule;
 use sqlite::types::ValueRef;
 use sqlite::{Alter, Error, Transaction, params};
 
-/// Inserts a route. Where its key is there, the statement is refused.
+/// Inserts a route. If its key is there, the statement is refused.
 pub(crate) fn insert_route<S: Alter>(
     tx: &mut Transaction<'_, S>,
     route: &Route,

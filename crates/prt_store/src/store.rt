@@ -39,7 +39,7 @@ pub struct Stamp {
 }
 
 impl Stamp {
-    /// Gives the number of commands that had been accepted with this one, from 1 to 10^15.
+    /// Returns the number of commands that had been accepted with this one, from 1 to 10^15.
     pub fn number(&self) -> u64
         ensures { result ≡ self.now.number }
     {
@@ -56,27 +56,27 @@ pub struct Store<S: Alter + Drop> {
 }
 
 impl<S: Alter + Drop> Store<S> {
-    /// Gives the library's error of the last commit, if one of its calls failed that.
+    /// Returns the library's error of the last commit, if one of its calls failed that.
     pub fn failure(&self) -> Option<Error>
         ensures { result ≡ self.now.failure }
     {
         self.failure
     }
 
-    /// Gives the connection, with its tables as they are.
+    /// Returns the connection, with its tables as they are.
     pub fn release(self) -> Connection<S>
         ensures { result ≡ self.conn }
     {
         self.conn
     }
 
-    /// Gives the version whose rows the four SELECTs showed, whatever other tables the file has. Where the first tables are
-    /// the four, it is the one that they spell. After `Ok` nothing is changed; a crash leaves in any case what it could
-    /// leave before.
+    /// Loads the version whose rows the four SELECTs showed, whatever other tables the file has. If the first tables
+    /// are the four, it is the one that they encode. After `Ok` nothing is changed; a crash leaves in any case what it
+    /// could leave before.
     ///
     /// # Errors
     ///
-    /// `Damaged` only where the rows that were shown spell no state; `OpenFailed` where a store call fails; `NoMemory`. The
+    /// `Damaged` only if the rows that were shown encode no state; `OpenFailed` if a store call fails; `NoMemory`. The
     /// tables are as they were, if the connection is still open and nothing was pending on it.
     pub fn load(&mut self, alloc: Global) -> Result<Version, Refusal>
         ensures shown { HasCleanDisk (state S.Store self.new.conn) → IfOk result (ShowsState S.Store self.old.conn) }
@@ -100,16 +100,16 @@ impl<S: Alter + Drop> Store<S> {
 
     /// Makes the change that a command makes of the stored state, whose next number this is, in one transaction.
     ///
-    /// After `Ok` the statement of the change ran on the tables as they were, then the one that sets the count, and what
-    /// they left is committed, whatever the file; nothing is pending. Where the tables spelled the state, they spell the
+    /// After `Ok` the statement of the change ran on the tables as they were, then the one that sets the count. What
+    /// they left is committed, whatever the file; nothing is pending. If the tables encoded the state, they encode the
     /// state after the change, all other tables are as they were, and a crash leaves exactly that.
     ///
     /// # Errors
     ///
-    /// `StoreFailed` names the call that failed: `Begin` where the connection is in a transaction, and nowhere else;
+    /// `StoreFailed` names the call that failed: `Begin` if the connection is in a transaction, and nowhere else;
     /// `Count` only after the change was written, `Commit` only after the count was set too. The tables are as they
-    /// were, if the connection is still open; a crash leaves what it could leave before or, only where the commit
-    /// failed, possibly what it leaves after `Ok`. `failure` then gives the library's error.
+    /// were, if the connection is still open; a crash leaves what it could leave before or, only if the commit failed,
+    /// possibly what it leaves after `Ok`. `failure` then returns the library's error.
     pub fn commit(&mut self, change: &Change, number: u64) -> Result<Stamp, Refusal>
         requires { (before : State) × IsNext before change.now number }
         ensures stamp { IfOk result (λ stamp. stamp.number ≡ number) }
@@ -148,15 +148,15 @@ impl<S: Alter + Drop> Store<S> {
     /// that of the last command.
     ///
     /// After `Ok` the statements of each change ran in turn on the tables as they were, then the one that sets the count,
-    /// once, and what they left is committed, whatever the file; nothing is pending. Where the tables spelled the state,
-    /// they spell the state after all of the changes, all other tables are as they were, and a crash leaves exactly that.
+    /// once. What they left is committed, whatever the file; nothing is pending. If the tables encoded the state, they
+    /// encode the state after all of the changes, all other tables are as they were, and a crash leaves exactly that.
     ///
     /// # Errors
     ///
-    /// `StoreFailed` names the call that failed: `Begin` where the connection is in a transaction, and nowhere else;
+    /// `StoreFailed` names the call that failed: `Begin` if the connection is in a transaction, and nowhere else;
     /// `Count` only after all changes were written, `Commit` only after the count was set too. The tables are as they
-    /// were, if the connection is still open; a crash leaves what it could leave before or, only where the commit
-    /// failed, possibly what it leaves after `Ok`: all of the changes or none. `failure` then gives the library's error.
+    /// were, if the connection is still open; a crash leaves what it could leave before or, only if the commit failed,
+    /// possibly what it leaves after `Ok`: all of the changes or none. `failure` then returns the library's error.
     pub fn commit_all(&mut self, changes: &[Change], number: u64) -> Result<Stamp, Refusal>
         requires some { 1 ≤ length changes.now }
         requires next { (before : State) × AreNext before changes.now number }

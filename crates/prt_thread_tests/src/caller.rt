@@ -48,7 +48,7 @@ pub fn service_over<J: Naming, S: Alter + Drop, H: Wait>(
     Ok(Service::new(publisher, seats, domain))
 }
 
-/// Gives the number of the state that is stored in the database of a connection, and the connection.
+/// Reads the number of the state that is stored in the database of a connection, and returns the connection too.
 pub fn stored_number<S: Alter + Drop>(
     alloc: Global,
     connection: Connection<S>,
@@ -57,7 +57,7 @@ pub fn stored_number<S: Alter + Drop>(
     Ok((publisher.published().number(), publisher.release()))
 }
 
-/// Gives the command of `route add 10.0.0.N/32 dev eth0`.
+/// Builds the command of `route add 10.0.0.N/32 dev eth0`.
 pub fn host_route(alloc: Global, host: u8) -> Result<Command, Refusal>
     ensures { IfOk result IsStorable }
 {
@@ -71,7 +71,7 @@ pub fn host_route(alloc: Global, host: u8) -> Result<Command, Refusal>
     }
 }
 
-/// Submits a flush of the rules to a publisher, which is always accepted, and gives the number of its receipt.
+/// Submits a flush of the rules to a publisher, which is always accepted, and returns the number of its receipt.
 pub fn submit_to_publisher<S: Alter + Drop, H: Wait>(
     rt: &H,
     publisher: &mut Publisher<S>,
@@ -87,7 +87,7 @@ pub fn submit_to_publisher<S: Alter + Drop, H: Wait>(
     }
 }
 
-/// Submits two flushes of the rules together to a publisher, and gives the number of their receipt.
+/// Submits two flushes of the rules together to a publisher, and returns the number of their receipt.
 pub fn submit_two_together<S: Alter + Drop, H: Wait>(
     rt: &H,
     alloc: Global,
@@ -115,7 +115,7 @@ pub fn prepare_one<S: Alter + Drop, H: Wait>(
     publisher.prepare(rt, domain, &Command::RuleFlush)
 }
 
-/// Submits a flush of the rules to a service, which is always accepted, and gives the number of its receipt.
+/// Submits a flush of the rules to a service, which is always accepted, and returns the number of its receipt.
 pub fn submit_to_service<S: Alter + Drop, J: Naming, H: Wait + Clock>(
     rt: &H,
     service: &Service<S, J>,

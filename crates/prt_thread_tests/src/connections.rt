@@ -86,7 +86,7 @@ impl OpenListener for Queue {
     }
 }
 
-/// Gives one worker, and so many sessions.
+/// Builds the limits of one worker, and so many sessions.
 fn limited_to(sessions: u64) -> Limits {
     Limits {
         workers: 1,
@@ -95,7 +95,7 @@ fn limited_to(sessions: u64) -> Limits {
     }
 }
 
-/// Tells which sessions are handed over, and whether accepting ended by itself.
+/// Collects the sessions that are handed over, and checks whether accepting ended by itself.
 fn handed_over<H: Wait + Clock>(
     rt: &H,
     alloc: Global,
@@ -165,7 +165,7 @@ fn serve_without_looker<H: Threads + Wait + Clock + Sync, S: Alter + Drop + Send
     }
 }
 
-/// How many connections are accepted at most where no worker takes any: one in hand, 64 before the waiting room, 1,024 in
+/// How many connections are accepted at most if no worker takes any: one in hand, 64 before the waiting room, 1,024 in
 /// it, one on its way out, and 64 behind it.
 const UNSERVED: u64 = 1154;
 

@@ -28,7 +28,7 @@ enum Heard {
     End,
 }
 
-/// Tells what a follower hears.
+/// Returns what a follower hears.
 fn hear<H: Wait + Clock, J: Naming>(rt: &H, follower: &mut Follower<J>) -> Heard {
     match follower.next_within(rt, Duration::from_millis(PATIENCE)) {
         News::Command(Command::RuleFlush) => Heard::Flush(follower.number()),

@@ -18,7 +18,7 @@ use std::test::Fail;
 struct Found {
     /// The number that the first fetches before it.
     before: u64,
-    /// How many commands the second knows once it was told, and the number that it fetches then.
+    /// How many commands the second knows once they were reported to it, and the number that it fetches then.
     told: u64,
     fetched: u64,
     /// The number that the first fetches after it, and how many commands it knows then.
@@ -26,7 +26,7 @@ struct Found {
     known: u64,
 }
 
-/// Commits a command to the store of a version. The stamp, and the version after it.
+/// Commits a command to the store of a version. Returns the stamp, and the version after it.
 fn commit_next<S: Alter + Drop>(
     store: &mut Store<S>,
     version: &Version,
@@ -73,7 +73,7 @@ fn look_around<S: Alter + Drop, H: Wait>(
     Ok(Some(found))
 }
 
-/// Gives the store that adopts a connection, in which a version is published.
+/// Looks around the store that adopts a connection, in which a version is published.
 fn look_over<S: Alter + Drop, H: Wait>(
     rt: &H,
     alloc: Global,

@@ -27,7 +27,7 @@ struct Retained {
     next: u64,
 }
 
-/// Adds the route of a host, and gives the number of its receipt.
+/// Adds the route of a host, and returns the number of its receipt.
 fn add_host<S: Alter + Drop, H: Wait>(
     rt: &H,
     alloc: Global,
@@ -45,7 +45,8 @@ fn add_host<S: Alter + Drop, H: Wait>(
     }
 }
 
-/// Adds the routes of hosts until one is refused, at most 100. The number of the last receipt, and why the next was refused.
+/// Adds the routes of hosts until one is refused, at most 100. Returns the number of the last receipt, and why the next
+/// was refused.
 fn add_until_refused<S: Alter + Drop, H: Wait>(
     rt: &H,
     alloc: Global,

@@ -1,4 +1,4 @@
-//! A looker that is told of a command.
+//! A looker to which a command is reported.
 ghost use Rattle.prt_publisher.specs.Standing.{IsQuiet};
 ghost use Rattle.prt_service.specs.Named.{IsNamed};
 
@@ -18,12 +18,12 @@ use std::time::Clock;
 /// The number of a version, and over which next hop a packet to 10.1.0.0 goes by it.
 type Seen = (u64, Option<Addr>);
 
-/// Tells what the answer says.
+/// Extracts what the answer says.
 fn seen(answer: &Answer) -> Seen {
     (answer.number, next_hop(&answer.verdict))
 }
 
-/// Gives the next hop of the route that was found.
+/// Returns the next hop of the route that was found.
 fn next_hop(verdict: &Verdict) -> Option<Addr> {
     match verdict {
         Verdict::Route(_, route) => route.via,

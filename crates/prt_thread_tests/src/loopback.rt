@@ -18,7 +18,7 @@ use std::test::Fail;
 use std::thread::Threads;
 use std::time::Clock;
 
-/// Tells what a client reads that sends these lines and then waits for the end, and whether the listener ended with it.
+/// Returns what a client reads that sends these lines and then waits for the end, and whether the listener ended with it.
 ///
 /// The lines and the replies fit into what the system keeps for a connection, so client and server take turns in one
 /// thread, with one worker beside it.

@@ -20,14 +20,14 @@ struct Ending {
     /// Why one of them was refused, if one was.
     refused: Option<Refusal>,
     phase: Phase,
-    /// The number of the published state, and of the one that is stored. `None` where the tables can't be adopted again.
+    /// The number of the published state, and of the one that is stored. `None` if the tables can't be adopted again.
     published: u64,
     stored: Option<u64>,
 }
 
 impl Ending {
-    /// Tells whether it is as promised. Refused before its commit, a command goes through when it is submitted again.
-    /// Refused within, it closes the publisher, and it is stored at most where the call was the commit. Refused within
+    /// Checks whether it is as promised. Refused before its commit, a command goes through when it is submitted again.
+    /// Refused within, it closes the publisher, and it may be stored only if the call was the commit. Refused within
     /// the publication, it is stored.
     fn is_as_promised(&self) -> bool {
         let unpublished = Some(self.published.saturating_add(1));
@@ -49,7 +49,7 @@ impl Ending {
     }
 }
 
-/// Submits two commands, and one once more where memory is refused before its commit. Why one was refused.
+/// Submits two commands, and one once more if memory is refused before its commit. Returns why one was refused.
 fn submit_two<S: Alter + Drop, H: Wait>(
     rt: &H,
     publisher: &mut Publisher<S>,

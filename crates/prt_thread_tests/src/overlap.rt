@@ -136,7 +136,7 @@ impl<H: Wait + Copy + Drop> OpenListener for Two<H> {
     }
 }
 
-/// Serves both over a service of the publisher, by two workers. Tells whether accepting ended with the second.
+/// Serves both over a service of the publisher, by two workers. Returns whether accepting ended with the second.
 fn meet<
     H: Threads + Wait + Clock + Copy + Drop + Send + Sync + 'static,
     S: Alter + Drop + Send,

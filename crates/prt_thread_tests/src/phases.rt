@@ -11,7 +11,7 @@ use std::alloc::Global;
 use std::sync::Wait;
 use std::test::Fail;
 
-/// Goes on to a phase, and gives the number of the published state and the connection.
+/// Goes on to a phase, and returns the number of the published state and the connection.
 fn release_at<S: Alter + Drop, H: Wait + Copy + Drop>(
     rt: H,
     alloc: Global,
@@ -57,7 +57,7 @@ fn releases_in_each_phase(rt: HostRuntime) -> Result<(), Fail> {
     Ok(())
 }
 
-/// Prepares, commits and publishes one command, submits another, and gives the numbers of the receipts.
+/// Prepares, commits and publishes one command, submits another, and returns the numbers of the receipts.
 fn publish_two<S: Alter + Drop, H: Wait + Copy + Drop>(
     rt: H,
     alloc: Global,
@@ -91,8 +91,8 @@ fn publishes_two_commands(rt: HostRuntime) -> Result<(), Fail> {
     Ok(())
 }
 
-/// Submits two commands together. Gives the number that is published before, those of the receipt and of what is published
-/// after, and how many versions nobody can hold then.
+/// Submits two commands together. Returns the number that is published before, those of the receipt and of what is
+/// published after, and how many versions nobody can hold then.
 fn publish_together<S: Alter + Drop, H: Wait + Copy + Drop>(
     rt: H,
     alloc: Global,

@@ -21,7 +21,7 @@ pub(crate) struct Submitted {
     pub(crate) refused: Option<Refusal>,
 }
 
-/// How many lookers were there at once, and why one more was refused.
+/// How many lookers there were at once, and why one more was refused.
 #[derive(Debug, Drop, PartialEq)]
 pub(crate) struct Crowd {
     pub(crate) lookers: u64,
@@ -74,7 +74,7 @@ pub(crate) fn add_hosts<S: Alter + Drop, J: Naming, H: Wait + Clock>(
     })
 }
 
-/// Reads the clock that never goes back; 0 where it can't be read.
+/// Reads the clock that never goes back; 0 if it can't be read.
 fn time<H: Clock>(rt: &H) -> Duration {
     rt.monotonic().unwrap_or(Duration::ZERO)
 }

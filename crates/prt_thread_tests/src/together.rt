@@ -18,7 +18,7 @@ use std::time::Clock;
 /// The number of a version, how many rules it has, and whether a packet to 10.1.0.0 goes by a route of it.
 type Seen = (u64, usize, bool);
 
-/// Tells what a looker sees, which takes the published version first.
+/// Returns what a looker sees, which takes the published version first.
 fn seen<S: Alter + Drop, J: Naming, H: Wait>(
     rt: &H,
     service: &Service<S, J>,
@@ -30,8 +30,8 @@ fn seen<S: Alter + Drop, J: Naming, H: Wait>(
     Ok((version.number(), version.rules().len(), has_route))
 }
 
-/// Runs a service of the named front. Gives the number of the receipt of two commands, and what a looker sees before them
-/// and after.
+/// Runs a service of the named front. Returns the number of the receipt of two commands, and what a looker sees before
+/// them and after.
 fn serve<J: Naming, S: Alter + Drop, H: Wait + Clock + Copy + Drop>(
     rt: H,
     alloc: Global,

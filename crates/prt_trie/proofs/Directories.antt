@@ -19,7 +19,7 @@ slot_rises slots a b le = div_rises (a - slots.base) (b - slots.base) (2 ^ slots
 slot_tells : (slots : Slots) (a b : ℕ) → slot_of slots a < slot_of slots b → a < b
 slot_tells slots a b lt = ⊎_elim (λ (l : a < b). l) (λ (ge : b ≤ a). let r : slot_of slots b ≤ slot_of slots a = slot_rises slots b a ge in absurd (omega arith)) (cases_lt a b)
 
--- where one span begins in the slot or behind it, those after it do
+-- if one span begins in the slot or behind it, those after it do
 pub rest_behind : (spans : List Span) (slots : Slots) (at slot : ℕ) → AreSpans spans → ((d : Span) → at < length spans → slot ≤ slot_of slots (get_or spans at d).first) → (k : ℕ) (d : Span) → at ≤ k → k < length spans → slot ≤ slot_of slots (get_or spans k d).first
 rest_behind spans slots at slot are here k d le lt =
     let h : slot ≤ slot_of slots (get_or spans at d).first = here d (omega arith) in
@@ -31,7 +31,7 @@ rest_behind spans slots at slot are here k d le lt =
     (λ (ge : k ≤ at). let e : at ≡ k = omega arith in subst (λ (n : ℕ). slot ≤ slot_of slots (get_or spans n d).first) e h)
     (cases_lt at k)
 
--- the bounds that a directory gives
+-- the bounds that a directory returns
 pub bounds_from : (spans : List Span) (slots : Slots) (starts : List ℕ) (addr low high : ℕ) → IsDirectory spans slots starts → slot_of slots addr + 1 < length starts →
     low ≡ get_or starts (slot_of slots addr) 0 → high ≡ get_or starts (slot_of slots addr + 1) 0 → AreBounds spans addr low high
 bounds_from spans slots starts addr low high is inside at_low at_high =

@@ -20,7 +20,7 @@ use Rattle.prt_trie.specs.Table.{IsOfOneTable, IsRising, IsTable}
 use Rattle.prt_trie.specs.declared.index.Index.{Index}
 use Rattle.prt_trie.specs.declared.span.Span.{Span}
 
--- the first that passes stands at p
+-- the first that passes is at p
 pub find_at : {X : Type 0} (q : X → Bool) (xs : List X) (p : ℕ) → ((k : ℕ) (d : X) → k < p → k < length xs → q (get_or xs k d) ≡ false) → ((d : X) → p < length xs → q (get_or xs p d) ≡ true) → find q xs ≡ slice_get xs p
 find_at q [] p before at = refl
 find_at q (x ∷ xs) zero before at = rw (at x (omega arith)) refl
@@ -84,7 +84,7 @@ filter_within c e [] same = refl
 filter_within c e (x ∷ xs) same =
     rw (same zero x (omega arith), filter_within c e xs (λ k d l. same (suc k) d (omega arith))) refl
 
--- where all rows are of one table, its best row is the best of all
+-- if all rows are of one table, its best row is the best of all
 pub best_of_table : (rows : List Route) (table : ℕ) (addr : Addr) → All (λ row. row.table ≡ table) rows → best rows table addr ≡ best_for rows addr
 best_of_table rows table addr all =
     ap (λ (cs : List Route). first_by is_better cs) (filter_within (is_candidate table addr) (λ row. contains row.prefix addr) rows

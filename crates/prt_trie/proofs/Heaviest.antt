@@ -14,7 +14,7 @@ use Rattle.prt_trie.specs.Heaviest.{IsBest, IsHeaviest}
 use Rattle.prt_trie.specs.Table.{IsTable}
 use Rattle.prt_trie.proofs.Order.{in_order, order_of}
 
--- further places change nothing where none of them passes
+-- further places change nothing if none of them passes
 pub more_none : (test : ℕ → Bool) (w : ℕ → ℕ) (count end before place : ℕ) → count ≤ end → ((k : ℕ) → count ≤ k → k < end → test k ≡ false) → IsHeaviest test w 0 count before place → IsHeaviest test w 0 end before place
 more_none test w count end before place le none best = record {
   stands = ⊎_elim (λ (e : place ≡ before). inl e) (λ ((f, t, h) : (0 ≤ place) × (place < count) × (test place ≡ true)). inr (omega arith, omega arith, h)) best.stands;
@@ -24,7 +24,7 @@ more_none test w count end before place le none best = record {
       (cases_lt k count);
 }
 
--- nor does one that passes where the one before it does, and is no better
+-- nor does one that passes if the one before it does, and is no better
 pub more_same : (test : ℕ → Bool) (w : ℕ → ℕ) (count before place : ℕ) → 0 < count → (test count ≡ true → test (count - 1) ≡ true) → w count ≤ w (count - 1) → IsHeaviest test w 0 count before place → IsHeaviest test w 0 (count + 1) before place
 more_same test w count before place some same le best = record {
   stands = ⊎_elim (λ (e : place ≡ before). inl e) (λ ((f, t, h) : (0 ≤ place) × (place < count) × (test place ≡ true)). inr (omega arith, omega arith, h)) best.stands;

@@ -1,4 +1,4 @@
--- Rows told apart by the pieces that they are of.
+-- Rows divided by the pieces that they are of.
 use Rattle.std.proofs.Common.{◌≡◌, ℕ, ◌+◌, ◌<◌, true, false, List, [], ◌∷◌, ◌++◌, length, get_or, take, cond, eqb, ap, sym, subst, ◌∙◌, append-nil, arith, ⊎_elim}
 use Rattle.std.specs.List.{All}
 use Rattle.std.proofs.Math.ListN.{set}

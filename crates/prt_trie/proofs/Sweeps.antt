@@ -84,7 +84,7 @@ rest_under rests top addr place past is =
       upper = λ k d after within. at_place (λ n r. place < n → r.last < addr) rests top (λ n e l a. is.upper n e a l) (λ a. past) k d within after;
     }
 
--- and where it is put back
+-- and if it is put back
 rest_over : (rests : List Rest) (top : Rest) (addr place : ℕ) → place < length rests → IsRestOf (rests ++ top ∷ []) addr place → IsRestOf rests addr place
 rest_over rests top addr place lt is =
     let all : length (rests ++ top ∷ []) ≡ length rests + 1 = length_push rests top in
@@ -108,7 +108,7 @@ rest_ends rows count rests next k d are within =
     (λ (at : k ≤ 0). let e : k ≡ 0 = omega arith in let same : (get_or rests k d).last ≡ (get_or rests 0 d).last = ap (λ (n : ℕ). (get_or rests n d).last) e in omega arith)
     (cases_lt 0 k)
 
--- where the uppermost block ends at an address or behind it, all do
+-- if the uppermost block ends at an address or behind it, all do
 pub to_from_top : (rows : List Route) (count : ℕ) (rests : List Rest) (next to : ℕ) → AreRests rows count rests next → ((d : Rest) → to ≤ (get_or rests (length rests - 1) d).last) → AreTo rests to
 to_from_top rows count rests next to are top k d within =
     let t : to ≤ (get_or rests (length rests - 1) d).last = top d in

@@ -1,4 +1,4 @@
--- How routes are told apart into pieces.
+-- How routes are divided into pieces.
 use Rattle.std.specs.Prelude.{ℕ, ◌+◌, ◌/◌, ◌%◌, ◌^◌, nat_lt, if◌then◌else◌}
 use Rattle.prt_addr.specs.Block.{Block}
 use Rattle.prt_addr.specs.declared.addr.Addr.{Addr}
@@ -17,7 +17,7 @@ octet_of FirstOctet bits = bits / 2 ^ 24
 octet_of SecondOctet bits = bits / 2 ^ 16 % 256
 octet_of ThirdOctet bits = bits / 2 ^ 8 % 256
 
--- the piece of a prefix: 0 where it hasn't the octet whole, otherwise one more than the octet
+-- the piece of a prefix: 0 if it hasn't the octet whole, otherwise one more than the octet
 abbrev pub number_in : Cut → Block → ℕ
 number_in cut prefix = if nat_lt prefix.len (long_of cut) then 0 else octet_of cut prefix.bits + 1
 

@@ -15,7 +15,7 @@ use std::marker::Model;
 /// The most routes that get one index. More are split.
 const MOST_OF_LEAF: usize = 512;
 
-/// The fewest routes that stay split. The limits lie apart, so that no route that comes and goes moves them all each time.
+/// The fewest routes that stay split. The limits are apart, so that no route that comes and goes moves them all each time.
 const LEAST_OF_SPLIT: usize = 256;
 
 /// Some routes of one table: few of them with one index, and many in pieces `P`.
@@ -43,7 +43,7 @@ impl<P: Piece> Model for Branch<P> {
 }
 
 impl<P: Piece> Branch<P> {
-    /// Makes the branch of the pieces after an edit, which get one index again where they have few routes left.
+    /// Makes the branch of the pieces after an edit, which get one index again if they have few routes left.
     ///
     /// # Errors
     ///
@@ -72,7 +72,7 @@ impl<P: Piece> Branch<P> {
         }
     }
 
-    /// Tells how many routes there are.
+    /// Returns how many routes there are.
     pub fn count(&self) -> usize
         ensures value { result ≡ length self.now }
         ensures table { IsTable self.now }

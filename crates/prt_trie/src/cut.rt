@@ -1,4 +1,4 @@
-//! How routes are told apart into pieces: by an octet of their prefixes.
+//! How routes are divided into pieces: by an octet of their prefixes.
 ghost use Rattle.std.specs.Prelude.{◌≡◌, ◌<◌};
 ghost use Rattle.prt_trie.specs.Cut.{long_of, number_for, number_in};
 
@@ -7,7 +7,7 @@ use prt_route::{Addr, Prefix};
 /// How many pieces there are: one of the prefixes that are too short, and one for each value of the octet.
 pub(crate) const PIECES: usize = 257;
 
-/// The octet that tells pieces apart. The prefixes that are too short to have it whole are in one piece.
+/// The octet that distinguishes pieces. The prefixes that are too short to have it whole are in one piece.
 #[derive(Clone, Copy)]
 pub(crate) enum Cut {
     FirstOctet,
@@ -16,7 +16,7 @@ pub(crate) enum Cut {
 }
 
 impl Cut {
-    /// Gives the shortest length of the prefixes that have the octet whole.
+    /// Returns the shortest length of the prefixes that have the octet whole.
     fn long(self) -> u8
         ensures { result ≡ long_of self }
     {
@@ -27,7 +27,7 @@ impl Cut {
         }
     }
 
-    /// Gives the octet before this one, and the first for itself.
+    /// Returns the octet before this one, and the first for itself.
     pub fn before(self) -> Cut {
         match self {
             Cut::FirstOctet | Cut::SecondOctet => Cut::FirstOctet,
@@ -35,7 +35,7 @@ impl Cut {
         }
     }
 
-    /// Gives the number of the piece of the prefixes with the octet of the address, from 1 to 256.
+    /// Computes the number of the piece of the prefixes with the octet of the address, from 1 to 256.
     pub fn number_for(self, addr: Addr) -> usize
         ensures value { result ≡ number_for self addr }
         ensures within { result < 257 }
@@ -48,7 +48,7 @@ impl Cut {
         octet as usize + 1
     }
 
-    /// Gives the number of the piece of the prefix: 0 where it is too short, otherwise one more than its octet.
+    /// Computes the number of the piece of the prefix: 0 if it is too short, otherwise one more than its octet.
     pub fn number_of(self, prefix: &Prefix) -> usize
         ensures value { result ≡ number_in self prefix.now }
         ensures within { result < 257 }

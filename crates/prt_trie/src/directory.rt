@@ -1,4 +1,4 @@
-//! A directory of spans: where those of each slot of addresses stand.
+//! A directory of spans: where those of each slot of addresses are.
 ghost use Rattle.std.specs.Prelude.{◌≡◌, ℕ, ◌<◌, ◌≤◌, ◌^◌, length, slice_index_or, IfOk};
 ghost use Rattle.prt_trie.specs.Directory.{AreBefore, AreBounds, IsDirectory, slot_of};
 ghost use Rattle.prt_trie.specs.Spans.{AreSpans};
@@ -67,7 +67,7 @@ fn first_in(spans: &[Span], from: usize, slots: Slots, slot: usize) -> usize
     at
 }
 
-/// Where the spans of each slot begin. Where they are few, or too many to be counted in 32 bits, there is no slot.
+/// Where the spans of each slot begin. If they are few, or too many to be counted in 32 bits, there is no slot.
 pub(crate) fn starts_of(alloc: Global, spans: &[Span], slots: Slots) -> Result<Vec<u32>, AllocError>
     requires shift { slots.shift < 32 }
     requires spans { AreSpans spans.now }

@@ -12,7 +12,7 @@ use crate::sweep::spans_of;
 use prt_route::{Addr, Refusal, Route};
 use std::alloc::Global;
 
-/// How many rows an index can have: a span names its row in 32 bits, and one number stands for no row.
+/// How many rows an index can have: a span names its row in 32 bits, and one number means no row.
 const MOST_ROWS: usize = u32::MAX as usize;
 
 /// Spans of addresses with one best row each, and where the spans of each slot of addresses begin.

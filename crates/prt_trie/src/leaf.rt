@@ -33,7 +33,7 @@ impl Model for Leaf {
 }
 
 impl Leaf {
-    /// Gives the routes in the order of listings.
+    /// Returns the routes in the order of listings.
     pub fn as_slice(&self) -> &[Route]
         ensures value { result.now ≡ self.now }
         ensures table { IsTable result.now }

@@ -1,4 +1,4 @@
-//! Rows told apart by the pieces that they are of.
+//! Rows divided by the pieces that they are of.
 ghost use Rattle.std.specs.Prelude.{◌≡◌, [], length, All, IfOk};
 ghost use Rattle.prt_trie.specs.Pieces.{AreParts};
 
@@ -16,7 +16,7 @@ fn count_each(cut: Cut, rows: &[Route]) -> [usize; PIECES] {
     counts
 }
 
-/// Makes a vector for each of the counts, with room for so many rows.
+/// Makes a vector for each of the counts, with room for that many rows.
 fn with_room(alloc: Global, counts: &[usize]) -> Result<Vec<Vec<Route>>, AllocError>
     ensures count { IfOk result (λ parts. length parts.items ≡ length counts.now) }
     ensures empty { IfOk result (λ parts. All (λ part. part.items ≡ []) parts.items) }

@@ -20,10 +20,10 @@ pub(crate) trait Piece: Sized + Drop {
     /// The routes in the order of listings.
     ghost routes: { Self → List Row };
 
-    /// Gives the octet by which routes are told apart into pieces of this kind.
+    /// Returns the octet by which routes are divided into pieces of this kind.
     fn cut() -> Cut;
 
-    /// Makes the piece of the rows, which stand in the order of listings.
+    /// Makes the piece of the rows, which are in the order of listings.
     ///
     /// # Errors
     ///
@@ -44,27 +44,27 @@ pub(crate) trait Piece: Sized + Drop {
         ensures value { IfOk result (λ piece. routes piece ≡ after_edit edit.now (routes self.now)) }
         ensures reason { IfErr result (λ reason. reason ≡ NoMemory) };
 
-    /// Tells how many routes there are.
+    /// Returns how many routes there are.
     fn len(&self) -> usize
         ensures { result ≡ length (routes self.now) };
 
-    /// Puts the routes behind the rows so far, in any order. Where memory is refused, some of them may stand there.
+    /// Puts the routes behind the rows so far, in any order. If memory is refused, some of them may be there.
     fn push_rows(&self, rows: &mut Vec<Route>) -> Result<(), AllocError>
         ensures { OnOk result (IsPermutation (rows.old.items ++ routes self.now) rows.new.items) };
 
-    /// Tells whether the selector takes one of the routes.
+    /// Checks whether the selector takes one of the routes.
     fn takes_any(&self, selector: &Selector) -> bool
         ensures { result ≡ list_any (is_selected selector.now) (routes self.now) };
 
-    /// Gives the best route for the address, if one contains it.
+    /// Finds the best route for the address, if one contains it.
     fn find(&self, addr: Addr) -> Option<&Route>
         ensures { (table : ℕ) → IsOfTable table (routes self.now) → option_copied result ≡ best (routes self.now) table addr };
 
-    /// Tells whether one of the routes has the key.
+    /// Checks whether one of the routes has the key.
     fn holds(&self, key: &RouteKey) -> bool
         ensures { result ≡ has_key key.now (routes self.now) };
 
-    /// Gives the key of the route of lowest metric among those that the choice takes, if it takes one.
+    /// Finds the key of the route of lowest metric among those that the choice takes, if it takes one.
     fn choose(&self, choice: &RouteChoice) -> Option<RouteKey>
         ensures { result ≡ option_map key_of (chosen_route choice.now (routes self.now)) };
 }

@@ -1,4 +1,4 @@
-//! What the types of rows and edits tell of their prefixes and metrics, and sorted copies of rows.
+//! What the types of rows and edits say of their prefixes and metrics, and sorted copies of rows.
 ghost use Rattle.std.specs.Prelude.{◌≡◌, ◌<◌, ◌^◌, All, IfOk, IsPermutation};
 ghost use Rattle.std.specs.List.{IsDistinct};
 ghost use Rattle.prt_addr.specs.Sound.{IsPrefix};
@@ -9,7 +9,7 @@ use crate::listing::sort_rows;
 use prt_route::{Route, RouteEdit};
 use std::alloc::{AllocError, Global};
 
-/// Gives the metric of the row.
+/// Returns the metric of the row.
 fn metric_of(row: &Route) -> u32
     ensures value { result ≡ row.now.metric }
     ensures fits { result < 2 ^ 32 }
@@ -17,7 +17,7 @@ fn metric_of(row: &Route) -> u32
     row.metric
 }
 
-/// Tells of all rows what their types tell of each that is read.
+/// Establishes of all rows what their types say of each that is read.
 pub(crate) fn read_all(rows: &[Route])
     ensures prefixes { All (λ row. IsPrefix row.prefix) rows.now }
     ensures metrics { All (λ row. row.metric < 2 ^ 32) rows.now }
@@ -28,7 +28,7 @@ pub(crate) fn read_all(rows: &[Route])
     }
 }
 
-/// Tells of a route that is put what its type tells of one that is read.
+/// Establishes of a route that is put what its type says of one that is read.
 pub(crate) fn read_edit(edit: &RouteEdit)
     ensures prefix { (route : Route) → edit.now ≡ RouteEdit.Put route → IsPrefix route.prefix }
     ensures metric { (route : Route) → edit.now ≡ RouteEdit.Put route → route.metric < 2 ^ 32 }
@@ -39,7 +39,7 @@ pub(crate) fn read_edit(edit: &RouteEdit)
     }
 }
 
-/// Recalls of the rows of one table, which stand in the order of listings, what their types say of each.
+/// Recalls of the rows of one table, which are in the order of listings, what their types say of each.
 #[tactic(auto, using(crate::proofs::Finds::table_from))]
 pub(crate) fn recall_table(rows: &[Route])
     requires one_table { IsOfOneTable rows.now }

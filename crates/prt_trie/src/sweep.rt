@@ -13,7 +13,7 @@ use crate::span::Span;
 use prt_route::Route;
 use std::alloc::{AllocError, Global};
 
-/// The place where no row stands.
+/// The place where no row is.
 const NOWHERE: u32 = u32::MAX;
 
 /// A block of addresses that has begun, by its last address and the place of the best row whose prefix it is.
@@ -40,7 +40,7 @@ fn last_of(first: u32, len: u8) -> u32
     (u64::from(first) + (1 << (32 - len)) - 1) as u32
 }
 
-/// Tells whether the row has the prefix of the one before it.
+/// Checks whether the row has the prefix of the one before it.
 fn is_again(rows: &[Route], at: usize) -> bool
     requires { at < length rows.now }
     ensures yes { OnTrue result (0 < at) }
@@ -122,7 +122,7 @@ impl Sweep {
         Ok(())
     }
 
-    /// Takes out the block that began last where nothing of it follows the address.
+    /// Takes out the block that began last if nothing of it follows the address.
     fn trim(&mut self, rows: &[Route], at: usize, last: u32)
         requires rests { AreRests rows.now at self.old.rests.items self.old.next }
         requires some { 0 < length self.old.rests.items }

@@ -21,7 +21,7 @@ use std::marker::Model;
 
 /// The routes of one table by address, length and metric.
 ///
-/// Where they are many they are in pieces by the second octet, and where those are by the third. Trees before and after an
+/// If they are many, they are in pieces by the second octet, and if those are, by the third. Trees before and after an
 /// edit share the pieces that it leaves as they are.
 #[derive(Drop)]
 pub struct Tree {
@@ -54,7 +54,7 @@ impl Tree {
         Tree::from_sorted(alloc, rows)
     }
 
-    /// Gives the best route for the address, if one contains it (RFC 1812, section 5.2.4.3). It takes no memory.
+    /// Finds the best route for the address, if one contains it (RFC 1812, section 5.2.4.3). It takes no memory.
     pub fn find(&self, addr: Addr) -> Option<&Route>
         ensures { (table : ℕ) → IsOfTable table self.now → option_copied result ≡ best self.now table addr }
     {
@@ -75,7 +75,7 @@ impl Tree {
         Ok(rows)
     }
 
-    /// Tells how many routes there are.
+    /// Returns how many routes there are.
     pub fn len(&self) -> usize
         ensures value { result ≡ length self.now }
         ensures table { IsTable self.now }
@@ -83,14 +83,14 @@ impl Tree {
         self.branch.count()
     }
 
-    /// Tells whether one of the routes has the key.
+    /// Checks whether one of the routes has the key.
     pub fn holds(&self, key: &RouteKey) -> bool
         ensures { result ≡ has_key key.now self.now }
     {
         self.branch.holds(key)
     }
 
-    /// Gives the key of the route of lowest metric among those that the choice takes, if it takes one (`ip-route(8)`,
+    /// Finds the key of the route of lowest metric among those that the choice takes, if it takes one (`ip-route(8)`,
     /// `delete`).
     pub fn choose(&self, choice: &RouteChoice) -> Option<RouteKey>
         ensures { result ≡ option_map key_of (chosen_route choice.now self.now) }

@@ -54,9 +54,9 @@ action_itself Blackhole = refl
 action_itself Unreachable = refl
 action_itself Prohibit = refl
 
--- ---- what a lookup gives
+-- ---- what a lookup finds
 
--- the route that a lookup gives is one of the routes, and of the table
+-- the route that a lookup finds is one of the routes, and of the table
 looked : (table : ℕ) (routes : List Route) (packet : Packet) (route : Route) → table_lookup table routes packet ≡ Some route → IsIn route routes × (route.table ≡ table)
 looked table routes packet route is =
     let best_is : best routes table packet.dst ≡ Some route = (kept (λ (r : Route). not (is_throw r.kind)) (best routes table packet.dst) route is).0 in
@@ -69,7 +69,7 @@ OfRoutes routes (verdict.Route priority route) = IsIn route routes
 OfRoutes routes (verdict.RuleSays priority action) = Unit {0}
 OfRoutes routes verdict.NoRoute = Unit {0}
 
--- a rule that decides agrees with what it says, each rule that agrees with that decides, and a route that it gives is one of
+-- a rule that decides agrees with what it says, each rule that agrees with that decides, and a route that it finds is one of
 -- the routes
 record Agree (rule : Rule) (routes : List Route) (packet : Packet) (says : Verdict) : Type 0 where
   itself : agrees packet says rule ≡ true

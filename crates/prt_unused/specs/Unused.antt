@@ -57,7 +57,7 @@ rules_of unused = map (λ (one : UnusedRule). one.rule) unused
 abbrev pub routes_of : List UnusedRoute → List Route
 routes_of unused = map (λ (one : UnusedRoute). one.route) unused
 
--- the rules that decide no packet, in the order in which rules are asked
+-- the rules that decide no packet, in the order in which rules are tried
 pub record AreUnusedRules (state : State) (unused : List UnusedRule) : Type 0 where
   -- each is a rule of the state
   pub held : Each (λ (one : UnusedRule). Contains state.rules one.rule) unused

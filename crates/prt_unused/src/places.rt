@@ -10,7 +10,7 @@ use prt_route::{Kind, Route};
 use prt_rule::{Action, Packet, Rule, matches};
 use prt_version::{Verdict, Version};
 
-/// Tells whether a rule of this length says nothing if it finds this route (`ip-rule(8)`, `suppress_prefixlength`).
+/// Checks whether a rule of this length says nothing if it finds this route (`ip-rule(8)`, `suppress_prefixlength`).
 fn suppresses(suppress: Option<u8>, route: &Route) -> bool
     ensures { result ≡ suppresses suppress route.now }
 {
@@ -20,14 +20,14 @@ fn suppresses(suppress: Option<u8>, route: &Route) -> bool
     }
 }
 
-/// Tells whether the rule looks up the table.
+/// Checks whether the rule looks up the table.
 pub(crate) fn is_lookup_of(table: u32, rule: &Rule) -> bool
     ensures { result ≡ is_lookup_of table rule.now }
 {
     rule.action == Action::Lookup(table)
 }
 
-/// Tells whether the rule matches the packet and does what the verdict says. The first rule that does decides the packet, if
+/// Checks whether the rule matches the packet and does what the verdict says. The first rule that does decides the packet, if
 /// the verdict is the packet's.
 fn agrees(packet: &Packet, verdict: &Verdict, rule: &Rule) -> bool
     ensures { result ≡ agrees packet.now verdict.now rule.now }
@@ -46,7 +46,7 @@ fn agrees(packet: &Packet, verdict: &Verdict, rule: &Rule) -> bool
     }
 }
 
-/// Gives the place of the rule that decides the packet, if the verdict is the packet's.
+/// Finds the place of the rule that decides the packet, if the verdict is the packet's.
 pub(crate) fn rule_place(version: &Version, packet: &Packet, verdict: &Verdict) -> Option<usize>
     requires { verdict.now ≡ select version.now packet.now }
     ensures place { result ≡ rule_place version.now packet.now }
@@ -58,7 +58,7 @@ pub(crate) fn rule_place(version: &Version, packet: &Packet, verdict: &Verdict) 
         .position(|rule| agrees(packet, verdict, rule))
 }
 
-/// Gives the place of the route among routes in the order of listings.
+/// Finds the place of the route among routes in the order of listings.
 fn place_of_key(routes: &[Route], route: &Route) -> usize
     requires order { IsRising is_listed_before routes.now }
     requires held { Contains routes.now route.now }
@@ -68,7 +68,7 @@ fn place_of_key(routes: &[Route], route: &Route) -> usize
     routes.partition_point(|other| other.listing_key() < route.listing_key())
 }
 
-/// Gives the place of the route that the packet gets, if the verdict is the packet's. The routes are those of the version.
+/// Finds the place of the route that the packet gets, if the verdict is the packet's. The routes are those of the version.
 pub(crate) fn route_place(
     version: &Version,
     routes: &[Route],

@@ -11,7 +11,7 @@ use prt_route::{Dev, Route};
 use prt_rule::{Packet, Rule, matches};
 use prt_version::Version;
 
-/// Gives the packet with its verdict.
+/// Returns the packet with its verdict.
 fn example_of(version: &Version, packet: &Packet) -> Example
     ensures { result ≡ example_of version.now packet.now }
 {
@@ -21,7 +21,7 @@ fn example_of(version: &Version, packet: &Packet) -> Example
     }
 }
 
-/// Gives a packet to this address that has what the selector of the rule names. It comes in by `lo` if that names no
+/// Makes a packet to this address that has what the selector of the rule names. It comes in by `lo` if that names no
 /// interface, and has the mark 0 if it names no mark.
 fn named_packet(rule: &Rule, addr: u32) -> Packet
     ensures { result ≡ named_packet rule.now addr }
@@ -42,7 +42,7 @@ fn named_packet(rule: &Rule, addr: u32) -> Packet
     }
 }
 
-/// Gives the packet of this class to the first of these destinations at which the rule matches it.
+/// Finds the packet of this class to the first of these destinations at which the rule matches it.
 fn match_in(rule: &Rule, starts: &[u32], class: &Packet) -> Option<Packet>
     ensures { result ≡ find (matches rule.now) (packets_to starts.now class.now) }
 {
@@ -55,7 +55,7 @@ fn match_in(rule: &Rule, starts: &[u32], class: &Packet) -> Option<Packet>
     None
 }
 
-/// Gives the first packet of these classes to these destinations that the rule matches, if there is one.
+/// Finds the first packet of these classes to these destinations that the rule matches, if there is one.
 fn match_among(rule: &Rule, starts: &[u32], classes: &[Packet]) -> Option<Packet>
     ensures { result ≡ find (matches rule.now) (all_packets starts.now classes.now) }
 {
@@ -67,7 +67,7 @@ fn match_among(rule: &Rule, starts: &[u32], classes: &[Packet]) -> Option<Packet
     None
 }
 
-/// Gives a packet that the rule matches: the one that its selector names, or else the first of these classes and
+/// Finds a packet that the rule matches: the one that its selector names, or else the first of these classes and
 /// destinations.
 fn matched_packet(rule: &Rule, starts: &[u32], classes: &[Packet]) -> Option<Packet>
     ensures { result ≡ matched_packet (all_packets starts.now classes.now) rule.now }
@@ -79,7 +79,7 @@ fn matched_packet(rule: &Rule, starts: &[u32], classes: &[Packet]) -> Option<Pac
     match_among(rule, starts, classes)
 }
 
-/// Gives the rule with a packet that it matches and what becomes of that, if there is one.
+/// Returns the rule with a packet that it matches and what becomes of that, if there is one.
 pub(crate) fn unused_rule(
     version: &Version,
     starts: &[u32],
@@ -98,15 +98,15 @@ pub(crate) fn unused_rule(
     }
 }
 
-/// Gives the first rule that looks up the table.
+/// Finds the first rule that looks up the table.
 fn lookup_rule(rules: &[Rule], table: u32) -> Option<&Rule>
     ensures { option_map (λ rule. rule.now) result ≡ find (is_lookup_of table) rules.now }
 {
     rules.iter().find(|rule| is_lookup_of(table, rule))
 }
 
-/// Gives the route with a packet to its prefix and what becomes of that, if a rule looks up its table. The packet is the one
-/// that the selector of the first such rule names, but to the first address of the prefix.
+/// Returns the route with a packet to its prefix and what becomes of that, if a rule looks up its table. The packet is the
+/// one that the selector of the first such rule names, but to the first address of the prefix.
 pub(crate) fn unused_route(version: &Version, route: &Route) -> UnusedRoute
     ensures { result ≡ unused_route version.now route.now }
 {

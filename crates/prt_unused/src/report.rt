@@ -53,7 +53,7 @@ pub struct UnusedRoute {
 /// or one that a rule suppresses, ends the lookup in its table.
 #[derive(Drop)]
 pub struct Unused {
-    /// The rules that decide no packet, in the order in which rules are asked.
+    /// The rules that decide no packet, in the order in which rules are tried.
     pub rules: Vec<UnusedRule>,
     /// The routes that no packet gets, in the order of listings.
     pub routes: Vec<UnusedRoute>,

@@ -15,7 +15,7 @@ use prt_rule::{Packet, Rule};
 use prt_version::Version;
 use std::alloc::{AllocError, Global};
 
-/// Gives the rules that are not marked.
+/// Collects the rules that are not marked.
 fn unmarked_rules(alloc: Global, rules: &[Rule], flags: &[bool]) -> Result<Vec<Rule>, AllocError>
     requires { length flags.now ≡ length rules.now }
     ensures { IfOk result (λ left. left.items ≡ unmarked rules.now flags.now) }
@@ -29,7 +29,7 @@ fn unmarked_rules(alloc: Global, rules: &[Rule], flags: &[bool]) -> Result<Vec<R
     Ok(left)
 }
 
-/// Gives the routes that are not marked.
+/// Collects the routes that are not marked.
 fn unmarked_routes(
     alloc: Global,
     routes: &[Route],
@@ -47,7 +47,7 @@ fn unmarked_routes(
     Ok(left)
 }
 
-/// Gives the rules with what comes before them.
+/// Lists the rules with what comes before them.
 fn with_rule_reasons(
     alloc: Global,
     version: &Version,
@@ -63,7 +63,7 @@ fn with_rule_reasons(
         .collect(alloc)
 }
 
-/// Gives the routes with what comes before them.
+/// Lists the routes with what comes before them.
 fn with_route_reasons(
     alloc: Global,
     version: &Version,
@@ -77,7 +77,7 @@ fn with_route_reasons(
         .collect(alloc)
 }
 
-/// Gives the rules that decide no packet.
+/// Finds the rules that decide no packet.
 fn unused_rules(
     alloc: Global,
     version: &Version,
@@ -93,7 +93,7 @@ fn unused_rules(
     Ok(unused)
 }
 
-/// Gives the routes that no packet gets. The routes are those of the version.
+/// Finds the routes that no packet gets. The routes are those of the version.
 fn unused_routes(
     alloc: Global,
     version: &Version,
@@ -111,7 +111,7 @@ fn unused_routes(
     Ok(unused)
 }
 
-/// Gives the rules that decide no packet, and the routes that no packet gets, each with what comes before it.
+/// Finds the rules that decide no packet, and the routes that no packet gets, each with what comes before it.
 ///
 /// It looks at one packet of each class at each destination at which an answer can change.
 ///

@@ -10,7 +10,7 @@ use prt_rule::Rule;
 use prt_version::Version;
 use std::alloc::{AllocError, Global};
 
-/// Gives the first address after those of the prefix, if there is one.
+/// Computes the first address after those of the prefix, if there is one.
 fn end_of(prefix: &Prefix) -> Option<u32>
     ensures { result ≡ end_of prefix.now }
 {
@@ -59,7 +59,7 @@ fn sort_distinct(numbers: &mut Vec<u32>)
     numbers.dedup();
 }
 
-/// Gives all routes of the version, in the order of listings.
+/// Collects all routes of the version, in the order of listings.
 pub(crate) fn every_route(version: &Version) -> Result<Vec<Route>, AllocError>
     ensures { IfOk result (λ routes. routes.items ≡ version.now.routes) }
 {
@@ -77,7 +77,7 @@ pub(crate) fn every_route(version: &Version) -> Result<Vec<Route>, AllocError>
     Ok(routes)
 }
 
-/// Gives the destinations at which what becomes of a packet can change, and 0.0.0.0, in order.
+/// Lists the destinations at which what becomes of a packet can change, and 0.0.0.0, in order.
 pub(crate) fn starts_of(
     alloc: Global,
     version: &Version,

@@ -19,7 +19,7 @@ pub(crate) struct Used {
     pub routes: Vec<bool>,
 }
 
-/// Gives the packet of these parts.
+/// Builds the packet of these parts.
 fn packet_by(dst: u32, src: u32, iif: Dev, mark: u32) -> Packet
     ensures value { result ≡ packet_by dst src iif mark }
     ensures fits { IsPacket result }
@@ -32,7 +32,7 @@ fn packet_by(dst: u32, src: u32, iif: Dev, mark: u32) -> Packet
     }
 }
 
-/// Gives the packet with this destination.
+/// Returns the packet with this destination.
 pub(crate) fn to(packet: &Packet, addr: u32) -> Packet
     ensures value { result ≡ to packet.now addr }
     ensures fits { IsPacket result }
@@ -104,21 +104,21 @@ fn mark_classes(
     }
 }
 
-/// Gives for each rule a flag that isn't set.
+/// Makes for each rule a flag that isn't set.
 fn rule_flags(alloc: Global, rules: &[Rule]) -> Result<Vec<bool>, AllocError>
     ensures { IfOk result (λ flags. flags.items ≡ map (λ rule. false) rules.now) }
 {
     rules.iter().map(|_| false).collect(alloc)
 }
 
-/// Gives for each route a flag that isn't set.
+/// Makes for each route a flag that isn't set.
 fn route_flags(alloc: Global, routes: &[Route]) -> Result<Vec<bool>, AllocError>
     ensures { IfOk result (λ flags. flags.items ≡ map (λ route. false) routes.now) }
 {
     routes.iter().map(|_| false).collect(alloc)
 }
 
-/// Gives for each rule whether it decides a packet of these classes at these destinations, and for each route whether such a
+/// Finds for each rule whether it decides a packet of these classes at these destinations, and for each route whether such a
 /// packet gets it. The routes are those of the version.
 pub(crate) fn used_by(
     alloc: Global,

@@ -1,4 +1,4 @@
--- Routes one table after another: what one table tells of all, and what an edit makes of each.
+-- Routes one table after another: what one table says of all, and what an edit makes of each.
 use Rattle.std.proofs.Common.{◌≡◌, ℕ, zero, suc, ◌+◌, ◌<◌, ◌≤◌, Bool, true, false, not, ◌&&◌, ◌||◌, eqb, ltb, List, [], ◌∷◌, ◌++◌, length, get_or, map, take, Option, None, refl, sym, ap, subst, ◌∙◌, append_assoc, arith, cond, ⊎_elim}
 use Rattle.std.specs.Cmp.{IsStrictWeakOrder}
 use Rattle.std.specs.Prelude.{All, bytes_eq, unwrap_or}
@@ -77,7 +77,7 @@ each_passes : {X : Type 0} (p : X → Bool) (xs : List X) → Each (λ x. p x �
 each_passes p [] = tt
 each_passes p (x ∷ xs) = passes_by p x (filter p xs) (p x) refl (each_passes p xs)
 
--- ---- what one table tells of all routes
+-- ---- what one table says of all routes
 
 own_first : (a b : Bool) → (a && b) ≡ true → a ≡ true
 own_first true b h = refl
@@ -127,7 +127,7 @@ pub rows_append : (front back : List TableRows) → all_rows (front ++ back) ≡
 rows_append [] back = refl
 rows_append (table ∷ front) back = ap (λ rows. table.rows ++ rows) (rows_append front back) ∙ sym (append_assoc table.rows (all_rows front) (all_rows back))
 
--- what the tables' numbers tell of their rows
+-- what the tables' numbers say of their rows
 rows_by_number : (P : ℕ → Type 0) (tables : List TableRows) → Each HasOwnRows tables → Each (λ table. P table.number) tables → Each (λ row. P row.table) (all_rows tables)
 rows_by_number P tables own numbers =
     each_row (λ row. P row.table) tables
@@ -183,7 +183,7 @@ rows_at (first ∷ others) (suc i) table are lt is =
     filter-append (λ row. eqb row.table table.number) first.rows (all_rows others)
     ∙ rw (filter_none (λ row. eqb row.table table.number) first.rows (each_implies (λ row. row.table ≡ first.number) (λ row. eqb row.table table.number ≡ false) (λ row h. subst (λ n. eqb n table.number ≡ false) (sym h) (is_lower_one first.number table.number above)) first.rows are.own.0)) (rows_at others i table (tail_of first others are) (omega arith) is)
 
--- no rows, where no table has the number
+-- no rows, if no table has the number
 pub no_rows : (number : ℕ) (tables : List TableRows) → Each HasOwnRows tables → Each (λ table. eqb table.number number ≡ false) tables → rows_of_table number (all_rows tables) ≡ []
 no_rows number tables own others = filter_none (λ row. eqb row.table number) (all_rows tables) (rows_by_number (λ n. eqb n number ≡ false) tables own others)
 

@@ -1,4 +1,4 @@
--- The rules and the routes of the state that rows spell, in whatever order they come.
+-- The rules and the routes of the state that rows encode, in whatever order they come.
 use Rattle.std.proofs.Common.{◌≡◌, ◌⊎◌, inl, ℕ, ◌+◌, ◌≤◌, Bool, true, false, List, length, refl, subst, arith}
 use Rattle.std.specs.Prelude.{◌↔◌, IsPermutation, IsTrue, nat_le}
 use Rattle.std.specs.Bool.{Decides}
@@ -54,7 +54,7 @@ routes_moved routes rows moved are = record {
   keys = IsDistinct-IsPermutation has_same_key keys_both_ways routes rows moved are.keys;
 }
 
--- ---- what the tests of sorted rows tell
+-- ---- what the tests of sorted rows say
 
 failed : {P : Type 0} (b : Bool) → (IsTrue b ↔ P) → b ≡ false → P → ⊥
 failed b tells fails holds = absurd (let passes : b ≡ true = tells.1 holds in cc)
@@ -126,7 +126,7 @@ routes_of state sound storable = record {
   keys = rising_apart is_listed_before has_same_key key_differs state.routes sound.routes_rise;
 }
 
--- ---- what rows spell
+-- ---- what rows encode
 
 pub no_rules : (number : ℕ) (rules : List Rule) (routes : List Route) → (AreRules number rules → ⊥) → RowsSpellNone number rules routes
 no_rules number rules routes none state spells =

@@ -1,4 +1,4 @@
--- Tables in groups: in which of them a table stands, and what an edit of one table makes of its group.
+-- Tables in groups: in which of them a table is, and what an edit of one table makes of its group.
 use Rattle.std.proofs.Common.{◌≡◌, ℕ, zero, suc, ◌+◌, ◌-◌, ◌<◌, ◌≤◌, Bool, true, false, ◌&&◌, ◌||◌, eqb, leb, ltb, List, [], ◌∷◌, ◌++◌, length, get_or, map, take, drop, Option, Some, refl, sym, ap, subst, ◌∙◌, append_assoc, arith, cond, ⊎_elim}
 use Rattle.std.specs.Prelude.{bytes_eq}
 use Rattle.std.specs.List.{filter, AllByRecursion as Each}
@@ -98,9 +98,9 @@ all_under number tables lower = each_implies (λ table. table.number < number) (
 all_over : (number : ℕ) (tables : List TableRows) → Each (λ table. number < table.number) tables → Each (λ table. eqb table.number number ≡ false) tables
 all_over number tables higher = each_implies (λ table. number < table.number) (λ table. eqb table.number number ≡ false) (λ table h. is_over table.number number h) tables higher
 
--- ---- where a table stands
+-- ---- where a table is
 
--- what stands in front of one comes before it
+-- what is in front of one comes before it
 across : {X : Type 0} (before : X → X → Bool) (front : List X) (x : X) (back : List X) → IsRising before (front ++ x ∷ back) → Each (λ y. before y x ≡ true) front
 across before [] x back rises = tt
 across before (y ∷ front) x back rises = ((each_parts (λ z. before y z ≡ true) front (x ∷ back) rises.0).1.0, across before front x back rises.1)
@@ -155,7 +155,7 @@ groups_rise [] are rises = tt
 groups_rise (group ∷ groups) are rises =
     (rest_over group.first group.tables groups are.0 are.1 rises, groups_rise groups are.1 (rising_parts is_lower group.tables (joined groups) rises).1)
 
--- those that start no higher than the number stand before the others
+-- those that start no higher than the number come before the others
 pub groups_parted : (groups : List TableGroup) (number : ℕ) → AreGroups groups → IsPartitionedBy (λ group. leb group.first number) groups
 groups_parted groups number are =
     IsPartitionedBy-leb (λ (group : TableGroup). group.first) groups number
@@ -354,7 +354,7 @@ is_of_table selector number row named taken =
     let agreed : agrees (λ a b. eqb a b) selector.table row.table ≡ true = own_selected (agrees (λ a b. eqb a b) selector.table row.table) (in_range selector.range row.prefix) (agrees is_same_kind selector.kind row.kind) (agrees (λ a b. eqb a b) selector.proto row.proto) (agrees (λ a b. eqb a b) selector.scope row.scope) (agrees_there bytes_eq selector.dev row.dev) taken in
     other_way number row.table (subst (λ table. agrees (λ a b. eqb a b) table row.table ≡ true) named agreed)
 
--- those that a selector of one table takes stand in the table
+-- those that a selector of one table takes are in the table
 pub selected_of_table : (selector : Selector) (number : ℕ) (own routes : List Route) → selector.table ≡ Some number → rows_of_table number own ≡ rows_of_table number routes → filter (is_selected selector) own ≡ filter (is_selected selector) routes
 selected_of_table selector number own routes named same =
     sym (filter_absorbed (is_selected selector) (λ row. eqb row.table number) own (λ row h. is_of_table selector number row named h))

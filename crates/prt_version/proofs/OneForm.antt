@@ -14,7 +14,7 @@ use Rattle.prt_version.proofs.RuleOrder.{rule_order}
 abbrev state_by : ℕ → List Rule → List Route → State
 state_by count rules routes = record { count = count; rules = rules; routes = routes }
 
--- what the same members tell of two states of the same count
+-- what the same members say of two states of the same count
 pub same_state : (state other : State) → IsSound state → IsSound other → state.count ≡ other.count → ((rule : Rule) → Contains state.rules rule → Contains other.rules rule) → ((rule : Rule) → Contains other.rules rule → Contains state.rules rule) → ((route : Route) → Contains state.routes route → Contains other.routes route) → ((route : Route) → Contains other.routes route → Contains state.routes route) → state ≡ other
 same_state state other sound other_sound counts rules_there rules_back routes_there routes_back =
     let rules_are : state.rules ≡ other.rules = same_risings is_before rule_order state.rules other.rules sound.rules_rise other_sound.rules_rise rules_there rules_back in

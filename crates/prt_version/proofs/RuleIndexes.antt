@@ -1,4 +1,4 @@
--- The lists of rules that an index gives for a packet, and the rules that it leaves out.
+-- The lists of rules that an index returns for a packet, and the rules that it leaves out.
 use Rattle.std.proofs.Common.{◌≡◌, ◌⊎◌, inl, inr, ℕ, zero, suc, ◌+◌, ◌-◌, ◌*◌, ◌/◌, ◌%◌, ◌^◌, ◌<◌, ◌≤◌, Bool, true, false, not, ◌&&◌, eqb, ltb, List, [], ◌∷◌, length, get_or, drop, drop-cons, add-one, Option, Some, None, refl, sym, ap, ◌∙◌, subst, arith, cond, ⊎_elim}
 use Rattle.std.specs.List.{Contains}
 use Rattle.std.proofs.Math.ListN.{set}
@@ -207,7 +207,7 @@ module _ (rules : List Rule) where
 -- ---- the first of a list that decides
 
 module _ (rules : List Rule) (list : ℕ) (routes : List Route) (packet : Packet) where
-  -- none before the next of the list, where the one at the place doesn't decide
+  -- none before the next of the list, if the one at the place doesn't decide
   pub silent_next : (place next : ℕ) (rule : Rule) → place < length rules → rule ≡ get_or rules place rule → decision rule routes packet ≡ None → IsNext rules list (place + 1) next → IsSilent rules list place routes packet → IsSilent rules list next routes packet
   silent_next place next rule inside is none follows silent k d lt same =
       ⊎_elim
@@ -249,7 +249,7 @@ no_verdict (rule ∷ rules) routes packet silent =
     by rule rules routes packet None (silent zero rule (omega arith))
     ∙ no_verdict rules routes packet (λ j d early. silent (suc j) d (omega arith))
 
--- what the first so many lists have shown: which rule is the first that decides, and what it says
+-- what the first lists up to a number have shown: which rule is the first that decides, and what it says
 pub record IsBest (rules : List Rule) (lists : List ℕ) (count : ℕ) (routes : List Route) (packet : Packet) (before : ℕ) (verdict : Verdict) : Type 0 where
   pub within : before ≤ length rules
   pub says : ((before ≡ length rules) × (verdict ≡ NoRoute)) ⊎ ((before < length rules) × ((d : Rule) → decision (get_or rules before d) routes packet ≡ Some verdict))

@@ -1,4 +1,4 @@
--- Rules in the order in which they are asked.
+-- Rules in the order in which they are tried.
 use Rattle.std.proofs.Common.{◌≡◌, ◌<◌, true, false, List, ◌∙◌, arith}
 use Rattle.std.specs.Cmp.{IsStrictWeakOrder}
 use Rattle.std.specs.Prelude.{◌==◌}

@@ -15,7 +15,7 @@ use Rattle.prt_version.specs.Tables.{AreTables, HasOwnRows, TableRows, all_rows,
 use Rattle.prt_version.proofs.ByTable.{rows_append}
 use Rattle.prt_version.proofs.SortedRows.{each_parts, rising_numbers, rising_parts, rising_push}
 
--- ---- the rows of a table that stand first
+-- ---- the rows of a table that come first
 
 -- what holds up to a place, and from it on
 module _ {X : Type 0} (P : X → Type 0) where
@@ -44,7 +44,7 @@ is_up_to table number h = grind (arith, nat_tests)
 pub is_above : (table number : ℕ) → leb table number ≡ false → number < table
 is_above table number h = grind (arith, nat_tests)
 
--- the rows up to a table stand before the others
+-- the rows up to a table come before the others
 pub tables_parted : (rows : List Route) (number : ℕ) → IsRising is_listed_before rows → IsPartitionedBy (λ row. leb row.table number) rows
 tables_parted rows number rises = IsPartitionedBy-leb (λ (row : Route). row.table) rows number (rising_numbers is_listed_before (λ row. row.table) no_lower rows rises)
 

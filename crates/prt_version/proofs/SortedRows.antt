@@ -1,4 +1,4 @@
--- Lists that are sorted: where each comes before the next, and no two are the same.
+-- Lists that are sorted: in which each comes before the next, and no two are the same.
 use Rattle.std.proofs.Common.{◌≡◌, ℕ, zero, suc, ◌+◌, ◌<◌, ◌≤◌, Bool, true, false, not, List, [], ◌∷◌, ◌++◌, length, get_or, refl, sym, ap, ◌∙◌, subst, arith}
 use Rattle.std.specs.Prelude.{IsSortedBy}
 use Rattle.std.specs.Bool.{Decides, OnTrue}
@@ -18,7 +18,7 @@ each_parts P [] ys h = (tt, h)
 each_parts P (x ∷ xs) ys h = let rest : Each P xs × Each P ys = each_parts P xs ys h.1 in ((h.0, rest.0), rest.1)
 
 module _ {X : Type 0} (before : X → X → Bool) where
-  -- where each comes before the next, each comes before all those after it
+  -- if each comes before the next, each comes before all those after it
   rises_from : IsStrictWeakOrder before → (xs : List X) → ((k : ℕ) (d : X) → k + 1 < length xs → before (get_or xs k d) (get_or xs (k + 1) d) ≡ true) → IsRising before xs
   rises_from order [] steps = tt
   rises_from order (x ∷ []) steps = (tt, tt)

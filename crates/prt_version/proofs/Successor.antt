@@ -33,7 +33,7 @@ use Rattle.prt_version.proofs.RuleOrder.{put_ids, put_rises, put_unlike}
 room_for : (most n : ℕ) → nat_lt n most ≡ true → n + 1 ≤ most
 room_for most n h = grind (arith, nat_tests)
 
--- the change stands, and there is room for one more command
+-- the result is the change, and there is room for one more command
 record IsCounted (count : ℕ) (r : Result Change Refusal) (made : Change) : Type 0 where
   is : r ≡ Ok made
   room : count + 1 ≤ MOST_COMMANDS
@@ -143,7 +143,7 @@ one_more_rule state rule id absent sound counts room =
       routes_fit = sound.routes_fit;
     }
 
--- the state after the change that is made is sound where the state after the one that was asked for is
+-- the state after the change that is made is sound if the state after the one that was asked for is
 as_made : (state : State) (asked made : Change) → asked ≡ made → IsSound (put state asked) → IsSound (put state made)
 as_made state asked made is sound = subst (λ c. IsSound (put state c)) is sound
 

@@ -1,4 +1,4 @@
--- Rules that are asked one after another.
+-- Rules that are tried one after another.
 use Rattle.std.proofs.Common.{◌≡◌, ℕ, ◌+◌, ◌<◌, Bool, List, [], ◌∷◌, Option, Some, None, refl, sym, ap, ◌∙◌, length, drop, get_or, drop-cons, add-one, suc, true, false, cond}
 use Rattle.std.specs.Prelude.{filter, is_some, option_and_then, unwrap_or}
 use Rattle.std.specs.List.{AllByRecursion as Each}

@@ -26,7 +26,7 @@ refusal_all state (command ∷ commands) = or_later (refusal state command) (ref
 abbrev pub IsRefusedFor : State → List Command → Refusal → Type 0
 IsRefusedFor state commands reason = (refusal_all state commands ≡ Some reason) ⊎ (reason ≡ NoMemory)
 
--- one change before others, where one is made
+-- one change before others, if one is made
 abbrev pub with_made : Result Change Refusal → List Change → List Change
 with_made (Ok made) changes = made ∷ changes
 with_made (Err reason) changes = changes

@@ -36,7 +36,7 @@ has_rule new rules = list_any (λ rule. is_same_rule rule new) rules
 abbrev pub named_rule : RuleChoice → List Rule → Option Rule
 named_rule choice rules = find (is_named choice) rules
 
--- the change, where there is room for one more
+-- the change, if there is room for one more
 abbrev pub if_room : ℕ → ℕ → Change → Result Change Refusal
 if_room count most made = if nat_lt count most then Ok made else Err Full
 
@@ -73,7 +73,7 @@ put state (change.RulePut rule) = record { count = state.count + 1; rules = inse
 put state (change.RuleDrop id) = record { count = state.count + 1; rules = filter (λ rule. not (rule.id == id)) state.rules; routes = state.routes }
 put state change.RuleFlush = record { count = state.count + 1; rules = filter (λ rule. rule.priority == 0) state.rules; routes = state.routes }
 
--- the state after a change, or as it was where none is made
+-- the state after a change, or as it was if none is made
 abbrev pub put_if : State → Result Change Refusal → State
 put_if state (Ok made) = put state made
 put_if state (Err reason) = state

@@ -10,7 +10,7 @@ use Rattle.prt_version.specs.State.{State, table_rule}
 abbrev pub rule_for_all : Option ℕ → Action → NewRule
 rule_for_all priority action = record { priority = priority; inverted = false; from = everything; to = everything; iif = None; mark = None; action = action; suppress = None }
 
--- so many rules, of the priorities from this one on, before these
+-- this many rules, of the priorities from this one on, before these
 abbrev pub lookups : ℕ → ℕ → List Rule → List Rule
 lookups priority zero rules = rules
 lookups priority (suc n) rules = table_rule (priority + 3) priority 7 ∷ lookups (priority + 1) n rules
@@ -19,6 +19,6 @@ lookups priority (suc n) rules = table_rule (priority + 3) priority 7 ∷ lookup
 abbrev pub full_of_rules : State
 full_of_rules = record { count = 997; rules = table_rule 1 0 255 ∷ lookups 1 997 (table_rule 2 32766 254 ∷ table_rule 3 32767 253 ∷ []); routes = [] }
 
--- one that has accepted so many commands
+-- one that has accepted this many commands
 abbrev pub after_count : ℕ → State → State
 after_count count state = record { count = count; rules = state.rules; routes = state.routes }

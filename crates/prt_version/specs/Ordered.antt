@@ -1,4 +1,4 @@
--- The rules and the routes of a state, but for their order.
+-- The rules and the routes of a state, except for their order.
 use Rattle.std.specs.Prelude.{◌≤◌, ℕ, ◌+◌, Bool, ◌&&◌, ◌==◌, nat_le, List, length, IsTrue}
 use Rattle.std.specs.List.{IsDistinct, list_all}
 use Rattle.prt_route.specs.Storable.{is_storable_route}
@@ -16,14 +16,14 @@ has_same_id rule other = rule.id == other.id
 abbrev pub is_rule_of : ℕ → Rule → Bool
 is_rule_of count rule = nat_le 1 rule.id && nat_le rule.id (count + 3) && is_storable_rule rule.action rule.suppress
 
--- the rules of a state of this count, but for their order
+-- the rules of a state of this count, except for their order
 pub record AreRules (count : ℕ) (rules : List Rule) : Type 0 where
   pub fit : length rules ≤ MOST_RULES
   pub each : IsTrue (list_all (is_rule_of count) rules)
   pub unlike : IsDistinct is_same_rule rules
   pub ids : IsDistinct has_same_id rules
 
--- the routes of a state, but for their order
+-- the routes of a state, except for their order
 pub record AreRoutes (routes : List Route) : Type 0 where
   pub fit : length routes ≤ MOST_ROUTES
   pub each : IsTrue (list_all is_storable_route routes)

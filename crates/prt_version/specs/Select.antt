@@ -20,16 +20,16 @@ abbrev pub is_throw : Kind → Bool
 is_throw Throw = true
 is_throw kind = false
 
--- what a lookup in a table gives: its best route for the packet, if that is no throw route
+-- what a lookup in a table returns: its best route for the packet, if that is no throw route
 abbrev pub table_lookup : ℕ → List Route → Packet → Option Route
 table_lookup table routes packet = keep (λ route. not (is_throw route.kind)) (best routes table packet.dst)
 
--- a rule of this length says nothing where it finds a unicast route whose prefix is of that length or less
+-- a rule of this length says nothing if it finds a unicast route whose prefix is of that length or less
 abbrev pub suppresses : Option ℕ → Route → Bool
 suppresses None route = false
 suppresses (Some len) route = is_same_kind Unicast route.kind && nat_le route.prefix.len len
 
--- a lookup gives the route that it finds, if it finds one and does not suppress it, and any other action is itself the verdict
+-- a lookup returns the route that it finds, if it finds one and does not suppress it, and any other action is itself the verdict
 abbrev pub verdict_by : Action → Option ℕ → ℕ → List Route → Packet → Option Verdict
 verdict_by (Lookup table) suppress priority routes packet = option_map (λ route. verdict.Route priority route) (keep (λ route. not (suppresses suppress route)) (table_lookup table routes packet))
 verdict_by action suppress priority routes packet = Some (verdict.RuleSays priority action)

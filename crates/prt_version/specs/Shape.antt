@@ -14,7 +14,7 @@ abbrev pub IsShape : Shape → Type 0
 IsShape (Few tables) = AreTables tables.items
 IsShape (Many groups) = AreGroups groups.items × (0 < length groups.items)
 
--- the tables have so many rows, and no more than a version may have
+-- the tables have this many rows, and no more than a version may have
 pub record AreWhole (shape : Shape) (len : ℕ) : Type 0 where
   pub tables : IsShape shape
   pub count : len ≡ length (all_rows (tables_of shape))

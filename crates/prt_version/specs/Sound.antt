@@ -11,7 +11,7 @@ use Rattle.prt_version.specs.declared.limits.TheConstants.{MOST_COMMANDS, MOST_R
 pub record IsSound (state : State) : Type 0 where
   -- no more commands were accepted than ever are
   pub count_fits : state.count ≤ MOST_COMMANDS
-  -- the rules rise by priority, then by id: each is asked before those after it
+  -- the rules rise by priority, then by id: each is tried before those after it
   pub rules_rise : IsInOrder state.rules
   -- each rule's id is 1 or more: a new database's three rules have 1 to 3
   pub ids_from_one : Each (λ rule. 1 ≤ rule.id) state.rules

@@ -6,7 +6,7 @@ use Rattle.prt_route.specs.Names.{default_table, local_table, main_table}
 use Rattle.prt_rule.specs.declared.rule.Action.TheVariants.{Lookup}
 use Rattle.prt_rule.specs.declared.rule.Rule.{Rule}
 
--- How many commands were ever accepted, the rules in the order in which they are asked, and the routes in the order of listings.
+-- How many commands were ever accepted, the rules in the order in which they are tried, and the routes in the order of listings.
 pub record State : Type 0 where
   pub count : ℕ
   pub rules : List Rule

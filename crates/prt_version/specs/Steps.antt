@@ -26,7 +26,7 @@ pub record IsFirst (rules : List Rule) (list before : ℕ) (routes : List Route)
   pub says : (d : Rule) → decision (slice_index_or rules place d) routes packet ≡ Some verdict
   pub silent : IsSilent rules list place routes packet
 
--- the first rule of the list that decides, up to this place; None where none does
+-- the first rule of the list that decides, up to this place; None if none does
 abbrev pub IsFirstIn : List Rule → ℕ → ℕ → List Route → Packet → Option (ℕ × Verdict) → Type 0
 IsFirstIn rules list before routes packet None = IsSilent rules list before routes packet
 IsFirstIn rules list before routes packet (Some found) = IsFirst rules list before routes packet found.0 found.1

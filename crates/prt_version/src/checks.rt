@@ -6,21 +6,21 @@ use crate::{Change, Command, MOST_ROUTES, MOST_RULES, NewRule, Refusal, Route, R
 use prt_route::{RouteChoice, RouteEdit};
 use prt_rule::{RuleChoice, same};
 
-/// Tells whether one of the rules is equal to this one in all but the id.
+/// Checks whether one of the rules is equal to this one in all but the id.
 fn has_rule(rules: &[Rule], new: &Rule) -> bool
     ensures { result ≡ has_rule new.now rules.now }
 {
     rules.iter().any(|rule| same(rule, new))
 }
 
-/// Gives the first rule that the choice names.
+/// Finds the first rule that the choice names.
 fn named_rule<'a>(rules: &'a [Rule], choice: &RuleChoice) -> Option<&'a Rule>
     ensures { option_map (λ r. r.now) result ≡ named_rule choice.now rules.now }
 {
     rules.iter().find(|rule| choice.agrees(rule))
 }
 
-/// Gives the change, where there is room for one more.
+/// Returns the change if there is room for one more.
 fn if_room(count: usize, most: usize, change: Change) -> Result<Change, Refusal>
     ensures { result ≡ if_room count most change }
 {
@@ -31,7 +31,7 @@ fn if_room(count: usize, most: usize, change: Change) -> Result<Change, Refusal>
     }
 }
 
-/// Gives the change of `add` of a route.
+/// Finds the change for `add` of a route.
 fn route_addition(version: &Version, route: &Route) -> Result<Change, Refusal>
     ensures { result ≡ change_of version.now (Command.RouteAdd route.now) }
 {
@@ -42,7 +42,7 @@ fn route_addition(version: &Version, route: &Route) -> Result<Change, Refusal>
     if_room(routes.len(), MOST_ROUTES, Change::RouteAdd(*route))
 }
 
-/// Gives the change of `change` of a route.
+/// Finds the change for `change` of a route.
 fn route_change(version: &Version, route: &Route) -> Result<Change, Refusal>
     ensures { result ≡ change_of version.now (Command.RouteChange route.now) }
 {
@@ -53,7 +53,7 @@ fn route_change(version: &Version, route: &Route) -> Result<Change, Refusal>
     }
 }
 
-/// Gives the change of `replace` of a route.
+/// Finds the change for `replace` of a route.
 fn route_replacement(version: &Version, route: &Route) -> Result<Change, Refusal>
     ensures { result ≡ change_of version.now (Command.RouteReplace route.now) }
 {
@@ -65,7 +65,7 @@ fn route_replacement(version: &Version, route: &Route) -> Result<Change, Refusal
     if_room(routes.len(), MOST_ROUTES, change)
 }
 
-/// Gives the change of `del` of a route.
+/// Finds the change for `del` of a route.
 fn route_removal(version: &Version, choice: &RouteChoice) -> Result<Change, Refusal>
     ensures { result ≡ change_of version.now (Command.RouteDel choice.now) }
 {
@@ -75,7 +75,7 @@ fn route_removal(version: &Version, choice: &RouteChoice) -> Result<Change, Refu
     }
 }
 
-/// Gives the change of `add` of a rule.
+/// Finds the change for `add` of a rule.
 fn rule_addition(version: &Version, new: &NewRule) -> Result<Change, Refusal>
     ensures { result ≡ change_of version.now (Command.RuleAdd new.now) }
 {
@@ -87,7 +87,7 @@ fn rule_addition(version: &Version, new: &NewRule) -> Result<Change, Refusal>
     if_room(rules.len(), MOST_RULES, Change::RulePut(rule))
 }
 
-/// Gives the change of `del` of a rule.
+/// Finds the change for `del` of a rule.
 fn rule_removal(version: &Version, choice: &RuleChoice) -> Result<Change, Refusal>
     ensures { result ≡ change_of version.now (Command.RuleDel choice.now) }
 {
@@ -97,7 +97,7 @@ fn rule_removal(version: &Version, choice: &RuleChoice) -> Result<Change, Refusa
     }
 }
 
-/// Gives the change that the command asks for, if what is there allows it.
+/// Finds the change that the command asks for, if what is there allows it.
 pub(crate) fn change_of(version: &Version, command: &Command) -> Result<Change, Refusal>
     ensures { result ≡ change_of version.now command.now }
 {

@@ -16,7 +16,7 @@ use crate::{Action, MOST_COMMANDS, MOST_ROUTES, MOST_RULES, Refusal, Route, Rule
 use prt_rule::{Dev, Mark, Prefix};
 use std::cmp::Ordering;
 
-/// Tells whether the rule may be one of a database that accepted so many commands.
+/// Checks whether the rule may be one of a database that accepted this many commands.
 fn is_rule_of(number: u64, rule: &Rule) -> bool
     requires { number ≤ MOST_COMMANDS }
     ensures { result ≡ is_rule_of number rule.now }
@@ -24,7 +24,7 @@ fn is_rule_of(number: u64, rule: &Rule) -> bool
     rule.id > 0 && rule.id <= number + 3 && rule.is_storable()
 }
 
-/// Tells whether each of the rules may be one of such a database.
+/// Checks whether each of the rules may be one of such a database.
 fn are_rules_of(number: u64, rules: &[Rule]) -> bool
     requires { number ≤ MOST_COMMANDS }
     ensures { result ≡ list_all (is_rule_of number) rules.now }
@@ -32,7 +32,7 @@ fn are_rules_of(number: u64, rules: &[Rule]) -> bool
     rules.iter().all(|rule| is_rule_of(number, rule))
 }
 
-/// Tells whether a database may hold each of the routes.
+/// Checks whether a database may hold each of the routes.
 fn are_storable_routes(routes: &[Route]) -> bool
     ensures { result ≡ list_all is_storable_route routes.now }
 {
@@ -46,7 +46,7 @@ fn prefix_pair(prefix: &Prefix) -> (u32, u8)
     (prefix.bits(), prefix.len())
 }
 
-/// What actions are sorted by: lookups stand first, by their tables.
+/// What actions are sorted by: lookups come first, by their tables.
 fn action_pair(action: &Action) -> (u8, u32)
     ensures { result ≡ action_pair action.now }
 {
@@ -102,7 +102,7 @@ fn content_cmp(rule: &Rule, other: &Rule) -> Ordering
         .then(rule.suppress.cmp(&other.suppress))
 }
 
-/// Tells whether no two of the rules are the same but for their ids. Sorts them by all but the id.
+/// Checks whether no two of the rules are the same except for their ids. Sorts them by all but the id.
 fn are_unlike(rules: &mut Vec<Rule>) -> bool
     ensures moved { IsPermutation rules.old.items rules.new.items }
     ensures value { IsTrue result ↔ IsDistinct is_same_rule rules.new.items }
@@ -111,7 +111,7 @@ fn are_unlike(rules: &mut Vec<Rule>) -> bool
     rules.is_sorted_by(|rule, next| content_cmp(rule, next).is_lt())
 }
 
-/// Tells whether no two of the rules have the same id. Sorts them by their ids.
+/// Checks whether no two of the rules have the same id. Sorts them by their ids.
 fn have_distinct_ids(rules: &mut Vec<Rule>) -> bool
     ensures moved { IsPermutation rules.old.items rules.new.items }
     ensures value { IsTrue result ↔ IsDistinct has_same_id rules.new.items }
@@ -120,7 +120,7 @@ fn have_distinct_ids(rules: &mut Vec<Rule>) -> bool
     rules.is_sorted_by(|rule, next| rule.id < next.id)
 }
 
-/// Sorts rules of distinct ids into the order in which they are asked.
+/// Sorts rules of distinct ids into the order in which they are tried.
 fn sort_rules(rules: &mut Vec<Rule>)
     requires { IsDistinct has_same_id rules.old.items }
     ensures moved { IsPermutation rules.old.items rules.new.items }
@@ -129,7 +129,7 @@ fn sort_rules(rules: &mut Vec<Rule>)
     rules.sort_unstable_by_key(|rule| (rule.priority, rule.id));
 }
 
-/// The rules in the order in which they are asked, if a database that accepted so many commands may have them.
+/// The rules in the order in which they are tried, if a database that accepted this many commands may have them.
 ///
 /// # Errors
 ///
@@ -150,7 +150,7 @@ pub(crate) fn ordered_rules(number: u64, mut rules: Vec<Rule>) -> Result<Vec<Rul
     Ok(rules)
 }
 
-/// Tells whether no two of the routes have the same key. Sorts them in the order of listings.
+/// Checks whether no two of the routes have the same key. Sorts them in the order of listings.
 fn have_distinct_keys(routes: &mut Vec<Route>) -> bool
     ensures moved { IsPermutation routes.old.items routes.new.items }
     ensures value { IsTrue result ↔ IsDistinct has_same_key routes.new.items }

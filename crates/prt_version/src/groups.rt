@@ -12,7 +12,7 @@ use std::alloc::{AllocError, Global};
 use std::marker::Model;
 use std::sync::Arc;
 
-/// How many tables each new group has, but for the last. It is half of the most, so that many edits fit.
+/// How many tables each new group has, except for the last. It is half of the most, so that many edits fit.
 const TABLES_OF_GROUP: usize = 32;
 
 /// Tables whose numbers follow each other, which versions share until an edit of one of them.
@@ -46,7 +46,7 @@ impl Group {
         })
     }
 
-    /// Gives one more owner of the same tables.
+    /// Makes one more owner of the same tables.
     fn share(&self) -> Result<Group, AllocError>
         ensures { IfOk result (λ group. group ≡ self.now) }
     {
@@ -56,7 +56,7 @@ impl Group {
         })
     }
 
-    /// Gives its tables.
+    /// Returns its tables.
     pub(crate) fn as_slice(&self) -> &[SharedTable]
         ensures { result.now ≡ self.now.tables }
     {
@@ -127,7 +127,7 @@ pub(crate) fn groups_around(
     Ok(groups)
 }
 
-/// Gives the place of the group where a table of this number stands or would stand.
+/// Finds the place of the group where a table of this number is or would be.
 fn group_for(groups: &[Group], number: u32) -> usize
     requires are { AreGroups groups.now }
     requires some { 0 < length groups.now }
@@ -140,7 +140,7 @@ fn group_for(groups: &[Group], number: u32) -> usize
         .saturating_sub(1)
 }
 
-/// Parts the groups at the one where a table of this number stands or would stand.
+/// Splits the groups at the one where a table of this number is or would be.
 pub(crate) fn split_groups(groups: &[Group], number: u32) -> (&[Group], &Group, &[Group])
     requires are { AreGroups groups.now }
     requires some { 0 < length groups.now }
@@ -152,7 +152,7 @@ pub(crate) fn split_groups(groups: &[Group], number: u32) -> (&[Group], &Group, 
     (&groups[..place], &groups[place], &groups[place + 1..])
 }
 
-/// Gives the tables of the group where a table of this number stands or would stand.
+/// Finds the tables of the group where a table of this number is or would be.
 pub(crate) fn tables_for(groups: &[Group], number: u32) -> &[SharedTable]
     requires are { AreGroups groups.now }
     requires some { 0 < length groups.now }
@@ -178,7 +178,7 @@ fn push_selected_of_all(
     Ok(())
 }
 
-/// Puts copies of the routes that the selector takes behind the rows so far. Where it names a table, only the group of
+/// Puts copies of the routes that the selector takes behind the rows so far. If it names a table, only the group of
 /// that is read.
 pub(crate) fn push_selected_of(
     rows: &mut Vec<Route>,

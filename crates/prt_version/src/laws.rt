@@ -21,7 +21,7 @@ pub fn one_form()
         state ≡ other }
 {}
 
-/// Rows spell one state at most.
+/// Rows encode one state at most.
 pub fn spelled_once()
     ensures { (number : ℕ) (rules : List Rule) (routes : List Route) (state other : State) →
         RowsSpell number rules routes state → RowsSpell number rules routes other → state ≡ other }

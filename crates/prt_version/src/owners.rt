@@ -11,7 +11,7 @@ use std::sync::Arc;
 ///
 /// # Errors
 ///
-/// `NoMemory` where memory is refused; the value is gone.
+/// `NoMemory` if memory is refused; the value is gone.
 pub fn first_owner<T: Drop>(alloc: Global, value: T) -> Result<Arc<T>, Refusal>
     ensures value { IfOk result (λ owner. arc_value owner ≡ value) }
     ensures reason { IfErr result (λ reason. reason ≡ NoMemory) }
@@ -20,11 +20,11 @@ pub fn first_owner<T: Drop>(alloc: Global, value: T) -> Result<Arc<T>, Refusal>
     Ok(owner)
 }
 
-/// Gives one more owner of the same value.
+/// Makes one more owner of the same value.
 ///
 /// # Errors
 ///
-/// `NoMemory` where the value has as many owners as can be counted.
+/// `NoMemory` if the value has as many owners as can be counted.
 pub fn share<T: Drop>(owner: &Arc<T>) -> Result<Arc<T>, Refusal>
     ensures value { IfOk result (λ other. arc_value other ≡ arc_value owner.now) }
     ensures reason { IfErr result (λ reason. reason ≡ NoMemory) }

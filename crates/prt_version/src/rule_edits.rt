@@ -8,14 +8,14 @@ use crate::Rule;
 use prt_rule::is_before;
 use std::alloc::{AllocError, Global};
 
-/// Gives the place of the first rule that the new one is before.
+/// Finds the place of the first rule that the new one comes before.
 fn rule_after(rules: &[Rule], new: &Rule) -> Option<usize>
     ensures { result ≡ position (λ rule. is_before new.now rule) rules.now }
 {
     rules.iter().position(|rule| is_before(new, rule))
 }
 
-/// Gives the place of a new rule in the order in which they are asked.
+/// Finds the place of a new rule in the order in which they are tried.
 #[tactic(auto, using(crate::proofs::Places::rule_within))]
 fn rule_place(rules: &[Rule], new: &Rule) -> usize
     ensures within { result ≤ length rules.now }
@@ -43,7 +43,7 @@ pub(crate) fn with_rule(alloc: Global, rules: &[Rule], new: &Rule) -> Result<Vec
     Ok(rows)
 }
 
-/// Makes a copy of the rules but for the one that has this id.
+/// Makes a copy of the rules except the one that has this id.
 pub(crate) fn without_rule(alloc: Global, rules: &[Rule], id: u64) -> Result<Vec<Rule>, AllocError>
     ensures { IfOk result (λ rows. rows.items ≡ filter (λ rule. not (rule.id == id)) rules.now) }
 {

@@ -16,7 +16,7 @@ use std::alloc::{AllocError, Global};
 /// How many lists there are: 64 at each of six levels, for interfaces and for marks, and that of the rest.
 const LISTS: usize = 513;
 
-/// The list of the rules that nothing tells from the rest, and of the inverted ones.
+/// The list of the rules that nothing distinguishes from the rest, and of the inverted ones.
 const REST: usize = 0;
 
 /// The level of the sources of 32 bits, before those of 24 bits or more and of 16 or more.
@@ -25,15 +25,15 @@ const SOURCES: usize = 0;
 /// The level of the destinations of 32 bits, before the same two.
 const DESTINATIONS: usize = 3;
 
-/// Lists of rules, each by its rules' places among all, which rise: the first place of each list, and for each place the
-/// next of the same list. The number of rules stands for none.
+/// Lists of rules, each by its rules' places among all, which rise. They are kept as the first place of each list, and for each
+/// place the next of the same list. The number of rules means none.
 #[derive(Drop)]
 pub(crate) struct RuleIndex {
     pub first: [u32; LISTS],
     pub next: Vec<u32>,
 }
 
-/// Gives the list of an address at this level, at which so many bits from its end don't count.
+/// Computes the list of an address at this level, at which this many bits from its end don't count.
 fn list_at(level: usize, bits: u32, addr: Addr) -> usize
     requires level { level < 6 }
     requires bits { bits < 32 }
@@ -43,7 +43,7 @@ fn list_at(level: usize, bits: u32, addr: Addr) -> usize
     (addr.0 >> bits) as usize % 64 + 64 * level + 1
 }
 
-/// Gives the list of a prefix, at the first of the three levels from this one on for which it is long enough.
+/// Chooses the list of a prefix, at the first of the three levels from this one on for which it is long enough.
 fn list_in(level: usize, prefix: &Prefix) -> usize
     requires { level < 4 }
     ensures value { result ≡ list_in level prefix.now }
@@ -62,7 +62,7 @@ fn list_in(level: usize, prefix: &Prefix) -> usize
     }
 }
 
-/// Gives the list of the interface of this name.
+/// Computes the list of the interface of this name.
 fn list_named(name: &Dev) -> usize
     ensures value { result ≡ list_named name.now }
     ensures within { result < 513 }
@@ -74,7 +74,7 @@ fn list_named(name: &Dev) -> usize
     number + 385
 }
 
-/// Gives the list of a mark.
+/// Computes the list of a mark.
 fn list_marked(mark: u32) -> usize
     ensures value { result ≡ list_marked mark }
     ensures within { result < 513 }
@@ -82,7 +82,7 @@ fn list_marked(mark: u32) -> usize
     mark as usize % 64 + 449
 }
 
-/// Gives the list of a rule without addresses: that of its interface, otherwise that of its mark where the last six bits
+/// Chooses the list of a rule without addresses: that of its interface, otherwise that of its mark if the last six bits
 /// of it count.
 fn list_beside(rule: &Rule) -> usize
     ensures value { result ≡ list_beside rule.now.iif rule.now.mark }
@@ -95,8 +95,8 @@ fn list_beside(rule: &Rule) -> usize
     }
 }
 
-/// Gives the list of a rule: that of its source, where that is long enough, otherwise that of its destination, and where
-/// that isn't either, that of what it names beside.
+/// Chooses the list of a rule: that of its source or else of its destination, if that is long enough. If neither is, it is that
+/// of what the rule names besides.
 pub(crate) fn list_of(rule: &Rule) -> usize
     ensures value { result ≡ list_of rule.now }
     ensures within { result < 513 }
@@ -116,7 +116,7 @@ pub(crate) fn list_of(rule: &Rule) -> usize
     list_beside(rule)
 }
 
-/// Gives the lists that have each rule that matches the packet.
+/// Collects the lists that have each rule that matches the packet.
 pub(crate) fn lists_for(packet: &Packet) -> [usize; 9]
     ensures value { result ≡ lists_for packet.now }
     ensures within { All (λ list. list < 513) result }
@@ -134,7 +134,7 @@ pub(crate) fn lists_for(packet: &Packet) -> [usize; 9]
     ]
 }
 
-/// Gives lists that all begin at this place.
+/// Makes lists that all begin at this place.
 fn all_at(place: u32) -> [u32; LISTS]
     ensures count { length result ≡ 513 }
     ensures each { (list d : ℕ) → list < 513 → slice_index_or result list d ≡ place }
@@ -143,7 +143,7 @@ fn all_at(place: u32) -> [u32; LISTS]
 }
 
 impl RuleIndex {
-    /// Makes the index of the rules, where it tells half of them or more from the rest.
+    /// Makes the index of the rules, if it distinguishes half of them or more from the rest.
     pub fn over(alloc: Global, rules: &[Rule]) -> Result<Option<RuleIndex>, AllocError>
         requires { length rules.now ≤ MOST_RULES }
         ensures { IfOk result (λ index. HasIndex rules.now index) }

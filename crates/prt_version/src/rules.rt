@@ -1,4 +1,4 @@
-//! The rules of a version, in the order in which they are asked, with an index where they are many.
+//! The rules of a version, in the order in which they are tried, with an index if they are many.
 ghost use Rattle.std.specs.Prelude.{◌≡◌, IfOk};
 ghost use Rattle.prt_rule.specs.Sound.{IsInOrder};
 ghost use Rattle.prt_version.specs.RuleIndex.{HasIndex};
@@ -11,10 +11,10 @@ use crate::{MOST_RULES, Packet, Rule, Verdict};
 use std::alloc::{AllocError, Global};
 use std::marker::Model;
 
-/// How many rules are asked one after another with no index.
+/// How many rules are tried one after another with no index.
 const FEW: usize = 50;
 
-/// The rules in the order in which they are asked, which versions share until one changes.
+/// The rules in the order in which they are tried, which versions share until one changes.
 #[derive(Drop)]
 pub struct Rules {
     rules: Vec<Rule>,
@@ -33,7 +33,7 @@ impl Model for Rules {
     ghost invariant = { λ it. HasIndex it.rules.items it.index };
 }
 
-/// Makes the index of the rules, where they are many and it tells them from each other.
+/// Makes the index of the rules, if they are many and it distinguishes them from each other.
 fn index_of(alloc: Global, rules: &[Rule]) -> Result<Option<RuleIndex>, AllocError>
     ensures { IfOk result (λ index. HasIndex rules.now index) }
 {
@@ -44,7 +44,7 @@ fn index_of(alloc: Global, rules: &[Rule]) -> Result<Option<RuleIndex>, AllocErr
 }
 
 impl Rules {
-    /// Takes the rules, which stand in the order in which they are asked.
+    /// Takes the rules, which are in the order in which they are tried.
     pub(crate) fn new(rules: Vec<Rule>) -> Result<Rules, AllocError>
         ensures { IfOk result (λ all. all ≡ rules.items) }
     {
@@ -52,19 +52,19 @@ impl Rules {
         Ok(Rules { rules, index })
     }
 
-    /// Gives the rules, in the order in which they are asked.
+    /// Returns the rules, in the order in which they are tried.
     pub fn as_slice(&self) -> &[Rule]
         ensures { result.now ≡ self.now }
     {
         self.rules.as_slice()
     }
 
-    /// Gives the allocator of the rules.
+    /// Returns the allocator of the rules.
     pub fn allocator(&self) -> &Global {
         self.rules.allocator()
     }
 
-    /// Tells what the rules make of a packet.
+    /// Finds what the rules make of a packet.
     pub(crate) fn verdict(&self, routes: &Tables, packet: &Packet) -> Verdict
         requires { IsInOrder self.now }
         ensures { result ≡ verdict_of self.now routes.now packet.now }

@@ -23,7 +23,7 @@ fn table_lookup<'a>(routes: &'a Tables, table: u32, packet: &Packet) -> Option<&
     }
 }
 
-/// Tells whether a rule says nothing where it finds this route: it suppresses unicast routes whose prefixes have this
+/// Checks whether a rule says nothing if it finds this route: it suppresses unicast routes whose prefixes have this
 /// length or less (`ip-rule(8)`, `suppress_prefixlength`).
 fn suppresses(suppress: Option<u8>, route: &Route) -> bool
     ensures { result ≡ suppresses suppress route.now }
@@ -34,7 +34,7 @@ fn suppresses(suppress: Option<u8>, route: &Route) -> bool
     }
 }
 
-/// Tells what one rule says of a packet, if it decides (`ip-rule(8)`).
+/// Finds what one rule says of a packet, if it decides (`ip-rule(8)`).
 #[inline(always)]
 fn decision(rule: &Rule, routes: &Tables, packet: &Packet) -> Option<Verdict>
     ensures { result ≡ decision rule.now routes.now packet.now }
@@ -52,7 +52,7 @@ fn decision(rule: &Rule, routes: &Tables, packet: &Packet) -> Option<Verdict>
     Some(Verdict::Route(rule.priority, *route))
 }
 
-/// Tells what the first of these rules that decides says.
+/// Finds what the first of these rules that decides says.
 #[tactic(auto, using(crate::proofs::Verdicts::decides, crate::proofs::Verdicts::passes_on))]
 pub(crate) fn first_verdict(rules: &[Rule], routes: &Tables, packet: &Packet) -> Verdict
     ensures { result ≡ first_verdict rules.now routes.now packet.now }
@@ -65,7 +65,7 @@ pub(crate) fn first_verdict(rules: &[Rule], routes: &Tables, packet: &Packet) ->
     Verdict::NoRoute
 }
 
-/// Gives the place of the first rule of the list that decides, before this place, and what it says.
+/// Finds the place of the first rule of the list that decides, before this place, and what it says.
 fn first_in(
     rules: &[Rule],
     index: &RuleIndex,
@@ -89,7 +89,7 @@ fn first_in(
     None
 }
 
-/// Tells what the first of the rules that decides says, and asks only those in the lists of the packet.
+/// Finds what the first of the rules that decides says, and tries only those in the lists of the packet.
 pub(crate) fn indexed_verdict(
     rules: &[Rule],
     index: &RuleIndex,

@@ -6,7 +6,7 @@ ghost use Rattle.prt_version.specs.Change.{apply, fold, refusal};
 
 use crate::{Change, Command, Refusal, Version};
 
-/// Gives the version after a command, and adds the change that it makes.
+/// Makes the version after a command, and adds the change that it makes.
 ///
 /// # Errors
 ///

@@ -33,7 +33,7 @@ impl Model for SharedTable {
     ghost view = { λ shared. record { number = shared.number; rows = arc_value shared.table } };
 }
 
-/// Gives the number of the one table that the edit may change; `None` where it may change each.
+/// Returns the number of the one table that the edit may change; `None` if it may change each.
 pub(crate) fn named_table(edit: &RouteEdit) -> Option<u32>
     ensures { result ≡ named_table edit.now }
 {
@@ -44,7 +44,7 @@ pub(crate) fn named_table(edit: &RouteEdit) -> Option<u32>
     }
 }
 
-/// Tells whether the edit may change a row of the table of this number.
+/// Checks whether the edit may change a row of the table of this number.
 fn names_table(edit: &RouteEdit, number: u32) -> bool
     ensures { result ≡ names_table edit.now number }
 {
@@ -56,7 +56,7 @@ fn names_table(edit: &RouteEdit, number: u32) -> bool
 }
 
 impl SharedTable {
-    /// Gives one more owner of the same table.
+    /// Makes one more owner of the same table.
     fn share(&self) -> Result<SharedTable, AllocError>
         ensures { IfOk result (λ shared. shared ≡ self.now) }
     {
@@ -76,7 +76,7 @@ impl SharedTable {
         })
     }
 
-    /// Gives the table after the edit: the same one where the edit names another.
+    /// Makes the table after the edit: the same one if the edit names another.
     fn after_edit(&self, alloc: Global, edit: &RouteEdit) -> Result<SharedTable, AllocError>
         requires { HasOwnRows self.now }
         ensures { IfOk result (λ shared. shared ≡ table_after edit.now self.now) }
@@ -90,7 +90,7 @@ impl SharedTable {
         SharedTable::with_rows(alloc, self.number, table)
     }
 
-    /// Tells whether the table has routes.
+    /// Returns whether the table has routes.
     fn has_rows(&self) -> bool
         ensures { result ≡ has_rows self.now }
     {
@@ -114,7 +114,7 @@ impl SharedTable {
     }
 }
 
-/// Gives the table of this number.
+/// Finds the table of this number.
 pub(crate) fn find_table(tables: &[SharedTable], number: u32) -> Option<&SharedTable>
     requires { AreTables tables.now }
     ensures { unwrap_or (option_map (λ table. table.now.rows) result) [] ≡ rows_of_table number (all_rows tables.now) }
@@ -153,14 +153,14 @@ pub(crate) fn push_selected(
     Ok(())
 }
 
-/// Tells whether there is a table of this number.
+/// Checks whether there is a table of this number.
 fn has_table(tables: &[SharedTable], number: u32) -> bool
     ensures { result ≡ has_table number tables.now }
 {
     tables.iter().any(|table| table.number == number)
 }
 
-/// Tells how many routes the tables have.
+/// Counts how many routes the tables have.
 pub(crate) fn count_rows(tables: &[SharedTable]) -> usize
     requires { length (all_rows tables.now) ≤ MOST_ROUTES }
     ensures { result ≡ length (all_rows tables.now) }
@@ -172,7 +172,7 @@ pub(crate) fn count_rows(tables: &[SharedTable]) -> usize
     count
 }
 
-/// Gives the tables after the edit, but for one that has no routes left.
+/// Makes the tables after the edit, except one that has no routes left.
 fn tables_after(
     alloc: Global,
     tables: &[SharedTable],
@@ -210,14 +210,14 @@ fn table_of(alloc: Global, route: &Route) -> Result<SharedTable, AllocError>
     table_of_rows(alloc, route.table, slice::from_ref(route))
 }
 
-/// Gives the place of the first table whose number is higher.
+/// Finds the place of the first table whose number is higher.
 fn table_above(tables: &[SharedTable], number: u32) -> Option<usize>
     ensures { result ≡ position (λ table. nat_lt number table.number) tables.now }
 {
     tables.iter().position(|table| number < table.number)
 }
 
-/// Gives the tables with a new one of the route in its place.
+/// Makes the tables with a new one of the route in its place.
 fn with_table_of(
     alloc: Global,
     mut tables: Vec<SharedTable>,
@@ -231,7 +231,7 @@ fn with_table_of(
     Ok(tables)
 }
 
-/// Gives all tables after the edit.
+/// Makes all tables after the edit.
 pub(crate) fn tables_with(
     alloc: Global,
     tables: &[SharedTable],
@@ -249,7 +249,7 @@ pub(crate) fn tables_with(
     }
 }
 
-/// Parts the rows of a table, which stand first, from the rows after them.
+/// Splits the rows of a table, which come first, from the rows after them.
 fn split_table(rows: &[Route], number: u32) -> (&[Route], &[Route])
     requires rising { IsRising is_listed_before rows.now }
     requires some { 0 < length rows.now }

@@ -23,7 +23,7 @@ use std::alloc::{AllocError, Global};
 use std::marker::Model;
 use std::sync::Arc;
 
-/// How many tables stand in one list, and at most in one group.
+/// How many tables are in one list, and at most in one group.
 const MOST_OF_LIST: usize = 64;
 
 /// Few tables in one list, and many in groups, so that an edit of one table copies few of them.
@@ -88,7 +88,7 @@ impl Tables {
         Ok(Tables { shape, len })
     }
 
-    /// Makes the tables of these rows, which stand in the order of listings.
+    /// Makes the tables of these rows, which are in the order of listings.
     pub(crate) fn from_sorted(alloc: Global, rows: &[Route]) -> Result<Tables, AllocError>
         requires rising { IsRising is_listed_before rows.now }
         requires room { length rows.now ≤ MOST_ROUTES }
@@ -97,7 +97,7 @@ impl Tables {
         Tables::from_tables(tables_of_rows(alloc, rows)?)
     }
 
-    /// Gives the allocator of the tables.
+    /// Returns the allocator of the tables.
     fn allocator(&self) -> Global {
         match &self.shape {
             Shape::Few(tables) => *tables.allocator(),
@@ -105,7 +105,7 @@ impl Tables {
         }
     }
 
-    /// Gives the tables among which one of this number stands, if there is one.
+    /// Finds the tables among which one of this number is, if there is one.
     fn tables_for(&self, number: u32) -> &[SharedTable]
         ensures are { AreTables result.now }
         ensures rows { rows_of_table number (all_rows result.now) ≡ rows_of_table number self.now }
@@ -116,21 +116,21 @@ impl Tables {
         }
     }
 
-    /// Gives the table of this number, with its owners; `None` where it has no routes.
+    /// Finds the table of this number, with its owners; `None` if it has no routes.
     pub fn shared_table(&self, number: u32) -> Option<&Arc<Table>>
         ensures { unwrap_or (option_map (λ table. arc_value table.now) result) [] ≡ rows_of_table number self.now }
     {
         Some(&find_table(self.tables_for(number), number)?.table)
     }
 
-    /// Gives the table of this number, if it has routes.
+    /// Finds the table of this number, if it has routes.
     fn table(&self, number: u32) -> Option<&Table>
         ensures { unwrap_or (option_map (λ table. table.now) result) [] ≡ rows_of_table number self.now }
     {
         Some(self.shared_table(number)?)
     }
 
-    /// Gives the best route of the table for the address: longest match, then lowest metric (RFC 1812, section
+    /// Finds the best route of the table for the address: longest match, then lowest metric (RFC 1812, section
     /// 5.2.4.3). It takes no memory.
     pub(crate) fn find(&self, table: u32, addr: Addr) -> Option<&Route>
         ensures { option_copied result ≡ best self.now table addr }
@@ -141,14 +141,14 @@ impl Tables {
         }
     }
 
-    /// Tells how many routes there are.
+    /// Returns how many routes there are.
     pub(crate) fn len(&self) -> usize
         ensures { result ≡ length self.now }
     {
         self.len
     }
 
-    /// Tells whether one of the routes has the key.
+    /// Checks whether one of the routes has the key.
     pub(crate) fn holds(&self, key: &RouteKey) -> bool
         ensures { result ≡ has_key key.now self.now }
     {
@@ -158,7 +158,7 @@ impl Tables {
         }
     }
 
-    /// Gives the key of the route of lowest metric among those that the choice takes (`ip-route(8)`, `delete`).
+    /// Finds the key of the route of lowest metric among those that the choice takes (`ip-route(8)`, `delete`).
     pub(crate) fn choose(&self, choice: &RouteChoice) -> Option<RouteKey>
         ensures { result ≡ option_map key_of (chosen_route choice.now self.now) }
     {
@@ -202,8 +202,8 @@ impl Tables {
         }
     }
 
-    /// Gives the routes after an edit that names one table, by its group alone; `None` where the tables aren't in groups
-    /// or the group would have no tables or too many, and for an edit of all tables.
+    /// Makes the routes after an edit that names one table, by its group alone. `None` if the tables aren't in groups or the
+    /// group would have no tables or too many, and for an edit of all tables.
     fn with_group(&self, edit: &RouteEdit) -> Result<Option<Tables>, AllocError>
         requires { length (after_edit edit.now self.now) ≤ MOST_ROUTES }
         ensures { IfOk result (λ after. IfSome after (λ after. after ≡ after_edit edit.now self.now)) }
@@ -232,7 +232,7 @@ impl Tables {
         }))
     }
 
-    /// Gives the routes after the edit, in tables that are shared but for those that it changes. These stay as they
+    /// Makes the routes after the edit, in tables that are shared except for those that it changes. These stay as they
     /// are.
     pub(crate) fn with_edit(&self, edit: &RouteEdit) -> Result<Tables, AllocError>
         requires { length (after_edit edit.now self.now) ≤ MOST_ROUTES }

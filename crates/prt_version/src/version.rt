@@ -65,7 +65,7 @@ fn table_rule(id: u64, priority: u32, table: u32) -> Rule
     }
 }
 
-/// Gives the three rules of a new database: they look up local, then main, then default (`ip-rule(8)`).
+/// Returns the three rules of a new database: they look up local, then main, then default (`ip-rule(8)`).
 pub fn opening_rules() -> [Rule; 3]
     ensures { result ≡ opening_rules }
 {
@@ -95,13 +95,14 @@ impl Version {
         })
     }
 
-    /// Makes the version that the rows of rules and of routes spell after so many commands. They come in any order.
+    /// Makes the version that the rows of rules and of routes encode after this many commands. They come in any order.
     ///
     /// # Errors
     ///
-    /// `Damaged` where they spell none: the number or the rows are more than a database has ([`MOST_COMMANDS`],
-    /// [`MOST_RULES`], [`MOST_ROUTES`]), two routes have one key, two rules have one id or are equal in all but the id,
-    /// an id is not 1 to the number + 3, or a table may not hold one of them. `NoMemory` may come before that.
+    /// `Damaged` if they encode none: the number or the rows are more than a database has ([`MOST_COMMANDS`], [`MOST_RULES`],
+    /// [`MOST_ROUTES`]), or two routes have one key. They also encode none if two rules have one id or are equal in all but the
+    /// id. The same holds if an id is not 1 to the number + 3, or a table may not hold one of them. `NoMemory` may come before
+    /// that.
     ///
     /// [`MOST_COMMANDS`]: crate::MOST_COMMANDS
     /// [`MOST_ROUTES`]: crate::MOST_ROUTES
@@ -129,7 +130,7 @@ impl Version {
         })
     }
 
-    /// Gives the number of commands that were accepted up to this version. Its contract also says what holds of each
+    /// Returns the number of commands that were accepted up to this version. Its contract also says what holds of each
     /// version, which a store asks for before it commits a change.
     pub fn number(&self) -> u64
         ensures value { result ≡ self.now.count }
@@ -138,7 +139,7 @@ impl Version {
         self.count
     }
 
-    /// Gives the rules, in the order in which they are asked.
+    /// Returns the rules, in the order in which they are tried.
     pub fn rules(&self) -> &[Rule]
         ensures value { result.now ≡ self.now.rules }
         ensures order { IsInOrder result.now }
@@ -146,28 +147,28 @@ impl Version {
         self.rules.as_slice()
     }
 
-    /// Gives the rules with their owners: the versions that share them.
+    /// Returns the rules with their owners: the versions that share them.
     pub fn shared_rules(&self) -> &Arc<Rules>
         ensures { arc_value result.now ≡ self.now.rules }
     {
         &self.rules
     }
 
-    /// Gives the routes with their owners: the versions that share them.
+    /// Returns the routes with their owners: the versions that share them.
     pub fn shared_routes(&self) -> &Arc<Tables>
         ensures { arc_value result.now ≡ self.now.routes }
     {
         &self.routes
     }
 
-    /// Gives the routes, table by table.
+    /// Returns the routes, table by table.
     pub(crate) fn tables(&self) -> &Tables
         ensures { result.now ≡ self.now.routes }
     {
         &self.routes
     }
 
-    /// Gives the routes that the selector takes, by table, address, length and metric (`ip-route(8)`, `show`).
+    /// Collects the routes that the selector takes, by table, address, length and metric (`ip-route(8)`, `show`).
     ///
     /// # Errors
     ///
@@ -180,7 +181,7 @@ impl Version {
         Ok(rows)
     }
 
-    /// Gives the rule with its id, and the priority that is given or the automatic one.
+    /// Makes the rule with its id, and the priority that is given or the automatic one.
     pub(crate) fn rule_of(&self, new: &NewRule) -> Rule
         ensures { result ≡ rule_of self.now new.now }
     {
@@ -197,14 +198,13 @@ impl Version {
         }
     }
 
-    /// Gives the change that the command makes of this version. It takes no memory.
+    /// Finds the change that the command makes of this version. It takes no memory.
     ///
     /// # Errors
     ///
-    /// `Exists` where the key of a route to add, or a rule equal in all but the id to the one to add, is there;
-    /// `NoSuch` where what is to be changed or removed is not (`ip-route(8)`, `ip-rule(8)`); otherwise `Full` where a
-    /// rule would be one more than [`MOST_RULES`], or a route one more than [`MOST_ROUTES`]; otherwise `CountFull`
-    /// after [`MOST_COMMANDS`] commands.
+    /// `Exists` if the key of a route to add, or a rule equal in all but the id to the one to add, is there. `NoSuch` if what
+    /// is to be changed or removed is not (`ip-route(8)`, `ip-rule(8)`). Otherwise `Full` if a rule would be one more than
+    /// [`MOST_RULES`], or a route one more than [`MOST_ROUTES`]. Otherwise `CountFull` after [`MOST_COMMANDS`] commands.
     ///
     /// [`MOST_ROUTES`]: crate::MOST_ROUTES
     /// [`MOST_RULES`]: crate::MOST_RULES
@@ -219,7 +219,7 @@ impl Version {
         }
     }
 
-    /// Gives the rules after a change.
+    /// Makes the rules after a change.
     fn rules_after(&self, change: &Change) -> Result<Arc<Rules>, AllocError>
         ensures { IfOk result (λ rules. arc_value rules ≡ (put self.now change.now).rules) }
     {
@@ -234,7 +234,7 @@ impl Version {
         Ok(Arc::new(alloc, Rules::new(rules)?)?)
     }
 
-    /// Gives the routes after an edit.
+    /// Makes the routes after an edit.
     fn routes_with(&self, edit: &RouteEdit) -> Result<Arc<Tables>, AllocError>
         requires { length (after_edit edit.now self.now.routes) ≤ MOST_ROUTES }
         ensures { IfOk result (λ routes. arc_value routes ≡ after_edit edit.now self.now.routes) }
@@ -243,7 +243,7 @@ impl Version {
         Ok(Arc::new(*self.rules.allocator(), routes)?)
     }
 
-    /// Gives the routes after a change.
+    /// Makes the routes after a change.
     fn routes_after(&self, change: &Change) -> Result<Arc<Tables>, AllocError>
         requires { IsChecked self.now change.now }
         ensures { IfOk result (λ routes. arc_value routes ≡ (put self.now change.now).routes) }
@@ -257,7 +257,7 @@ impl Version {
         }
     }
 
-    /// Gives the version after a change that `check` gave for this one, which stays as it is.
+    /// Makes the version after a change that `check` returned for this one, which stays as it is.
     ///
     /// # Errors
     ///
@@ -289,7 +289,7 @@ impl Version {
         })
     }
 
-    /// Gives the changes that commands make of this version, which stays as it is, one after the other, and the version
+    /// Returns the changes that commands make of this version, which stays as it is, one after the other, and the version
     /// after them. At most two of the versions between are held at a time.
     ///
     /// # Errors
@@ -307,7 +307,7 @@ impl Version {
         Ok((changes, last))
     }
 
-    /// Tells what becomes of a packet: what the first rule that decides says of it (`ip-rule(8)`). It takes no memory.
+    /// Finds what becomes of a packet: what the first rule that decides says of it (`ip-rule(8)`). It takes no memory.
     pub fn select(&self, packet: &Packet) -> Answer
         ensures number { result.number ≡ self.now.count }
         ensures verdict { result.verdict ≡ select self.now packet.now }

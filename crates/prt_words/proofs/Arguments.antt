@@ -201,7 +201,7 @@ flag_value : (given : Given) (set : Bool) (a : Argument) (rows : List Row) → t
 flag_value given true a rows text is = ap (option_and_then row_text) is ∙ ap (λ t. Some t) text
 flag_value given false a rows text is = ap (option_and_then row_text) is
 
--- a flag whose own row is kept by what stands before its default and after it
+-- a flag whose own row is kept by what comes before its default and after it
 flag_at_end : (given : Given) (set : Bool) (a : Argument) (rows before after : List Row) → text_of a ≡ codes "true" → bytes_eq (id_of a) (id_of a) ≡ true
     → find_row (id_of a) rows ≡ flag_row a set → find_row (id_of a) before ≡ find_row (id_of a) rows → find_row (id_of a) after ≡ find_row (id_of a) (with_flag (id_of a) before)
     → one_of (id_of a) after ≡ Some (text_of_flag set)

@@ -19,7 +19,7 @@ use Rattle.prt_words.proofs.Walks.{Agrees, Reads, as_part, faults, rows_at_end, 
 use Rattle.prt_words.proofs.WordClasses.{Class, Gives, Operand, IsMistake, after_operand, awaits_option, class_of, id_of, rules_of, settles, shape_of, value_turn, walk_at, walk_waiting, walk_when, word_turn}
 use Rattle.prt_words.proofs.WordClasses as class
 
--- ---- where the walk stands when these were given
+-- ---- where the walk is when these were given
 
 -- the rows, with what is still pending
 abbrev held_rows : Subcommand → List Row → Option (Text × List Text) → List Row
@@ -44,7 +44,7 @@ no_faults s rows pending position trailing settled_here =
     both_quiet (settle_fault (rules_of s) false (walk_at rows pending position trailing).held) (or_else (defaults_fault held (rules_of s)) checks) settled_here
     (both_quiet (defaults_fault held (rules_of s)) checks (defaults_quiet s held) (checks_quiet s (rows_at_end s (walk_at rows pending position trailing) [])))
 
--- a script by what was given, or none where that says how to execute it in no way
+-- a script by what was given, or none if that says how to execute it in no way
 batch_at_end : (given : Given) (kinds : Kinds) (rows : List Row) (mode : Option Mode) → mode_of given.forced given.atomic ≡ mode
     → kinds ≡ []
     → option_and_then file_of (first_of (codes "file") rows) ≡ option_and_then file_of given.operand
@@ -214,7 +214,7 @@ with_option given word a rows pending position g free stands = record {
 
 -- ---- the places that words are read from
 
--- the words that follow are read as they are wherever the walk stands
+-- the words that follow are read as they are wherever the walk is
 abbrev ReadsOn : Subcommand → List Word → Type 0
 ReadsOn s words = (given : Given) (rows : List Row) (pending : Option (Text × List Text)) (position : ℕ) → HasWalked s given rows pending position
     → Reads s (asked_by s words anywhere given) (walk_at rows pending position false) words

@@ -98,7 +98,7 @@ option_mistaken waiting (byte ∷ rest) rows pending position plain option bad =
         (hyphened rest (subst (λ n. is_delimiter (n ∷ rest) ≡ false) (eqb-true byte 45 e) plain) (subst (λ n. is_option (n ∷ rest) ≡ true) (eqb-true byte 45 e) option))
     go false e = absurd (true≢false (sym option ∙ rw e refl))
 
--- ---- the words after the path of `--db`, where that cannot be used
+-- ---- the words after the path of `--db`, if that cannot be used
 
 abbrev pub position_of : Option Word → ℕ
 position_of None = 1

@@ -30,7 +30,7 @@ start = walk_from nothing_held
 abbrev first_turn : Text → Kinds
 first_turn word = turn_fault top names start word
 
--- the first word, where it is neither a subcommand nor `help`
+-- the first word, if it is neither a subcommand nor `help`
 data First (word : Text) : Type 0 where
   delimiter : word ≡ codes "--" → First word
   asks : is_help word ≡ true → first_turn word ≡ kind.DisplayHelp ∷ [] → First word

@@ -1,4 +1,4 @@
--- What rows say of an argument, where one row more is found.
+-- What rows say of an argument, if one row more is found.
 use Rattle.std.proofs.Common.{◌≡◌, ◌∙◌, Bool, cond, ◌||◌, true, false, refl, ap, List, [], ◌∷◌, ◌++◌, Some, None, true≢false}
 use Rattle.std.proofs.lemmas.List.{append-nil}
 use Rattle.std.specs.Prelude.{find}
@@ -29,7 +29,7 @@ pub valued : (id : Text) (how : Reading) (source : ValueSource) (values : List T
     → with_values id how source values rows ≡ rows ++ row id how source values ∷ []
 valued id how source values rows none = at_row_end id (more_values source values) (row id how source values ∷ []) rows none
 
--- also where what it had before is taken out first
+-- also if what it had before is taken out first
 pub used_once : (id : Text) (how : Reading) (source : ValueSource) (values : List Text) (rows : List Row) → has_row id rows ≡ false
     → with_values id how source values (without id rows) ≡ rows ++ row id how source values ∷ []
 used_once id how source values rows none =

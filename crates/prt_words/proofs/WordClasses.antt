@@ -40,7 +40,7 @@ shape_of s = record (line_of s).top { rules = rules_of s; disable_help_subcomman
 abbrev pub held_at : List Row → Option (Text × List Text) → Held
 held_at rows pending = record { rows = rows; pending = pending; skip = 0 }
 
--- a walk over the words of a subcommand: where an option waits for its value, and where none does
+-- a walk over the words of a subcommand: if an option waits for its value, and if none does
 abbrev pub walk_when : Waiting → List Row → Option (Text × List Text) → ℕ → Bool → Walk
 walk_when waiting rows pending position trailing = record {
   held = held_at rows pending;
@@ -224,7 +224,7 @@ before_none p (x ∷ xs) none = go (p x) refl none (before_none p xs)
     go true is bad same = absurd (true≢false bad)
     go false is rest same = before_miss p x xs is ∙ ap (λ ys. x ∷ ys) (same rest)
 
--- what stands before the first `=`
+-- what comes before the first `=`
 abbrev pub long_name : Text → Text
 long_name text = before_first is_equals text
 
@@ -258,7 +258,7 @@ pub long_of_is : (byte : ℕ) (rest : Text) (has : Bool) → has_byte 61 (byte �
     → long_of (45 ∷ 45 ∷ byte ∷ rest) ≡ Some (long_name (byte ∷ rest), cond has (Some (after_first is_equals (byte ∷ rest))) None)
 long_of_is byte rest has is = ap (λ b. Some (long_name (byte ∷ rest), cond b (Some (after_first is_equals (byte ∷ rest))) None)) is
 
--- ---- `-` and a character: an option that asks for help, or that there is not
+-- ---- `-` and a character: an option that asks for help, or that does not exist
 
 short_turn : Subcommand → Option ℕ → Text → Type 0
 short_turn s None word = Operand s word

@@ -1,4 +1,4 @@
--- From what a parse gives to what the words ask for.
+-- From what a parse yields to what the words ask for.
 use Rattle.std.proofs.Common.{◌≡◌, ◌∙◌, ◌&&◌, ◌⊎◌, Bool, true, false, refl, sym, ap, ap₂, subst, inl, inr, List, [], ◌∷◌, Option, Some, None, option_map, is_some, codes, cond, drop, true≢false}
 use Rattle.std.specs.Borrow.{Bor}
 use Rattle.std.specs.Str.{bytes_eq}
@@ -209,7 +209,7 @@ pub none_found : (found : Option (Text × List Row)) → subcommand_name found �
 none_found None none = refl
 none_found (Some p) none = absurd (true≢false (ap is_some none))
 
--- the name that a parse gives is that of its rows
+-- the name that a parse yields is that of its rows
 pub name_of_found : {Z : Type 0} (found : Option (Box SubCommand Z)) → option_map (λ b. (out-SubCommand (box_value b)).name.now) found ≡ subcommand_name (subcommand_rows found)
 name_of_found None = refl
 name_of_found (Some b) = refl

@@ -32,7 +32,7 @@ check_line = with_rule (new_app (codes "check")) file_rule
 abbrev pub replay_line : App
 replay_line = with_rule (new_app (codes "replay")) file_rule
 
--- an option with a value, one that has to be given, and one that has this value where it isn't given
+-- an option with a value, one that has to be given, and one that has this value if it isn't given
 abbrev pub option_rule : Text → Rule
 option_rule name = record (new_rule name) { long = Some name; value_names = 1 }
 
@@ -49,7 +49,7 @@ serve_line = with_rule (with_rule (with_rule (with_rule (with_rule (with_rule (n
 abbrev pub words_rule : Rule
 words_rule = record (new_rule (codes "words")) { action = Some Append; value_names = 1 }
 
--- which tables are asked
+-- which tables are queried
 abbrev pub place_line : Text → App
 place_line name = with_rule (with_rule (new_app name) (option_rule (codes "db"))) (option_rule (codes "server"))
 
@@ -198,7 +198,7 @@ IsQuestionOf words task = Unit {0}
 abbrev pub IsServing : Serving → Type 0
 IsServing serving = (1 ≤ serving.workers) × (serving.workers ≤ 64) × (serving.sessions ≤ 1000000) × (serving.idle ≤ 1000000)
 
--- what is to be served or asked is within these limits
+-- what is to be served or queried is within these limits
 abbrev pub IsWithinLimits : Task → Type 0
 IsWithinLimits (Serve serving) = IsServing serving
 IsWithinLimits (Ask asked) = IsAsked asked

@@ -1,4 +1,4 @@
--- The exit status where nothing is run.
+-- The exit status if nothing is run.
 use Rattle.std.specs.Prelude.{◌≡◌, ◌≢◌, ◌⊎◌, ℕ}
 use Rattle.clap.specs.Words.{kind_of}
 use Rattle.clap.specs.declared.error.Error.{Error}

@@ -1,5 +1,5 @@
 -- What the words after the program's name ask for: `batch [--force | --atomic] [--db PATH] [--verbose] [FILE]`, `check [FILE]`, `replay [FILE]`, `serve` and `dump` with their options, the version, or help.
--- Options and operands are told apart as POSIX.1 does (Base Definitions, section 12.2, guidelines 4, 10 and 13), but options may follow operands, and `--db=PATH` is `--db PATH`.
+-- Options and operands are distinguished as POSIX.1 does (Base Definitions, section 12.2, guidelines 4, 10 and 13), but options may follow operands, and `--db=PATH` is `--db PATH`.
 use Rattle.std.specs.Prelude.{ℕ, ◌==◌, ◌||◌, Bool, true, false, List, [], ◌∷◌, Option, Some, None, is_some, if◌then◌else◌, map, drop, codes, option_and_then, slice_get, chars, bytes_eq, String, string_bytes}
 use Rattle.std.specs.List.{before_first, after_first}
 use Rattle.std.specs.Option.{option_map_or}
@@ -8,7 +8,7 @@ use Rattle.prt_refusals.specs.declared.on_refusal.OnRefusal.TheVariants.{Stop, G
 use Rattle.prt_words.specs.declared.task.Mode.{Mode}
 use Rattle.prt_words.specs.declared.task.Mode.TheVariants.{InTurn, Together}
 
--- A script: how its lines are executed, and whether a person is told of it.
+-- A script: how its lines are executed, and whether it is reported to a person.
 pub record Script : Type 0 where
   pub mode : Mode
   pub verbose : Bool
@@ -139,7 +139,7 @@ pub data Part : Type 0 where
 abbrev pub is_equals : ℕ → Bool
 is_equals byte = byte == 61
 
--- an option other than help; `--db=` and what follows gives the path at once
+-- an option other than help; `--db=` and what follows pass the path at once
 abbrev pub option_part : Subcommand → Word → Part
 option_part Check word = unknown
 option_part Replay word = unknown
@@ -158,7 +158,7 @@ part_of subcommand word =
     else (if is_option word then option_part subcommand word
     else argument (File word)))
 
--- Where a word stands.
+-- Where a word is.
 pub data ArgumentPlace : Type 0 where
   anywhere : ArgumentPlace
   -- after `--db`
@@ -166,7 +166,7 @@ pub data ArgumentPlace : Type 0 where
   -- after `--`
   at_operands : ArgumentPlace
 
--- a path that begins with a hyphen is given by `--db=PATH`, but for `-` alone, which is a file of that name
+-- a path that begins with a hyphen is given by `--db=PATH`, except for `-` alone, which is a file of that name
 abbrev pub part_at : ArgumentPlace → Subcommand → Word → Part
 part_at anywhere subcommand word = part_of subcommand word
 part_at at_path subcommand word = if is_option word then unknown else argument (Database word)
@@ -190,7 +190,7 @@ abbrev pub asked_at_end : Subcommand → ArgumentPlace → Given → Invocation
 asked_at_end subcommand at_path given = usage_error
 asked_at_end subcommand _ given = asked subcommand given
 
--- help where an option asks for it and the words before it are right
+-- help if an option asks for it and the words before it are right
 abbrev pub asked_by : Subcommand → List Word → ArgumentPlace → Given → Invocation
 asked_by subcommand [] place given = asked_at_end subcommand place given
 asked_by subcommand (word ∷ words) place given = asked_with place given (part_at place subcommand word) (asked_by subcommand words)

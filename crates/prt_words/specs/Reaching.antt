@@ -17,7 +17,7 @@ use Rattle.prt_words.specs.declared.reach.Reach.{Reach}
 abbrev pub is_hyphen : ℕ → Bool
 is_hyphen byte = byte == 45
 
--- what stands after the first hyphen, or the whole word where there is none
+-- what comes after the first hyphen, or the whole word if there is none
 abbrev pub last_end : Word → Word
 last_end word = if list_any is_hyphen word then after_first is_hyphen word else word
 

@@ -1,4 +1,5 @@
-//! What the words of a question ask for: those of `get`, `show`, `explain`, `dump`, `diff`, `follow`, `wait`, `import`, `impact`, `assert` and `unused`.
+//! What the words of a question ask for: those of `get`, `show`, `explain`, `dump`, `diff`, `follow`, `wait`, `import`,
+//! `impact`, `assert` and `unused`.
 ghost use Rattle.std.specs.Prelude.{◌≡◌, IfErr, IfOk, IfSome, MatchOption, None, Some, codes, is_some, true};
 ghost use Rattle.clap.specs.Words.{subcommand_name_of};
 ghost use Rattle.prt_words.specs.Analysis.{IsFlag, IsNamed, IsShownBy, NoneIsNamed, form_of};
@@ -19,14 +20,14 @@ use prt_refusals::Refusal;
 use std::alloc::{AllocError, Global};
 use std::net::SocketAddrV4;
 
-/// What is wrong where no tables are named, or more than one.
+/// What is wrong if no tables are named, or more than one.
 const NO_TABLES: &str = "one of '--db <PATH>' and '--server <ADDR:PORT>' is required, and not both";
 
-/// What is wrong where no tables and no script are named.
+/// What is wrong if no tables and no script are named.
 const NO_SCRIPT: &str =
     "one of '--db <PATH>', '--server <ADDR:PORT>' and a script before the address is required";
 
-/// What is wrong where no packet is named.
+/// What is wrong if no packet is named.
 const NO_ADDRESS: &str = "a value is required for '<ADDRESS>...'";
 
 /// What is wrong with a dump whose commands replace, and that is no list of commands or calls tables by names.
@@ -68,14 +69,14 @@ const ASSERT: &str = "assert";
 /// The subcommand that lists rules and routes that no packet gets.
 const UNUSED: &str = "unused";
 
-/// Where the tables are that are asked.
+/// Where the queried tables are.
 #[derive(Clone, Copy)]
 pub enum Source<'a> {
     /// In the database file at this path.
     Database(&'a str),
     /// At the server whose feed is at this place.
     Server(SocketAddrV4),
-    /// Those that the script at this path makes of a new database; the one on standard input where there is none.
+    /// Those that the script at this path makes of a new database; the one on standard input if there is none.
     Script(Option<&'a str>),
 }
 
@@ -91,13 +92,13 @@ pub enum Form {
 /// How tables are called in an answer.
 #[derive(Clone, Copy)]
 pub enum Labels {
-    /// By their numbers, but for main, local and default.
+    /// By their numbers, except for main, local and default.
     Numbers,
-    /// By the names that iproute2 has for them, where it has one.
+    /// By the names that iproute2 has for them, if it has one.
     Names,
 }
 
-/// What is asked of tables.
+/// What is queried of tables.
 #[derive(Clone, Copy)]
 pub enum Verb {
     /// Which route a packet gets.
@@ -106,7 +107,7 @@ pub enum Verb {
     Show,
     /// Why a packet gets its route.
     Explain,
-    /// Which commands make the tables anew.
+    /// Which commands recreate the tables.
     Dump,
     /// Which commands put the tables in the place of what is there.
     Replace,
@@ -141,7 +142,7 @@ pub struct Diffing<'a> {
     pub source: Source<'a>,
     /// What of the kernel is compared and may be changed.
     pub reach: Reach,
-    /// The path of what `ip` printed; standard input where there is none.
+    /// The path of what `ip` printed; standard input if there is none.
     pub file: Option<&'a str>,
     pub shown: Shown,
 }
@@ -149,9 +150,9 @@ pub struct Diffing<'a> {
 /// A question of which script makes what `ip` printed.
 #[derive(Clone, Copy)]
 pub struct Importing<'a> {
-    /// The path of what `ip` printed; standard input where there is none.
+    /// The path of what `ip` printed; standard input if there is none.
     pub file: Option<&'a str>,
-    /// The path of the database over which the script is run; it is printed where there is none.
+    /// The path of the database over which the script is run; it is printed if there is none.
     pub database: Option<&'a str>,
 }
 
@@ -205,7 +206,7 @@ fn analysis_word(name: &str) -> Option<QuestionWord>
     }
 }
 
-/// Gives the subcommand of a name, if it asks a question.
+/// Looks up the subcommand of a name, if it asks a question.
 fn question_word(name: &str) -> Option<QuestionWord>
     ensures known { is_some result ≡ asks_question (Some name.now) }
     ensures word { IfSome result (λ word. name.now ≡ name_of_word word) }
@@ -231,7 +232,7 @@ fn question_word(name: &str) -> Option<QuestionWord>
     }
 }
 
-/// Gives the words that begin the line of a question, and those of the given ones that follow.
+/// Chooses the words that begin the line of a question, and those of the given ones that follow.
 fn opening_of<'b, 'a>(verb: Verb, words: &'b [&'a str]) -> (&'static str, &'b [&'a str]) {
     let Verb::Show = verb else {
         return ("route get", words);
@@ -254,7 +255,7 @@ fn line_of(alloc: Global, verb: Verb, words: &[&str]) -> Result<Vec<u8>, AllocEr
     Ok(line)
 }
 
-/// Gives where the tables are that the matches name, if they name any.
+/// Finds where the tables are that the matches name, if they name any.
 ///
 /// # Errors
 ///
@@ -273,7 +274,7 @@ pub(crate) fn named_source<'a>(matches: &ArgMatches<'a>) -> Result<Option<Source
     }
 }
 
-/// Gives where the tables are that the matches of `diff` name.
+/// Finds where the tables are that the matches of `diff` name.
 ///
 /// # Errors
 ///
@@ -285,8 +286,8 @@ fn source_in<'a>(matches: &ArgMatches<'a>) -> Result<Source<'a>, BadQuestion> {
     }
 }
 
-/// Gives where the tables are of a question with these words, and the words that ask it. The first word of an explanation
-/// names a script where the matches name no other tables.
+/// Finds where the tables are of a question with these words, and the words that ask it. The first word of an explanation
+/// names a script if the matches name no other tables.
 ///
 /// # Errors
 ///
@@ -304,12 +305,12 @@ fn source_and_words<'b, 'a>(
     }
 }
 
-/// Tells whether a question needs words that say of what it is.
+/// Returns whether a question needs words that say of what it is.
 fn needs_words(verb: Verb) -> bool {
     matches!(verb, Verb::Get | Verb::Explain)
 }
 
-/// Tells of a dump whether its commands put the tables in the place of what is there. All else stays what it is.
+/// Chooses, for a dump, whether its commands put the tables in the place of what is there. All else stays what it is.
 ///
 /// # Errors
 ///
@@ -338,7 +339,7 @@ pub(crate) fn form_in(matches: &ArgMatches<'_>) -> Form
     }
 }
 
-/// Tells what the matches of a question to tables ask for.
+/// Reads what the matches of a question to tables ask for.
 ///
 /// # Errors
 ///
@@ -387,7 +388,7 @@ fn shown_in(matches: &ArgMatches<'_>) -> Result<Shown, BadQuestion>
     }
 }
 
-/// Tells what the matches of `diff` ask for.
+/// Reads what the matches of `diff` ask for.
 ///
 /// # Errors
 ///
@@ -407,7 +408,7 @@ fn diffing_of<'a>(alloc: Global, matches: &ArgMatches<'a>) -> Result<Diffing<'a>
     })
 }
 
-/// Tells what the matches of a question's subcommand ask for.
+/// Reads what the matches of a question's subcommand ask for.
 ///
 /// # Errors
 ///
@@ -435,12 +436,12 @@ fn asked_of<'a>(
     }
 }
 
-/// Tells what the matches of all words ask, where they ask a question.
+/// Reads what the matches of all words ask, if they ask a question.
 ///
 /// # Errors
 ///
-/// `Words` where they name no tables, or two, have no address where one has to be, or don't say how far to reach; `Opening`
-/// with `NoMemory` where memory is refused. They ask a question then.
+/// `Words` if they name no tables, or two, have no address where one has to be, or don't say how far to reach; `Opening`
+/// with `NoMemory` if memory is refused. They ask a question then.
 pub(crate) fn asked_in<'a>(
     alloc: Global,
     matches: &ArgMatches<'a>,

@@ -62,7 +62,7 @@ pub(crate) fn needed_option<'a>(
     option(alloc, name, value, help).required(true)
 }
 
-/// Makes an option whose value is a number, which is `missing` where it isn't given.
+/// Makes an option whose value is a number, which is `missing` if it isn't given.
 pub(crate) fn number_option<'a>(
     alloc: Global,
     name: &'a str,
@@ -199,7 +199,7 @@ pub(crate) fn words_operand<'a>(alloc: Global, value: &'a str, help: &'a str) ->
         .help(help)
 }
 
-/// Says which words name the tables that are asked.
+/// Says which words name the tables that are queried.
 pub(crate) fn place_line<'a>(
     alloc: Global,
     name: &'a str,
@@ -226,7 +226,7 @@ pub(crate) fn place_line<'a>(
         .arg(server)
 }
 
-/// Says which words name the tables that are asked, and the form of the answer.
+/// Says which words name the tables that are queried, and the form of the answer.
 fn tables_line<'a>(alloc: Global, name: &'a str, about: &'a str) -> Result<Command<'a>, AllocError>
     ensures line { IfOk result (λ command. app_of command ≡ tables_line name.entry.now) }
     ensures own { IfOk result (λ command. has_globals command ≡ false) }

@@ -20,7 +20,7 @@ use std::alloc::{AllocError, Global};
 use std::io::{self, Write};
 use thiserror::Error;
 
-/// The exit status where no line was refused, and after help or the version.
+/// The exit status if no line was refused, and after help or the version.
 pub const DONE: u8 = 0;
 
 /// The exit status for bad words.
@@ -38,7 +38,7 @@ const CONFLICT: &str = "the argument '--force' cannot be used with '--atomic'";
 /// Why the program runs nothing.
 #[derive(Debug, Drop, Error)]
 pub enum Fault {
-    /// The words ask for help, for the version, or for nothing that there is.
+    /// The words ask for help, for the version, or for nothing that exists.
     #[error(transparent)]
     Words(clap::Error),
     /// The file or the database could not be opened, or memory was refused on the way there.
@@ -83,7 +83,7 @@ fn not_text(alloc: Global) -> Result<clap::Error, AllocError>
     command_line(alloc)?.error(ErrorKind::InvalidValue, NOT_TEXT)
 }
 
-/// Tells why there are no words to read: `error` came in place of them, since one is no text or memory was refused.
+/// Finds why there are no words to read: `error` came in place of them, since one is no text or memory was refused.
 pub fn words_fault(alloc: Global, error: &io::Error) -> Fault
     ensures { IsWordsFault usage_error result }
 {
@@ -105,7 +105,7 @@ fn conflict_error(alloc: Global) -> Result<clap::Error, AllocError>
         .error(ErrorKind::ArgumentConflict, CONFLICT)
 }
 
-/// Tells that a script can't go on after a refused line and be executed together.
+/// Builds the fault that a script can't go on after a refused line and be executed together.
 pub(crate) fn conflict_fault(alloc: Global) -> Fault
     ensures { IsWordsFault usage_error result }
 {
@@ -115,7 +115,7 @@ pub(crate) fn conflict_fault(alloc: Global) -> Fault
     }
 }
 
-/// Makes the error of words of `serve` of which the text tells what is wrong, in the form of those of a parse.
+/// Makes the error of words of `serve` of which the text says what is wrong, in the form of those of a parse.
 fn serving_error(alloc: Global, text: &str) -> Result<clap::Error, AllocError>
     ensures { IfOk result (λ error. kind_of error ≡ ErrorKind.ValueValidation) }
 {
@@ -124,7 +124,7 @@ fn serving_error(alloc: Global, text: &str) -> Result<clap::Error, AllocError>
         .error(ErrorKind::ValueValidation, text)
 }
 
-/// Tells what is wrong with the words of `serve`, in this text.
+/// Builds the fault of what is wrong with the words of `serve`, in this text.
 pub(crate) fn serving_fault(alloc: Global, text: &str) -> Fault
     ensures { IsWordsFault serve result }
 {
@@ -149,7 +149,7 @@ impl From<AllocError> for BadQuestion {
     }
 }
 
-/// Gives the name of the program with a question's subcommand, and which words may follow it.
+/// Builds the name of the program with a question's subcommand, and which words may follow it.
 fn asking_line<'a>(
     alloc: Global,
     word: QuestionWord,
@@ -169,7 +169,7 @@ fn asking_line<'a>(
     }
 }
 
-/// Makes the error of words of a question of which the text tells what is wrong, in the form of those of a parse.
+/// Makes the error of words of a question of which the text says what is wrong, in the form of those of a parse.
 fn asking_error(alloc: Global, word: QuestionWord, text: &str) -> Result<clap::Error, AllocError>
     ensures { IfOk result (λ error. kind_of error ≡ ErrorKind.ValueValidation) }
 {
@@ -177,7 +177,7 @@ fn asking_error(alloc: Global, word: QuestionWord, text: &str) -> Result<clap::E
     line.bin_name(name)?.error(ErrorKind::ValueValidation, text)
 }
 
-/// Tells what is wrong with the words of a question, in this text.
+/// Builds the fault of what is wrong with the words of a question, in this text.
 pub(crate) fn asking_fault(alloc: Global, word: QuestionWord, text: &str) -> Fault
     ensures { IsWordsFault ask result }
 {
@@ -187,7 +187,7 @@ pub(crate) fn asking_fault(alloc: Global, word: QuestionWord, text: &str) -> Fau
     }
 }
 
-/// Writes why the program runs nothing, and gives the exit status for it: 0 for help and for the version, 2 for bad words,
+/// Writes why the program runs nothing, and returns the exit status for it: 0 for help and for the version, 2 for bad words,
 /// 3 for a fault of opening or of a listener.
 ///
 /// Help and the version go to `output`, all else to `errors`. A fault of writing there changes nothing.

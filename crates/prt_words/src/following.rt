@@ -24,7 +24,7 @@ pub struct Following<'a> {
     pub server: SocketAddrV4,
     /// What of the kernel may be changed.
     pub reach: Reach,
-    /// The path of what `ip` printed; standard input where there is none.
+    /// The path of what `ip` printed; standard input if there is none.
     pub file: Option<&'a str>,
     /// Whether only what differs now is printed.
     pub is_once: bool,
@@ -33,13 +33,13 @@ pub struct Following<'a> {
 /// A wait for a server, until it answers.
 #[derive(Clone, Copy)]
 pub struct Waiting {
-    /// Where the server listens: for sessions, or for those that follow.
+    /// Where the server listens: for sessions, or for clients that follow.
     pub server: SocketAddrV4,
     /// For how many seconds to wait at most, up to 1,000,000.
     pub seconds: u64,
 }
 
-/// Gives the place of the server that the matches of `follow` or `wait` name.
+/// Parses the place of the server that the matches of `follow` or `wait` name.
 ///
 /// # Errors
 ///
@@ -51,7 +51,7 @@ fn server_in(matches: &ArgMatches<'_>) -> Result<SocketAddrV4, BadQuestion> {
     }
 }
 
-/// Tells what the matches of `follow` ask for.
+/// Reads what the matches of `follow` ask for.
 ///
 /// # Errors
 ///
@@ -72,7 +72,7 @@ pub(crate) fn following_of<'a>(
     })
 }
 
-/// Tells what the matches of `wait` ask for.
+/// Reads what the matches of `wait` ask for.
 ///
 /// # Errors
 ///

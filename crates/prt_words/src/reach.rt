@@ -11,11 +11,11 @@ use prt_addr::read_number;
 use prt_route::{read_protocol, read_table};
 use std::alloc::{AllocError, Global};
 
-/// What is wrong where nothing says how far to reach.
+/// What is wrong if nothing says how far to reach.
 const NO_REACH: &str =
     "one of '--all', '--table <T>', '--proto <P>' and '--priority <P>' is required";
 
-/// What is wrong where all is meant, and a part of it.
+/// What is wrong if all is meant, and a part of it.
 const ALL_AND_PART: &str =
     "the argument '--all' cannot be used with '--table <T>', '--proto <P>' or '--priority <P>'";
 
@@ -52,7 +52,7 @@ pub struct Reach {
 }
 
 impl Reach {
-    /// Tells whether no table, no protocol and no priority is named.
+    /// Returns whether no table, no protocol and no priority is named.
     fn names_nothing(&self) -> bool
         ensures { result ≡ names_nothing self.now }
     {
@@ -77,7 +77,7 @@ fn read_end(ends: Ends, word: &str) -> Option<u32>
     }
 }
 
-/// Gives the words of the two ends of a span. A word with no hyphen is both.
+/// Splits a word into those of the two ends of a span. A word with no hyphen is both.
 fn ends_of(word: &str) -> (&str, &str)
     ensures first { result.0.now ≡ before_first is_hyphen word.now }
     ensures last { result.1.now ≡ last_end word.now }
@@ -134,7 +134,7 @@ fn read_protocols(alloc: Global, words: &[&str]) -> Result<Option<Vec<u8>>, Allo
     Ok(Some(protocols))
 }
 
-/// Tells how far the matches of `diff` or `follow` reach.
+/// Reads how far the matches of `diff` or `follow` reach.
 ///
 /// # Errors
 ///

@@ -46,7 +46,7 @@ pub(crate) fn with_reach<'a>(alloc: Global, command: Command<'a>) -> Result<Comm
     command.arg(all)?.arg(table)?.arg(protocol)?.arg(priority)
 }
 
-/// Says which words name the server that is asked.
+/// Says which words name the server that is queried.
 fn server_line<'a>(alloc: Global, name: &'a str, about: &'a str) -> Result<Command<'a>, AllocError>
     ensures line { IfOk result (λ command. app_of command ≡ server_line name.entry.now) }
     ensures own { IfOk result (λ command. has_globals command ≡ false) }

@@ -10,7 +10,7 @@ use prt_addr::{Addr, read_addr, read_number};
 use std::alloc::Global;
 use std::net::{Ipv4Addr, SocketAddrV4};
 
-/// What is wrong where no database is named.
+/// What is wrong if no database is named.
 const NO_DATABASE: &str = "a value is required for '--db <PATH>'";
 
 /// What is wrong with a place to listen at.
@@ -37,7 +37,7 @@ pub struct Serving<'a> {
     pub database: &'a str,
     /// Where to listen; port 0 is any free one.
     pub listen: SocketAddrV4,
-    /// Where to listen for those that follow the changes, if anywhere; port 0 is any free one.
+    /// Where to listen for clients that follow the changes, if anywhere; port 0 is any free one.
     pub feed: Option<SocketAddrV4>,
     /// How many sessions are served at once, 1 to 64.
     pub workers: u32,
@@ -47,7 +47,7 @@ pub struct Serving<'a> {
     pub idle: u64,
 }
 
-/// Reads a number in decimal digits, where it is within these limits.
+/// Reads a number in decimal digits, if it is within these limits.
 ///
 /// A number of two digits or more does not begin with 0.
 fn number_within(word: &str, least: u32, most: u32) -> Option<u32>
@@ -64,7 +64,7 @@ fn number_within(word: &str, least: u32, most: u32) -> Option<u32>
     }
 }
 
-/// Reads `ADDR:PORT`, whose address is spelled as in a command.
+/// Reads `ADDR:PORT`, whose address is written as in a command.
 pub(crate) fn place_of(word: &str) -> Option<SocketAddrV4> {
     let (address, port) = word.split_once(':')?;
     let Addr(address) = read_addr(address.as_bytes()).ok()?;
@@ -72,23 +72,23 @@ pub(crate) fn place_of(word: &str) -> Option<SocketAddrV4> {
     Some(SocketAddrV4::new(Ipv4Addr::from(address), port as u16))
 }
 
-/// Gives the number that the matches have for an option, where it is within these limits.
+/// Parses the number that the matches have for an option, if it is within these limits.
 pub(crate) fn number_in(matches: &ArgMatches<'_>, name: &str, least: u32, most: u32) -> Option<u32>
     ensures { IfSome result (λ number. (least ≤ number) × (number ≤ most)) }
 {
     number_within(matches.get_str(name)?, least, most)
 }
 
-/// Gives the place to listen at that the matches of `serve` have.
+/// Parses the place to listen at that the matches of `serve` have.
 fn listen_in(matches: &ArgMatches<'_>) -> Option<SocketAddrV4> {
     place_of(matches.get_str("listen")?)
 }
 
-/// Gives the place of the feed that the matches of `serve` have, if they have one.
+/// Parses the place of the feed that the matches of `serve` have, if they have one.
 ///
 /// # Errors
 ///
-/// `Words` where the value is no place, `Opening` with `NoMemory` where memory is refused.
+/// `Words` if the value is no place, `Opening` with `NoMemory` if memory is refused.
 fn feed_in(alloc: Global, matches: &ArgMatches<'_>) -> Result<Option<SocketAddrV4>, Fault>
     ensures { IfErr result (IsWordsFault serve) }
 {
@@ -101,11 +101,11 @@ fn feed_in(alloc: Global, matches: &ArgMatches<'_>) -> Result<Option<SocketAddrV
     }
 }
 
-/// Tells what the matches of `serve` ask for.
+/// Reads what the matches of `serve` ask for.
 ///
 /// # Errors
 ///
-/// `Words` where a value is none that its option may have, `Opening` with `NoMemory` where memory is refused.
+/// `Words` if a value is none that its option may have, `Opening` with `NoMemory` if memory is refused.
 pub(crate) fn serving_of<'a>(alloc: Global, matches: &ArgMatches<'a>) -> Result<Serving<'a>, Fault>
     ensures limits { IfOk result IsServing }
     ensures fault { IfErr result (IsWordsFault serve) }

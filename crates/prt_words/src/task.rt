@@ -37,13 +37,13 @@ pub enum Mode {
 /// A script to run.
 #[derive(Drop)]
 pub struct Batch<'a> {
-    /// The path of the script; standard input where there is none.
+    /// The path of the script; standard input if there is none.
     pub file: Option<&'a str>,
-    /// The path of the database; a new one in memory where there is none.
+    /// The path of the database; a new one in memory if there is none.
     pub database: Option<&'a str>,
     /// How its lines are executed.
     pub mode: Mode,
-    /// Whether a person is told of it, wherever standard error goes.
+    /// Whether it is reported to a person, wherever standard error goes.
     pub is_verbose: bool,
 }
 
@@ -52,9 +52,9 @@ pub struct Batch<'a> {
 pub enum Task<'a> {
     /// To run a script.
     Batch(Batch<'a>),
-    /// To check the script of this path; standard input where there is none.
+    /// To check the script of this path; standard input if there is none.
     Check(Option<&'a str>),
-    /// To replay the file of this path; standard input where there is none.
+    /// To replay the file of this path; standard input if there is none.
     Replay(Option<&'a str>),
     /// To serve sessions over TCP.
     Serve(Serving<'a>),
@@ -62,7 +62,7 @@ pub enum Task<'a> {
     Ask(Asked<'a>),
 }
 
-/// Gives the path of an operand; none for `-`, which is standard input.
+/// Returns the path of an operand; none for `-`, which is standard input.
 pub(crate) fn file_of(operand: &str) -> Option<&str>
     ensures { option_map (λ path. path.now) result ≡ file_of operand.entry.now }
 {
@@ -73,21 +73,21 @@ pub(crate) fn file_of(operand: &str) -> Option<&str>
     }
 }
 
-/// Gives the path of the file that the matches of a subcommand name.
+/// Returns the path of the file that the matches of a subcommand name.
 pub(crate) fn file_in<'a>(matches: &ArgMatches<'a>) -> Option<&'a str>
     ensures { option_map (λ path. path.now) result ≡ option_and_then file_of (first_of (codes "file") (rows_of (found_of matches.now))) }
 {
     matches.get_str("file").and_then(file_of)
 }
 
-/// Gives the path that the matches of `batch` have for `--db`.
+/// Returns the path that the matches of `batch` have for `--db`.
 fn database_in<'a>(matches: &ArgMatches<'a>) -> Option<&'a str>
     ensures { option_map (λ path. path.now) result ≡ first_of (codes "db") (rows_of (found_of matches.now)) }
 {
     matches.get_str("db")
 }
 
-/// Tells whether the matches of `batch` have a flag.
+/// Returns whether the matches of `batch` have a flag.
 fn has_flag(matches: &ArgMatches<'_>, name: &str) -> bool
     ensures given { one_of name.now (rows_of (found_of matches.now)) ≡ Some (codes "true") → result ≡ true }
     ensures left_out { one_of name.now (rows_of (found_of matches.now)) ≡ Some (codes "false") → result ≡ false }
@@ -95,11 +95,11 @@ fn has_flag(matches: &ArgMatches<'_>, name: &str) -> bool
     matches.get_flag(name)
 }
 
-/// Tells how the lines of a script are executed, by the matches of `batch`.
+/// Chooses how the lines of a script are executed, by the matches of `batch`.
 ///
 /// # Errors
 ///
-/// `Words` where the matches have both flags, `Opening` with `NoMemory` where memory is refused.
+/// `Words` if the matches have both flags, `Opening` with `NoMemory` if memory is refused.
 fn mode_in(alloc: Global, matches: &ArgMatches<'_>) -> Result<Mode, Fault>
     ensures mode { IfOk result (λ mode. IsModeBy (one_of (codes "force") (rows_of (found_of matches.now))) (one_of (codes "atomic") (rows_of (found_of matches.now))) (Some mode)) }
     ensures conflict { IfErr result (λ fault. IsModeBy (one_of (codes "force") (rows_of (found_of matches.now))) (one_of (codes "atomic") (rows_of (found_of matches.now))) None) }
@@ -119,11 +119,11 @@ fn mode_in(alloc: Global, matches: &ArgMatches<'_>) -> Result<Mode, Fault>
     Ok(Mode::InTurn(OnRefusal::Stop))
 }
 
-/// Tells what the matches of all words ask for, where that is neither to serve nor to answer a question.
+/// Reads what the matches of all words ask for, if that is neither to serve nor to answer a question.
 ///
 /// # Errors
 ///
-/// `Words` where a script is to go on and to be executed together, `Opening` with `NoMemory` where memory is refused.
+/// `Words` if a script is to go on and to be executed together, `Opening` with `NoMemory` if memory is refused.
 fn task_of<'a>(alloc: Global, matches: &ArgMatches<'a>) -> Result<Task<'a>, Fault>
     ensures task { IfOk result (IsTaskOf (subcommand_rows_of matches.now)) }
     ensures conflict { IfErr result (λ fault. IsConflict (subcommand_rows_of matches.now)) }
@@ -156,7 +156,8 @@ fn task_of<'a>(alloc: Global, matches: &ArgMatches<'a>) -> Result<Task<'a>, Faul
 ///
 /// # Errors
 ///
-/// `Words` where they ask for help, for the version or for nothing that there is, where a value of `serve` or of a question is none that it may have, or where a script is to go on and to be executed together; `Opening` with `NoMemory` where memory is refused.
+/// `Words` if they ask for help, for the version or for nothing that exists; if a value of `serve` or of a question is none
+/// that it may have; or if a script is to go on and to be executed together. `Opening` with `NoMemory` if memory is refused.
 pub fn read_words<'a>(alloc: Global, words: &'a [String]) -> Result<Task<'a>, Fault>
     ensures task { IfOk result (λ task. invocation (arguments words.entry.now) ≡ invocation_of task) }
     ensures question { IfOk result (IsQuestionOf (arguments words.entry.now)) }

@@ -17,7 +17,7 @@ use Rattle.prt_world.specs.declared.event.Fate.TheVariants.{Kept}
 use Rattle.prt_world.proofs.Folds.{taken_before}
 use Rattle.prt_world.proofs.Phases.{Holds, Phased, every_run_holds, step_holds}
 
--- ---- beginnings
+-- ---- prefixes
 
 begins_on : {X : Type 0} (xs ys zs : List X) → take (length xs) ys ≡ xs → take (length ys) zs ≡ ys → take (length xs) zs ≡ xs
 begins_on xs ys zs first second =
@@ -36,7 +36,7 @@ grows_both a b c first second = record {
   durable = omega (arith, first.durable, second.durable);
 }
 
--- where nothing is acknowledged or answered
+-- if nothing is acknowledged or answered
 quiet : (w after : World) → after.acks ≡ w.acks → after.answers ≡ w.answers → w.disk.count ≤ after.disk.count → Grows w after
 quiet w after acks answers low = record {
   acks = ap (take (length w.acks)) acks ∙ take_all (length w.acks) w.acks (omega arith);

@@ -47,7 +47,7 @@ pub record IsHistory (accepted : List Command) (top : ℕ) (versions : List Stat
 
 -- ---- commands that are acknowledged together
 
--- each is acknowledged under its number, where these commands come after those before
+-- each is acknowledged under its number, if these commands come after those before
 pub acks_acked : (accepted before commands : List Command) (top n : ℕ) → n ≡ length before → accepted ≡ before ++ commands → length accepted ≡ top → Each (IsAcked accepted top) (acks_after n commands)
 acks_acked accepted before [] top n after is all = tt
 acks_acked accepted before (command ∷ commands) top n after is all =

@@ -1,4 +1,4 @@
--- Versions that are kept, and beginnings of the accepted commands.
+-- Versions that are kept, and prefixes of the accepted commands.
 use Rattle.std.proofs.Common.{◌≡◌, ℕ, zero, suc, ◌<◌, ◌≤◌, Bool, true, false, List, [], ◌∷◌, ◌++◌, Option, Some, None, length, take, get_or, set, replicate, refl, ap, ◌∙◌, subst, arith, cond}
 use Rattle.std.specs.Prelude.{◌==◌, filter, find, slice_get}
 use Rattle.std.specs.List.{AllByRecursion as Each}
@@ -24,7 +24,7 @@ pub each_replicate : {X : Type 0} (P : X → Type 0) (n : ℕ) (x : X) → P x �
 each_replicate P zero x here = tt
 each_replicate P (suc n) x here = (here, each_replicate P n x here)
 
--- the first elements are those of any beginning that is long enough
+-- the first elements are those of any prefix that is long enough
 pub slice_get-take : {X : Type 0} (n : ℕ) (xs : List X) (i : ℕ) → i < n → slice_get (take n xs) i ≡ slice_get xs i
 slice_get-take zero xs i h = absurd (omega arith)
 slice_get-take (suc n) [] i h = refl

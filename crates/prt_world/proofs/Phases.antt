@@ -97,7 +97,7 @@ pub record Holds (w : World) : Type 0 where
 pub shown_version : (w : World) → Holds w → published_version w ≡ state_after w.accepted w.published
 shown_version w h = ap (λ found. unwrap_or found opening_state) h.history.top_kept
 
--- where all is settled, the published version is what is on disk
+-- if all is settled, the published version is what is on disk
 pub settled_version : (w : World) → Holds w → IsSettled w.accepted w.disk w.published w.noted → published_version w ≡ w.disk
 settled_version w h settled = shown_version w h ∙ ap (state_after w.accepted) settled.shown ∙ sym h.counts.prefix
 

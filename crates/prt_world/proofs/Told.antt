@@ -36,7 +36,7 @@ told_to accepted last Stopped = length accepted - length last
 abbrev pub AreTold : ℕ → List Command → List Command → List Ack → Phase → Type 0
 AreTold since accepted last acks phase = (number : ℕ) → since < number → number ≤ told_to accepted last phase → is_acknowledged acks number ≡ true
 
--- what is told of a world, as if this were its phase
+-- what is reported of a world, as if this were its phase
 abbrev Told : ℕ → World → Phase → Type 0
 Told since w phase = AreTold since w.accepted w.last w.acks phase
 

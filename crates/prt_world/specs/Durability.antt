@@ -13,7 +13,7 @@ use Rattle.prt_world.specs.declared.outcome.Outcome.TheVariants.{Reopened}
 abbrev pub state_after : List Command → ℕ → State
 state_after commands n = fold opening_state (take n commands)
 
--- What is durable is a beginning of what was accepted, which lacks at most the command, or the commands of the file, that
+-- What is durable is a prefix of what was accepted, which lacks at most the command, or the commands of the file, that
 -- were accepted last; what is published is durable, and the registry has noted it or all of it but those.
 pub record IsDurable (world : World) : Type 0 where
   pub published_is_durable : world.published ≤ durable world
@@ -44,7 +44,7 @@ abbrev pub last_opening : ℕ → List Outcome → ℕ
 last_opening count [] = count
 last_opening count (outcome ∷ outcomes) = last_opening (opened_count count outcome) outcomes
 
--- The answer is that of a beginning of the accepted commands which is durable.
+-- The answer is that of a prefix of the accepted commands which is durable.
 pub record IsAnswered (world : World) (lookup : Lookup) : Type 0 where
   pub is_durable : lookup.answer.number ≤ durable world
   pub verdict : lookup.answer.verdict ≡ select (state_after world.accepted lookup.answer.number) lookup.packet

@@ -1,5 +1,5 @@
 -- What a service, its disk and its lookers hold, and what one event does to them. Lookers announce the versions that they
--- may hold, and a version goes where nobody can hold it any more: Desnoyers et al. 2012.
+-- may hold, and a version goes when nobody can hold it any more: Desnoyers et al. 2012.
 use Rattle.std.specs.Prelude.{ℕ, ◌+◌, ◌-◌, ◌==◌, nat_lt, Bool, true, false, if◌then◌else◌, List, [], ◌∷◌, ◌++◌, length, map, take, filter, find, replicate, slice_index_or, slice_set, Option, Some, None, unwrap_or}
 use Rattle.prt_refusals.specs.declared.refusal.Refusal.{Refusal}
 use Rattle.prt_refusals.specs.declared.refusal.Refusal.TheVariants as refusals
@@ -61,7 +61,7 @@ pub record World : Type 0 where
   -- the commands that were accepted last, together; [] after an opening, until there are some
   pub last : List Command
   pub disk : State
-  -- what the open transaction holds; the same as the disk where none is open
+  -- what the open transaction holds; the same as the disk if none is open
   pub pending : State
   pub phase : Phase
   -- the numbers of the version that was published last, and of the one that the registry noted last
@@ -181,7 +181,7 @@ stopped world fate phase = world.disk
 abbrev pub with_disk : World → State → Phase → World
 with_disk world state phase = record world { disk = state; pending = state; phase = phase }
 
--- the next store call fails: nobody is told whether the commands are durable
+-- the next store call fails: whether the commands are durable is reported to nobody
 abbrev pub fail : World → Fate → Phase → Step
 fail world fate (Prepared commands done next) = record { world = with_disk world (stopped world fate (Prepared commands done next)) Closed; outcome = outcomes.Refused (refusals.StoreFailed next) }
 fail world fate phase = unmet world

@@ -24,7 +24,7 @@ impl Model for LookerNumber {
 }
 
 impl LookerNumber {
-    /// Gives the looker of this number, if one may have it.
+    /// Returns the looker of this number, if one may have it.
     pub fn new(number: u32) -> Option<LookerNumber>
         ensures { SomeIff result (number < 64) number }
     {
@@ -36,7 +36,7 @@ impl LookerNumber {
         })
     }
 
-    /// Gives the number, 0 to 63.
+    /// Returns the number, 0 to 63.
     pub fn get(self) -> u8
         ensures value { result ≡ self }
         ensures low { result < 64 }
@@ -68,7 +68,7 @@ impl Commands {
         Commands { commands }
     }
 
-    /// Gives the commands, in order.
+    /// Returns the commands, in order.
     pub fn as_slice(&self) -> &[Command]
         ensures { result.now ≡ self.now }
     {
@@ -112,7 +112,7 @@ pub enum Event {
     Announce(LookerNumber),
     /// A looker lets go of its version and goes offline.
     Offline(LookerNumber),
-    /// A looker asks the version that it holds what becomes of a packet.
+    /// A looker queries the version that it holds for what becomes of a packet.
     Look(LookerNumber, Packet),
     /// The versions that no looker can hold any more are given up.
     Reclaim,

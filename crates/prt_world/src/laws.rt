@@ -9,10 +9,10 @@ ghost use Rattle.prt_world.specs.declared.event.Event.{Event};
 
 /// Says what holds after every list of events, whatever their order:
 ///
-/// * what is durable is a beginning of the accepted commands, which lacks at most the command, or the commands of the
+/// * what is durable is a prefix of the accepted commands, which lacks at most the command, or the commands of the
 ///   file, that were accepted last, and the disk is the state after it; what is published is durable; of what is
 ///   published all is noted, or all but those (`durable`);
-/// * an opening gives the state after the accepted commands that are durable (`reopened`);
+/// * an opening yields the state after the accepted commands that are durable (`reopened`);
 /// * each acknowledged command is durable, under its number (`acknowledged`);
 /// * since the last opening each accepted command but those accepted last is acknowledged (`all_but_last`);
 /// * each answer is that of the state of its number, which is durable (`answered`);

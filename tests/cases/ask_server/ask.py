@@ -42,6 +42,10 @@ def main():
     client.close()
     print(server.end()[0])
     print(ask(["get", "10.0.0.1"], "--server", place)[0])
+    # The server's end leaves all that it had, and nothing else.
+    routes, rules = (ask(words, "--db", DATABASE)[1].splitlines()[:-1] for words in QUESTIONS[2:4])
+    had, ruled = (said[1].splitlines()[:-1] for said in before[2:4])
+    print([line for line in routes if line not in had], [line for line in had if line not in routes], rules == ruled)
 
 
 main()

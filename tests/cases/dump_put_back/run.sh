@@ -34,3 +34,8 @@ for lines in '' 'rule add priority 100 table local\nrule del priority 0' 'rule f
   "$prt" batch --db third.db replacing | uniq -c -w 2
   printf 'rule\n' | "$prt" batch --db third.db | cmp - rules
 done
+# What `ip -batch` can't read is left out of those lines, and named.
+printf 'route add 10/8 dev a"b\nroute add 11/8 dev eth0\nrule add priority 7 iif -c table 9\n' | "$prt" batch --db fourth.db >/dev/null
+"$prt" dump --db fourth.db --replace >lines 2>errors
+echo "status $?, $(grep -c dev lines) route"
+cat errors

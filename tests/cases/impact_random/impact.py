@@ -15,28 +15,18 @@ import re
 import subprocess
 import sys
 
+from groups import GROUP, dotted, is_in, number, span
+
 PROGRAM, ROUNDS = sys.argv[1], int(sys.argv[2])
 DEVICES = ["eth0", "eth1", "wg0"]
 KINDS = ["blackhole", "unreachable", "prohibit", "throw"]
 TABLES = ["main", "default", "7", "100"]
 MARKS = ["0", "7", "0x10/0xf0", "0x1/0x3", "0/1"]
 PACKETS = 400
-GROUP = re.compile(r"to (?P<to>\S+)(?: from (?P<source>\S+))?(?: iif (?P<iif>any other|\S+))?(?: fwmark (?P<mark>\S+))?: (?P<was>.*) -> (?P<is>.*)")
 
 
 def run(*words, input=None):
     return subprocess.run([PROGRAM, *words], input=input, capture_output=True, text=True)
-
-
-def dotted(bits):
-    return ".".join(str(bits >> shift & 255) for shift in (24, 16, 8, 0))
-
-
-def number(address):
-    value = 0
-    for part in address.split("."):
-        value = value << 8 | int(part)
-    return value
 
 
 def a_prefix():
@@ -106,33 +96,6 @@ def outcome(answer):
     kind = next((word for word in words if word in KINDS), "unicast")
     given = dict(zip(words, words[1:]))
     return kind, given.get("via"), given.get("dev"), given.get("src")
-
-
-def span(text):
-    """The ends of a prefix, of an address or of a range."""
-    if "-" in text:
-        return tuple(map(number, text.split("-")))
-    address, _, length = text.partition("/")
-    first = number(address)
-    return first, first | (1 << 32 - int(length or 32)) - 1
-
-
-def is_in(group, packet, named):
-    """Whether a group has a packet. An interface that no rule names is 'any other'."""
-    to, source, iif, mark = packet
-    first, last = span(group["to"])
-    if not first <= to <= last:
-        return False
-    if group["source"]:
-        first, last = span(group["source"])
-        if not first <= source <= last:
-            return False
-    if group["iif"] and (iif in named if group["iif"] == "any other" else iif != group["iif"]):
-        return False
-    if group["mark"]:
-        value, _, mask = group["mark"].partition("/")
-        return (mark ^ int(value, 0)) & int(mask or "0xffffffff", 0) == 0
-    return True
 
 
 def at_the_ends(groups):

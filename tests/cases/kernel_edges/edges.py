@@ -100,12 +100,15 @@ def names_with_quotes():
     space = Space(addresses)
     for place, name in enumerate(names, 1):
         space.ip("route", "add", f"10.{place}.0.0/16", "dev", name)
+    space.ip("rule", "add", "priority", "50", "iif", names[0], "table", "7")
     space.do([DEFAULT, "route add 10.9.0.0/16 dev eth1"])
     told = told_of(space.listed())
     wanted = space.lines()
     other = Space(addresses)
     print(told, bring(other, *ALL), end="")
     print([line for line in wanted if line not in other.lines()], [line for line in other.lines() if line not in wanted])
+    done = prt("dump", "--db", DATABASE, "--replace")
+    print(done.returncode, done.stderr, end="")
     space.close()
     other.close()
 

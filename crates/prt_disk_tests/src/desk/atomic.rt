@@ -12,14 +12,14 @@ use std::test::Fail;
 const FIVE: &str =
     "route replace 10/8 via 192.0.2.1\nroute change blackhole 10/8\nrule add priority 5 from 10/8 table 100\nrule del priority 5\nroute flush table all\n";
 
-/// The replies where all of them are made.
+/// The replies if all of them are made.
 const ALL: &str = "ok 1\nok 2\nok 3\nok 4\nok 5\n";
 
-/// The reply where the store fails.
+/// The reply if the store fails.
 const NONE: &str = "error 27 StoreFailed\n";
 
-/// Tells whether a run may have left what its files hold: all of the commands where they were acknowledged, or where the
-/// call that commits them failed; and none where they weren't.
+/// Checks whether a run may have left what its files hold: all of the commands if they were acknowledged, or if the
+/// call that commits them failed; and none if they weren't.
 fn may_leave(ran: &Result<Ran, Refusal>, held: &[u8]) -> bool {
     let is_before = held == HELD[0].as_bytes();
     let is_after = held == HELD[5].as_bytes();
@@ -33,8 +33,8 @@ fn may_leave(ran: &Result<Ran, Refusal>, held: &[u8]) -> bool {
     }
 }
 
-/// Runs the file over new files with these faults. Tells whether the error of a failed commit was given, and the files hold
-/// what it may have left once they work again.
+/// Runs the file over new files with these faults. Checks whether the error of a failed commit was returned, and the files
+/// hold what it may have left once they work again.
 fn is_right_with<H: Wait + Copy + Drop>(
     rt: H,
     alloc: Global,

@@ -15,7 +15,7 @@ const SCRIPTS: [&str; 2] = [
     "rule add priority 5 from 10/8 table 100\nrule add to 10/8 iif a fwmark 0x10/0xf0 prohibit\nrule show\nroute get 10.0.0.1 iif a mark 0x1f\nrule del priority 5\nrule flush\nrule show\n",
 ];
 
-/// Gives the replies of a desk to a script, and how it ended.
+/// Collects the replies of a desk to a script, and how it ended.
 pub fn run<D: Desk>(alloc: Global, desk: &mut D, script: &str) -> (Vec<u8>, ScriptEnd) {
     let mut text = Vec::new(alloc);
     let mut lines = script.as_bytes();
@@ -30,7 +30,7 @@ pub fn run<D: Desk>(alloc: Global, desk: &mut D, script: &str) -> (Vec<u8>, Scri
     (text, end)
 }
 
-/// Gives the replies of a desk to an atomic file, and how it ended.
+/// Collects the replies of a desk to an atomic file, and how it ended.
 pub fn run_together<D: Desk>(alloc: Global, desk: &mut D, file: &str) -> (Vec<u8>, ScriptEnd) {
     let mut text = Vec::new(alloc);
     let mut lines = file.as_bytes();
@@ -38,7 +38,7 @@ pub fn run_together<D: Desk>(alloc: Global, desk: &mut D, file: &str) -> (Vec<u8
     (text, end)
 }
 
-/// Gives the replies of a desk to a script.
+/// Collects the replies of a desk to a script.
 pub fn replies<D: Desk>(alloc: Global, desk: &mut D, script: &str) -> Vec<u8> {
     run(alloc, desk, script).0
 }
@@ -55,7 +55,7 @@ pub fn opened<S: Alter + Drop, H: Wait + Copy + Drop>(
     }
 }
 
-/// Tells whether a desk over the connection replies to a script as one over lists does.
+/// Checks whether a desk over the connection replies to a script as one over lists does.
 fn replies_as_lists<S: Alter + Drop, H: Wait + Copy + Drop>(
     rt: H,
     alloc: Global,
@@ -68,7 +68,7 @@ fn replies_as_lists<S: Alter + Drop, H: Wait + Copy + Drop>(
     Ok(replies(alloc, &mut stored, script).as_slice() == wanted.as_slice())
 }
 
-/// Runs a script over the database of a connection, and gives its replies and the connection.
+/// Runs a script over the database of a connection, and returns its replies and the connection.
 fn run_over<S: Alter + Drop, H: Wait + Copy + Drop>(
     rt: H,
     alloc: Global,

@@ -1,4 +1,4 @@
-//! Runs over the two files of a database, which come back also where they can't be opened.
+//! Runs over the two files of a database, which come back also if they can't be opened.
 
 use super::desks::{run, run_together};
 use prt_desk::StoreDesk;
@@ -10,7 +10,7 @@ use std::alloc::Global;
 use std::io;
 use std::sync::Wait;
 
-/// Each page is read from the log anew, so that each statement calls it.
+/// Each page is read from the log again, so that each statement calls it.
 pub const OPTIONS: Options = Options {
     cache_pages: 1,
     spill_pages: 1,
@@ -53,7 +53,7 @@ pub enum Mode {
 pub struct Ran {
     pub replies: Vec<u8>,
     pub end: ScriptEnd,
-    /// What the desk then gives as the error of the commit that closed it.
+    /// What the desk then returns as the error of the commit that closed it.
     pub failure: Option<Error>,
 }
 
@@ -70,7 +70,7 @@ pub fn new_files(alloc: Global, faults: Faults) -> Files<Faulty> {
     files_with(Memory::new(alloc), Memory::new(alloc), faults)
 }
 
-/// Gives the files of a connection, closed as far as their disk allows it.
+/// Returns the files of a connection, closed as far as their disk allows it.
 pub fn closed<D: Disk + Drop>(connection: Connection<FileStore<D>>) -> Files<D> {
     match connection.close_files() {
         Ok(files) => files,
@@ -78,7 +78,7 @@ pub fn closed<D: Disk + Drop>(connection: Connection<FileStore<D>>) -> Files<D> 
     }
 }
 
-/// Runs a script over the database of a connection. Gives how it ran, or why no desk was made; and the files.
+/// Runs a script over the database of a connection. Returns how it ran, or why no desk was made; and the files.
 fn run_over<D: Disk + Drop, H: Wait + Copy + Drop>(
     rt: H,
     alloc: Global,
@@ -135,7 +135,7 @@ pub fn copies(alloc: Global, files: &Files<Faulty>, faults: Faults) -> io::Resul
     Ok(files_with(log, db, faults))
 }
 
-/// Tells how many calls of the log, and of the database's file, were made of files that fail nowhere.
+/// Counts how many calls of the log, and of the database's file, were made of files that fail nowhere.
 pub fn calls_made(files: &Files<Faulty>) -> (u64, u64) {
     let made = |disk: &Faulty| u64::MAX - disk.calls_left();
     (made(&files.log), made(&files.db))

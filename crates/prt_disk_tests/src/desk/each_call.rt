@@ -11,7 +11,7 @@ use std::test::Fail;
 const CHURN: &str =
     "route replace 10/8 via 192.0.2.1\nroute change blackhole 10/8\nrule add priority 5 from 10/8 table 100\nrule del priority 5\nroute flush table all\nrule del priority 5\nroute get 10.1.2.3\n";
 
-/// The replies where so many of them are acknowledged, and the store fails at the next.
+/// The replies if so many of them are acknowledged, and the store fails at the next.
 const REPLIES: [&str; 6] = [
     "error 27 StoreFailed\nerror 20 Closed\nerror 20 Closed\nerror 20 Closed\nerror 20 Closed\nerror 20 Closed\nanswer 0 none\n",
     "ok 1\nerror 27 StoreFailed\nerror 20 Closed\nerror 20 Closed\nerror 20 Closed\nerror 20 Closed\nanswer 1 rule 32766 table main 10.0.0.0/8 via 192.0.2.1\n",
@@ -37,7 +37,7 @@ pub const HELD: [&str; 6] = [
 /// Two commands and a query.
 const TWO: &str = "route add default dev eth0\nrule flush\nroute get 10.0.0.1\n";
 
-/// The replies where so many of the two are acknowledged, and the store fails at the next.
+/// The replies if so many of the two are acknowledged, and the store fails at the next.
 const TWO_REPLIES: [&str; 3] = [
     "error 27 StoreFailed\nerror 20 Closed\nanswer 0 none\n",
     "ok 1\nerror 27 StoreFailed\nanswer 1 rule 32766 table main default dev eth0 scope link\n",
@@ -61,7 +61,7 @@ struct Script<'a> {
     held: &'a [&'a str],
 }
 
-/// Gives the script of five commands.
+/// Builds the script of five commands.
 fn churn() -> Script<'static> {
     Script {
         text: CHURN,
@@ -71,7 +71,7 @@ fn churn() -> Script<'static> {
     }
 }
 
-/// Gives the script of two commands.
+/// Builds the script of two commands.
 fn two_commands() -> Script<'static> {
     Script {
         text: TWO,
@@ -81,12 +81,12 @@ fn two_commands() -> Script<'static> {
     }
 }
 
-/// Gives the place of a text among others.
+/// Finds the place of a text among others.
 fn place_of(texts: &[&str], text: &[u8]) -> Option<usize> {
     texts.iter().position(|other| other.as_bytes() == text)
 }
 
-/// Tells whether a desk gave the library's error where a commit failed, and nowhere else.
+/// Checks whether a desk returned the library's error exactly if a commit failed.
 pub fn is_told(ran: &Result<Ran, Refusal>) -> bool {
     match ran {
         Ok(ran) => {
@@ -107,7 +107,7 @@ struct Found {
     has_failed: bool,
 }
 
-/// Gives how many commands were acknowledged, none where the database wasn't opened, and how many its files hold.
+/// Counts how many commands were acknowledged, none if the database wasn't opened, and how many its files hold.
 fn pair_of(script: Script<'_>, found: &Found) -> Option<(usize, usize)> {
     let stored = place_of(script.held, found.held.as_slice())?;
     match &found.ran {
@@ -116,8 +116,8 @@ fn pair_of(script: Script<'_>, found: &Found) -> Option<(usize, usize)> {
     }
 }
 
-/// Tells whether a run may have left what its files hold: nothing where it wasn't opened; otherwise the commands that
-/// were acknowledged, and one more only where the call that commits it failed.
+/// Checks whether a run may have left what its files hold: nothing if it wasn't opened; otherwise the commands that
+/// were acknowledged, and one more only if the call that commits it failed.
 fn may_leave(script: Script<'_>, found: &Found) -> bool {
     let Some((acknowledged, stored)) = pair_of(script, found) else {
         return false;
@@ -151,7 +151,7 @@ fn found_with<H: Wait + Copy + Drop>(
     })
 }
 
-/// Gives how many of the five commands are acknowledged and how many the files hold, with these faults.
+/// Counts how many of the five commands are acknowledged and how many the files hold, with these faults.
 pub fn pair_with<H: Wait + Copy + Drop>(
     rt: H,
     alloc: Global,
@@ -161,14 +161,14 @@ pub fn pair_with<H: Wait + Copy + Drop>(
     Ok(pair_of(churn(), &found))
 }
 
-/// Gives how many calls of either file the script of five commands makes at most where none fails.
+/// Counts how many calls of either file the script of five commands makes at most if none fails.
 pub fn most_calls<H: Wait + Copy + Drop>(rt: H, alloc: Global) -> u64 {
     let (log, db) = calls_of(rt, alloc, churn());
     log.max(db)
 }
 
-/// Runs a script over new files with these faults. Tells whether the error of a failed commit was given and the files
-/// hold what it may have left once they work again, and whether a call failed that was to fail alone.
+/// Runs a script over new files with these faults. Checks whether the error of a failed commit was returned and the files
+/// hold what it may have left once they work again; and whether a call failed that was to fail alone.
 fn is_right_with<H: Wait + Copy + Drop>(
     rt: H,
     alloc: Global,
@@ -180,13 +180,13 @@ fn is_right_with<H: Wait + Copy + Drop>(
     Ok((is_right, found.has_failed))
 }
 
-/// Tells how many calls of the log, and of the database's file, a script makes where none fails.
+/// Counts how many calls of the log, and of the database's file, a script makes if none fails.
 fn calls_of<H: Wait + Copy + Drop>(rt: H, alloc: Global, script: Script<'_>) -> (u64, u64) {
     let new = new_files(alloc, Faults::NONE);
     calls_made(&run_in(rt, alloc, new, script.text, Mode::InTurn).1)
 }
 
-/// Tells whether the first command fails where the log takes so many calls, each later command is refused as closed, and
+/// Checks whether the first command fails if the log takes so many calls, each later command is refused as closed, and
 /// the query is answered.
 fn answers_when_closed<H: Wait + Copy + Drop>(rt: H, alloc: Global, calls: u64) -> bool {
     let faults = Faults {
@@ -207,7 +207,7 @@ fn a_closed_desk_answers(rt: HostRuntime) {
     assert!(rt; (0..log).any(|calls| answers_when_closed(rt, alloc, calls)));
 }
 
-/// Runs a script where each call in turn of the two files is the only one that fails.
+/// Runs a script so that each call in turn of the two files is the only one that fails.
 fn fails_once_in<H: Wait + Copy + Drop>(
     rt: H,
     alloc: Global,

@@ -1,4 +1,4 @@
-//! A file of format 1, which its opening migrates, also where it is stopped at any call.
+//! A file of format 1, which its opening migrates, also if it is stopped at any call.
 
 use super::disks::{Faults, Faulty, Mode, OPTIONS, calls_made, closed, copies, new_files, run_in};
 use prt_session::Refusal;
@@ -19,7 +19,7 @@ const LISTINGS: &str = "rule show\nroute show table all\nroute get 192.0.2.7\n";
 const HELD: &[u8] =
     b"0:\tfrom all lookup local\n32765:\tnot from all fwmark 0xca6c lookup 51820\n32766:\tfrom all lookup main\n32767:\tfrom all lookup default\nend 4\ndefault dev wg0 table 51820 scope link\nend 1\nanswer 2 rule 32765 table 51820 default dev wg0 scope link\n";
 
-/// Opens the database of these files and runs statements. Gives the files, and how many rows the last statement changed.
+/// Opens the database of these files and runs statements. Returns the files, and how many rows the last statement changed.
 fn changed_in<D: Disk + Drop>(
     alloc: Global,
     files: Files<D>,
@@ -39,7 +39,7 @@ fn changed_in<D: Disk + Drop>(
     }
 }
 
-/// Opens copies of these files with these faults, and then what they hold without any. Tells whether that is all of the
+/// Opens copies of these files with these faults, and then what they hold without any. Checks whether that is all of the
 /// state, in format 2.
 fn is_migrated_with<H: Wait + Copy + Drop>(
     rt: H,

@@ -57,7 +57,7 @@ fn reopened<D: Disk + Drop, H: Wait + Copy + Drop>(
     }
 }
 
-/// Runs a script whose replies cannot be written, closes the database and opens it again, and gives why the run ended
+/// Runs a script whose replies cannot be written, closes the database and opens it again. Returns why the run ended
 /// and the replies to a second script.
 fn run_unheard<D: Disk + Drop, H: Wait + Copy + Drop>(
     rt: H,
@@ -80,7 +80,7 @@ fn run_unheard<D: Disk + Drop, H: Wait + Copy + Drop>(
     Ok((end.fault, replies(alloc, &mut again, second)))
 }
 
-/// Runs a script, closes the database and opens it again, and gives the replies to it and to a second one.
+/// Runs a script, closes the database and opens it again, and returns the replies to it and to a second one.
 fn run_twice<D: Disk + Drop, H: Wait + Copy + Drop>(
     rt: H,
     alloc: Global,

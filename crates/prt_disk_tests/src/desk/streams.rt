@@ -8,7 +8,7 @@ use std::io;
 use std::io::{Read, Write};
 use std::test::Fail;
 
-/// A reader that gives one byte a call, is interrupted once after the first bytes, and then has more.
+/// A reader that returns one byte a call, is interrupted once after the first bytes, and then has more.
 #[derive(Drop)]
 struct Interrupted {
     before: &'static [u8],
@@ -41,7 +41,7 @@ impl Read for Interrupted {
     }
 }
 
-/// The last lines that it was told of.
+/// The last lines that were reported to it.
 #[derive(Drop)]
 struct LastLines {
     begun: u64,
@@ -187,7 +187,7 @@ impl Write for Slow {
     }
 }
 
-/// Runs a script whose replies go to a writer that takes so many bytes a call and meets this trouble. Gives what the
+/// Runs a script whose replies go to a writer that takes so many bytes a call and meets this trouble. Returns what the
 /// writer took, and how the session ended.
 fn run_into(
     alloc: Global,
@@ -246,7 +246,7 @@ const FIRST_RUN: &str = "route add default via 192.0.2.1 dev eth0\nroute get 198
 /// The replies to that script.
 const FIRST_REPLIES: &str = "ok 1\nanswer 1 rule 32766 table main default via 192.0.2.1 dev eth0\n";
 
-/// Gives the replies to so many lines of that script, after which the reader failed.
+/// Returns the replies to so many lines of that script, after which the reader failed.
 fn replies_before_fault(lines: usize) -> &'static str {
     match lines {
         0 => "error 32 ReadFault\n",
@@ -272,7 +272,7 @@ fn reader_fails_at_each_byte(rt: HostRuntime) -> Result<(), Fail> {
     Ok(())
 }
 
-/// Tells whether that script's replies end after so many bytes, at which a writer meets this trouble.
+/// Checks whether that script's replies end after so many bytes, at which a writer meets this trouble.
 fn ends_after(alloc: Global, count: usize, trouble: Trouble) -> Result<bool, Refusal> {
     let (taken, end) = run_into(alloc, FIRST_RUN, 1, trouble)?;
     let is_cut = FIRST_REPLIES.as_bytes().get(..count) == Some(taken.as_slice());

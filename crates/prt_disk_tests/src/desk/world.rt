@@ -1,4 +1,4 @@
-//! What files with faults hold, beside what a replay of the same commands gives.
+//! What files with faults hold, beside what a replay of the same commands yields.
 
 use super::atomic::faults_at;
 use super::each_call::{most_calls, pair_with};
@@ -56,7 +56,7 @@ fn replay_text(
     Ok(text)
 }
 
-/// Gives how many commands a database has when it is opened again.
+/// Counts how many commands a database has when it is opened again.
 fn reopened_at(
     alloc: Global,
     acknowledged: usize,
@@ -72,7 +72,7 @@ fn reopened_at(
     }
 }
 
-/// Tells whether an end after these store calls gives so many commands.
+/// Checks whether an end after these store calls yields so many commands.
 fn is_known_after(
     alloc: Global,
     acknowledged: usize,
@@ -87,7 +87,7 @@ fn is_known_after(
     Ok(false)
 }
 
-/// Tells whether some replay acknowledges so many commands and is opened again with so many.
+/// Checks whether some replay acknowledges so many commands and is opened again with so many.
 fn is_known(alloc: Global, acknowledged: usize, stored: usize) -> Result<bool, Refusal> {
     for calls in CALLS {
         if is_known_after(alloc, acknowledged, stored, calls)? {

@@ -9,7 +9,7 @@ use prt_store::Store;
 use prt_version::{Command, Refusal, Version};
 use sqlite::Alter;
 
-/// Commits the command to the store whose tables spell this version, and gives the version after it.
+/// Commits the command to the store whose tables encode this version, and returns the version after it.
 ///
 /// # Errors
 ///

@@ -1,4 +1,4 @@
-//! Databases, and what they spell.
+//! Databases, and what they encode.
 
 use prt_command::{Query, Range, Selector};
 use prt_listing::query_text;
@@ -21,7 +21,7 @@ const ALL_ROUTES: Query = Query::RouteShow(Selector {
     dev: None,
 });
 
-/// What a database spells: how many commands it accepted, and the answers to `rule show` and `route show table all`.
+/// What a database encodes: how many commands it accepted, and the answers to `rule show` and `route show table all`.
 pub struct Contents {
     pub number: u64,
     pub rules: &'static str,
@@ -33,7 +33,7 @@ pub fn execute<S: Alter>(connection: &mut Connection<S>, sql: &str) -> Result<()
     connection.execute_batch(sql)
 }
 
-/// Gives the store that adopts the connection.
+/// Makes the store that adopts the connection.
 pub fn adopted<S: Alter + Drop>(connection: Connection<S>) -> Result<Store<S>, Refusal> {
     match Store::adopt(connection) {
         Ok(store) => Ok(store),
@@ -41,19 +41,19 @@ pub fn adopted<S: Alter + Drop>(connection: Connection<S>) -> Result<Store<S>, R
     }
 }
 
-/// Tells what the store loads.
+/// Returns what the store loads.
 pub fn loaded<S: Alter + Drop>(alloc: Global, store: &mut Store<S>) -> Result<Version, Refusal> {
     store.load(alloc)
 }
 
-/// Gives the lines that answer a query.
+/// Collects the lines that answer a query.
 fn answer(alloc: Global, version: &Version, query: &Query) -> Result<Vec<u8>, Refusal> {
     let mut text = Vec::new(alloc);
     query_text(&mut text, version, query)?;
     Ok(text)
 }
 
-/// Gives the connection, and whether its database spells this once it is adopted.
+/// Returns the connection, and whether its database encodes this once it is adopted.
 pub fn spells<S: Alter + Drop>(
     alloc: Global,
     connection: Connection<S>,

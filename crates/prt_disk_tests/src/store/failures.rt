@@ -9,7 +9,7 @@ use sqlite::{Connection, Files, Options};
 use sqlite_disk::{Disk, Fuse, Memory};
 use std::alloc::Global;
 
-/// Why a command is refused in the database of these files. Each page is read from the log anew, so that each statement
+/// Why a command is refused in the database of these files. Each page is read from the log again, so that each statement
 /// calls it. For files of whatever kind, so that the proof knows nothing of them.
 fn refusal_in<D: Disk + Drop>(alloc: Global, files: Files<D>) -> Option<Refusal>
     requires log { IsTrue (D.Disk.is_usable files.log) }

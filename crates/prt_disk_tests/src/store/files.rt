@@ -1,4 +1,4 @@
-//! A store over a file. What has the type of a file stands in the test alone, since each such function is dear to
+//! A store over a file. What has the type of a file is in the test alone, since each such function is dear to
 //! prove.
 
 use super::database::spells;
@@ -16,7 +16,7 @@ const FOLDER: &str = "prt_store_tests_files";
 /// The database that the test makes.
 const PATH: &str = "prt_store_tests_files/routes.db";
 
-/// Tells whether the store that was opened spells the opening state.
+/// Checks whether the store that was opened encodes the opening state.
 fn is_new<S: Alter + Drop>(
     alloc: Global,
     opened: Result<Store<S>, (Refusal, Option<Connection<S>>)>,

@@ -1,4 +1,4 @@
-//! Files as they are found: half made, with tables of others, or with rows that spell no state.
+//! Files as they are found: half made, with tables of others, or with rows that encode no state.
 
 use super::database::{adopted, execute, loaded, spells};
 use super::steps::OPENING;
@@ -12,7 +12,7 @@ use std::test::Fail;
 const RULE_TABLE: &str =
     "CREATE TABLE rule (id INTEGER PRIMARY KEY NOT NULL, priority INTEGER NOT NULL, inverted INTEGER NOT NULL, src_net INTEGER NOT NULL, src_len INTEGER NOT NULL, dst_net INTEGER NOT NULL, dst_len INTEGER NOT NULL, iif TEXT NOT NULL, mark INTEGER NOT NULL, mask INTEGER NOT NULL, act INTEGER NOT NULL, tbl INTEGER NOT NULL) STRICT";
 
-/// Tells whether what these statements make spells the opening state once it is adopted.
+/// Checks whether what these statements make encodes the opening state once it is adopted.
 fn is_new_after(alloc: Global, sql: &str) -> Result<bool, Fail> {
     let mut connection = Connection::open_in_memory(alloc)?;
     execute(&mut connection, sql)?;
@@ -30,7 +30,7 @@ fn opens_half_made_files(rt: HostRuntime) -> Result<(), Fail> {
     Ok(())
 }
 
-/// Tells what comes of loading a new database after this statement.
+/// Finds what comes of loading a new database after this statement.
 fn load_after(alloc: Global, sql: &str) -> Result<Option<Refusal>, Fail> {
     let mut connection = adopted(Connection::open_in_memory(alloc)?)?.release();
     execute(&mut connection, sql)?;

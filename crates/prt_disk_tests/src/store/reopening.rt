@@ -1,4 +1,4 @@
-//! A database that is closed, and opened again as a program does that is started anew.
+//! A database that is closed, and opened again as a restarted program does.
 
 ghost use Rattle.std.specs.Prelude.{◌≡◌, IfOk};
 ghost use Rattle.sqlite.specs.Files.{file_state};
@@ -16,7 +16,7 @@ use std::alloc::Global;
 ///
 /// # Errors
 ///
-/// `OpenFailed` where a call fails; the files are let go.
+/// `OpenFailed` if a call fails; the files are let go.
 fn opened_again<D: Disk + Drop>(
     alloc: Global,
     conn: Connection<FileStore<D>>,
@@ -39,12 +39,12 @@ fn opened_again<D: Disk + Drop>(
     }
 }
 
-/// Closes the database of a store, opens it again and adopts it. If the last commit left tables that spell a state, the
-/// new store's tables spell it.
+/// Closes the database of a store, opens it again and adopts it. If the last commit left tables that encode a state, the
+/// new store's tables encode it.
 ///
 /// # Errors
 ///
-/// `OpenFailed` where a call fails; the files are let go.
+/// `OpenFailed` if a call fails; the files are let go.
 pub fn reopened<D: Disk + Drop>(
     alloc: Global,
     store: Store<FileStore<D>>,

@@ -11,14 +11,14 @@ use sqlite_disk::{Disk, Memory};
 use std::alloc::Global;
 use std::test::Fail;
 
-/// What a new database spells after `rule flush`.
+/// What a new database encodes after `rule flush`.
 const FLUSHED: Contents = Contents {
     number: 1,
     rules: "0:\tfrom all lookup local\nend 1\n",
     routes: "end 0\n",
 };
 
-/// Tells how a connection is opened: with room for each page.
+/// Chooses how a connection is opened: with room for each page.
 fn options() -> Options {
     Options {
         cache_pages: 100,
@@ -28,7 +28,7 @@ fn options() -> Options {
     }
 }
 
-/// Tells whether the database of these files, after `rule flush`, spells that once it is closed and opened again.
+/// Checks whether the database of these files, after `rule flush`, encodes that once it is closed and opened again.
 fn finds_flush<D: Disk + Drop>(alloc: Global, files: Files<D>) -> Result<bool, Refusal>
     requires log { IsTrue (D.Disk.is_usable files.log) }
     requires db { IsTrue (D.Disk.is_usable files.db) }

@@ -1,4 +1,4 @@
-//! Commands that are committed one after the other, and what the tables then spell.
+//! Commands that are committed one after the other, and what the tables then encode.
 
 use super::caller::submit;
 use super::database::{Contents, OPENING_RULES, adopted, loaded, spells};
@@ -7,14 +7,14 @@ use sqlite::{Alter, Connection};
 use std::alloc::Global;
 use std::test::Fail;
 
-/// What a new database spells.
+/// What a new database encodes.
 pub const OPENING: Contents = Contents {
     number: 0,
     rules: OPENING_RULES,
     routes: "end 0\n",
 };
 
-/// One command for each statement, and a second route beside the first; with each, what the tables then spell.
+/// One command for each statement, and a second route beside the first; with each, what the tables then encode.
 pub const STEPS: [(&str, Contents); 8] = [
     (
         "route add 10.1/16 via 192.0.2.1 dev eth0 src 192.0.2.10 metric 5",
@@ -82,7 +82,7 @@ pub const STEPS: [(&str, Contents); 8] = [
     ),
 ];
 
-/// Gives the connection after the command of a line was committed.
+/// Returns the connection after the command of a line was committed.
 pub fn committed<S: Alter + Drop>(
     alloc: Global,
     connection: Connection<S>,
@@ -97,7 +97,7 @@ pub fn committed<S: Alter + Drop>(
     Ok(store.release())
 }
 
-/// Gives the first command after which the tables of a new database spell something else.
+/// Finds the first command after which the tables of a new database encode something else.
 fn misstored_line<S: Alter + Drop>(
     alloc: Global,
     connection: Connection<S>,

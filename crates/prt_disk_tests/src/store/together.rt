@@ -20,14 +20,14 @@ use std::test::Fail;
 const CHURN: &str =
     "route replace 10/8 via 192.0.2.1\nroute change blackhole 10/8\nrule add priority 5 from 10/8 table 100\nrule del priority 5\nroute flush table all\n";
 
-/// What a new database spells after all five.
+/// What a new database encodes after all five.
 const AFTER: Contents = Contents {
     number: 5,
     rules: OPENING_RULES,
     routes: "end 0\n",
 };
 
-/// Each page is read from the log anew, so that each statement calls it.
+/// Each page is read from the log again, so that each statement calls it.
 const OPTIONS: Options = Options {
     cache_pages: 1,
     spill_pages: 1,
@@ -38,7 +38,7 @@ const OPTIONS: Options = Options {
 /// Memory of which one call fails.
 type Faulty = FailOnce<Memory>;
 
-/// Gives the commands of a script's lines.
+/// Collects the commands of a script's lines.
 fn commands_of(alloc: Global, script: &str) -> Result<Vec<Command>, Refusal>
     ensures { IfOk result (λ commands. All IsStorable commands.items) }
 {
@@ -71,7 +71,7 @@ fn submit_all<S: Alter + Drop>(
     Ok(())
 }
 
-/// Commits the script's commands together in the database of a connection. Gives what comes of it, and the connection.
+/// Commits the script's commands together in the database of a connection. Returns what comes of it, and the connection.
 fn submit_over<S: Alter + Drop>(
     alloc: Global,
     connection: Connection<S>,
@@ -88,7 +88,7 @@ fn submit_over<S: Alter + Drop>(
     }
 }
 
-/// Gives the files of a connection, closed as far as their disk allows it.
+/// Returns the files of a connection, closed as far as their disk allows it.
 fn closed<D: Disk + Drop>(connection: Connection<FileStore<D>>) -> Files<D> {
     match connection.close_files() {
         Ok(files) => files,
@@ -111,7 +111,7 @@ fn submit_in<D: Disk + Drop>(alloc: Global, files: Files<D>) -> (Result<(), Refu
     }
 }
 
-/// Tells whether the database of these files spells the opening state, and whether it spells the one after all commands.
+/// Checks whether the database of these files encodes the opening state, and whether it encodes the one after all commands.
 fn found_in<D: Disk + Drop>(alloc: Global, files: Files<D>) -> Result<(bool, bool), Refusal> {
     if !files.may_be_used() {
         return Err(Refusal::OpenFailed);
@@ -140,7 +140,7 @@ fn working(alloc: Global, files: &Files<Faulty>) -> io::Result<Files<Faulty>> {
     })
 }
 
-/// Commits the script's commands together in a new database whose log fails once, after so many calls. Gives what comes of
+/// Commits the script's commands together in a new database whose log fails once, after so many calls. Returns what comes of
 /// it, and the files.
 fn submit_after(alloc: Global, calls: u64) -> io::Result<(Result<(), Refusal>, Files<Faulty>)> {
     let log = faulty(alloc, b"", calls)?;
@@ -148,8 +148,8 @@ fn submit_after(alloc: Global, calls: u64) -> io::Result<(Result<(), Refusal>, F
     Ok(submit_in(alloc, Files { log, db }))
 }
 
-/// Tells whether a database whose log fails once, after so many calls, then spells all of the script's commands or none,
-/// as it was told; and whether that call came.
+/// Checks whether a database whose log fails once, after so many calls, then encodes all of the script's commands or none,
+/// as was reported; and whether that call came.
 fn is_right_after(alloc: Global, calls: u64) -> Result<(bool, bool), Fail> {
     let (done, files) = submit_after(alloc, calls)?;
     let (is_before, is_after) = found_in(alloc, working(alloc, &files)?)?;

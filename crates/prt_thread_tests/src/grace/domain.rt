@@ -8,7 +8,7 @@ use std::alloc::Global;
 use std::sync::{Arc, Wait};
 use std::test::Fail;
 
-/// Notes the version after this one, where it is later than what the keeper noted, and gives it.
+/// Notes the version after this one if it is later than what the keeper noted, and returns it.
 fn note_next<H: Wait>(
     rt: &H,
     alloc: Global,

@@ -16,7 +16,7 @@ const DOWN: &str = "rule del table 51820
 rule del table main suppress_prefixlength 0
 route flush table 51820";
 
-/// The version after the command.
+/// Returns the version after the command.
 fn version_with(version: &Version, command: &Command) -> Result<Version, Refusal> {
     match version.check(command) {
         Ok(change) => version.next(&change),
@@ -24,7 +24,7 @@ fn version_with(version: &Version, command: &Command) -> Result<Version, Refusal
     }
 }
 
-/// The version after the commands of this script.
+/// Returns the version after the commands of this script.
 fn version_after(version: Version, script: &str) -> Result<Version, Refusal> {
     let mut version = version;
     for line in script.lines() {
@@ -36,7 +36,7 @@ fn version_after(version: Version, script: &str) -> Result<Version, Refusal> {
     Ok(version)
 }
 
-/// What the line claims.
+/// Reads what the line claims.
 fn claim_of(alloc: Global, line: &str) -> Result<Claim, Refusal> {
     match read_claim(alloc, line.as_bytes()) {
         Ok(Some(claim)) => Ok(claim),
@@ -44,7 +44,7 @@ fn claim_of(alloc: Global, line: &str) -> Result<Claim, Refusal> {
     }
 }
 
-/// A packet that breaks the claim of this line.
+/// Finds a packet that breaks the claim of this line.
 fn breach(alloc: Global, version: &Version, line: &str) -> Result<Option<Packet>, Refusal> {
     find_breach(alloc, version, &claim_of(alloc, line)?)
 }

@@ -33,7 +33,7 @@ fn a_comment_claims_nothing(rt: HostRuntime) -> Result<(), Fail> {
     Ok(())
 }
 
-/// Whether the line has this fault at this word.
+/// Checks whether the line has this fault at this word.
 fn is_refused(line: &[u8], bad: BadClaim, word: usize, fault: ClaimFault, text: &[u8]) -> bool {
     let has_word = match bad_word(line, &bad) {
         Some(found) => found == text,

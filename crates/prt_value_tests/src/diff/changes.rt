@@ -1,7 +1,7 @@
 use prt_command::{Command, Refusal, Request, read_line};
 use prt_diff::{
     Changes, Fence, Held, NotWritten, changes, changes_text, commands_text, count_outside,
-    replacing_text,
+    left_out_of_replacing, replacing_text,
 };
 use prt_route::{BOOT_PROTOCOL, Kind, LINK_SCOPE, MAIN_TABLE, Prefix, Route, RouteKey, read_dev};
 use prt_rule::{Action, Rule};
@@ -51,7 +51,7 @@ route del 172.16.0.0/12
 route del 172.16.0.0/12 metric 7
 ";
 
-/// The version after the command.
+/// Returns the version after the command.
 fn version_after(version: &Version, command: &Command) -> Result<Version, Refusal> {
     match version.check(command) {
         Ok(change) => version.next(&change),
@@ -59,7 +59,7 @@ fn version_after(version: &Version, command: &Command) -> Result<Version, Refusa
     }
 }
 
-/// The version after the command of this line.
+/// Returns the version after the command of this line.
 fn next_version(version: &Version, line: &str) -> Result<Version, Refusal> {
     match read_line(line.as_bytes())? {
         Some(Request::Command(command)) => version_after(version, &command),
@@ -67,7 +67,7 @@ fn next_version(version: &Version, line: &str) -> Result<Version, Refusal> {
     }
 }
 
-/// The version after the commands of this script.
+/// Returns the version after the commands of this script.
 fn after(mut version: Version, script: &str) -> Result<Version, Refusal> {
     for line in script.lines() {
         version = next_version(&version, line)?;
@@ -75,12 +75,12 @@ fn after(mut version: Version, script: &str) -> Result<Version, Refusal> {
     Ok(version)
 }
 
-/// The version that the script makes of a new database.
+/// Returns the version that the script makes of a new database.
 fn made(alloc: Global, script: &str) -> Result<Version, Refusal> {
     after(Version::opening(alloc)?, script)
 }
 
-/// The lines of the changes between these two.
+/// Returns the lines of the changes between these two.
 fn text_of(
     alloc: Global,
     fence: &Fence,
@@ -94,7 +94,7 @@ fn text_of(
     }
 }
 
-/// The changes between these two, of all that there is.
+/// Computes the changes between these two, of all that there is.
 fn all_changes(alloc: Global, found: &Version, wanted: &Version) -> Result<Changes, Fail> {
     let Ok(changes) = changes(alloc, &Fence::all(alloc), found, wanted) else {
         return Err(Fail::from(Refusal::NoMemory));
@@ -102,7 +102,7 @@ fn all_changes(alloc: Global, found: &Version, wanted: &Version) -> Result<Chang
     Ok(changes)
 }
 
-/// What is held back of the changes between these two, within this fence.
+/// Finds what is held back of the changes between these two, within this fence.
 fn held_between(
     alloc: Global,
     fence: &Fence,
@@ -115,7 +115,7 @@ fn held_between(
     }
 }
 
-/// Whether there is one route, and this line puts it.
+/// Checks whether there is one route, and this line puts it.
 fn is_one_route(routes: &[Route], line: &str) -> Result<bool, Refusal> {
     let wanted = route_of(line)?;
     match routes {
@@ -124,7 +124,7 @@ fn is_one_route(routes: &[Route], line: &str) -> Result<bool, Refusal> {
     }
 }
 
-/// Whether there is one rule, and it looks up this table.
+/// Checks whether there is one rule, and it looks up this table.
 fn is_one_lookup(rules: &[Rule], table: u32) -> bool {
     match rules {
         [rule] => rule.action == Action::Lookup(table),
@@ -132,7 +132,7 @@ fn is_one_lookup(rules: &[Rule], table: u32) -> bool {
     }
 }
 
-/// The route that a line puts.
+/// Returns the route that a line puts.
 fn route_of(line: &str) -> Result<Route, Refusal> {
     match read_line(line.as_bytes())? {
         Some(Request::Command(Command::RouteAdd(route))) => Ok(route),
@@ -140,7 +140,7 @@ fn route_of(line: &str) -> Result<Route, Refusal> {
     }
 }
 
-/// The lines of the changes between what these scripts make.
+/// Returns the lines of the changes between what these scripts make.
 fn lines_between(alloc: Global, found: &str, wanted: &str) -> Result<Vec<u8>, Fail> {
     text_of(
         alloc,
@@ -271,7 +271,7 @@ rule add priority 100 from 10.0.0.0/8 lookup 7
     Ok(())
 }
 
-/// The kernel compares no source where the new rule has all of them, but it compares marks as they are.
+/// The kernel compares no source if the new rule has all of them, but it compares marks as they are.
 #[test]
 fn clears_the_way_for_all_sources(rt: HostRuntime) -> Result<(), Fail> {
     let found = made(
@@ -356,7 +356,7 @@ route del 10.0.0.0/8 table 7
     Ok(())
 }
 
-/// A route through an interface of this name.
+/// Makes a route through an interface of this name.
 fn route_through(name: &[u8]) -> Result<Route, Refusal> {
     Ok(Route {
         table: MAIN_TABLE,
@@ -379,7 +379,7 @@ fn names_what_no_line_spells(rt: HostRuntime) -> Result<(), Fail> {
     Ok(())
 }
 
-/// The version of a new database and a route through an interface of this name.
+/// Makes the version of a new database and a route through an interface of this name.
 fn version_through(alloc: Global, name: &[u8]) -> Result<Version, Refusal> {
     version_after(
         &Version::opening(alloc)?,
@@ -387,15 +387,23 @@ fn version_through(alloc: Global, name: &[u8]) -> Result<Version, Refusal> {
     )
 }
 
-/// No command comes of the name, and the route is counted as one outside.
+/// No command comes of the name, and the route is named as one that is missing, or that stays.
 fn is_left_out(alloc: Global, name: &[u8]) -> Result<bool, Fail> {
     let fence = Fence::all(alloc);
     let with_route = version_through(alloc, name)?;
     let opening = Version::opening(alloc)?;
     let coming = text_of(alloc, &fence, &opening, &with_route)?;
     let going = text_of(alloc, &fence, &with_route, &opening)?;
+    let missing = held_between(alloc, &fence, &opening, &with_route)?;
+    let staying = held_between(alloc, &fence, &with_route, &opening)?;
     let outside = count_outside(&fence, &with_route)?;
-    Ok(coming.is_empty() && going.is_empty() && outside.routes == 1)
+    Ok(
+        coming.is_empty()
+            && going.is_empty()
+            && missing.unreadable.missing_routes.len() == 1
+            && staying.unreadable.staying_routes.len() == 1
+            && outside.routes == 0,
+    )
 }
 
 #[test]
@@ -411,7 +419,7 @@ fn leaves_out_names_that_ip_misreads(rt: HostRuntime) -> Result<(), Fail> {
     Ok(())
 }
 
-/// A rule of a priority where another has an interface that no line names moves among the others alone.
+/// A rule of a priority at which another has an interface that no line names moves among the others alone.
 #[test]
 fn leaves_a_rule_of_such_a_name(rt: HostRuntime) -> Result<(), Fail> {
     let found = made(rt.alloc(), "rule add priority 500 iif a\"b table 7")?;
@@ -425,6 +433,9 @@ fn leaves_a_rule_of_such_a_name(rt: HostRuntime) -> Result<(), Fail> {
     let brought = after(found, "rule add priority 500 iif ab table 7")?;
     let rest = text_of(rt.alloc(), &fence, &brought, &wanted)?;
     assert_eq!(rt; rest.as_slice(), "".as_bytes());
+    let held = held_between(rt.alloc(), &fence, &brought, &wanted)?;
+    assert!(rt; is_one_lookup(&held.unreadable.staying_rules, 7));
+    assert!(rt; held.unreadable.missing_rules.is_empty());
     Ok(())
 }
 
@@ -462,7 +473,7 @@ rule del priority 600 from 10.0.0.0/8 to all lookup 7
             .as_bytes()
     );
     let outside = count_outside(&fence, &wanted)?;
-    assert_eq!(rt; (outside.rules, outside.routes), (1, 1));
+    assert_eq!(rt; (outside.rules, outside.routes), (0, 0));
     let held = held_between(rt.alloc(), &fence, &found, &wanted)?;
     assert!(rt; is_one_route(&held.hindered_routes, "route add 10.1/16 dev eth1 table 7")?);
     assert!(rt; is_one_lookup(&held.hindered_rules, 8));
@@ -611,6 +622,14 @@ route replace 10.1.0.0/16 via 192.0.2.9 table 7
 route replace default via 192.0.2.1
 "
             .as_bytes()
+    );
+    let held = left_out_of_replacing(rt.alloc(), &version)?;
+    assert!(rt; is_one_lookup(&held.unreadable.missing_rules, 7));
+    assert!(rt;
+        is_one_route(
+            &held.unreadable.missing_routes,
+            "route add 10.3/16 dev -x table 7"
+        )?
     );
     Ok(())
 }

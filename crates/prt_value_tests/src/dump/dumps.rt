@@ -24,7 +24,7 @@ route add 192.0.2.0/24 dev eth0 proto kernel scope link src 192.0.2.10
 route add default via 192.0.2.1 metric 10
 ";
 
-/// The version after the command of this line.
+/// Returns the version after the command of this line.
 fn next_version(version: &Version, line: &str) -> Result<Version, Refusal> {
     match read_line(line.as_bytes())? {
         Some(Request::Command(command)) => match version.check(&command) {
@@ -35,7 +35,7 @@ fn next_version(version: &Version, line: &str) -> Result<Version, Refusal> {
     }
 }
 
-/// The dump of a new database after the commands of this script.
+/// Returns the dump of a new database after the commands of this script.
 fn dump_after(alloc: Global, script: &str) -> Result<Vec<u8>, Fail> {
     let mut version = Version::opening(alloc)?;
     for line in script.lines() {

@@ -150,7 +150,7 @@ const MARK_FAILS: &str = "packet to 10.0.0.1 from 0.0.0.0 iif b mark 0x2f
 answer 2 none
 ";
 
-/// The version after the command.
+/// Returns the version after the command.
 fn version_with(version: &Version, command: &Command) -> Result<Version, Refusal> {
     match version.check(command) {
         Ok(change) => version.next(&change),
@@ -158,7 +158,7 @@ fn version_with(version: &Version, command: &Command) -> Result<Version, Refusal
     }
 }
 
-/// The version after the command of this line.
+/// Returns the version after the command of this line.
 fn next_version(version: &Version, line: &str) -> Result<Version, Refusal> {
     match read_line(line.as_bytes())? {
         Some(Request::Command(command)) => version_with(version, &command),
@@ -166,7 +166,7 @@ fn next_version(version: &Version, line: &str) -> Result<Version, Refusal> {
     }
 }
 
-/// The version of a new database after the commands of this script.
+/// Returns the version of a new database after the commands of this script.
 fn version_after(alloc: Global, script: &str) -> Result<Version, Refusal> {
     let mut version = Version::opening(alloc)?;
     for line in script.lines() {
@@ -175,7 +175,7 @@ fn version_after(alloc: Global, script: &str) -> Result<Version, Refusal> {
     Ok(version)
 }
 
-/// The explanation of the answer to this line, on a new database after the commands of this script.
+/// Explains the answer to this line, on a new database after the commands of this script.
 fn explanation(alloc: Global, script: &str, line: &str) -> Result<Vec<u8>, Fail> {
     let version = version_after(alloc, script)?;
     let mut text = Vec::new(alloc);

@@ -35,7 +35,7 @@ route add default via 192.0.2.1 dev eth0
 now
 ";
 
-/// The text of an opening.
+/// Returns the text of an opening.
 fn text_of(alloc: Global, version: &Version) -> Result<Vec<u8>, Fail> {
     match opening_text(alloc, version) {
         Ok(text) => Ok(text),
@@ -43,7 +43,7 @@ fn text_of(alloc: Global, version: &Version) -> Result<Vec<u8>, Fail> {
     }
 }
 
-/// The line of the change that this line asks for.
+/// Returns the line of the change that this line asks for.
 fn change_of(alloc: Global, number: u64, line: &str) -> Result<Option<Vec<u8>>, Fail> {
     match read_line(line.as_bytes())? {
         Some(Request::Command(command)) => Ok(change_line(alloc, number, &command)),
@@ -51,7 +51,7 @@ fn change_of(alloc: Global, number: u64, line: &str) -> Result<Option<Vec<u8>>, 
     }
 }
 
-/// Why this text has no opening.
+/// Returns why this text has no opening.
 fn reason_of(alloc: Global, text: &str) -> Option<NotRead> {
     let mut bytes = text.as_bytes();
     match read_opening(alloc, &mut bytes) {
@@ -60,7 +60,7 @@ fn reason_of(alloc: Global, text: &str) -> Option<NotRead> {
     }
 }
 
-/// The opening that this text has, and what is left of it.
+/// Returns the opening that this text has, and what is left of it.
 fn opening_of(alloc: Global, text: &str) -> Result<(Opening, usize), Fail> {
     let mut bytes = text.as_bytes();
     match read_opening(alloc, &mut bytes) {

@@ -1,5 +1,5 @@
-//! Listings of other forms, and those that programs leave. What `ip` printed is of iproute2 6.1 in a network namespace; the text
-//! of busybox and those of programs are by hand, after what they do.
+//! Listings of other forms, and those that programs leave. What `ip` printed is of iproute2 6.1 in a network namespace. The
+//! text of busybox and those of programs are by hand, after what they do.
 use prt_addr::Addr;
 use prt_import::{
     HostNames, NoListing, check_listing, import, kernel_routes, left_out, route_key, rule_priority,
@@ -156,7 +156,7 @@ rule add priority 32766 from all lookup main
 
 const TUNNEL_COMMENT: &str = "# left out: routes that the kernel makes itself: 2\n";
 
-/// Gives the comments of a script again.
+/// Reads the comments of a script again.
 fn comments(alloc: Global, text: &str) -> Result<Vec<u8>, Fail> {
     let read = import(alloc, &HostNames::new(alloc), text.as_bytes())?;
     Ok(left_out(alloc, &read.script, None)?)
@@ -194,7 +194,7 @@ fn finds_comments(rt: HostRuntime) -> Result<(), Fail> {
     Ok(())
 }
 
-/// The table, the length of the prefix and the metric of a key.
+/// Returns the table, the length of the prefix and the metric of a key.
 fn parts(key: Option<RouteKey>) -> Option<(u32, u8, u32)> {
     let key = key?;
     Some((key.table, key.prefix.len(), key.metric))

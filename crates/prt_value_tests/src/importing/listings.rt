@@ -3,7 +3,7 @@ use prt_import::{HostNames, Imported, Names, import};
 use std::alloc::Global;
 use std::test::Fail;
 
-/// The beginning of `/etc/iproute2/rt_tables`, with a table more.
+/// The beginning of `/etc/iproute2/rt_tables`, with one more table.
 const TABLES: &str = "#
 # reserved values
 #
@@ -128,7 +128,7 @@ route add blackhole 10.3.0.0/16 table main proto boot scope global
 route add unicast default via 192.0.2.1 dev eth0 table main proto dhcp scope global src 192.0.2.5 metric 100
 ";
 
-/// What is made of a text, with the names of a host.
+/// Returns what is made of a text, with the names of a host.
 fn imported(alloc: Global, text: &[u8]) -> Result<Imported, Fail> {
     let mut names = HostNames::new(alloc);
     names.tables.read(TABLES.as_bytes())?;

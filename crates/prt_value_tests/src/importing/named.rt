@@ -1,10 +1,11 @@
 //! Texts with the names of tables. The rules and routes were printed by `ip` of iproute2 6.1, whose interface was named
-//! `table`, first with the names that it comes with and then with those below. Explanations and scripts are by hand.
+//! `table`. They were printed first with the names that it comes with, and then with those below. Explanations and scripts
+//! are by hand.
 use prt_import::{Names, Text, with_names};
 use std::alloc::Global;
 use std::test::Fail;
 
-/// A file `/etc/iproute2/rt_tables` with two names of table 100; the one that `ip` read had two tables more.
+/// A file `/etc/iproute2/rt_tables` with two names of table 100; the one that `ip` read had two more tables.
 const TABLES: &str = "255\tlocal
 254\tmain
 253\tdefault
@@ -31,7 +32,7 @@ const NAMED_RULES: &str = "0:\tfrom all lookup local
 32767:\tfrom all lookup default
 ";
 
-/// What `ip -4 route show table all` printed, but for table local.
+/// What `ip -4 route show table all` printed, except for table local.
 const ROUTES: &str = "10.2.0.0/16 dev table table 7 scope link 
 10.6.0.0/16 dev table table 9 scope link 
 10.4.0.0/16 dev table table 300 scope link metric 100 
@@ -48,8 +49,8 @@ unreachable 10.3.0.0/16 table other metric 100
 10.7.0.0/16 dev table proto 100 scope 100 
 ";
 
-/// By hand, of objects that `ip -j -4 rule` and `ip -j -4 route show table all` printed: some have a field less, and one
-/// another priority. The names stand as `ip` printed them.
+/// By hand, of objects that `ip -j -4 rule` and `ip -j -4 route show table all` printed. Some have one field less, and one
+/// has another priority. The names are as `ip` printed them.
 const JSON: &str =
     r#"[{"priority":0,"src":"all","table":"local"},{"priority":100,"src":"all","iif":"table","table":"100"},{"priority":101,"src":"all","table":"9"},{"priority":32766,"src":"all","table":"main"}]
 [{"dst":"10.4.0.0/16","dev":"table","table":"300","scope":"link","metric":100,"flags":[]},{"type":"unreachable","dst":"10.3.0.0/16","table":"1615","metric":100,"flags":[]},{"dst":"10.7.0.0/16","dev":"table","protocol":"100","scope":"100","flags":[]}]
@@ -60,7 +61,7 @@ const NAMED_JSON: &str =
 [{"dst":"10.4.0.0/16","dev":"table","table":"a\"b\\c,d","scope":"link","metric":100,"flags":[]},{"type":"unreachable","dst":"10.3.0.0/16","table":"other","metric":100,"flags":[]},{"dst":"10.7.0.0/16","dev":"table","protocol":"100","scope":"100","flags":[]}]
 "#;
 
-/// An explanation by hand; the priority of a rule, which stands behind the name of an interface, is that of a named table.
+/// An explanation by hand; the priority of a rule, which comes after the name of an interface, is that of a named table.
 const EXPLANATION: &str = "packet to 203.0.113.5 from 0.0.0.0 iif table mark 0x64
 0:\tfrom all lookup local
 \ttable local: no route
@@ -104,7 +105,7 @@ route add 10.1.0.0/16 dev 100 table uplink scope link
 route flush table all proto 7
 route del default table other metric 7";
 
-/// Gives a text with the names of the file.
+/// Returns a text with the names of the file.
 fn named(alloc: Global, form: Text, text: &str) -> Result<Vec<u8>, Fail> {
     let mut names = Names::new(alloc);
     names.read(TABLES.as_bytes())?;

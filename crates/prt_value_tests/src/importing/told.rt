@@ -1,4 +1,4 @@
-//! What is told of lines: each thing that `ip` prints and no line here can say.
+//! What is reported of lines: each thing that `ip` prints and no line here can say.
 use prt_import::{HostNames, Left, accept, import};
 use std::alloc::Global;
 use std::test::Fail;
@@ -106,7 +106,7 @@ route add 10.8.0.0/16 via 203.0.113.1 dev wg0
 route add 10.11.0.0/16 via 192.0.2.7 dev eth0 proto bgp metric 20
 ";
 
-/// What is told as a note of a line: its number and the words.
+/// What is reported as a note of a line: its number and the words.
 const NOTES: [(u64, &str); 19] = [
     (1, "mtu"),
     (1, "rtt"),
@@ -129,7 +129,7 @@ const NOTES: [(u64, &str); 19] = [
     (5, "fastopen_no_cookie"),
 ];
 
-/// A line for each of these.
+/// Formats a line for each of these.
 fn shown(alloc: Global, left: &[Left]) -> Result<String, Fail> {
     let mut text = String::new(alloc);
     for one in left {

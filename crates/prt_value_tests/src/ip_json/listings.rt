@@ -25,7 +25,7 @@ const RULES_JSON: &str = r#"[{"priority":0,"src":"all","table":"local"},
 {"priority":32767,"src":"all","table":"default"}]
 "#;
 
-/// What `ip -4 rule` printed; a space stands for each tab.
+/// What `ip -4 rule` printed, with a space in place of each tab.
 const RULES: &str = "0: from all lookup local
 40: from all goto 60
 41: from all nop
@@ -79,7 +79,7 @@ const ROUTES_JSON: &str = r#"[{"type":"unreachable","dst":"10.8.0.0/16","table":
 {"type":"broadcast","dst":"192.0.2.255","dev":"d1","table":"local","protocol":"kernel","scope":"link","prefsrc":"192.0.2.1","flags":["linkdown"]}]
 "#;
 
-/// What `ip -4 route show table all` printed, without the spaces at the ends of lines and one that stood twice.
+/// What `ip -4 route show table all` printed, without the spaces at the ends of lines and one that occurred twice.
 const ROUTES: &str = "unreachable 10.8.0.0/16 table 100
 throw 10.10.0.0/16 table 100
 10.20.0.0/16 dev d0 table 5000 proto bird scope link linkdown

@@ -5,7 +5,7 @@ use prt_version::Version;
 use std::alloc::Global;
 use std::test::Fail;
 
-// The rules, the routes and the answers are written as `ip -j` prints such ones. What stands behind a rule says what the
+// The rules, the routes and the answers are written as `ip -j` prints such ones. What comes after a rule says what the
 // lines under it say in the text of an explanation.
 
 /// `wg-quick` sends a machine's packets through its tunnel like this.
@@ -145,7 +145,7 @@ const OF_SELECTORS: [(&str, &str); 1] = [(
 "answer":[]}"#,
 )];
 
-/// The explanation of the answer to this line.
+/// Explains the answer to this line.
 fn explanation(alloc: Global, version: &Version, line: &str) -> Result<Vec<u8>, Fail> {
     let mut out = Vec::new(alloc);
     match read_line(line.as_bytes())? {
@@ -155,7 +155,7 @@ fn explanation(alloc: Global, version: &Version, line: &str) -> Result<Vec<u8>, 
     Ok(out)
 }
 
-/// Tells whether each line is explained as expected, on a new database after the commands of this script.
+/// Checks whether each line is explained as expected, on a new database after the commands of this script.
 fn is_explained(alloc: Global, script: &str, rows: &[(&str, &str)]) -> Result<bool, Fail> {
     let version = version_after(alloc, script)?;
     for (line, expected) in rows {

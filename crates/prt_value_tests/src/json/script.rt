@@ -2,7 +2,7 @@ use prt_command::{Refusal, Request, read_line};
 use prt_version::Version;
 use std::alloc::{AllocError, Global};
 
-/// The version after the command of this line.
+/// Returns the version after the command of this line.
 fn next_version(version: &Version, line: &str) -> Result<Version, Refusal> {
     match read_line(line.as_bytes())? {
         Some(Request::Command(command)) => match version.check(&command) {
@@ -13,7 +13,7 @@ fn next_version(version: &Version, line: &str) -> Result<Version, Refusal> {
     }
 }
 
-/// A new database after the commands of this script.
+/// Returns a new database after the commands of this script.
 pub(crate) fn version_after(alloc: Global, script: &str) -> Result<Version, Refusal> {
     let mut version = Version::opening(alloc)?;
     for line in script.lines() {
@@ -22,7 +22,7 @@ pub(crate) fn version_after(alloc: Global, script: &str) -> Result<Version, Refu
     Ok(version)
 }
 
-/// The lines as one.
+/// Joins the lines into one.
 pub(crate) fn joined(alloc: Global, lines: &str) -> Result<Vec<u8>, AllocError> {
     let mut text = Vec::new(alloc);
     for line in lines.lines() {

@@ -8,7 +8,7 @@ use std::alloc::Global;
 use std::test::Fail;
 
 // What is expected here was printed by `ip -j` of iproute2 6.1.0, in a network namespace with these routes and rules.
-// Left out are what the kernel adds to table local, `uid`, and `iif_detached`. Routes stand in the order of listings.
+// What the kernel adds to table local, `uid`, and `iif_detached` are left out. Routes are in the order of listings.
 
 const ROUTES: &str = "route add 192.0.2.0/24 dev eth0 proto kernel scope link src 192.0.2.10
 route add 198.51.100.0/24 dev eth1 proto kernel scope link src 198.51.100.10
@@ -184,7 +184,7 @@ const DROPPED: [(&str, &str); 3] = [
     ("route get 11.0.0.1", "[]"),
 ];
 
-/// What the query of this line shows.
+/// Returns what the query of this line shows.
 fn shown(alloc: Global, version: &Version, line: &str) -> Result<Vec<u8>, Fail> {
     let mut out = Vec::new(alloc);
     match read_line(line.as_bytes())? {
@@ -198,7 +198,7 @@ fn shown(alloc: Global, version: &Version, line: &str) -> Result<Vec<u8>, Fail> 
     Ok(out)
 }
 
-/// Whether the query of each line shows what is expected.
+/// Checks whether the query of each line shows what is expected.
 fn is_shown(alloc: Global, version: &Version, rows: &[(&str, &str)]) -> Result<bool, Fail> {
     for (line, expected) in rows {
         let expected = joined(alloc, expected)?;
@@ -252,7 +252,7 @@ fn tables_after_text(rt: HostRuntime) -> Result<(), Fail> {
     Ok(())
 }
 
-// `ip` writes the byte as it is, which is no JSON: here U+FFFD stands for it.
+// `ip` writes the byte as it is, which is no JSON: here U+FFFD is in its place.
 const REPLACED: &str =
     r#"[{"type":"blackhole","dst":"10.1.2.3","flags":[],"cache":[],"iif":"a�b"}]"#;
 

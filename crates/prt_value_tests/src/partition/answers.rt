@@ -22,7 +22,7 @@ rule add priority 6 iif eth0 table 100
 rule add priority 7 fwmark 0x1/0x1 table 100
 rule add priority 8 iif eth0 fwmark 0x3/0x3 table 100";
 
-/// The names of the interfaces that a packet leaves by, at the first destination of each span.
+/// Checks the names of the interfaces that a packet leaves by, at the first destination of each span.
 fn check_spans(version: &Version, wanted: &[(u32, &[u8])], alloc: Global) -> Result<bool, Fail> {
     let packet = packet_of("route get 198.51.100.1")?;
     let spans = spans(alloc, version, &packet)?;
@@ -62,7 +62,7 @@ fn one_span_without_routes(rt: HostRuntime) -> Result<(), Fail> {
     Ok(())
 }
 
-/// How many boxes, classes and joined classes the version's rules make.
+/// Counts the boxes, classes and joined classes that the version's rules make.
 fn counts(alloc: Global, version: &Version) -> Result<(usize, usize, usize), Refusal> {
     // The version's contract says how many rules there are at most.
     let _number = version.number();
@@ -95,14 +95,14 @@ fn counts_boxes_and_classes(rt: HostRuntime) -> Result<(), Fail> {
     Ok(())
 }
 
-/// The boxes of the version's rules.
+/// Returns the boxes of the version's rules.
 fn boxes_of(alloc: Global, version: &Version) -> Result<Vec<PacketBox>, Refusal> {
     // The version's contract says how many rules there are at most.
     let _number = version.number();
     boxes(alloc, version.rules())
 }
 
-/// How many of the boxes have the packet.
+/// Counts the boxes that have the packet.
 fn boxes_with(alloc: Global, version: &Version, packet: &Packet) -> Result<usize, Refusal> {
     let boxes = boxes_of(alloc, version)?;
     let mut count = 0usize;
@@ -170,7 +170,7 @@ fn outcomes_leave_out_rules(rt: HostRuntime) -> Result<(), Fail> {
     Ok(())
 }
 
-/// The version with a rule for each of this many single bits of marks.
+/// Makes the version with a rule for each of this many single bits of marks.
 fn version_of_bits(alloc: Global, bits: u32) -> Result<Version, Refusal> {
     let mut version = Version::opening(alloc)?;
     for bit in 0..bits {
@@ -195,7 +195,7 @@ fn too_many_boxes_are_refused(rt: HostRuntime) -> Result<(), Fail> {
     Ok(())
 }
 
-/// Tells whether each box has its own packet.
+/// Checks whether each box has its own packet.
 fn have_their_packets(alloc: Global, version: &Version) -> Result<bool, Refusal> {
     // The version's contract says how many rules there are at most.
     let _number = version.number();

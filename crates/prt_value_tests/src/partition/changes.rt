@@ -31,7 +31,7 @@ const NO_THROW: &str = "route add default dev a
 route add default dev b table 100
 rule add priority 5 table 100";
 
-/// The destinations at which the packet's answers after the scripts are not the same.
+/// Finds the destinations at which the packet's answers after the scripts are not the same.
 fn changes_between(
     alloc: Global,
     before: &str,
@@ -45,7 +45,7 @@ fn changes_between(
     changes(alloc, &before, &after, &differing, sameness, packet)
 }
 
-/// Tells whether the changes are in these ranges.
+/// Checks whether the changes are in these ranges.
 fn are_ranges(changes: &[Difference], wanted: &[(u32, u32)]) -> bool {
     changes.len() == wanted.len()
         && changes.iter().zip(wanted).all(|(change, (first, last))| {
@@ -125,7 +125,7 @@ fn finds_no_change(rt: HostRuntime) -> Result<(), Fail> {
             "rule add priority 5 blackhole",
             "rule add priority 5 fwmark 0/0x80000000 blackhole\nrule add priority 6 fwmark 0x80000000/0x80000000 blackhole",
         ),
-        // A rule that another one is always asked before.
+        // A rule that another one is always tried before.
         (
             "rule add priority 5 from 10.0.0.0/8 blackhole",
             "rule add priority 5 from 10.0.0.0/8 blackhole\nrule add priority 6 from 10.1.0.0/16 prohibit",
@@ -141,7 +141,7 @@ fn finds_no_change(rt: HostRuntime) -> Result<(), Fail> {
     Ok(())
 }
 
-/// A packet that goes another way, if there is one: it is checked by its two answers.
+/// Finds a packet that goes another way, if there is one: it is checked by its two answers.
 fn checked_change(alloc: Global, before: &str, after: &str) -> Result<Option<Packet>, Refusal> {
     let was = version_after(alloc, before)?;
     let is = version_after(alloc, after)?;

@@ -66,7 +66,7 @@ const PACKETS: [&str; 8] = [
     "route get 0.0.0.0 from 10.255.255.255 mark 0x80000001",
 ];
 
-/// The difference whose range has the address.
+/// Finds the difference whose range has the address.
 fn difference_at(differences: &[Difference], addr: Addr) -> Option<Difference> {
     differences
         .iter()
@@ -74,7 +74,7 @@ fn difference_at(differences: &[Difference], addr: Addr) -> Option<Difference> {
         .find(|one| one.first.0 <= addr.0 && addr.0 <= one.last.0)
 }
 
-/// Tells whether the differences tell what the two versions answer to the packet.
+/// Checks whether the differences say what the two versions answer to the packet.
 fn agrees(was: &Version, is: &Version, differences: &[Difference], packet: &Packet) -> bool {
     let (old, new) = (outcome(was, packet), outcome(is, packet));
     match difference_at(differences, packet.dst) {
@@ -83,7 +83,7 @@ fn agrees(was: &Version, is: &Version, differences: &[Difference], packet: &Pack
     }
 }
 
-/// At how many destinations of the grid the packet goes another way, or none if the differences tell something else.
+/// Counts the destinations of the grid at which the packet goes another way; `None` if the differences say something else.
 fn count_at(
     was: &Version,
     is: &Version,
@@ -108,7 +108,7 @@ fn count_at(
     Some(count)
 }
 
-/// The same of the packet of a line, by the changes that are found for it.
+/// Counts the same for the packet of a line, by the changes that are found for it.
 fn count_of(
     alloc: Global,
     was: &Version,
@@ -121,7 +121,7 @@ fn count_of(
     Ok(count_at(was, is, &differences, &packet))
 }
 
-/// The same of all packets of the grid.
+/// Counts the same for all packets of the grid.
 fn count_changes(alloc: Global, was: &Version, is: &Version) -> Result<Option<usize>, Refusal> {
     let mut count = 0usize;
     for line in &PACKETS {
@@ -133,7 +133,7 @@ fn count_changes(alloc: Global, was: &Version, is: &Version) -> Result<Option<us
     Ok(Some(count))
 }
 
-/// Tells whether the changes between the scripts agree with the answers, and a change is found if one is in the grid.
+/// Checks whether the changes between the scripts agree with the answers, and a change is found if one is in the grid.
 fn is_right(alloc: Global, before: &str, after: &str) -> Result<bool, Refusal> {
     let was = version_after(alloc, before)?;
     let is = version_after(alloc, after)?;

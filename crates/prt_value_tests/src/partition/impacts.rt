@@ -13,7 +13,7 @@ const BY_SOURCE: &str = "route add default via 192.0.2.1
 route add 10.0.0.0/8 dev wg0 table 5
 rule add priority 100 from 192.0.2.0/24 iif eth0 fwmark 1/3 table 5";
 
-/// The text of the groups of packets that go elsewhere after the second script, and those groups as JSON.
+/// Returns the text of the groups of packets that go elsewhere after the second script, and those groups as JSON.
 fn texts_between(alloc: Global, before: &str, after: &str) -> Result<(Vec<u8>, Vec<u8>), Refusal> {
     let before = version_after(alloc, before)?;
     let after = version_after(alloc, after)?;

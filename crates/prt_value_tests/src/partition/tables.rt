@@ -4,7 +4,7 @@ use prt_partition::{Outcome, outcome_of};
 use prt_version::Version;
 use std::alloc::Global;
 
-/// The version after the command.
+/// Returns the version after the command.
 fn version_with(version: &Version, command: &Command) -> Result<Version, Refusal> {
     match version.check(command) {
         Ok(change) => version.next(&change),
@@ -12,7 +12,7 @@ fn version_with(version: &Version, command: &Command) -> Result<Version, Refusal
     }
 }
 
-/// The version after the command of this line.
+/// Returns the version after the command of this line.
 pub(crate) fn next_version(version: &Version, line: &str) -> Result<Version, Refusal> {
     match read_line(line.as_bytes())? {
         Some(Request::Command(command)) => version_with(version, &command),
@@ -20,7 +20,7 @@ pub(crate) fn next_version(version: &Version, line: &str) -> Result<Version, Ref
     }
 }
 
-/// The version of a new database after the commands of this script.
+/// Returns the version of a new database after the commands of this script.
 pub(crate) fn version_after(alloc: Global, script: &str) -> Result<Version, Refusal> {
     let mut version = Version::opening(alloc)?;
     for line in script.lines() {
@@ -29,7 +29,7 @@ pub(crate) fn version_after(alloc: Global, script: &str) -> Result<Version, Refu
     Ok(version)
 }
 
-/// The packet of this `route get`.
+/// Reads the packet of this `route get`.
 pub(crate) fn packet_of(line: &str) -> Result<Packet, Refusal> {
     match read_line(line.as_bytes())? {
         Some(Request::Query(Query::Get(packet))) => Ok(packet),
@@ -37,7 +37,7 @@ pub(crate) fn packet_of(line: &str) -> Result<Packet, Refusal> {
     }
 }
 
-/// What the version's answer means for the packet.
+/// Returns what the version's answer means for the packet.
 pub(crate) fn outcome(version: &Version, packet: &Packet) -> Outcome {
     outcome_of(&version.select(packet).verdict)
 }

@@ -3,7 +3,7 @@ use prt_addr::{
 };
 use prt_refusals::{Refusal, StoreCall};
 
-/// Gives the first of these words that is read as another address than it spells.
+/// Finds the first of these words that is read as an address other than the one that it expresses.
 fn misread_address() -> Option<&'static str> {
     for (word, addr) in [
         ("192.0.2.1", Ok(Addr(0xc000_0201))),
@@ -18,7 +18,7 @@ fn misread_address() -> Option<&'static str> {
     None
 }
 
-/// Gives the first of these words that is read as another prefix than it spells.
+/// Finds the first of these words that is read as a prefix other than the one that it expresses.
 fn misread_prefix() -> Option<&'static str> {
     for (word, prefix) in [
         ("any", Ok(Prefix::masked(0, 0))),
@@ -34,7 +34,7 @@ fn misread_prefix() -> Option<&'static str> {
     None
 }
 
-/// Gives the first of these words that is read as another number than it spells.
+/// Finds the first of these words that is read as a number other than the one that it expresses.
 fn misread_number() -> Option<&'static str> {
     for (word, number) in [
         ("4294967295", Ok(u32::MAX)),
@@ -57,7 +57,7 @@ fn reads_words(rt: HostRuntime) {
     assert!(rt; read_net(b"10.0.0.1/8") == Ok(Prefix::masked(0x0a00_0000, 8)));
 }
 
-/// Gives the first of these texts that its prefix is not shown by.
+/// Finds the first of these texts that its prefix is not shown by.
 fn misshown_prefix() -> Option<&'static str> {
     for (bits, len, text) in [
         (0x0a00_0000, 8, "10.0.0.0/8"),

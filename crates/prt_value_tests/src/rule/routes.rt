@@ -6,7 +6,7 @@ use prt_route::{
     read_scope, read_table, scope_name, table_name,
 };
 
-/// Gives the first of these words that is read as the name of an interface, and is none.
+/// Finds the first of these words that is read as the name of an interface, and is none.
 fn accepted_name() -> Option<&'static str> {
     for word in ["", "..", "a/b", "a:1", "a\tb", "sixteen-bytes-xy"] {
         if read_dev(word.as_bytes()) != Err(Refusal::BadName) {
@@ -16,7 +16,7 @@ fn accepted_name() -> Option<&'static str> {
     None
 }
 
-/// Gives the first of these words that is read as another table than it spells.
+/// Finds the first of these words that is read as a table other than the one that it expresses.
 fn misread_table() -> Option<&'static str> {
     for (word, table) in [
         ("main", Ok(MAIN_TABLE)),
@@ -31,7 +31,7 @@ fn misread_table() -> Option<&'static str> {
     None
 }
 
-/// Gives the first of these words that is read as another protocol or scope than it spells.
+/// Finds the first of these words that is read as a protocol or scope other than the one that it expresses.
 fn misread_number() -> Option<&'static str> {
     for (word, protocol, scope) in [
         ("rip", Ok(189), Err(Refusal::BadNumber)),
@@ -147,7 +147,7 @@ fn of_metric(metric: u32) -> RouteChoice {
     }
 }
 
-/// Chooses a route of 10.1.0.0/16 and metric 100 by its gateway and, where one is given, its source.
+/// Chooses a route of 10.1.0.0/16 and metric 100 by its gateway and, if one is given, its source.
 fn via_from(via: Addr, src: Option<Addr>) -> RouteChoice {
     RouteChoice {
         via: Some(via),

@@ -8,7 +8,7 @@ use prt_rule::{Action, Mark, Packet, Rule};
 /// 192.0.2.1, the gateway and the source of what is made here.
 pub const GATEWAY: Addr = Addr(0xc000_0201);
 
-/// Gives the prefix of this length that begins with the octets 10 and 1.
+/// Makes the prefix of this length that begins with the octets 10 and 1.
 pub fn ten_one(len: u8) -> Prefix
     requires { len ≤ 32 }
 {
@@ -48,7 +48,7 @@ pub fn rule(id: u64, priority: u32) -> Rule
     }
 }
 
-/// Gives the rule for packets from and to these prefixes.
+/// Makes the rule for packets from and to these prefixes.
 pub fn between(from: Prefix, to: Prefix, iif: Option<Dev>) -> Rule {
     Rule {
         from,
@@ -58,7 +58,7 @@ pub fn between(from: Prefix, to: Prefix, iif: Option<Dev>) -> Rule {
     }
 }
 
-/// Gives the rule for packets with this mark.
+/// Makes the rule for packets with this mark.
 pub fn marked(mark: u32, mask: u32) -> Rule {
     Rule {
         mark: Some(Mark { mark, mask }),

@@ -56,7 +56,7 @@ rule flush
 
 const DEFAULTS: &str = "route del unicast default via 0.0.0.0 table 7 metric 1";
 
-/// The line of the command.
+/// Returns the line of the command.
 fn line_of(alloc: Global, command: &Command) -> Result<Vec<u8>, Fail> {
     match command_line(alloc, command) {
         Ok(line) => Ok(line),
@@ -64,7 +64,7 @@ fn line_of(alloc: Global, command: &Command) -> Result<Vec<u8>, Fail> {
     }
 }
 
-/// The line of the command that this line asks for.
+/// Returns the line of the command that this line asks for.
 fn spelled_again(alloc: Global, line: &str) -> Result<Vec<u8>, Fail> {
     match read_line(line.as_bytes())? {
         Some(Request::Command(command)) => line_of(alloc, &command),
@@ -72,7 +72,7 @@ fn spelled_again(alloc: Global, line: &str) -> Result<Vec<u8>, Fail> {
     }
 }
 
-/// The lines of the commands that these lines ask for, each with a newline.
+/// Returns the lines of the commands that these lines ask for, each with a newline.
 fn spelled(alloc: Global, lines: &str) -> Result<Vec<u8>, Fail> {
     let mut text = Vec::new(alloc);
     for line in lines.lines() {
@@ -82,12 +82,12 @@ fn spelled(alloc: Global, lines: &str) -> Result<Vec<u8>, Fail> {
     Ok(text)
 }
 
-/// Whether no line asks for the command.
+/// Checks whether no line asks for the command.
 fn has_no_line(alloc: Global, command: &Command) -> bool {
     matches!(command_line(alloc, command), Err(NotSpelled::NoLine))
 }
 
-/// A choice of rules by this interface alone, if there is one.
+/// Chooses rules by this interface alone, if there is one.
 fn rules_of(iif: Option<Dev>) -> RuleChoice {
     RuleChoice {
         priority: None,
@@ -101,7 +101,7 @@ fn rules_of(iif: Option<Dev>) -> RuleChoice {
     }
 }
 
-/// A choice of the default routes of this table by this metric.
+/// Chooses the default routes of this table by this metric.
 fn defaults_of(table: u32, metric: u32) -> RouteChoice {
     RouteChoice {
         table,
@@ -116,7 +116,7 @@ fn defaults_of(table: u32, metric: u32) -> RouteChoice {
     }
 }
 
-/// The routes of this table.
+/// Selects the routes of this table.
 fn routes_of(table: u32) -> Selector {
     Selector {
         table: Some(table),

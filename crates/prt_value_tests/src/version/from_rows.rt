@@ -22,7 +22,7 @@ const ALL_ROUTES: Selector = Selector {
     dev: None,
 };
 
-/// The version that the rows of another one spell, in the opposite order.
+/// Returns the version that the rows of another one encode, in the opposite order.
 fn read_back(alloc: Global, version: &Version) -> Result<Version, Fail> {
     let mut rules = Vec::from_slice(alloc, version.rules())?;
     rules.reverse();
@@ -31,7 +31,7 @@ fn read_back(alloc: Global, version: &Version) -> Result<Version, Fail> {
     Ok(Version::from_rows(alloc, version.number(), rules, routes)?)
 }
 
-/// The first of these queries that is answered otherwise once a version is read back.
+/// Finds the first of these queries that is answered differently once a version is read back.
 fn misread_query(alloc: Global) -> Result<Option<&'static str>, Fail> {
     let version = version_after(alloc, SCRIPT)?;
     let other = read_back(alloc, &version)?;
@@ -55,7 +55,7 @@ fn reads_rows(rt: HostRuntime) -> Result<(), Fail> {
     Ok(())
 }
 
-/// Looks up main for every packet.
+/// Makes a rule that looks up main for every packet.
 fn rule(id: u64, priority: u32) -> Rule {
     Rule {
         id,
@@ -70,7 +70,7 @@ fn rule(id: u64, priority: u32) -> Rule {
     }
 }
 
-/// A default route through this address.
+/// Makes a default route through this address.
 fn route(table: u32, via: u32) -> Route {
     Route {
         table,
@@ -85,7 +85,7 @@ fn route(table: u32, via: u32) -> Route {
     }
 }
 
-/// Tells whether the rows are refused as spelling no state.
+/// Checks whether the rows are refused because they encode no state.
 fn are_damaged(alloc: Global, number: u64, rules: &[Rule], routes: &[Route]) -> Result<bool, Fail> {
     let rules = Vec::from_slice(alloc, rules)?;
     let routes = Vec::from_slice(alloc, routes)?;
@@ -93,7 +93,7 @@ fn are_damaged(alloc: Global, number: u64, rules: &[Rule], routes: &[Route]) -> 
     Ok(refusal == Some(Refusal::Damaged))
 }
 
-/// What is wrong with the first of these rows that are not refused so.
+/// Returns what is wrong with the first of these rows that are not refused so.
 fn undamaged_rows(alloc: Global) -> Result<Option<&'static str>, Fail> {
     let rules = [rule(2, 7), rule(1, 8)];
     let same_ids = [rule(1, 7), rule(2, 8), rule(1, 9)];

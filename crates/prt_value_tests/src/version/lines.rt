@@ -2,7 +2,7 @@ use prt_command::{
     Addr, Command, Dev, Kind, Packet, Prefix, Query, Refusal, Request, Route, read_line,
 };
 
-/// Gives the first of these lines that is not refused by this.
+/// Finds the first of these lines that is not refused with the refusal beside it.
 fn misread_line() -> Option<&'static [u8]> {
     for (line, refusal) in [
         (b"rule show\xc3".as_slice(), Refusal::NotAscii),

@@ -10,7 +10,7 @@ use std::alloc::Global;
 use std::process::Abort;
 use std::test::Fail;
 
-/// Gives the routes of this table, or of all.
+/// Selects the routes of this table, or of all.
 fn routes_of(table: Option<u32>) -> Selector {
     Selector {
         table,
@@ -22,7 +22,7 @@ fn routes_of(table: Option<u32>) -> Selector {
     }
 }
 
-/// Gives a route of one of 400 tables, whose numbers lie apart.
+/// Makes a route of one of 400 tables, whose numbers lie apart.
 fn random_route(random: &mut Random) -> Route {
     let roll = random.next();
     let mut new = route(0x0a000000, 8, roll % 2 + 1);
@@ -30,7 +30,7 @@ fn random_route(random: &mut Random) -> Route {
     new
 }
 
-/// Gives the route with this one's key alone.
+/// Chooses the route by this one's key alone.
 fn choice_of(route: &Route) -> RouteChoice {
     RouteChoice {
         table: route.table,

@@ -30,7 +30,7 @@ impl Spread {
     }
 }
 
-/// Gives the best of the rows for the address, each looked at.
+/// Finds the best of the rows for the address by looking at each.
 fn best_of(rows: &[Route], addr: Addr) -> Option<&Route> {
     let mut best: Option<&Route> = None;
     for row in rows {
@@ -41,7 +41,7 @@ fn best_of(rows: &[Route], addr: Addr) -> Option<&Route> {
     best
 }
 
-/// Compares what table and list have, and what they give for addresses near some of the rows.
+/// Compares what table and list have, and what they find for addresses near some of the rows.
 fn compare(
     rt: &impl Abort,
     table: &Table,
@@ -96,7 +96,7 @@ fn key_at(rows: &[Route], place: usize) -> Option<RouteKey> {
     Some(rows.get(place)?.key())
 }
 
-/// Removes all rows but few, in no order, and compares each seventh version with the list.
+/// Removes all but a few rows, in no order, and compares each seventh version with the list.
 fn thin(
     rt: &impl Abort,
     table: Table,

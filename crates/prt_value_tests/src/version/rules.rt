@@ -10,7 +10,7 @@ use std::alloc::Global;
 use std::process::Abort;
 use std::test::Fail;
 
-/// Gives an address near few others, so that many prefixes lie in one another.
+/// Makes an address near few others, so that many prefixes lie in one another.
 fn random_addr(random: &mut Random) -> u32 {
     0x0a000000 ^ (random.next() & 0x8003070f)
 }
@@ -20,12 +20,12 @@ fn random_prefix(random: &mut Random) -> Prefix {
     Prefix::masked(random_addr(random), len)
 }
 
-/// Gives one of eight interfaces.
+/// Picks one of eight interfaces.
 fn random_dev(random: &mut Random) -> Result<Dev, Refusal> {
     read_dev(&[b't', b'0' + (random.next() % 8) as u8])
 }
 
-/// Gives a mark of which all bits count, the last ones, or the first ones.
+/// Makes a mark of which all bits count, the last ones, or the first ones.
 fn random_mark(random: &mut Random) -> Mark {
     let masks = [u32::MAX, 0xff, 0x3f, 0x1f, 0xffff0000];
     let mask = masks.get(random.next() as usize % 5);
@@ -35,8 +35,8 @@ fn random_mark(random: &mut Random) -> Mark {
     }
 }
 
-/// Gives a rule that names sources, destinations, an interface and a mark, or some of them or none, and looks up a table
-/// with no routes or decides.
+/// Makes a rule that names sources, destinations, an interface and a mark, or some of them or none. It looks up a table
+/// with no routes, or decides.
 fn random_rule(random: &mut Random, priority: u32) -> Result<NewRule, Refusal> {
     let roll = random.next();
     let any = Prefix::masked(0, 0);
@@ -73,7 +73,7 @@ fn random_rule(random: &mut Random, priority: u32) -> Result<NewRule, Refusal> {
     })
 }
 
-/// Gives a packet with an address, an interface and a mark as the rules name them.
+/// Makes a packet with an address, an interface and a mark as the rules name them.
 fn random_packet(random: &mut Random) -> Result<Packet, Refusal> {
     Ok(Packet {
         dst: Addr(random_addr(random)),
@@ -83,7 +83,7 @@ fn random_packet(random: &mut Random) -> Result<Packet, Refusal> {
     })
 }
 
-/// Gives the version of a new database after so many rules were added, at priorities that don't rise.
+/// Makes the version of a new database after so many rules were added, at priorities that don't rise.
 fn version_of(alloc: Global, random: &mut Random, count: u32) -> Result<Version, Refusal> {
     let mut version = Version::opening(alloc)?;
     for number in 0..count {
@@ -107,7 +107,7 @@ fn takes(rule: &Rule, packet: &Packet) -> bool {
             .is_none_or(|given| (given.mark ^ packet.mark) & given.mask == 0)
 }
 
-/// Gives the priority and the action of the first rule that matches the packet and looks up no table.
+/// Finds the priority and the action of the first rule that matches the packet and looks up no table.
 fn said_by_scan(rules: &[Rule], packet: &Packet) -> Option<(u32, Action)> {
     for rule in rules {
         match rule.action {
@@ -119,7 +119,7 @@ fn said_by_scan(rules: &[Rule], packet: &Packet) -> Option<(u32, Action)> {
     None
 }
 
-/// Gives the priority and the action of the rule that decides, where that looks up no table.
+/// Returns the priority and the action of the rule that decides, if that looks up no table.
 fn said_by_version(version: &Version, packet: &Packet) -> Option<(u32, Action)> {
     match version.select(packet).verdict {
         Verdict::RuleSays(priority, action) => Some((priority, action)),
@@ -150,7 +150,7 @@ fn compare(
 #[test]
 fn random_rules(rt: HostRuntime) -> Result<(), Fail> {
     let mut random = Random(0xda3e39cb94b95bdb);
-    // An index stands from 50 rules on, of which three are those of a new database.
+    // There is an index from 50 rules on, of which three are those of a new database.
     for count in [1, 40, 46, 47, 80, 300] {
         for _ in 0..10 {
             let version = version_of(rt.alloc(), &mut random, count)?;

@@ -6,7 +6,7 @@ use prt_version::Version;
 use std::alloc::Global;
 use std::test::Fail;
 
-/// Gives the version after the command.
+/// Returns the version after the command.
 pub fn version_with(version: &Version, command: &Command) -> Result<Version, Refusal> {
     match version.check(command) {
         Ok(change) => version.next(&change),
@@ -14,7 +14,7 @@ pub fn version_with(version: &Version, command: &Command) -> Result<Version, Ref
     }
 }
 
-/// Gives the version after the command of a line.
+/// Returns the version after the command of a line.
 pub fn next_version(version: &Version, line: &str) -> Result<Version, Refusal> {
     match read_line(line.as_bytes())? {
         Some(Request::Command(command)) => version_with(version, &command),
@@ -22,7 +22,7 @@ pub fn next_version(version: &Version, line: &str) -> Result<Version, Refusal> {
     }
 }
 
-/// Gives the version of a new database after the commands of a script's lines.
+/// Returns the version of a new database after the commands of a script's lines.
 pub fn version_after(alloc: Global, script: &str) -> Result<Version, Refusal> {
     let mut version = Version::opening(alloc)?;
     for line in script.lines() {
@@ -31,7 +31,7 @@ pub fn version_after(alloc: Global, script: &str) -> Result<Version, Refusal> {
     Ok(version)
 }
 
-/// Gives the commands of a script's lines.
+/// Reads the commands of a script's lines.
 pub fn commands_of(alloc: Global, script: &str) -> Result<Vec<Command>, Refusal> {
     let mut commands = Vec::new(alloc);
     for line in script.lines() {
@@ -43,7 +43,7 @@ pub fn commands_of(alloc: Global, script: &str) -> Result<Vec<Command>, Refusal>
     Ok(commands)
 }
 
-/// Gives the texts that answer the query of a line, with a line feed after each.
+/// Returns the texts that answer the query of a line, with a line feed after each.
 pub fn answer(alloc: Global, version: &Version, line: &str) -> Result<Vec<u8>, Fail> {
     let mut out = Vec::new(alloc);
     match read_line(line.as_bytes())? {

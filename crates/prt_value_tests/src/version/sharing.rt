@@ -9,7 +9,7 @@ use prt_version::Version;
 use std::sync::Arc;
 use std::test::Fail;
 
-/// Gives all routes of main with prefixes in this one.
+/// Selects all routes of main with prefixes in this one.
 fn all_within(prefix: Prefix) -> Selector {
     Selector {
         table: Some(MAIN),
@@ -21,7 +21,7 @@ fn all_within(prefix: Prefix) -> Selector {
     }
 }
 
-/// Tells how many pieces another table has too.
+/// Counts the pieces that another table has too.
 fn count_shared(table: &Table) -> usize {
     table
         .pieces()
@@ -54,7 +54,7 @@ fn edits_share_the_other_pieces(rt: HostRuntime) -> Result<(), Fail> {
     Ok(())
 }
 
-/// Tells how many owners the table of this number has; 0 where there is no such table.
+/// Counts the owners of the table of this number; 0 if there is no such table.
 fn table_owners(version: &Version, number: u32) -> usize {
     match version.shared_routes().shared_table(number) {
         Some(table) => Arc::strong_count(table),
@@ -62,12 +62,12 @@ fn table_owners(version: &Version, number: u32) -> usize {
     }
 }
 
-/// Tells how many owners the rules have.
+/// Counts the owners of the rules.
 fn rule_owners(version: &Version) -> usize {
     Arc::strong_count(version.shared_rules())
 }
 
-/// Tells how many owners all tables have together.
+/// Counts the owners of all tables together.
 fn route_owners(version: &Version) -> usize {
     Arc::strong_count(version.shared_routes())
 }

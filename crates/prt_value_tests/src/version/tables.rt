@@ -29,7 +29,7 @@ pub fn route(bits: u32, len: u8, metric: u32) -> Route
     }
 }
 
-/// A table with one more route of main.
+/// Returns a table with one more route of main.
 pub fn with_route(table: &Table, route: Route) -> Result<Table, Refusal>
     requires table { IsOfTable 254 table.now }
     requires route { route.table ≡ 254 }
@@ -39,7 +39,7 @@ pub fn with_route(table: &Table, route: Route) -> Result<Table, Refusal>
     Ok(after)
 }
 
-/// A table of main with no routes.
+/// Makes a table of main with no routes.
 pub fn empty_table(alloc: Global) -> Result<Table, Refusal>
     ensures { IfOk result (λ table. IsOfTable 254 table) }
 {
@@ -54,7 +54,7 @@ struct Area<'a> {
     spread: u32,
 }
 
-/// A prefix of any length in the area.
+/// Makes a prefix of any length in the area.
 fn random_prefix(random: &mut Random, area: Area<'_>) -> Prefix {
     let roll = (random.next() as usize).checked_rem(area.bases.len());
     let base = match area.bases.get(roll.unwrap_or(0)) {
@@ -65,7 +65,7 @@ fn random_prefix(random: &mut Random, area: Area<'_>) -> Prefix {
     Prefix::masked(base ^ (random.next() & area.spread), len)
 }
 
-/// A table of up to so many routes of main with prefixes in the area, of three metrics.
+/// Makes a table of up to so many routes of main with prefixes in the area, of three metrics.
 fn random_table(
     alloc: Global,
     random: &mut Random,
@@ -84,7 +84,7 @@ fn random_table(
     Ok(table)
 }
 
-/// The best of the rows by comparing each with each.
+/// Finds the best of the rows by comparing each with each.
 fn best_by_scan(rows: &[Route], addr: Addr) -> Option<Route> {
     let mut best: Option<Route> = None;
     for row in rows {
@@ -112,7 +112,7 @@ fn compare(rt: &impl Abort, rows: &[Route], tree: &Tree, table: &Table, addr: u3
     );
 }
 
-/// A default route, and routes of the octets 10, 11 and 255.
+/// Makes a table of a default route, and of routes of the octets 10, 11 and 255.
 pub fn small_table(alloc: Global) -> Result<Table, Refusal>
     ensures { IfOk result (λ table. IsOfTable 254 table) }
 {

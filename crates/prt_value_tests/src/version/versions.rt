@@ -31,7 +31,7 @@ const FLUSHED: &str = "rule flush
 rule add table 7
 rule del table local";
 
-/// Gives the first of these queries that is not answered by this text after its script.
+/// Finds the first of these queries that is not answered by the text beside it after its script.
 fn misanswered_query(alloc: Global) -> Result<Option<&'static str>, Fail> {
     for (script, query, text) in [
         (
@@ -79,7 +79,7 @@ fn answers_queries(rt: HostRuntime) -> Result<(), Fail> {
     Ok(())
 }
 
-/// The first of these queries that is not answered by this text where short prefixes are suppressed.
+/// Finds the first of these queries that is not answered by the text beside it if short prefixes are suppressed.
 fn misanswered_suppression(alloc: Global) -> Result<Option<&'static str>, Fail> {
     let version = version_after(alloc, SUPPRESSED)?;
     for (query, text) in [
@@ -121,7 +121,7 @@ fn suppresses_short_prefixes(rt: HostRuntime) -> Result<(), Fail> {
     Ok(())
 }
 
-/// The first of these lines that the version does not refuse by this.
+/// Finds the first of these lines that the version does not refuse with the refusal beside it.
 fn misjudged_line(version: &Version) -> Option<&'static str> {
     for (line, why) in [
         ("route add 10/8 dev eth0", Refusal::Exists),

@@ -1,5 +1,5 @@
-use Rattle.std.proofs.Common.{◌≡◌, ◌∙◌, inr, List, ap, subst, sym}
-use Rattle.std.specs.Prelude.{ℕ, IfOk, Result, Vec}
+use Rattle.std.proofs.Common.{◌≡◌, inr, List, refl, subst, sym}
+use Rattle.std.specs.Prelude.{ℕ, IfOk}
 use Rattle.sqlite.specs.Held.{Held}
 use Rattle.prt_front.specs.Line.{line_state}
 use Rattle.prt_publisher.specs.Openings.{HasOpened}
@@ -23,6 +23,7 @@ returns g c =
         made = (stored, kept, c.write_answer.ensures.whole text says done);
         is_closed = c.close.ensures;
       };
+      there = λ done. c.in-Ok.ensures.there refl;
       at_most = inr (record {
         between = c.open_desk-opened.new.machine;
         first = opened.was;

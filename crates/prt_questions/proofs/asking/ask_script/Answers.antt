@@ -1,5 +1,5 @@
-use Rattle.std.proofs.Common.{inr}
-use Rattle.prt_questions.specs.Asking.{said}
+use Rattle.std.proofs.Common.{inr, subst}
+use Rattle.prt_questions.specs.Asking.{AreKernels, said}
 use Rattle.prt_questions.proofs.asking.ask_script.Goals as goal
 
 pub returns-clause-whole : goal.returns-clause-whole
@@ -7,6 +7,7 @@ returns-clause-whole g c = λ done. (
   c.in-Ok-run_over_new.made,
   c.deref.result.now,
   c.in-Ok-run_over_new.ensures.made,
+  subst AreKernels c.deref-2.ensures.value (c.tell_left-left.ensures.kernels done),
   rw (← c.in-Ok.ensures.unwritten, ← c.in-Ok-run_over_new.ensures.unwritten) (c.write_answer-written.ensures.whole (said c.args.inquiry.now c.in-Ok-run_over_new.made.version) c.said-answered.ensures c.if-written-ne-DONE.false),
 )
 

@@ -10,7 +10,7 @@ pub returns-in-Database-clause-at_most : goal.returns-in-Database-clause-at_most
 returns-in-Database-clause-at_most g c = rw c.in-Database.is c.ask_database.ensures.at_most
 
 pub returns-in-Script-clause-whole : goal.returns-in-Script-clause-whole
-returns-in-Script-clause-whole g c = rw c.in-Script.is (λ done. let answered = c.ask_script.ensures.whole done in (refl, answered.0, answered.1, answered.2, answered.3))
+returns-in-Script-clause-whole g c = rw c.in-Script.is (λ done. let answered = c.ask_script.ensures.whole done in (refl, answered.0, answered.1, answered.2, answered.3, answered.4))
 
 pub returns-in-Script-clause-at_most : goal.returns-in-Script-clause-at_most
 returns-in-Script-clause-at_most g c =

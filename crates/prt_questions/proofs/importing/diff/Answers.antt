@@ -1,4 +1,4 @@
-use Rattle.std.proofs.Common.{◌∙◌, inl, inr, sym}
+use Rattle.std.proofs.Common.{◌∙◌, inr, sym}
 use Rattle.prt_questions.proofs.importing.diff.Goals.{in-Impact, in-Lines, in-Status}
 use Rattle.prt_questions.proofs.ReadTables.{compared_at_most}
 use Rattle.prt_questions.proofs.importing.diff.Goals as goal

@@ -1,5 +1,5 @@
 use Rattle.std.proofs.Common.{◌≡◌, inr, Ok, subst}
-use Rattle.std.specs.Prelude.{IfOk, Result}
+use Rattle.std.specs.Prelude.{IfOk, OnOk, Result}
 use Rattle.sqlite.specs.Held.{Held}
 use Rattle.prt_publisher.specs.Openings.{RefusesToOpen}
 use Rattle.prt_questions.proofs.opening.open_publisher.Goals as goal
@@ -14,6 +14,9 @@ returns-in-Ok-clause-opened g c =
       opened = made.opened;
       begun = made.begun;
     }
+
+pub returns-in-Ok-clause-there : goal.returns-in-Ok-clause-there
+returns-in-Ok-clause-there g c = λ ours. subst (λ (r : Result (Held _) _). OnOk r (g.M.Machine.is_there c.args.machine.now c.args.path.now)) c.in-Ok.ensures.ok.found (c.open.ensures.there ours)
 
 pub returns-in-Err-default-Ok-clause-closed : goal.returns-in-Err-default-Ok-clause-closed
 returns-in-Err-default-Ok-clause-closed g c =

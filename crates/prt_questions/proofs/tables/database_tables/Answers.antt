@@ -1,4 +1,4 @@
-use Rattle.std.proofs.Common.{◌≡◌, ◌∙◌, inr, sym, subst}
+use Rattle.std.proofs.Common.{◌∙◌, inr, sym, subst}
 use Rattle.sqlite.specs.Held.{Held}
 use Rattle.prt_front.specs.Line.{line_state}
 use Rattle.prt_publisher.specs.Openings.{HasOpened}

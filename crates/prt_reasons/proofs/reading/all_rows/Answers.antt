@@ -7,7 +7,7 @@ use Rattle.prt_reasons.specs.declared.reason.DatabaseTable.TheVariants as ours
 use Rattle.prt_reasons.proofs.Readings.{next_shown}
 use Rattle.prt_reasons.proofs.reading.all_rows.Goals as goal
 
--- what the first reads gave
+-- what the first reads returned
 abbrev One : List Row → Database → Type 0
 One meta db = ShowsRows ours.Meta db meta
 

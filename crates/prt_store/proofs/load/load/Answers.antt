@@ -18,7 +18,7 @@ use Rattle.prt_store.specs.Loaded.{ReadsShown}
 use Rattle.prt_store.specs.Shown.{ShowsBadRows, ShowsCount, ShowsDamage, ShowsLengths, ShowsNoCount, ShowsRoutes, ShowsRules}
 use Rattle.prt_store.proofs.load.load.Goals as goal
 
--- what the first reads showed, and what is damaged where the next one fails
+-- what the first reads showed, and what is damaged if the next one fails
 module _ {S : Type 0} (g : Ghosts S) (start : Held S) (count : ℕ) where
   abbrev Two : Vec Rule Global → Type 0
   Two rules = ShowsCount g start count × ShowsRules g (count + 3) start rules.items

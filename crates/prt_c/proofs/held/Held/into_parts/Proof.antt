@@ -1,4 +1,4 @@
--- `into_parts` compares the pointer with null. Where it is another, what is owned goes with it.
+-- `into_parts` compares the pointer with null. If it is another, what is owned goes with it.
 use mathlib.Core.Path.{◌≡◌, refl, sym, subst}
 use Rattle.std.specs.Prelude.{Option, None, Some}
 use mathlib.Core.List.{List, [], ◌∷◌, ◌++◌}

@@ -1,4 +1,4 @@
--- `into_box` calls `from_raw`, which takes what the parts own, and gives the box.
+-- `into_box` calls `from_raw`, which takes what the parts own, and returns the box.
 use mathlib.Core.Path.{◌≡◌, refl, sym, subst, ap}
 use mathlib.Core.List.{List, [], ◌∷◌, ◌++◌}
 use lib.Dec.{T}
@@ -43,7 +43,7 @@ use Rattle.prt_c.specs.contracts.parts.Parts.into_box.Key.{name as #self}
 use Rattle.prt_c.proofs.parts.Parts.into_box.Statement as stated
 use Rattle.prt_c.proofs.parts.Parts.into_box.Code as code
 
--- what stands after the call
+-- what comes after the call
 abbrev ending : Body
 ending = seq (assign (place 0 []) (rv_opd (copy (place 4 [])))) return
 

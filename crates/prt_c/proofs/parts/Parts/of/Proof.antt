@@ -1,4 +1,4 @@
--- `of` calls `into_raw_with_allocator`: the pointer and the handle that it gives are the parts, and own what the box owned.
+-- `of` calls `into_raw_with_allocator`: the pointer and the handle that it returns are the parts, and own what the box owned.
 use mathlib.Core.Path.{◌≡◌, refl, sym, subst}
 use mathlib.Core.List.{List, [], ◌∷◌, ◌++◌}
 use seplogic.Ra.Ura.{Ura}

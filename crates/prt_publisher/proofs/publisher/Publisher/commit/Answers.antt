@@ -14,7 +14,7 @@ use Rattle.prt_publisher.proofs.publisher.Publisher.commit.Given as given
 use Rattle.prt_publisher.proofs.publisher.Publisher.commit.Goals as goal
 use Rattle.prt_publisher.proofs.publisher.Publisher.commit.Goals.{After-as_slice}
 
--- what is known where the changes of the plan are committed
+-- what is known if the changes of the plan are committed
 committing : (g : given.Over) (c : goal.After-as_slice g) → CanCommit g.S.Store c.self.inside.ours_first c.self.inside.store.conn (line_state c.self.inside.front) c.in-Prepared.plan c.as_slice.result.now c.number-number.result
 committing g c =
     can_commit g.S.Store c.self.inside.ours_first c.self.inside.store.conn (line_state c.self.inside.front) c.self.inside.step c.in-Prepared.plan c.as_slice.result.now c.number-number.result _ c.as_slice.ensures.value

@@ -3,7 +3,7 @@ use Rattle.prt_session.specs.Desk.{Befalls, DeskState, IsNoMemory, request_turn,
 use Rattle.prt_session.specs.Run.{RunIs}
 use Rattle.prt_session.proofs.memory_desk.MemoryDesk.run_script.Goals as goal
 
--- the desk stands for one state alone
+-- the desk represents only one state
 pub returns : goal.returns
 returns g c =
     let ran = c.run_script.ensures.run (settled c.run_script.new.desk) refl in

@@ -32,7 +32,7 @@ pub owners_with-requires : goal.owners_with-requires
 owners_with-requires g c =
     omega (arith, c.requires.number, ap length c.as_slice.ensures.value, length_whole c.self.inside.cut (λ piece. g.P.Piece.routes (arc_value piece)) c.self.inside.pieces.items c.self.invariant.0)
 
--- the new piece stands in the place of the old one
+-- the new piece is in the place of the old one
 set_in : (g : given.Over) (c : goal.After-result-1 g) → map (λ piece. g.P.Piece.routes (arc_value piece)) c.in_ok-pieces.pieces.items ≡ set (map (λ piece. g.P.Piece.routes (arc_value piece)) c.self.inside.pieces.items) c.args.number (g.P.Piece.routes c.in_ok-new.new)
 set_in g c =
     c.in_ok-pieces.ensures ∙ ap (λ pieces. set (map (λ piece. g.P.Piece.routes (arc_value piece)) pieces) c.args.number (g.P.Piece.routes (arc_value c.in_ok-new-2.field-0))) c.as_slice.ensures.value

@@ -11,7 +11,7 @@ use Rattle.prt_serve.proofs.listen.Worker.TheSendSync as worker
 use Rattle.prt_serve.proofs.listen.fn.accept_among_workers.scope.Lts.{arg-5-1}
 use Rattle.prt_serve.proofs.listen.fn.accept_among_workers.scope.Goals as goal
 
--- a closure that captures one value is sent where that is
+-- a closure that captures one value is sent if that is
 closure_send : (name : Sym) (R : RattleType) → IsSend R → IsSend (TupleAt name (R ∷ []))
 closure_send name R sent = search sendable
 
