@@ -1,4 +1,4 @@
-/* Writes answers of the library as `prt` answers `route get`, but for the protocol and the scope. */
+/* Writes answers of the library as `prt` answers `route get`, except for the protocol and the scope. */
 #ifndef ANSWER_H
 #define ANSWER_H
 

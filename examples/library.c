@@ -3,7 +3,7 @@
  *     library DUMP THREADS <PACKETS
  *
  * DUMP is what `prt dump` writes, or any other lines of commands. Each line of the input is a packet: its destination, its
- * source, its interface or `-`, and its mark. An answer is written as `prt` answers `route get`, but for the protocol and
+ * source, its interface or `-`, and its mark. An answer is written as `prt` answers `route get`, except for the protocol and
  * the scope, in the order of the packets.
  */
 #include <arpa/inet.h>

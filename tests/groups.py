@@ -2,7 +2,7 @@
 
 import re
 
-GROUP = re.compile(r"to (?P<to>\S+)(?: from (?P<source>\S+))?(?: iif (?P<iif>any other|\S+))?(?: fwmark (?P<mark>\S+))?: (?P<was>.*) -> (?P<is>.*)")
+GROUP = re.compile(r"to (?P<to>\S+)(?: from (?P<source>\S+))?(?: iif (?P<iif>any other|\S+))?(?: fwmark (?P<mark>(?:not )?\S+))?: (?P<was>.*) -> (?P<is>.*)")
 
 
 def dotted(bits):
@@ -25,6 +25,12 @@ def span(text):
     return first, first | (1 << 32 - int(length or 32)) - 1
 
 
+def is_in_block(block, mark):
+    """Whether a mark agrees with a value in the bits of its mask."""
+    value, _, mask = block.partition("/")
+    return (mark ^ int(value, 0)) & int(mask or "0xffffffff", 0) == 0
+
+
 def is_in(group, packet, named):
     """Whether a group has a packet. An interface that no rule names is 'any other'."""
     to, source, iif, mark = packet
@@ -38,6 +44,6 @@ def is_in(group, packet, named):
     if group["iif"] and (iif in named if group["iif"] == "any other" else iif != group["iif"]):
         return False
     if group["mark"]:
-        value, _, mask = group["mark"].partition("/")
-        return (mark ^ int(value, 0)) & int(mask or "0xffffffff", 0) == 0
+        blocks = group["mark"].removeprefix("not ").split(",")
+        return any(is_in_block(block, mark) for block in blocks) != group["mark"].startswith("not ")
     return True

@@ -82,7 +82,9 @@ in_both : (rules : List Rule) (packet : Packet) (box : PacketBox) (difference : 
 in_both rules packet box difference =
     let source : Bool = is_between box.first.0 box.last.0 packet.src.0 in
     let mark : Bool = takes_mark (Some box.mark) packet.mark in
-    regroup (has packet.dst.0 difference) source (takes_interface rules (interfaces_of box.interfaces) packet.iif) mark
+    let interface : Bool = takes_interface rules (interfaces_of box.interfaces) packet.iif in
+    ap (λ b. has packet.dst.0 difference && source && interface && b) (or_nothing mark)
+    ∙ regroup (has packet.dst.0 difference) source interface mark
     ∙ ap (λ b. has packet.dst.0 difference && (source && b && mark)) (same_interfaces rules box.interfaces packet.iif)
 
 -- the groups of the boxes so far

@@ -31,7 +31,7 @@ there : 0 ≤ 1
 there = omega arith
 
 group_shallow : (group : Group) → depth (group_json group) ≤ 2
-group_shallow group = object_shallow (group_fields group) (there, (text _ _, (text _ _, (text _ _, (there, (there, tt))))))
+group_shallow group = object_shallow (group_fields group) (there, (text _ _, (text _ _, (text _ _, (text _ _, (there, (there, tt)))))))
 
 items_shallow : (groups : List Group) → items_depth (items (map group_json groups)) ≤ 2
 items_shallow [] = omega arith

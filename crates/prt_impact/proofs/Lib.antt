@@ -1,7 +1,10 @@
+pub mod BlockLists
 pub mod BoxGroups
 pub mod Equals
 pub mod GroupsDepth
+pub mod MarkGroups
 pub mod Neighbours
+pub mod Padding
 pub mod Prefixes
 pub mod Replaced
 pub mod Texts

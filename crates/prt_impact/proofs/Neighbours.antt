@@ -1,24 +1,21 @@
--- Two groups that one group replaces: neighbours in sources, and halves of a block of marks.
-use Rattle.std.proofs.Common.{◌≡◌, ℕ, ◌+◌, ◌-◌, ◌<◌, ◌≤◌, Bool, true, false, ◌&&◌, ◌||◌, List, [], ◌∷◌, ◌++◌, Option, Some, None, length, take, eqb, leb, refl, sym, ap, ◌∙◌, subst, arith, ⊎_elim, append_assoc}
+-- Two groups that one group replaces: neighbours in sources.
+use Rattle.std.proofs.Common.{◌≡◌, ℕ, ◌+◌, ◌-◌, ◌<◌, ◌≤◌, Bool, true, false, ◌&&◌, ◌||◌, List, [], ◌∷◌, ◌++◌, Option, Some, None, length, take, leb, refl, sym, ap, ◌∙◌, subst, arith, ⊎_elim, append_assoc}
 use Rattle.std.specs.Prelude.{IfSome}
 use Rattle.std.specs.List.{IsLastAndRest}
-use Rattle.std.proofs.lemmas.Bool.{cases_Bool, eqb-true, le-leb, leb-false, leb-true}
+use Rattle.std.proofs.lemmas.Bool.{cases_Bool, le-leb, leb-false, leb-true}
 use Rattle.std.proofs.lemmas.List.{take-append-le, take_all}
-use Rattle.prt_rule.specs.Rule.{takes_mark}
 use Rattle.prt_rule.specs.declared.packet.Packet.{Packet}
-use Rattle.prt_rule.specs.declared.rule.Mark.{Mark}
 use Rattle.prt_version.specs.Select.{select}
 use Rattle.prt_version.specs.State.{State}
 use Rattle.prt_partition.specs.Boxes.{is_between}
-use Rattle.prt_partition.specs.Marks.{bit, flipped, kept}
 use Rattle.prt_partition.specs.declared.sameness.Sameness.{Sameness}
-use Rattle.prt_partition.proofs.MarkBlocks.{in_halves}
 use Rattle.prt_impact.specs.Groups.{IsGroup, in_group, is_in, rules_of, takes_interface}
+use Rattle.prt_impact.specs.MarkSets.{takes_marks}
 use Rattle.prt_impact.specs.Replacing.{AlwaysReplaces, Replaces}
-use Rattle.prt_impact.specs.Steps.{are_halves, is_same_group, is_same_mark, up_to}
+use Rattle.prt_impact.specs.Steps.{is_same_group, up_to}
 use Rattle.prt_impact.specs.declared.group.AddrRange.{AddrRange}
 use Rattle.prt_impact.specs.declared.group.Group.{Group}
-use Rattle.prt_impact.proofs.Equals.{same_groups, same_marks}
+use Rattle.prt_impact.proofs.Equals.{same_groups}
 use Rattle.prt_impact.proofs.Replaced.{behind, either_by, left_of, right_of}
 
 -- ---- tests
@@ -39,12 +36,6 @@ same_tests false false f g = refl
 or_nothing : (a : Bool) → (a || false) ≡ a
 or_nothing true = refl
 or_nothing false = refl
-
-or_turned : (a b : Bool) → (a || b) ≡ (b || a)
-or_turned true true = refl
-or_turned true false = refl
-or_turned false true = refl
-or_turned false false = refl
 
 spread : (t x y i m : Bool) → (t && (x || y) && i && m) ≡ ((t && x && i && m) || (t && y && i && m))
 spread false false false false false = refl
@@ -79,10 +70,6 @@ spread true true true false false = refl
 spread true true true false true = refl
 spread true true true true false = refl
 spread true true true true true = refl
-
-spread_last : (g x y : Bool) → (g && (x || y)) ≡ ((g && x) || (g && y))
-spread_last true x y = refl
-spread_last false x y = refl
 
 pub some_weaker : {X : Type 0} (P Q : X → Type 0) → ((x : X) → P x → Q x) → (o : Option X) → IfSome o P → IfSome o Q
 some_weaker P Q gives None h = h
@@ -120,9 +107,6 @@ of_either a b c d n some next more =
 abbrev pub from_range : Group → AddrRange → Group
 from_range group range = record group { from = range }
 
-abbrev pub of_mark : Group → Mark → Group
-of_mark group mark = record group { mark = mark }
-
 module _ (sameness : Sameness) (before after : State) where
   abbrev Good : Group → Type 0
   Good group = IsGroup sameness before after group
@@ -138,7 +122,7 @@ module _ (sameness : Sameness) (before after : State) where
       let more : n.first.0 ≤ n.last.0 = gb.some_from in
       let t : Bool = is_in a.to packet.dst.0 in
       let i : Bool = takes_interface (rules_of before after) a.interfaces packet.iif in
-      let m : Bool = takes_mark (Some a.mark) packet.mark in
+      let m : Bool = takes_marks a.marks packet.mark in
       ap (λ b. t && b && i && m) (of_either a.from.first.0 a.from.last.0 n.first.0 n.last.0 packet.src.0 some next more)
       ∙ spread t (is_in a.from packet.src.0) (is_in n packet.src.0) i m in
       record {
@@ -162,63 +146,12 @@ module _ (sameness : Sameness) (before after : State) where
             ∙ h;
       }
 
-  marks : (a : Group) (other block : Mark) → ((mark : ℕ) → takes_mark (Some block) mark ≡ (takes_mark (Some a.mark) mark || takes_mark (Some other) mark)) → Replaces sameness before after (a ∷ of_mark a other ∷ []) (of_mark a block ∷ [])
-  marks a other block both =
-      let covers : (packet : Packet) → Has packet (of_mark a block) ≡ (Has packet a || Has packet (of_mark a other)) =
-      λ packet.
-      let g : Bool = is_in a.to packet.dst.0 && is_in a.from packet.src.0 && takes_interface (rules_of before after) a.interfaces packet.iif in
-      ap (λ b. g && b) (both packet.mark)
-      ∙ spread_last g (takes_mark (Some a.mark) packet.mark) (takes_mark (Some other) packet.mark) in
-      record {
-        sound = λ good.
-            let ga : Good a = good.0 in
-            let gb : Good (of_mark a other) = good.1.0 in
-            let whole : Good (of_mark a block) = record {
-              some_to = ga.some_to;
-              some_from = ga.some_from;
-              differs = ga.differs;
-              was = λ packet is inside. either_by (Has packet a) (Has packet (of_mark a other)) (select before packet ≡ a.was) (sym (covers packet) ∙ inside) (λ h. ga.was packet is h) (λ h. gb.was packet is h);
-              is = λ packet is inside. either_by (Has packet a) (Has packet (of_mark a other)) (select after packet ≡ a.is) (sym (covers packet) ∙ inside) (λ h. ga.is packet is h) (λ h. gb.is packet is h);
-            } in
-            (whole, tt);
-        complete = λ good packet is h.
-            or_nothing (Has packet (of_mark a block))
-            ∙ covers packet
-            ∙ ap (λ b. Has packet a || b) (sym (or_nothing (Has packet (of_mark a other))))
-            ∙ h;
-      }
-
 -- the sources of the next group follow, and all else is equal
 pub sources_joined : (group next : Group) → (group.from.last.0 + 1 ≡ next.from.first.0) → is_same_group (from_range next group.from) group ≡ true → AlwaysReplaces (group ∷ next ∷ []) (from_range group (up_to group.from next.from) ∷ [])
 sources_joined group next follows same sameness before after =
     let moved : from_range next group.from ≡ group = same_groups (from_range next group.from) group same in
     let is : next ≡ from_range group next.from = ap (λ (g : Group). from_range g next.from) moved in
     subst (λ (g : Group). Replaces sameness before after (group ∷ g ∷ []) (from_range group (up_to group.from next.from) ∷ [])) (sym is) (sources sameness before after group next.from follows)
-
--- the halves of a block have its marks
-half_marks : (place : ℕ) (block a b : Mark) → bit block.mask place ≡ 0 → (is_same_mark a (kept place block) && is_same_mark b (flipped place block)) ≡ true → (mark : ℕ) → takes_mark (Some block) mark ≡ (takes_mark (Some a) mark || takes_mark (Some b) mark)
-half_marks place block a b clear are mark =
-    let parts = both_true (is_same_mark a (kept place block)) (is_same_mark b (flipped place block)) are in
-    in_halves place block mark clear
-    ∙ ap (λ (m : Mark). takes_mark (Some m) mark || takes_mark (Some (flipped place block)) mark) (sym (same_marks a (kept place block) parts.0))
-    ∙ ap (λ (m : Mark). takes_mark (Some a) mark || takes_mark (Some m) mark) (sym (same_marks b (flipped place block) parts.1))
-
-both_marks : (place : ℕ) (block a b : Mark) → are_halves place block a b ≡ true → (mark : ℕ) → takes_mark (Some block) mark ≡ (takes_mark (Some a) mark || takes_mark (Some b) mark)
-both_marks place block a b are mark =
-    let one : Bool = is_same_mark a (kept place block) && is_same_mark b (flipped place block) in
-    let other : Bool = is_same_mark b (kept place block) && is_same_mark a (flipped place block) in
-    let parts = both_true (eqb (bit block.mask place) 0) (one || other) are in
-    let clear : bit block.mask place ≡ 0 = eqb-true (bit block.mask place) 0 parts.0 in
-    either_by one other (takes_mark (Some block) mark ≡ (takes_mark (Some a) mark || takes_mark (Some b) mark)) parts.1
-    (λ h. half_marks place block a b clear h mark)
-    (λ h. half_marks place block b a clear h mark ∙ or_turned (takes_mark (Some b) mark) (takes_mark (Some a) mark))
-
--- the marks of the two groups are the halves of a block, and all else is equal
-pub marks_joined : (place : ℕ) (block : Mark) (group next : Group) → are_halves place block group.mark next.mark ≡ true → is_same_group (of_mark next group.mark) group ≡ true → AlwaysReplaces (group ∷ next ∷ []) (of_mark group block ∷ [])
-marks_joined place block group next halves same sameness before after =
-    let moved : of_mark next group.mark ≡ group = same_groups (of_mark next group.mark) group same in
-    let is : next ≡ of_mark group next.mark = ap (λ (g : Group). of_mark g next.mark) moved in
-    subst (λ (g : Group). Replaces sameness before after (group ∷ g ∷ []) (of_mark group block ∷ [])) (sym is) (marks sameness before after group next.mark block (both_marks place block group.mark next.mark halves))
 
 -- the last of the groups and one more
 pub last_joined : (groups rest : List Group) (last group joined : Group) → IsLastAndRest groups last rest → AlwaysReplaces (last ∷ group ∷ []) (joined ∷ []) → AlwaysReplaces (groups ++ group ∷ []) (take (length groups - 1) groups ++ joined ∷ [])

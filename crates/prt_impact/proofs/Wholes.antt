@@ -1,5 +1,5 @@
 -- Groups of each interface, which one group of all interfaces replaces.
-use Rattle.std.proofs.Common.{◌≡◌, ℕ, ◌+◌, ◌<◌, Bool, true, false, not, ◌&&◌, ◌||◌, List, [], ◌∷◌, ◌++◌, Some, drop, length, take, get_or, refl, sym, ap, ◌∙◌, subst}
+use Rattle.std.proofs.Common.{◌≡◌, ℕ, ◌+◌, ◌<◌, Bool, true, false, not, ◌&&◌, ◌||◌, List, [], ◌∷◌, ◌++◌, drop, length, take, get_or, refl, sym, ap, ◌∙◌, subst}
 use Rattle.std.specs.Prelude.{bytes_eq, map}
 use Rattle.std.specs.List.{list_any, AllByRecursion as Each}
 use Rattle.std.specs.List.Sorted.{IsPermutation}
@@ -9,7 +9,6 @@ use Rattle.std.proofs.lemmas.List.Folds.{list_any-append}
 use Rattle.std.proofs.lemmas.List.Sorted.{list_any-IsPermutation}
 use Rattle.std.proofs.lemmas.Slice.Eq.{bytes_eq-Decides}
 use Rattle.prt_addr.specs.Word.{Word}
-use Rattle.prt_rule.specs.Rule.{takes_mark}
 use Rattle.prt_rule.specs.declared.packet.Packet.{Packet}
 use Rattle.prt_rule.specs.declared.rule.Rule.{Rule}
 use Rattle.prt_trie.proofs.Filters.{any_same_tests, each_of}
@@ -19,6 +18,7 @@ use Rattle.prt_partition.specs.Classes.{is_named}
 use Rattle.prt_partition.specs.declared.sameness.Sameness.{Sameness}
 use Rattle.prt_partition.proofs.Starts.{IsIn, any_found, each_in, in_map}
 use Rattle.prt_impact.specs.Groups.{IsGroup, in_group, is_in, rules_of, takes_interface}
+use Rattle.prt_impact.specs.MarkSets.{takes_marks}
 use Rattle.prt_impact.specs.Replacing.{AreAll, Replaces, ReplacesIfAll}
 use Rattle.prt_impact.specs.Steps.{is_same_group, with_interfaces}
 use Rattle.prt_impact.specs.declared.group.Group.{Group}
@@ -45,14 +45,14 @@ regroup true b = refl
 regroup false true = refl
 regroup false false = refl
 
--- the names of the rules, in any order, and the others
-pub all_there : (rules : List Rule) (names turned : List Word) → AreNames rules names → IsPermutation names turned → AreAll rules (map Named turned ++ AllOthers ∷ [])
+-- the names of the rules and the others, in any order
+pub all_there : (rules : List Rule) (names : List Word) (turned : List InterfaceSet) → AreNames rules names → IsPermutation (map Named names ++ AllOthers ∷ []) turned → AreAll rules turned
 all_there rules names turned are moved iif =
     let takes : InterfaceSet → Bool = λ one. takes_interface rules one iif in
-    list_any-append takes (map Named turned) (AllOthers ∷ [])
+    sym (list_any-IsPermutation takes (map Named names ++ AllOthers ∷ []) turned moved)
+    ∙ list_any-append takes (map Named names) (AllOthers ∷ [])
     ∙ ap (λ b. b || (not (is_named rules iif) || false))
-    (any_map takes Named turned
-    ∙ sym (list_any-IsPermutation (λ name. bytes_eq name iif) names turned moved)
+    (any_map takes Named names
     ∙ any_same_tests (λ name. bytes_eq name iif) (bytes_eq iif) names (each_of (λ name. bytes_eq name iif ≡ bytes_eq iif name) names (λ name. bytes_both_ways name iif))
     ∙ are.all iif)
     ∙ regroup (is_named rules iif) (not (is_named rules iif))
@@ -83,7 +83,7 @@ module _ (sameness : Sameness) (before after : State) (group : Group) (interface
       let found = any_found (λ one. takes_interface (rules_of before after) one packet.iif) interfaces (all packet.iif) in (
         found.0,
         found.1,
-        pack (is_in group.to packet.dst.0) (is_in group.from packet.src.0) (takes_interface (rules_of before after) found.0 packet.iif) (takes_mark (Some group.mark) packet.mark) found.2 inside,
+        pack (is_in group.to packet.dst.0) (is_in group.from packet.src.0) (takes_interface (rules_of before after) found.0 packet.iif) (takes_marks group.marks packet.mark) found.2 inside,
       )
 
   each_good : Each Good (map (with_interfaces group) interfaces) → (one : InterfaceSet) → IsIn one interfaces → Good (with_interfaces group one)
@@ -104,7 +104,7 @@ module _ (sameness : Sameness) (before after : State) (group : Group) (interface
         (whole, tt);
     complete = λ good packet is h.
         let found = any_found (λ one. Has packet (with_interfaces group one)) interfaces (sym (any_map (Has packet) (with_interfaces group) interfaces) ∙ h) in
-        let taken = unpack (is_in group.to packet.dst.0) (is_in group.from packet.src.0) (takes_interface (rules_of before after) found.0 packet.iif) (takes_mark (Some group.mark) packet.mark) found.2 in
+        let taken = unpack (is_in group.to packet.dst.0) (is_in group.from packet.src.0) (takes_interface (rules_of before after) found.0 packet.iif) (takes_marks group.marks packet.mark) found.2 in
         ap (λ b. b || false) taken.1;
   }
 

@@ -1,8 +1,7 @@
 -- Which packets a change sends another way, as groups of them.
-use Rattle.std.specs.Prelude.{ℕ, ◌≡◌, ◌≤◌, Bool, true, not, ◌&&◌, List, ◌++◌, Some, bytes_eq}
+use Rattle.std.specs.Prelude.{ℕ, ◌≡◌, ◌≤◌, Bool, true, not, ◌&&◌, List, ◌++◌, bytes_eq}
 use Rattle.std.specs.List.{list_any, AllByRecursion as Each}
 use Rattle.prt_addr.specs.Word.{Word}
-use Rattle.prt_rule.specs.Rule.{takes_mark}
 use Rattle.prt_rule.specs.declared.packet.Packet.{Packet}
 use Rattle.prt_rule.specs.declared.rule.Rule.{Rule}
 use Rattle.prt_version.specs.Select.{select}
@@ -11,6 +10,7 @@ use Rattle.prt_partition.specs.Boxes.{is_between}
 use Rattle.prt_partition.specs.Classes.{IsPacket, is_named}
 use Rattle.prt_partition.specs.Sameness.{AreSame}
 use Rattle.prt_partition.specs.declared.sameness.Sameness.{Sameness}
+use Rattle.prt_impact.specs.MarkSets.{takes_marks}
 use Rattle.prt_impact.specs.declared.group.AddrRange.{AddrRange}
 use Rattle.prt_impact.specs.declared.group.Group.{Group}
 use Rattle.prt_impact.specs.declared.group.InterfaceSet.{InterfaceSet}
@@ -33,7 +33,7 @@ in_group rules packet group =
     is_in group.to packet.dst.0
     && is_in group.from packet.src.0
     && takes_interface rules group.interfaces packet.iif
-    && takes_mark (Some group.mark) packet.mark
+    && takes_marks group.marks packet.mark
 
 -- the rules of both versions, which say which interfaces have names
 abbrev pub rules_of : State → State → List Rule

@@ -1,14 +1,13 @@
 -- Groups as JSON: RFC 8259.
-use Rattle.std.specs.Prelude.{ℕ, if◌then◌else◌, ◌==◌, List, [], ◌∷◌, Option, Some, None, codes, map}
+use Rattle.std.specs.Prelude.{ℕ, if◌then◌else◌, not, ◌||◌, List, [], ◌∷◌, Option, Some, None, codes, map}
 use Rattle.json.specs.Json.{Json}
 use Rattle.prt_json.specs.Fields.{Member, array_of, dev_field, object_of}
-use Rattle.prt_listing.specs.Parts.{mark_text}
-use Rattle.prt_rule.specs.declared.rule.Mark.{Mark}
-use Rattle.prt_impact.specs.Text.{is_everything, range_text, verdict_text}
+use Rattle.prt_impact.specs.Text.{blocks_text, is_every_mark, is_everything, range_text, verdict_text}
 use Rattle.prt_impact.specs.declared.group.AddrRange.{AddrRange}
 use Rattle.prt_impact.specs.declared.group.Group.{Group}
 use Rattle.prt_impact.specs.declared.group.InterfaceSet.{InterfaceSet}
 use Rattle.prt_impact.specs.declared.group.InterfaceSet.TheVariants.{Named, AllOthers, All}
+use Rattle.prt_impact.specs.declared.mark_set.MarkSet.{MarkSet}
 
 -- the sources, unless they are all
 abbrev pub shown_from : AddrRange → Option (List ℕ)
@@ -20,9 +19,13 @@ shown_iif (Named name) = Some name
 shown_iif AllOthers = Some (codes "any other")
 shown_iif All = None
 
--- the marks, unless they are all
-abbrev pub shown_fwmark : Mark → Option (List ℕ)
-shown_fwmark mark = if mark.mask == 0 then None else Some (mark_text mark)
+-- the marks, unless they are all others
+abbrev pub shown_fwmark : MarkSet → Option (List ℕ)
+shown_fwmark marks = if marks.inverted then None else Some (blocks_text marks.blocks)
+
+-- the marks that the others are not, unless there are none
+abbrev pub shown_fwmark_not : MarkSet → Option (List ℕ)
+shown_fwmark_not marks = if not marks.inverted || is_every_mark marks then None else Some (blocks_text marks.blocks)
 
 -- in the words of the lines
 abbrev pub group_fields : Group → List (Option Member)
@@ -30,7 +33,8 @@ group_fields group =
     dev_field (codes "to") (Some (range_text group.to))
     ∷ dev_field (codes "from") (shown_from group.from)
     ∷ dev_field (codes "iif") (shown_iif group.interfaces)
-    ∷ dev_field (codes "fwmark") (shown_fwmark group.mark)
+    ∷ dev_field (codes "fwmark") (shown_fwmark group.marks)
+    ∷ dev_field (codes "fwmark_not") (shown_fwmark_not group.marks)
     ∷ dev_field (codes "was") (Some (verdict_text group.was))
     ∷ dev_field (codes "is") (Some (verdict_text group.is))
     ∷ []

@@ -1,5 +1,7 @@
 -- What the parts of the program compute.
-use Rattle.std.specs.Prelude.{ℕ, ◌≡◌, ◌+◌, ◌&&◌, ◌||◌, ◌==◌, Bool, true, false, List, ◌++◌, bit_and, bit_xor, bytes_eq, map}
+use Rattle.std.specs.Prelude.{ℕ, ◌≡◌, ◌+◌, ◌&&◌, ◌||◌, ◌==◌, Bool, true, false, List, [], ◌∷◌, ◌++◌, bit_and, bit_xor, bytes_eq, map}
+use Rattle.std.specs.Cmp.Lexicographic.{pointwise}
+use Rattle.prt_rule.specs.Same.{is_same_flag}
 use Rattle.prt_rule.specs.declared.packet.Packet.{Packet}
 use Rattle.prt_rule.specs.declared.rule.Mark.{Mark}
 use Rattle.prt_version.specs.State.{State}
@@ -11,10 +13,12 @@ use Rattle.prt_partition.specs.declared.packet_box.Interfaces.{Interfaces as Box
 use Rattle.prt_partition.specs.declared.packet_box.Interfaces.TheVariants as of_box
 use Rattle.prt_partition.specs.declared.packet_box.PacketBox.{PacketBox}
 use Rattle.prt_partition.specs.declared.sameness.Sameness.{Sameness}
+use Rattle.prt_impact.specs.MarkSets.{only}
 use Rattle.prt_impact.specs.declared.group.AddrRange.{AddrRange}
 use Rattle.prt_impact.specs.declared.group.Group.{Group}
 use Rattle.prt_impact.specs.declared.group.InterfaceSet.{InterfaceSet}
 use Rattle.prt_impact.specs.declared.group.InterfaceSet.TheVariants.{Named, AllOthers, All}
+use Rattle.prt_impact.specs.declared.mark_set.MarkSet.{MarkSet}
 
 -- ---- the groups of a box
 
@@ -28,7 +32,7 @@ group_of box difference = record {
   to = record { first = difference.first; last = difference.last };
   from = record { first = box.first; last = box.last };
   interfaces = interfaces_of box.interfaces;
-  mark = box.mark;
+  marks = only (box.mark ∷ []);
   was = difference.was;
   is = difference.is;
 }
@@ -53,13 +57,16 @@ is_same_interfaces _ _ = false
 abbrev pub is_same_mark : Mark → Mark → Bool
 is_same_mark a b = a.mark == b.mark && a.mask == b.mask
 
+abbrev pub is_same_marks : MarkSet → MarkSet → Bool
+is_same_marks a b = is_same_flag a.inverted b.inverted && pointwise is_same_mark a.blocks b.blocks
+
 -- equal in every part
 abbrev pub is_same_group : Group → Group → Bool
 is_same_group a b =
     is_same_range a.to b.to
     && is_same_range a.from b.from
     && is_same_interfaces a.interfaces b.interfaces
-    && is_same_mark a.mark b.mark
+    && is_same_marks a.marks b.marks
     && is_same_verdict a.was b.was
     && is_same_verdict a.is b.is
 
@@ -85,3 +92,10 @@ are_halves place block a b =
 
 abbrev pub with_interfaces : Group → InterfaceSet → Group
 with_interfaces group interfaces = record group { interfaces = interfaces }
+
+abbrev pub with_marks : Group → MarkSet → Group
+with_marks group marks = record group { marks = marks }
+
+-- with the marks of one block
+abbrev pub with_block : Group → Mark → Group
+with_block group block = with_marks group (only (block ∷ []))

@@ -1,5 +1,5 @@
 -- The line of each group, in the words of ip-route(8) and ip-rule(8).
-use Rattle.std.specs.Prelude.{ℕ, ◌+◌, ◌-◌, ◌^◌, Bool, ◌&&◌, ◌==◌, if◌then◌else◌, List, [], ◌++◌, Option, Some, None, codes, map, zero, suc}
+use Rattle.std.specs.Prelude.{ℕ, ◌+◌, ◌-◌, ◌^◌, Bool, ◌&&◌, ◌==◌, if◌then◌else◌, List, [], ◌∷◌, ◌++◌, Option, Some, None, codes, flat_map, length, map, zero, suc}
 use Rattle.prt_addr.specs.Addr.{addr_text}
 use Rattle.prt_addr.specs.Block.{Block}
 use Rattle.prt_addr.specs.Prefix.{masked, prefix_text}
@@ -16,6 +16,7 @@ use Rattle.prt_impact.specs.declared.group.AddrRange.{AddrRange}
 use Rattle.prt_impact.specs.declared.group.Group.{Group}
 use Rattle.prt_impact.specs.declared.group.InterfaceSet.{InterfaceSet}
 use Rattle.prt_impact.specs.declared.group.InterfaceSet.TheVariants.{Named, AllOthers, All}
+use Rattle.prt_impact.specs.declared.mark_set.MarkSet.{MarkSet}
 
 -- ---- ranges
 
@@ -59,13 +60,29 @@ iif_text (Named name) = codes " iif " ++ name
 iif_text AllOthers = codes " iif any other"
 iif_text All = []
 
--- the marks, unless they are all
-abbrev pub fwmark_text : Mark → List ℕ
-fwmark_text mark = if mark.mask == 0 then [] else codes " fwmark " ++ mark_text mark
+-- each of the blocks behind a comma
+abbrev pub more_text : List Mark → List ℕ
+more_text blocks = flat_map (λ block. codes "," ++ mark_text block) blocks
 
--- to RANGE [from RANGE] [iif NAME|iif any other] [fwmark MARK[/MASK]]
+-- MARK[/MASK],MARK[/MASK]..
+abbrev pub blocks_text : List Mark → List ℕ
+blocks_text [] = []
+blocks_text (block ∷ blocks) = mark_text block ++ more_text blocks
+
+-- all but the marks of no block
+abbrev pub is_every_mark : MarkSet → Bool
+is_every_mark marks = marks.inverted && length marks.blocks == 0
+
+abbrev pub not_text : Bool → List ℕ
+not_text inverted = if inverted then codes "not " else []
+
+-- the marks, unless they are all
+abbrev pub fwmark_text : MarkSet → List ℕ
+fwmark_text marks = if is_every_mark marks then [] else codes " fwmark " ++ not_text marks.inverted ++ blocks_text marks.blocks
+
+-- to RANGE [from RANGE] [iif NAME|iif any other] [fwmark [not] MARK[/MASK],MARK[/MASK]..]
 abbrev pub packets_text : Group → List ℕ
-packets_text group = codes "to " ++ range_text group.to ++ from_text group.from ++ iif_text group.interfaces ++ fwmark_text group.mark
+packets_text group = codes "to " ++ range_text group.to ++ from_text group.from ++ iif_text group.interfaces ++ fwmark_text group.marks
 
 -- rule P table TABLE ROUTE, rule P ACTION, or none
 abbrev pub verdict_text : Verdict → List ℕ

@@ -5,6 +5,7 @@ ghost use Rattle.prt_impact.specs.Steps.{with_interfaces};
 ghost use Rattle.prt_impact.specs.declared.group.InterfaceSet.TheVariants.{Named};
 
 use crate::group::{Group, InterfaceSet, push_group};
+use crate::order::interfaces_cmp;
 use crate::same::is_same_group;
 use prt_partition::names_of;
 use prt_route::Dev;
@@ -25,17 +26,17 @@ fn all_named(alloc: Global, names: &[Dev]) -> Result<Vec<InterfaceSet>, AllocErr
     names.iter().map(named).collect(alloc)
 }
 
-/// Lists the interfaces that boxes are made of, the last one first.
+/// Lists the interfaces that boxes are made of, sorted.
 pub(crate) fn every_interface(
     alloc: Global,
     rules: &[Rule],
 ) -> Result<Vec<InterfaceSet>, AllocError>
     ensures { IfOk result (λ interfaces. AreAll rules.now interfaces.items) }
 {
-    let mut names = names_of(alloc, rules)?;
-    names.reverse();
+    let names = names_of(alloc, rules)?;
     let mut interfaces = all_named(alloc, &names)?;
     interfaces.extend_from_slice(&[InterfaceSet::AllOthers])?;
+    interfaces.sort_by(interfaces_cmp)?;
     Ok(interfaces)
 }
 

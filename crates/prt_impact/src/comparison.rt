@@ -2,14 +2,30 @@
 ghost use Rattle.std.specs.Prelude.{◌≡◌, ◌++◌, IfErr, IfOk};
 ghost use Rattle.prt_partition.specs.Boxes.{IsUndivided};
 ghost use Rattle.prt_impact.specs.Groups.{AreGroups};
+ghost use Rattle.prt_impact.specs.MarkSets.{HasEachOnce};
 
 use crate::group::Group;
 use crate::merging::merged;
 use crate::plain::groups_of;
-use prt_partition::{Sameness, boxes, fresh_name, is_same_everywhere, rules_of_both, what_differs};
+use prt_partition::{
+    Sameness, boxes, fresh_name, is_same_everywhere, mark_blocks, rules_of_both, what_differs,
+};
 use prt_refusals::Refusal;
+use prt_rule::{Mark, Rule};
 use prt_version::Version;
 use std::alloc::Global;
+
+/// Lists the blocks of marks that boxes are made of.
+///
+/// # Errors
+///
+/// As of `impact`.
+fn all_blocks(alloc: Global, rules: &[Rule]) -> Result<Vec<Mark>, Refusal>
+    ensures value { IfOk result (λ blocks. HasEachOnce blocks.items) }
+    ensures reason { IfErr result (IsUndivided rules.now) }
+{
+    mark_blocks(alloc, rules)
+}
 
 /// Finds the packets whose verdict after isn't the same as the one before, as groups of packets with one verdict before and
 /// one after. A packet is in a group exactly if its verdicts are not the same, and they are those of the group.
@@ -35,6 +51,7 @@ pub fn impact(
     let boxes = boxes(alloc, &rules)?;
     let fresh = fresh_name(alloc, &rules)?;
     let groups = groups_of(alloc, before, after, &differing, sameness, &boxes, &fresh)?;
-    let merged = merged(alloc, &rules, groups)?;
+    let blocks = all_blocks(alloc, &rules)?;
+    let merged = merged(alloc, &rules, &blocks, groups)?;
     Ok(merged)
 }

@@ -5,11 +5,12 @@ ghost use Rattle.json.specs.Tree.{json_tokens};
 ghost use Rattle.prt_json.specs.Appends.{Appends};
 ghost use Rattle.prt_json.specs.Fields.{ReadsBack, dev_field, json_line};
 ghost use Rattle.prt_json.specs.Steps.{fields_tokens, values_tokens};
-ghost use Rattle.prt_impact.specs.GroupsJson.{group_fields, group_json, groups_json, shown_from, shown_fwmark, shown_iif};
-ghost use Rattle.prt_impact.specs.Text.{range_text, verdict_text};
+ghost use Rattle.prt_impact.specs.GroupsJson.{group_fields, group_json, groups_json, shown_from, shown_fwmark, shown_fwmark_not, shown_iif};
+ghost use Rattle.prt_impact.specs.Text.{blocks_text, range_text, verdict_text};
 
 use crate::group::{AddrRange, Group, InterfaceSet};
-use crate::words::{is_everything, push_mark, push_range, push_verdict};
+use crate::mark_set::MarkSet;
+use crate::words::{is_every_mark, is_everything, push_blocks, push_range, push_verdict};
 use json::Writer;
 use prt_listing::push_text;
 use prt_refusals::Refusal;
@@ -74,17 +75,41 @@ fn push_iif_field(
     }
 }
 
-/// Writes the field of the marks, unless they are all.
-fn push_fwmark_field(out: &mut Writer, alloc: Global, mark: &Mark) -> Result<(), AllocError>
-    ensures ok { OnOk result (out.new.tokens ≡ out.old.tokens ++ fields_tokens (dev_field (codes "fwmark") (shown_fwmark mark.now) ∷ [])) }
+/// Writes the field of blocks of marks.
+fn push_blocks_field(
+    out: &mut Writer,
+    alloc: Global,
+    name: &'static str,
+    blocks: &[Mark],
+) -> Result<(), AllocError>
+    ensures ok { OnOk result (out.new.tokens ≡ out.old.tokens ++ fields_tokens (dev_field name.now (Some (blocks_text blocks.now)) ∷ [])) }
     ensures before { out.new.before ≡ out.old.before }
 {
-    if mark.mask == 0 {
+    let mut text = Vec::new(alloc);
+    push_blocks(&mut text, blocks)?;
+    push_field(out, alloc, name, &text)
+}
+
+/// Writes the field of the marks, unless they are all but those of some blocks.
+fn push_fwmark_field(out: &mut Writer, alloc: Global, marks: &MarkSet) -> Result<(), AllocError>
+    ensures ok { OnOk result (out.new.tokens ≡ out.old.tokens ++ fields_tokens (dev_field (codes "fwmark") (shown_fwmark marks.now) ∷ [])) }
+    ensures before { out.new.before ≡ out.old.before }
+{
+    if marks.inverted {
         return Ok(());
     }
-    let mut text = Vec::new(alloc);
-    push_mark(&mut text, mark)?;
-    push_field(out, alloc, "fwmark", &text)
+    push_blocks_field(out, alloc, "fwmark", marks.blocks.as_slice())
+}
+
+/// Writes the field of the marks that the group doesn't have, if it has all others and they are not all.
+fn push_fwmark_not_field(out: &mut Writer, alloc: Global, marks: &MarkSet) -> Result<(), AllocError>
+    ensures ok { OnOk result (out.new.tokens ≡ out.old.tokens ++ fields_tokens (dev_field (codes "fwmark_not") (shown_fwmark_not marks.now) ∷ [])) }
+    ensures before { out.new.before ≡ out.old.before }
+{
+    if !marks.inverted || is_every_mark(marks) {
+        return Ok(());
+    }
+    push_blocks_field(out, alloc, "fwmark_not", marks.blocks.as_slice())
 }
 
 /// Writes the field of what becomes of packets.
@@ -110,7 +135,8 @@ fn push_fields(out: &mut Writer, alloc: Global, group: &Group) -> Result<(), All
     push_range_field(out, alloc, "to", &group.to)?;
     push_from_field(out, alloc, &group.from)?;
     push_iif_field(out, alloc, &group.interfaces)?;
-    push_fwmark_field(out, alloc, &group.mark)?;
+    push_fwmark_field(out, alloc, &group.marks)?;
+    push_fwmark_not_field(out, alloc, &group.marks)?;
     push_verdict_field(out, alloc, "was", &group.was)?;
     push_verdict_field(out, alloc, "is", &group.is)
 }
@@ -161,8 +187,8 @@ fn document(alloc: Global, groups: &[Group]) -> Result<Vec<u8>, AllocError>
 /// Appends the groups as JSON: an array of objects, and a newline.
 ///
 /// An object has `to`, the destinations, and `was` and `is`, what becomes of the packets before and after. It has `from`,
-/// `iif` and `fwmark` unless they hold all. All of them are strings, in the words of
-/// [`impact_text`](crate::impact_text).
+/// `iif` and `fwmark` unless they hold all. If the group has all marks but some, it has `fwmark_not` in place of `fwmark`,
+/// with the marks that it doesn't have. All of them are strings, in the words of [`impact_text`](crate::impact_text).
 ///
 /// # Errors
 ///

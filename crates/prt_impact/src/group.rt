@@ -1,9 +1,9 @@
 //! Groups of packets that a change sends another way, as people read them.
 ghost use Rattle.std.specs.Prelude.{◌≡◌, ◌++◌, ◌∷◌, [], OnOk};
 
+use crate::mark_set::MarkSet;
 use prt_addr::Addr;
 use prt_route::Dev;
-use prt_rule::Mark;
 use prt_version::Verdict;
 use std::alloc::AllocError;
 
@@ -36,8 +36,8 @@ pub struct Group {
     pub from: AddrRange,
     /// The interfaces that they come in by.
     pub interfaces: InterfaceSet,
-    /// Their marks: those that agree with the value in the bits of the mask. The mask 0 takes every mark.
-    pub mark: Mark,
+    /// Their marks.
+    pub marks: MarkSet,
     /// What becomes of them before.
     pub was: Verdict,
     /// What becomes of them after.

@@ -8,6 +8,7 @@ ghost use Rattle.prt_impact.specs.Groups.{AreGroups, rules_of};
 ghost use Rattle.prt_impact.specs.Steps.{AddsBox, group_of, interfaces_of};
 
 use crate::group::{AddrRange, Group, InterfaceSet, push_group};
+use crate::mark_set::one_block;
 use prt_partition::{Difference, Differing, PacketBox, Sameness, changes};
 use prt_refusals::Refusal;
 use prt_route::Dev;
@@ -39,7 +40,7 @@ fn group_of(one: &PacketBox, difference: &Difference) -> Group
             last: one.last,
         },
         interfaces: interfaces_of(one),
-        mark: one.mark,
+        marks: one_block(&one.mark),
         was: difference.was,
         is: difference.is,
     }

@@ -42,7 +42,8 @@ fn push_lines(out: &mut Vec<u8>, groups: &[Group]) -> Result<(), AllocError>
 
 /// Appends a line for each group: its packets, and what becomes of them before and after, in the words of `ip`.
 ///
-/// What holds all packets is left out: `from`, `iif` and `fwmark`. `iif any other` is each interface that no rule names.
+/// What holds all packets is left out: `from`, `iif` and `fwmark`. `iif any other` is each interface that no rule names, and
+/// `fwmark not` each mark but these.
 ///
 /// # Errors
 ///

@@ -5,9 +5,10 @@ ghost use Rattle.prt_listing.specs.Parts.{mark_text, table_text};
 ghost use Rattle.prt_listing.specs.RouteText.{route_text};
 ghost use Rattle.prt_listing.specs.RuleText.{action_text};
 ghost use Rattle.prt_listing.specs.declared.route.TablePart.TheVariants.{LeftOut};
-ghost use Rattle.prt_impact.specs.Text.{from_text, fwmark_text, iif_text, is_all_of, is_everything, packets_text, prefix_of, range_text, verdict_text};
+ghost use Rattle.prt_impact.specs.Text.{blocks_text, from_text, fwmark_text, iif_text, is_all_of, is_every_mark, is_everything, more_text, packets_text, prefix_of, range_text, verdict_text};
 
 use crate::group::{AddrRange, Group, InterfaceSet};
+use crate::mark_set::MarkSet;
 use prt_addr::{Prefix, addr_text, prefix_text};
 use prt_listing::{Part, TablePart, Value, push_part, push_text, route_text, table_value};
 use prt_rule::{Action, Mark};
@@ -86,25 +87,59 @@ fn push_iif(out: &mut Vec<u8>, interfaces: &InterfaceSet) -> Result<(), AllocErr
 }
 
 /// Appends a mark and its mask.
-///
-/// # Errors
-///
-/// Memory is refused.
-pub(crate) fn push_mark(out: &mut Vec<u8>, mark: &Mark) -> Result<(), AllocError>
+fn push_mark(out: &mut Vec<u8>, mark: &Mark) -> Result<(), AllocError>
     ensures { OnOk result (out.new.items ≡ out.old.items ++ mark_text mark.now) }
 {
     push_part(out, &Part::Alone(Value::Mark(*mark)))
 }
 
-/// Appends the marks, unless they are all.
-fn push_fwmark(out: &mut Vec<u8>, mark: &Mark) -> Result<(), AllocError>
-    ensures { OnOk result (out.new.items ≡ out.old.items ++ fwmark_text mark.now) }
+/// Appends each of the blocks behind a comma.
+fn push_more(out: &mut Vec<u8>, blocks: &[Mark]) -> Result<(), AllocError>
+    ensures { OnOk result (out.new.items ≡ out.old.items ++ more_text blocks.now) }
 {
-    if mark.mask == 0 {
+    for block in blocks {
+        push_text(out, ",")?;
+        push_mark(out, block)?;
+    }
+    Ok(())
+}
+
+/// Appends blocks of marks, with commas between them.
+///
+/// # Errors
+///
+/// Memory is refused.
+pub(crate) fn push_blocks(out: &mut Vec<u8>, blocks: &[Mark]) -> Result<(), AllocError>
+    ensures { OnOk result (out.new.items ≡ out.old.items ++ blocks_text blocks.now) }
+{
+    match blocks.split_first() {
+        Some((first, more)) => {
+            push_mark(out, first)?;
+            push_more(out, more)
+        }
+        None => Ok(()),
+    }
+}
+
+/// Checks whether the set has every mark: all but those of no block.
+pub(crate) fn is_every_mark(marks: &MarkSet) -> bool
+    ensures { result ≡ is_every_mark marks.now }
+{
+    marks.inverted && marks.blocks.as_slice().is_empty()
+}
+
+/// Appends the marks, unless they are all.
+fn push_fwmark(out: &mut Vec<u8>, marks: &MarkSet) -> Result<(), AllocError>
+    ensures { OnOk result (out.new.items ≡ out.old.items ++ fwmark_text marks.now) }
+{
+    if is_every_mark(marks) {
         return Ok(());
     }
     push_text(out, " fwmark ")?;
-    push_mark(out, mark)
+    if marks.inverted {
+        push_text(out, "not ")?;
+    }
+    push_blocks(out, marks.blocks.as_slice())
 }
 
 /// Appends which packets a group has.
@@ -115,7 +150,7 @@ pub(crate) fn push_packets(out: &mut Vec<u8>, group: &Group) -> Result<(), Alloc
     push_range(out, &group.to)?;
     push_from(out, &group.from)?;
     push_iif(out, &group.interfaces)?;
-    push_fwmark(out, &group.mark)
+    push_fwmark(out, &group.marks)
 }
 
 /// Appends the rule that decides.

@@ -36,5 +36,6 @@ pub use laws::{
     rules_touch_what_they_match,
 };
 pub use limits::MOST_BOXES;
+pub use marks::mark_blocks;
 pub use packet_box::{Interfaces, PacketBox};
 pub use sameness::{Outcome, Sameness, is_same_verdict, outcome_of};

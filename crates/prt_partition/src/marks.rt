@@ -135,7 +135,7 @@ fn split_by(alloc: Global, blocks: Vec<Mark>, by: &Option<Mark>) -> Result<Vec<M
 /// # Errors
 ///
 /// `Full` if there would be more than [`MOST_BOXES`], and otherwise `NoMemory` alone. `NoMemory` may come before that.
-pub(crate) fn mark_blocks(alloc: Global, rules: &[Rule]) -> Result<Vec<Mark>, Refusal>
+pub fn mark_blocks(alloc: Global, rules: &[Rule]) -> Result<Vec<Mark>, Refusal>
     ensures value { IfOk result (λ blocks. AreMarkBlocks rules.now blocks.items) }
     ensures all { IfOk result (λ blocks. blocks.items ≡ mark_blocks rules.now) }
     ensures few { IfOk result (λ blocks. length blocks.items ≤ MOST_BOXES) }

@@ -8,4 +8,4 @@ returns-clause-replaces c =
     let groups = c.args.groups.now in
     let group = c.args.group.now in
     some_weaker (λ joined. AlwaysReplaces (c.in-Some.last.now ∷ group ∷ []) (joined ∷ [])) (λ joined. AlwaysReplaces (groups ++ group ∷ []) (take (length groups - 1) groups ++ joined ∷ []))
-    (λ joined replaces. last_joined groups c.in-Some.field-0-1.now c.in-Some.last.now group joined c.in-Some.ensures.cases replaces) c.join.result c.join.ensures
+    (λ joined replaces. last_joined groups c.in-Some.field-0-1.now c.in-Some.last.now group joined c.in-Some.ensures.cases replaces) c.join_sources.result c.join_sources.ensures

@@ -1,4 +1,3 @@
-use Rattle.std.proofs.lemmas.List.Sorted.{IsPermutation-trans}
 use Rattle.prt_impact.specs.Replacing.{AlwaysReplaces}
 use Rattle.prt_impact.proofs.Replaced.{ok_weaker, sorted_then}
 use Rattle.prt_impact.proofs.merging.with_marks_joined.Goals as goal
@@ -9,5 +8,5 @@ returns c =
     let sorted = c.sort_by.new.self.items in
     let view = c.deref.result.now in
     ok_weaker (λ joined. AlwaysReplaces view joined.items) (λ joined. AlwaysReplaces old joined.items)
-    (λ joined replaces. sorted_then old sorted view joined.items (IsPermutation-trans old c.reverse.new.self.items sorted c.reverse.ensures.permutation c.sort_by.ensures.permutation) c.deref.ensures.value replaces)
-    c.joined.result c.joined.ensures
+    (λ joined replaces. sorted_then old sorted view joined.items c.sort_by.ensures.permutation c.deref.ensures.value replaces)
+    c.joined_marks.result c.joined_marks.ensures

@@ -9,4 +9,4 @@ returns c =
     let view = c.deref.result.now in
     ok_weaker (λ joined. AlwaysReplaces view joined.items) (λ joined. AlwaysReplaces old joined.items)
     (λ joined replaces. sorted_then old sorted view joined.items c.sort_by.ensures.permutation c.deref.ensures.value replaces)
-    c.joined.result c.joined.ensures
+    c.joined_sources.result c.joined_sources.ensures

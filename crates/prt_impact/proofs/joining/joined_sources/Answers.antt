@@ -2,7 +2,7 @@ use Rattle.std.proofs.Common.{subst}
 use Rattle.std.proofs.lemmas.List.{take_all}
 use Rattle.prt_impact.specs.Replacing.{Replaces}
 use Rattle.prt_impact.proofs.Replaced.{one_more}
-use Rattle.prt_impact.proofs.joining.joined.Goals as goal
+use Rattle.prt_impact.proofs.joining.joined_sources.Goals as goal
 
 pub loop-group-preserved : goal.loop-group-preserved
 loop-group-preserved c = λ sameness before after.
