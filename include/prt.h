@@ -2,10 +2,12 @@
  *
  * Tables hold the rules and routes of one database. Lines of prt's command language change them: `route add 10.0.0.0/8
  * via 192.0.2.1`. A version is what the tables hold at one moment, and never changes. Packets are looked up in versions.
+ * For forwarding, a table is compiled from a version (prt_fib): it has the next hop of every destination, for packets of one
+ * source, interface and mark.
  *
  * The words above each call say what is proved of it; docs/reference/LIBRARY.md begins with an example. What C has to observe:
  *
- *   - A holder (prt_tables, prt_version) is empty when all its bytes are zero, as PRT_EMPTY_HOLDER makes it. After that
+ *   - A holder (prt_tables, prt_version, prt_fib) is empty when all its bytes are zero, as PRT_EMPTY_HOLDER makes it. After that
  *     only these calls write it. It isn't copied to be used twice.
  *   - A holder is given to one call at a time. It may go from thread to thread, by a lock, an atomic exchange, a thread's
  *     start or its end. Each thread that looks packets up has a version of its own: prt_tables_version makes one more
@@ -41,9 +43,10 @@ enum prt_status {
     PRT_EMPTY = 100       /* the holder that the call needs holds nothing */
 };
 
-/* Tables, and a version of them. `at` is the library's own. */
+/* Tables, a version of them, and a table that is compiled from a version. `at` is the library's own. */
 typedef struct { void *at; } prt_tables;
 typedef struct { void *at; } prt_version;
+typedef struct { void *at; } prt_fib;
 #define PRT_EMPTY_HOLDER { 0 }
 
 /* The bytes of an interface's name: 1 to 15, and zeros after them. */
@@ -82,6 +85,16 @@ typedef struct {
     uint32_t source;              /* the source to prefer; 0 if there is none */
     char device[PRT_NAME_BYTES];  /* the route's interface; all zeros if it names none */
 } prt_answer;
+
+/* What happens to packets, whichever rule and route decide: all that forwarding needs of an answer. */
+typedef struct {
+    uint32_t kind;                /* an enum prt_kind */
+    uint32_t has_gateway;         /* 1 or 0 */
+    uint32_t gateway;             /* the next hop; 0 if there is none */
+    uint32_t has_source;          /* 1 or 0 */
+    uint32_t source;              /* the source to prefer; 0 if there is none */
+    char device[PRT_NAME_BYTES];  /* the route's interface; all zeros if it names none */
+} prt_outcome;
 
 /* ---- tables */
 
@@ -147,6 +160,61 @@ uint32_t prt_lookup_many(prt_version *version, const prt_packet *packets, size_t
 
 /* Releases this owner of a version, and leaves `version` empty. The last owner frees what no other version shares. */
 void prt_version_release(prt_version *version);
+
+/* ---- compiled tables */
+
+/* Compiles what happens to packets with the source, interface and mark of `packet`, for every destination. That of `packet`
+ * doesn't matter. The compiled table stays right for this version, and needs the holder `version` no more.
+ *
+ * It takes some 50 ms for 100,000 routes, and at most 24 bytes for each route and rule, 100 for each outcome, and 263 KB;
+ * while it is compiled, some 160 bytes for each route and rule.
+ *
+ * PRT_DONE         `fib` holds the compiled table; what it held before is freed.
+ * PRT_BAD_NAME     `interface` is no name.
+ * PRT_FULL         these packets have more than 65,536 different outcomes.
+ * PRT_NO_MEMORY    memory was refused.
+ * PRT_EMPTY        `version` holds nothing.
+ * After anything but PRT_DONE `fib` holds what it did. The version is as it was. */
+uint32_t prt_fib_new(prt_version *version, const prt_packet *packet, prt_fib *fib);
+
+/* Makes one more owner of a compiled table, for another thread. Nothing is copied.
+ *
+ * PRT_DONE         `other` holds it; what it held before is freed.
+ * PRT_NO_MEMORY    memory was refused; `other` holds what it did.
+ * PRT_EMPTY        `fib` holds nothing; `other` holds what it did. */
+uint32_t prt_fib_share(prt_fib *fib, prt_fib *other);
+
+/* Finds the number of the outcome of packets to this destination. Two destinations have one number if they have one outcome.
+ *
+ * PRT_DONE         `*number` is it.
+ * PRT_EMPTY        `fib` holds nothing; `*number` is as it was. */
+uint32_t prt_fib_find(prt_fib *fib, uint32_t destination, uint16_t *number);
+
+/* Finds the numbers of destinations one after the other, as many as there are destinations and numbers.
+ *
+ * PRT_DONE         `*count` is how many were found, and `numbers[k]` for each k below it is that of `destinations[k]`. The
+ *                  other numbers are as they were.
+ * PRT_EMPTY        `fib` holds nothing; `*count` and the numbers are as they were. */
+uint32_t prt_fib_find_many(prt_fib *fib, const uint32_t *destinations, size_t destination_count, uint16_t *numbers,
+                           size_t number_count, size_t *count);
+
+/* Writes the outcome of a number.
+ *
+ * PRT_DONE         `*outcome` is it.
+ * PRT_NO_SUCH      the table has no such number: its numbers are 0 and up, without gaps. `*outcome` is as it was.
+ * PRT_EMPTY        `fib` holds nothing; `*outcome` is as it was. */
+uint32_t prt_fib_outcome(prt_fib *fib, uint16_t number, prt_outcome *outcome);
+
+/* Looks a packet to this destination up in the version that the table was compiled from: which rule and which route decide.
+ * That takes as long as prt_lookup.
+ *
+ * PRT_DONE         `*answer` is what prt_lookup writes for the packet, with this destination.
+ * PRT_EMPTY        `fib` holds nothing; `*answer` is as it was. */
+uint32_t prt_fib_route(prt_fib *fib, uint32_t destination, prt_answer *answer);
+
+/* Releases this owner of a compiled table, and leaves `fib` empty. The last owner frees it, and what of its version no other
+ * version shares. */
+void prt_fib_free(prt_fib *fib);
 
 #ifdef __cplusplus
 }

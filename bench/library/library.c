@@ -1,19 +1,22 @@
-// Times lookups by the library for C, one by one and a burst at once. The writer executes a line, and leaves an owner of the
+// Times lookups by the library for C, in versions and in compiled tables, one by one and a burst at once. The writer executes a line, and leaves an owner of the
 // new version in the slot of each looker, as examples/forwarder.c does.
 #include "prt.h"
 #include "side_by_side.h"
 
-// What a looker has: a version that it holds, and a slot with the `at` of one that it hasn't taken yet.
+// What a looker has: a version that it holds, a slot with the `at` of one that it hasn't taken yet, and a compiled table.
 typedef struct {
   _Alignas(64) prt_version version;
   _Atomic(void *) slot;
+  prt_fib fib;
 } Own;
 
 static Own owns[MOST_THREADS];
 static prt_tables tables = PRT_EMPTY_HOLDER;
 static Row rows[MOST_ROUTES];
 static int count;
-static int is_many;
+static enum { EACH, MANY, FIB, FIB_MANY } way;
+// Of each number of a compiled table, whether its packets are sent on.
+static uint8_t is_unicast[65536];
 
 // Adds or replaces a route, and gives the status.
 static uint32_t execute(const char *verb, const Row *row, int gateway) {
@@ -30,7 +33,7 @@ static void load(int wanted) {
   state = FIRST_STATE;
   while (count < wanted) {
     Row row = count < 450 ? random_row(9, 1) : random_row(10, 222);
-    uint32_t status = execute("add", &row, 1);
+    uint32_t status = execute("add", &row, 1 + count % 200);
     end_if(status != PRT_DONE && status != PRT_EXISTS, "a route is refused");
     if (status == PRT_DONE) rows[count++] = row;
   }
@@ -82,15 +85,51 @@ static uint32_t look_up_many(prt_version *version, const uint32_t *burst) {
   return hits;
 }
 
+static uint32_t find_each(prt_fib *fib, const uint32_t *burst) {
+  uint32_t hits = 0;
+  uint16_t number;
+  for (int i = 0; i < BURST; i++) {
+    end_if(prt_fib_find(fib, burst[i], &number) != PRT_DONE, "a destination has no number");
+    hits += is_unicast[number];
+  }
+  return hits;
+}
+
+static uint32_t find_many(prt_fib *fib, const uint32_t *burst) {
+  uint32_t hits = 0;
+  uint16_t numbers[BURST];
+  size_t done;
+  end_if(prt_fib_find_many(fib, burst, BURST, numbers, BURST, &done) != PRT_DONE, "a destination has no number");
+  for (int i = 0; i < BURST; i++) hits += is_unicast[numbers[i]];
+  return hits;
+}
+
 static uint32_t look_up(int looker, const uint32_t *burst) {
-  prt_version *version = &owns[looker].version;
-  return is_many ? look_up_many(version, burst) : look_up_each(version, burst);
+  Own *own = &owns[looker];
+  switch (way) {
+    case EACH: return look_up_each(&own->version, burst);
+    case MANY: return look_up_many(&own->version, burst);
+    case FIB: return find_each(&own->fib, burst);
+    default: return find_many(&own->fib, burst);
+  }
+}
+
+// Compiles a table, of which each looker gets an owner.
+static void compile(void) {
+  prt_packet packet = { 0 };
+  prt_outcome outcome;
+  take(0);
+  end_if(prt_fib_new(&owns[0].version, &packet, &owns[0].fib) != PRT_DONE, "no compiled table");
+  for (int looker = 1; looker < MOST_THREADS; looker++) end_if(prt_fib_share(&owns[0].fib, &owns[looker].fib) != PRT_DONE, "no owner");
+  for (int number = 0; number < 65536 && prt_fib_outcome(&owns[0].fib, (uint16_t)number, &outcome) == PRT_DONE; number++)
+    is_unicast[number] = outcome.kind == PRT_UNICAST;
 }
 
 static void release_all(void) {
   for (int looker = 0; looker < MOST_THREADS; looker++) {
     take(looker);
     prt_version_release(&owns[looker].version);
+    prt_fib_free(&owns[looker].fib);
   }
   prt_tables_release(&tables);
 }
@@ -100,8 +139,13 @@ int main(int argc, char **argv) {
   make_addresses(addresses, rows, count);
   hand_out();
   measure("prt_lookup", count, 1);
-  is_many = 1;
+  way = MANY;
   measure("prt_lookup_many, a burst", count, 1);
+  compile();
+  way = FIB;
+  measure("prt_fib_find", count, 0);
+  way = FIB_MANY;
+  measure("prt_fib_find_many, a burst", count, 0);
   release_all();
   return 0;
 }

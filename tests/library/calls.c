@@ -24,6 +24,7 @@ static uint32_t execute(prt_tables *tables, const char *line, uint64_t *number) 
 /* The structs have no holes, and an answer fits a line of a cache. */
 static void sizes(void) {
     MUST(sizeof(prt_packet) == 28 && sizeof(prt_answer) == 64 && sizeof(prt_version) == sizeof(void *));
+    MUST(sizeof(prt_outcome) == 36 && sizeof(prt_fib) == sizeof(void *));
 }
 
 /* A call on an empty holder says so, and changes nothing. */
@@ -136,6 +137,81 @@ static void packets(void) {
     prt_tables_release(&tables);
 }
 
+/* A call on an empty holder of a compiled table says so, and changes nothing. */
+static void empty_fib(void) {
+    prt_version version = PRT_EMPTY_HOLDER;
+    prt_fib fib = PRT_EMPTY_HOLDER, other = PRT_EMPTY_HOLDER;
+    prt_outcome outcome = { .kind = 7 };
+    prt_answer answer = { .number = 7 };
+    uint32_t destination = 0;
+    uint16_t number = 7;
+    size_t count = 7;
+    MUST(prt_fib_new(&version, &TO_TEN, &fib) == PRT_EMPTY);
+    MUST(prt_fib_share(&fib, &other) == PRT_EMPTY && other.at == NULL);
+    MUST(prt_fib_find(&fib, destination, &number) == PRT_EMPTY && number == 7);
+    MUST(prt_fib_find_many(&fib, &destination, 1, &number, 1, &count) == PRT_EMPTY && number == 7 && count == 7);
+    MUST(prt_fib_outcome(&fib, 0, &outcome) == PRT_EMPTY && outcome.kind == 7);
+    MUST(prt_fib_route(&fib, destination, &answer) == PRT_EMPTY && answer.number == 7);
+    prt_fib_free(&fib);
+    MUST(fib.at == NULL);
+}
+
+/* The outcome, the number and the route of a destination are those that prt_lookup gives the packet. */
+static void compare(prt_version *version, prt_fib *fib, prt_packet packet, uint32_t destination) {
+    prt_answer answer, route;
+    prt_outcome outcome;
+    uint16_t number, again[2] = { 0, 9 };
+    size_t count;
+    packet.destination = destination;
+    MUST(prt_lookup(version, &packet, &answer) == PRT_DONE);
+    MUST(prt_fib_route(fib, destination, &route) == PRT_DONE && memcmp(&route, &answer, sizeof answer) == 0);
+    MUST(prt_fib_find(fib, destination, &number) == PRT_DONE && prt_fib_outcome(fib, number, &outcome) == PRT_DONE);
+    MUST(outcome.kind == answer.kind && outcome.has_gateway == answer.has_gateway && outcome.gateway == answer.gateway);
+    MUST(outcome.has_source == answer.has_source && outcome.source == answer.source);
+    MUST(memcmp(outcome.device, answer.device, PRT_NAME_BYTES) == 0);
+    MUST(prt_fib_find_many(fib, &destination, 1, again, 2, &count) == PRT_DONE);
+    MUST(count == 1 && again[0] == number && again[1] == 9);
+}
+
+/* Compiled tables of packets that rules tell apart, compared at both ends of prefixes and at a million destinations. */
+static void fibs(void) {
+    static const char text[] = "rule add priority 1 from 192.0.2.1 table 100\nrule add priority 2 iif eth1 fwmark 7 prohibit\n"
+                               "rule add priority 3 to 10.64.0.0/10 table 101\nroute add 10/8 via 192.0.2.1 table 100\n"
+                               "route add throw 10.128.0.0/9 table 100\nroute add blackhole 10.64.0.0/16 table 101\n"
+                               "route add 10.65.0.0/16 dev eth0 src 192.0.2.7 table 101\nroute add default via 192.0.2.9\n"
+                               "route add 10.0.0.0/31 via 192.0.2.9\nroute add 255.255.255.255 dev eth2\nroute add unreachable 0.0.0.0\n";
+    static const uint32_t ends[] = { 0, 1, 0x09ffffff, 0x0a000000, 0x0a000001, 0x0a000002, 0x0a3fffff, 0x0a400000, 0x0a40ffff,
+                                     0x0a410000, 0x0a420000, 0x0a7fffff, 0x0a800000, 0x0b000000, 0xfffffffe, 0xffffffff };
+    prt_tables tables = PRT_EMPTY_HOLDER;
+    prt_version version = PRT_EMPTY_HOLDER;
+    prt_fib fib = PRT_EMPTY_HOLDER, other = PRT_EMPTY_HOLDER;
+    prt_packet packets[4] = { { .source = 0 }, { .source = 0xc0000201 }, { .interface = "eth1", .mark = 7 }, { .interface = "a/b" } };
+    prt_outcome outcome = { .kind = 9 };
+    uint64_t number;
+    size_t bytes;
+    MUST(prt_tables_new(&tables) == PRT_DONE);
+    MUST(prt_tables_lines(&tables, text, strlen(text), &bytes, &number) == PRT_DONE && number == 11);
+    MUST(prt_tables_version(&tables, &version) == PRT_DONE);
+    MUST(prt_fib_new(&version, &packets[3], &fib) == PRT_BAD_NAME && fib.at == NULL);
+    for (int k = 0; k < 3; k++) {
+        /* What the holder has before is freed. */
+        MUST(prt_fib_new(&version, &packets[k], &fib) == PRT_DONE);
+        for (size_t i = 0; i < sizeof ends / sizeof *ends; i++)
+            compare(&version, &fib, packets[k], ends[i]);
+        for (uint32_t i = 0; i < 333334; i++)
+            compare(&version, &fib, packets[k], i % 2 ? 2654435761u * i : 0x09000000 + (2654435761u * i >> 6));
+        MUST(prt_fib_outcome(&fib, 65535, &outcome) == PRT_NO_SUCH && outcome.kind == 9);
+    }
+    /* It stays when the version, the tables and another owner of it are released. */
+    MUST(prt_fib_share(&fib, &other) == PRT_DONE);
+    prt_version_release(&version);
+    prt_tables_release(&tables);
+    prt_fib_free(&fib);
+    MUST(fib.at == NULL);
+    MUST(prt_fib_outcome(&other, 0, &outcome) == PRT_DONE && outcome.kind == PRT_PROHIBIT);
+    prt_fib_free(&other);
+}
+
 int main(void) {
     sizes();
     empty_holders();
@@ -143,5 +219,7 @@ int main(void) {
     texts();
     versions();
     packets();
+    empty_fib();
+    fibs();
     return 0;
 }

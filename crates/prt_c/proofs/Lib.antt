@@ -1,3 +1,5 @@
 mod Answered
 mod Apart
 mod AsBox
+mod AsFibBox
+mod FibNumbers

@@ -1,7 +1,10 @@
 pub mod Answer
 pub mod Calls
+pub mod FibOwned
+pub mod Fibs
 pub mod Lookup
 pub mod Many
+pub mod Outcome
 pub mod Owned
 pub mod Packet
 pub mod States

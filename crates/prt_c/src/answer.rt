@@ -39,7 +39,7 @@ pub struct AnswerC {
 }
 
 /// Numbers what a route does with a packet.
-fn kind_number(kind: Kind) -> u32
+pub(crate) fn kind_number(kind: Kind) -> u32
     ensures { result ≡ kind_number kind }
 {
     match kind {
@@ -64,7 +64,7 @@ fn action_number(action: Action) -> u32
 }
 
 /// Returns 1 if there is an address, and 0 otherwise.
-fn has(addr: Option<Addr>) -> u32
+pub(crate) fn has(addr: Option<Addr>) -> u32
     ensures { result ≡ has addr }
 {
     match addr {
@@ -74,7 +74,7 @@ fn has(addr: Option<Addr>) -> u32
 }
 
 /// Returns the number of an address; 0 if there is none.
-fn addr_number(addr: Option<Addr>) -> u32
+pub(crate) fn addr_number(addr: Option<Addr>) -> u32
     ensures { result ≡ addr_number addr }
 {
     match addr {
@@ -106,7 +106,7 @@ fn write_dev(dev: Dev, bytes: &mut [u8; NAME_BYTES])
 }
 
 /// Writes the bytes of an interface's name; all zeros if there is none.
-fn write_name(dev: Option<Dev>, bytes: &mut [u8; NAME_BYTES])
+pub(crate) fn write_name(dev: Option<Dev>, bytes: &mut [u8; NAME_BYTES])
     ensures { bytes.new ≡ name_bytes dev }
 {
     match dev {

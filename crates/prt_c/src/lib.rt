@@ -2,15 +2,24 @@
 #![tactic(auto)]
 
 mod answer;
+mod fib;
+mod fib_held;
+mod fib_owner;
 mod held;
 mod lookup;
 mod many;
+mod outcome;
 mod owner;
 mod packet;
 mod parts;
 mod status;
 mod tables;
 
+pub use fib::{
+    prt_fib_find, prt_fib_find_many, prt_fib_free, prt_fib_new, prt_fib_outcome, prt_fib_route,
+    prt_fib_share,
+};
+pub use fib_held::FibHeld;
 pub use held::Held;
 pub use lookup::prt_lookup;
 pub use many::prt_lookup_many;

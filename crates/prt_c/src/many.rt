@@ -23,7 +23,7 @@ pub(crate) struct LookedUp {
 }
 
 /// Returns the smaller of two numbers.
-fn smaller(one: usize, other: usize) -> usize
+pub(crate) fn smaller(one: usize, other: usize) -> usize
     ensures first { result ≤ one }
     ensures second { result ≤ other }
     ensures either { (result ≡ one) ⊎ (result ≡ other) }

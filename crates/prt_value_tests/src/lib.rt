@@ -14,6 +14,8 @@ mod explain;
 #[cfg(test)]
 mod feed;
 #[cfg(test)]
+mod fib;
+#[cfg(test)]
 mod importing;
 #[cfg(test)]
 mod ip_json;

@@ -4,5 +4,5 @@ mod answers;
 mod changes;
 mod grids;
 mod impacts;
-mod tables;
+pub(crate) mod tables;
 mod without_need;

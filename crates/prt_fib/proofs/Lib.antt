@@ -1,0 +1,5 @@
+pub mod Compiled
+pub mod Finding
+pub mod Linked
+pub mod Same
+pub mod Spanned

@@ -1,0 +1,4 @@
+pub mod Fib
+pub mod Hashes
+pub mod Numbers
+pub mod Places

@@ -1,0 +1,3 @@
+//! Tests of compiled tables.
+
+mod lookups;
