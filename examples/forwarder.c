@@ -1,8 +1,11 @@
 /* Follows the feed of a `prt serve`, and looks packets up from several threads while the tables change.
  *
  *     forwarder ADDR PORT THREADS <DESTINATIONS
+ *     forwarder DIR THREADS <DESTINATIONS
  *
- * One thread follows the feed. After each change it makes an owner of the new version for each looker, and leaves it in
+ * The feed is at that port, or at the socket `feed` in the server's directory.
+ *
+ * One thread follows the feed. After each transaction it makes an owner of the new version for each looker, and leaves it in
  * that looker's slot; who finds an older one there releases it. A looker takes what is in its slot, releases what it held,
  * and looks all destinations up again. When the feed ends each looker writes what it was answered at each number: its own
  * number, and the answer as `prt` gives it for `route get`.
@@ -16,6 +19,7 @@
 #include <stdlib.h>
 #include <string.h>
 #include <sys/socket.h>
+#include <sys/un.h>
 #include <unistd.h>
 
 #include "answer.h"
@@ -92,13 +96,26 @@ static void hand_out(prt_tables *tables) {
     }
 }
 
-/* Connects to the feed. */
-static FILE *connect_to(const char *address, const char *port) {
+/* Connects a new socket to a place, and opens it for reading. */
+static FILE *open_at(const struct sockaddr *place, socklen_t length) {
+    int feed = socket(place->sa_family, SOCK_STREAM, 0);
+    end_if(feed < 0 || connect(feed, place, length) != 0, "the feed can't be reached", 0);
+    return fdopen(feed, "r");
+}
+
+/* Connects to the feed at a port. */
+static FILE *connect_to_port(const char *address, const char *port) {
     struct sockaddr_in place = { .sin_family = AF_INET, .sin_port = htons((uint16_t)atoi(port)) };
-    int socket_of_feed = socket(AF_INET, SOCK_STREAM, 0);
     end_if(inet_pton(AF_INET, address, &place.sin_addr) != 1, address, 0);
-    end_if(connect(socket_of_feed, (struct sockaddr *)&place, sizeof place) != 0, "the feed can't be reached", 0);
-    return fdopen(socket_of_feed, "r");
+    return open_at((struct sockaddr *)&place, sizeof place);
+}
+
+/* Connects to the feed in a directory of sockets. */
+static FILE *connect_to_socket(const char *directory) {
+    struct sockaddr_un place = { .sun_family = AF_UNIX };
+    int length = snprintf(place.sun_path, sizeof place.sun_path, "%s/feed", directory);
+    end_if(length < 0 || (size_t)length >= sizeof place.sun_path, "the path is too long", 0);
+    return open_at((struct sockaddr *)&place, sizeof place);
 }
 
 /* Executes a line of the feed, without its newline, and gives the number that the tables have then. */
@@ -115,6 +132,8 @@ static void follow(prt_tables *tables, FILE *feed) {
     size_t room = 0;
     ssize_t length;
     uint64_t executed = 0;
+    /* How many commands of the transaction are to come. */
+    unsigned long long left = 0;
     end_if(getline(&line, &room, feed) < 7 || strncmp(line, "state ", 6) != 0, "this is no feed", 0);
     unsigned long long number = strtoull(line + 6, NULL, 10);
     while ((length = getline(&line, &room, feed)) > 0 && strcmp(line, "now\n") != 0)
@@ -124,11 +143,15 @@ static void follow(prt_tables *tables, FILE *feed) {
     atomic_store(&ahead, number - executed);
     hand_out(tables);
     while ((length = getline(&line, &room, feed)) > 0) {
-        if (*line == '#')
+        if (*line == '#') {
+            /* What was made together is shown together. */
+            sscanf(line, "# together %llu", &left);
             continue;
+        }
         end_if(strtoull(line, &command, 10) != ++number || *command != ' ', "a change is missing", 0);
         execute(tables, command + 1, (size_t)(line + length - command) - 2);
-        hand_out(tables);
+        if (left == 0 || --left == 0)
+            hand_out(tables);
     }
     free(line);
 }
@@ -145,13 +168,13 @@ static void read_destinations(void) {
 
 int main(int argc, char **argv) {
     prt_tables tables = PRT_EMPTY_HOLDER;
-    threads = argc == 4 ? strtoul(argv[3], NULL, 10) : 0;
+    threads = argc == 3 || argc == 4 ? strtoul(argv[argc - 1], NULL, 10) : 0;
     if (threads < 1 || threads > MOST_THREADS) {
-        fprintf(stderr, "usage: forwarder ADDR PORT THREADS <DESTINATIONS\n");
+        fprintf(stderr, "usage: forwarder (ADDR PORT | DIR) THREADS <DESTINATIONS\n");
         return 2;
     }
     read_destinations();
-    FILE *feed = connect_to(argv[1], argv[2]);
+    FILE *feed = argc == 4 ? connect_to_port(argv[1], argv[2]) : connect_to_socket(argv[1]);
     uint32_t status = prt_tables_new(&tables);
     end_if(!feed || status != PRT_DONE, "new tables", status);
     for (size_t place = 0; place < threads; place++) {

@@ -10,6 +10,11 @@ _prt_files() {
   mapfile -t COMPREPLY < <(compgen -f -- "${COMP_WORDS[COMP_CWORD]}")
 }
 
+_prt_folders() {
+  compopt -o filenames
+  mapfile -t COMPREPLY < <(compgen -d -- "${COMP_WORDS[COMP_CWORD]}")
+}
+
 # Offers what may follow a word of a line. It fails if that is not known.
 _prt_values() {
   case $1 in
@@ -25,7 +30,7 @@ _prt_values() {
 
 _prt() {
   local word=${COMP_WORDS[COMP_CWORD]} before=${COMP_WORDS[COMP_CWORD - 1]} options=
-  local verbs='assert batch check diff dump explain follow get impact import replay serve show unused wait'
+  local verbs='apply assert batch check diff dump explain follow get impact import replay serve show status unused wait'
   COMPREPLY=()
   if [ "$COMP_CWORD" -eq 1 ]; then
     _prt_words "$verbs help --help --version"
@@ -34,13 +39,18 @@ _prt() {
   case $before in
     --db) _prt_files && return ;;
     --listen) _prt_words 127.0.0.1:7800 && return ;;
-    --feed | --server) _prt_words 127.0.0.1:7801 && return ;;
+    # After batch it has no value.
+    --atomic) [ "${COMP_WORDS[1]}" = batch ] || { _prt_words 127.0.0.1:7802 && return; } ;;
+    --feed) _prt_words 127.0.0.1:7801 && return ;;
+    --server) _prt_words /run/prt && return ;;
+    --sockets) _prt_folders && return ;;
     --workers | --sessions | --idle | --table | --proto | --priority | --seconds) return ;;
   esac
   case ${COMP_WORDS[1]} in
     explain | get | show) _prt_values "$before" && return ;;
   esac
   case ${COMP_WORDS[1]} in
+    apply) options='--db --server --atomic --dry-run --impact --help' ;;
     assert) options='--db --server --explain --help' ;;
     batch) options='--force --atomic --db --verbose --help' ;;
     check | replay) options=--help ;;
@@ -50,7 +60,8 @@ _prt() {
     follow) options='--server --all --table --proto --priority --once --help' ;;
     impact) options='--db --server --json --exact --force --help' ;;
     import) options='--db --help' ;;
-    serve) options='--db --listen --feed --workers --sessions --idle --help' ;;
+    serve) options='--db --listen --atomic --feed --sockets --workers --sessions --idle --log --help' ;;
+    status) options='--server --json --metrics --help' ;;
     unused) options='--db --server --help' ;;
     wait) options='--server --seconds --help' ;;
     help) options=$verbs ;;
@@ -61,7 +72,7 @@ _prt() {
       [[ $COMP_CWORD -gt 2 || $word == -* ]] || { _prt_files && return; }
       options+=' to from iif mark'
       ;;
-    assert | batch | check | diff | follow | impact | import | replay | unused)
+    apply | assert | batch | check | diff | follow | impact | import | replay | unused)
       [[ $word == -* ]] || { _prt_files && return; }
       ;;
     get) options+=' to from iif mark' ;;

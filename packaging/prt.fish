@@ -33,6 +33,7 @@ set -l protocols 'kernel boot static ra zebra bird dhcp bgp isis ospf rip'
 
 complete -c prt -f
 
+complete -c prt -n $commands -a apply -d 'Make tables what a script makes'
 complete -c prt -n $commands -a assert -d 'Check claims of where packets go'
 complete -c prt -n $commands -a batch -d 'Run a script over a database'
 complete -c prt -n $commands -a check -d 'Check the lines of a script'
@@ -44,8 +45,9 @@ complete -c prt -n $commands -a get -d 'Show which route a packet gets'
 complete -c prt -n $commands -a impact -d 'Show which packets commands send another way'
 complete -c prt -n $commands -a import -d 'Make a script of what ip prints'
 complete -c prt -n $commands -a replay -d 'Replay a list of events'
-complete -c prt -n $commands -a serve -d 'Serve sessions over TCP'
+complete -c prt -n $commands -a serve -d 'Serve sessions over sockets and TCP'
 complete -c prt -n $commands -a show -d 'List routes or rules'
+complete -c prt -n $commands -a status -d 'Show how a server does'
 complete -c prt -n $commands -a unused -d 'List rules and routes that no packet uses'
 complete -c prt -n $commands -a wait -d 'Wait until a server answers'
 complete -c prt -n $commands -a help -d 'Print help'
@@ -53,32 +55,37 @@ complete -c prt -n '__prt_is_after 1' -l version -d 'Print the version'
 complete -c prt -l help -d 'Print help'
 
 # The files that are no value of an option.
-complete -c prt -n '__prt_runs assert batch check diff follow impact import replay unused' -F
+complete -c prt -n '__prt_runs apply assert batch check diff follow impact import replay unused' -F
 complete -c prt -n '__prt_runs explain; and __prt_is_after 2' -F
 
-complete -c prt -n '__prt_runs assert batch diff dump explain get impact import serve show unused' -l db -r -F -d 'The database file'
-complete -c prt -n '__prt_runs assert diff dump explain follow get impact show unused wait' -l server -x -a 127.0.0.1:7801 -d 'The feed of a server'
-complete -c prt -n '__prt_runs dump explain get impact show' -l json -d 'Answer in JSON'
+complete -c prt -n '__prt_runs apply assert batch diff dump explain get impact import serve show unused' -l db -r -F -d 'The database file'
+complete -c prt -n '__prt_runs apply assert diff dump explain follow get impact show status unused wait' -l server -x -a /run/prt -d 'A server'
+complete -c prt -n '__prt_runs dump explain get impact show status' -l json -d 'Answer in JSON'
 complete -c prt -n '__prt_runs dump explain get show' -l names -d 'Print tables by their names'
 complete -c prt -n '__prt_runs diff follow' -l all -d 'Compare and change all rules and routes'
 complete -c prt -n '__prt_runs diff follow' -l table -x -a '(__prt_tables)' -d 'The routes of a table'
 complete -c prt -n '__prt_runs diff follow' -l proto -x -a "$protocols" -d 'The routes of a protocol'
 complete -c prt -n '__prt_runs diff follow' -l priority -x -d 'The rules of a priority'
 
+complete -c prt -n '__prt_runs apply serve' -l atomic -x -a 127.0.0.1:7802 -d 'Where atomic scripts are taken'
+complete -c prt -n '__prt_runs apply' -l dry-run -d 'Print the changes only'
 complete -c prt -n '__prt_runs assert' -l explain -d 'Explain each claim that fails'
 complete -c prt -n '__prt_runs batch impact' -l force -d 'Go on after a refused line'
 complete -c prt -n '__prt_runs batch' -l atomic -d 'Make all changes or none'
 complete -c prt -n '__prt_runs batch' -l verbose -d 'Report each refused line'
 complete -c prt -n '__prt_runs diff' -l check -d 'Print nothing'
-complete -c prt -n '__prt_runs diff' -l impact -d 'Show which packets go another way'
+complete -c prt -n '__prt_runs apply diff' -l impact -d 'Show which packets go another way'
 complete -c prt -n '__prt_runs dump' -l replace -d 'Replace what is there'
 complete -c prt -n '__prt_runs follow' -l once -d 'End after the first difference'
 complete -c prt -n '__prt_runs impact' -l exact -d 'Compare rules and routes too'
 complete -c prt -n '__prt_runs serve' -l listen -x -a 127.0.0.1:7800 -d 'Where to listen'
 complete -c prt -n '__prt_runs serve' -l feed -x -a 127.0.0.1:7801 -d 'Where the feed is'
+complete -c prt -n '__prt_runs serve' -l sockets -x -a '(__fish_complete_directories)' -d 'Where the Unix sockets are'
 complete -c prt -n '__prt_runs serve' -l workers -x -d 'How many sessions at once'
 complete -c prt -n '__prt_runs serve' -l sessions -x -d 'End after so many connections'
 complete -c prt -n '__prt_runs serve' -l idle -x -d 'End a silent session'
+complete -c prt -n '__prt_runs serve' -l log -d 'Report each accepted command'
+complete -c prt -n '__prt_runs status' -l metrics -d 'Answer for Prometheus'
 complete -c prt -n '__prt_runs wait' -l seconds -x -d 'How long to wait'
 
 # The items of a line, and what may follow them.

@@ -49,6 +49,7 @@ _prt_script_or_packet() {
 _prt() {
   local command=$words[2]
   local -a commands=(
+    'apply:make tables what a script makes'
     'assert:check claims of where packets go'
     'batch:run a script over a database'
     'check:check the lines of a script'
@@ -60,15 +61,16 @@ _prt() {
     'impact:show which packets commands send another way'
     'import:make a script of what ip prints'
     'replay:replay a list of events'
-    'serve:serve sessions over TCP'
+    'serve:serve sessions over sockets and TCP'
     'show:list routes or rules'
+    'status:show how a server does'
     'unused:list rules and routes that no packet uses'
     'wait:wait until a server answers'
     'help:print help'
   )
   local -a help=('--help[print help]')
   local -a database=('--db[the database file]:file:_files')
-  local -a server=('--server[the feed of a server]:address and port:(127.0.0.1\:7801)')
+  local -a server=('--server[a server]:folder or address and port:(/run/prt)')
   local -a answer=('--json[answer in JSON]' '--names[print tables by their names]')
   local -a reach=(
     '--all[compare and change all rules and routes]'
@@ -84,6 +86,10 @@ _prt() {
   shift words
   (( CURRENT-- ))
   case $command in
+    apply)
+      _arguments -S $help $database $server '--atomic[where atomic scripts are taken]:address and port:(127.0.0.1\:7802)' \
+        '--dry-run[print the changes only]' '--impact[show which packets go another way]' '*:script:_files'
+      ;;
     assert) _arguments -S $help $database $server '--explain[explain each claim that fails]' '*:file:_files' ;;
     batch)
       _arguments -S $help $database '(--atomic)--force[go on after a refused line]' \
@@ -105,10 +111,13 @@ _prt() {
     import) _arguments -S $help $database '*:listing:_files' ;;
     serve)
       _arguments -S $help $database '--listen[where to listen]:address and port:(127.0.0.1\:7800)' \
-        '--feed[where the feed is]:address and port:(127.0.0.1\:7801)' '--workers[how many sessions at once]:number:' \
-        '--sessions[end after so many connections]:number:' '--idle[end a silent session]:seconds:'
+        '--atomic[where atomic scripts are taken]:address and port:(127.0.0.1\:7802)' \
+        '--feed[where the feed is]:address and port:(127.0.0.1\:7801)' '--sockets[where the Unix sockets are]:folder:_files -/' \
+        '--workers[how many sessions at once]:number:' '--sessions[end after so many connections]:number:' \
+        '--idle[end a silent session]:seconds:' '--log[report each accepted command]'
       ;;
     show) _arguments -S $help $database $server $answer '*:item:_prt_listing' ;;
+    status) _arguments -S $help $server '(--metrics)--json[answer in JSON]' '(--json)--metrics[answer for Prometheus]' ;;
     unused) _arguments -S $help $database $server '*:script:_files' ;;
     wait) _arguments -S $help $server '--seconds[how long to wait]:seconds:' ;;
     help) _describe command commands ;;

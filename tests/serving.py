@@ -1,6 +1,7 @@
-"""Starts `prt serve` for the cases serve_*, and talks to it over TCP.
+"""Starts `prt serve` for the cases serve_*, and talks to it over TCP, or over its Unix sockets.
 
-The program's path is the first argument of a case; it runs in an empty folder, in which the database is made.
+The program's path is the first argument of a case; it runs in an empty folder, in which the database is made. With PRT_SOCKETS=1
+in the environment each server is on sockets in place of ports, so a case of ports runs over sockets too.
 """
 
 import atexit
@@ -17,6 +18,8 @@ PROGRAM = sys.argv[1]
 DATABASE = "routes.db"
 # How many seconds a client waits for anything before its case fails.
 PATIENCE = 50
+# Whether servers are on Unix sockets in place of ports.
+OVER_SOCKETS = os.environ.get("PRT_SOCKETS") == "1"
 # Each server that was started.
 RUNNING = []
 
@@ -36,15 +39,35 @@ atexit.register(end_all)
 signal.signal(signal.SIGTERM, give_up)
 
 
+def without_ports(words):
+    """Words of `serve` without its options for ports."""
+    rest = list(words)
+    for option in ("--feed", "--atomic"):
+        if option in rest:
+            place = rest.index(option)
+            del rest[place : place + 2]
+    return rest
+
+
 class Server:
     """A server on a port of the loopback, a free one if none is said, with these further words and variables.
 
-    It runs under a program where words for that are given.
+    If a folder is said it is on the sockets there, and on no port. It runs under a program where words for that are given.
+    It takes sessions at `port` and atomic scripts at `atomic_port`, and sends its changes from `feed_port`, each if it does: a
+    port, or the path of a socket.
     """
 
-    def __init__(self, *words, database=DATABASE, variables=None, under=(), port=0):
+    def __init__(self, *words, database=DATABASE, variables=None, under=(), port=0, folder=None):
+        if OVER_SOCKETS:
+            folder = folder or f"./sockets{len(RUNNING)}"
+        if folder:
+            os.makedirs(folder, exist_ok=True)
+            words = ["--sockets", folder, *without_ports(words)]
+        else:
+            words = ["--listen", f"127.0.0.1:{port}", *words]
+        self.folder = folder
         self.process = subprocess.Popen(
-            [*under, PROGRAM, "serve", "--listen", f"127.0.0.1:{port}", "--db", database, *words],
+            [*under, PROGRAM, "serve", "--db", database, *words],
             stdin=subprocess.DEVNULL,
             stdout=subprocess.PIPE,
             stderr=subprocess.PIPE,
@@ -52,23 +75,39 @@ class Server:
             env=os.environ | (variables or {}),
         )
         RUNNING.append(self.process)
-        self.port = self.port_after("listening")
-        # Where it sends its changes, if it does.
-        self.feed_port = self.port_after("feeding") if "--feed" in words else None
+        if folder:
+            self.await_line("sockets (" + re.escape(folder) + ")")
+            self.port, self.atomic_port, self.feed_port = (f"{folder}/{name}" for name in ("session", "atomic", "feed"))
+        else:
+            self.port = self.port_after("listening")
+            self.atomic_port = self.port_after("atomic") if "--atomic" in words else None
+            self.feed_port = self.port_after("feeding") if "--feed" in words else None
 
-    def port_after(self, word):
-        """The port of the next line, which says where the server listens."""
+    def await_line(self, pattern):
+        """What a group of the pattern finds in the next line, which says where the server listens."""
         line = self.process.stdout.readline()
-        told = re.fullmatch(word + r" 127\.0\.0\.1:(\d+)\n", line)
+        told = re.fullmatch(pattern + r"\n", line)
         if not told:
             self.process.kill()
             sys.exit(f"the server said {line!r} and {self.process.communicate()[1]!r}")
-        return int(told[1])
+        return told[1]
+
+    def port_after(self, word):
+        return int(self.await_line(word + r" 127\.0\.0\.1:(\d+)"))
+
+    def asked(self):
+        """The words of a client that asks this server."""
+        return ["--server", self.folder or f"127.0.0.1:{self.feed_port}"]
+
+    def applied(self):
+        """The words of a client that makes its tables others."""
+        return self.asked() + ([] if self.folder else ["--atomic", f"127.0.0.1:{self.atomic_port}"])
 
     def connect(self, room=None):
         """A client's end of a connection, with room for so many bytes that came and weren't read, where that is said."""
         end = connected(self.port, room)
-        end.setsockopt(socket.IPPROTO_TCP, socket.TCP_NODELAY, 1)
+        if not self.folder:
+            end.setsockopt(socket.IPPROTO_TCP, socket.TCP_NODELAY, 1)
         return end
 
     def end(self):
@@ -94,8 +133,22 @@ class Server:
         return (int(user) + int(system)) / os.sysconf("SC_CLK_TCK")
 
 
+def connected_to_socket(path):
+    """A connection to a Unix socket. One that isn't there any more refuses it, as a port does."""
+    end = socket.socket(socket.AF_UNIX)
+    # While others wait, only a call without a time limit waits too.
+    try:
+        end.connect(path)
+    except FileNotFoundError as error:
+        raise ConnectionRefusedError from error
+    end.settimeout(PATIENCE)
+    return end
+
+
 def connected(port, room=None):
-    """A connection to a port of the loopback."""
+    """A connection to a port of the loopback, or to the Unix socket at a path."""
+    if isinstance(port, str):
+        return connected_to_socket(port)
     end = socket.socket()
     end.settimeout(PATIENCE)
     if room:
@@ -119,7 +172,16 @@ def read_all(end):
 
 def converse(server, script):
     """Sends a script, ends the writing side, and gives all replies. Sends and reads side by side."""
-    with server.connect() as end:
+    return replies_to(server.connect(), script)
+
+
+def together(server, script):
+    """Sends an atomic script, and gives all replies."""
+    return replies_to(connected(server.atomic_port), script)
+
+
+def replies_to(connection, script):
+    with connection as end:
         sender = threading.Thread(target=send, args=(end, script))
         sender.start()
         replies = read_all(end)
@@ -164,7 +226,9 @@ class Client:
 
 
 class Follower:
-    """Reads a server's feed: at first `number` and `tables`, then one change after the other."""
+    """Reads a server's feed: at first `number` and `tables`, then one change after the other. Of those that were made together
+    `together` has how many there are.
+    """
 
     def __init__(self, server, room=None):
         """With room for so many bytes that came and weren't read, where that is said."""
@@ -172,7 +236,7 @@ class Follower:
         if not first:
             raise ConnectionError("the feed was closed before it began")
         self.number = int(first.removeprefix("state "))
-        self.tables = []
+        self.tables, self.together = [], []
         while (line := self.lines.readline()) != "now\n":
             if not line:
                 sys.exit(f"the feed ended after {len(self.tables)} lines of its tables")
@@ -194,7 +258,8 @@ class Follower:
     def next(self):
         """The number and the line of the next change; None where the feed has ended, perhaps within a line. Comments are left out."""
         while (told := self.lines.readline()).startswith("#"):
-            pass
+            if told.startswith("# together "):
+                self.together.append(int(told.split()[2]))
         number, _, line = told.partition(" ")
         return (int(number), line) if line.endswith("\n") else None
 

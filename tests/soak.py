@@ -74,8 +74,9 @@ def read_tables(server, is_whole):
 
 
 def ask_program(port, *words):
-    """Asks a question by the program. Tells whether it was answered without a word of a fault."""
-    words = [PROGRAM, words[0], "--server", f"127.0.0.1:{port}", *words[1:]]
+    """Asks a question by the program, at a port or of the server of a socket. Tells whether it was answered without a fault."""
+    place = os.path.dirname(port) if isinstance(port, str) else f"127.0.0.1:{port}"
+    words = [PROGRAM, words[0], "--server", place, *words[1:]]
     done = subprocess.run(words, capture_output=True)
     return done.returncode == 0 and done.stdout != b"" and done.stderr == b""
 
@@ -149,9 +150,10 @@ class Stopped:
     """A follower in a process of its own, which is stopped as it reads, and later killed: as one whose machine vanished."""
 
     def __init__(self, server):
-        code = "import socket, sys\nend = socket.create_connection(('127.0.0.1', int(sys.argv[1])))\n" \
+        place = server.feed_port if server.folder else ("127.0.0.1", server.feed_port)
+        code = f"import socket\nend = socket.socket(socket.{'AF_UNIX' if server.folder else 'AF_INET'})\nend.connect({place!r})\n" \
                "while part := end.recv(65536): print(len(part), flush=True)\n"
-        self.process = subprocess.Popen([sys.executable, "-c", code, str(server.feed_port)], stdout=subprocess.PIPE)
+        self.process = subprocess.Popen([sys.executable, "-c", code], stdout=subprocess.PIPE)
         serving.RUNNING.append(self.process)
         self.process.stdout.readline()
         self.process.send_signal(signal.SIGSTOP)

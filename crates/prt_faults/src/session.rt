@@ -12,6 +12,7 @@ use sqlite::{Alter, Connection};
 use std::alloc::Global;
 use std::io::{Read, Write};
 use std::marker::Brand;
+use std::net::{Ipv4Addr, SocketAddr};
 use std::sync::Wait;
 use std::time::Clock;
 
@@ -35,6 +36,7 @@ fn serve<J: Naming, S: Alter + Drop, H: Wait + Clock + Copy + Drop, R: Read, W: 
         &service,
         &mut looker,
         1,
+        SocketAddr::from((Ipv4Addr::UNSPECIFIED, 0)),
         &OpenGate,
         input,
         output,

@@ -13,5 +13,5 @@ pub use laws::{
     text_has_one_reading,
 };
 pub use opening::{NotRead, Opening};
-pub use reading::read_opening;
+pub use reading::{number_of, read_opening};
 pub use text::{change_line, opening_text};

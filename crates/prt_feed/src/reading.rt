@@ -57,7 +57,7 @@ fn is_written(number: u64, digits: &[u8]) -> bool
 }
 
 /// Reads a number as it is written, with no sign and no zeros before it.
-pub(crate) fn number_of(digits: &[u8]) -> Option<u64>
+pub fn number_of(digits: &[u8]) -> Option<u64>
     ensures { MatchOption result ((number : ℕ) → number < 2 ^ 64 → digits.now ≢ decimal number) (λ number. digits.now ≡ decimal number) }
 {
     let Ok(text) = str::from_utf8(digits) else {

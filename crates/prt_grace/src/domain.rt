@@ -2,7 +2,7 @@
 ghost use Rattle.std.specs.Prelude.{◌≡◌, ◌≤◌, ◌<◌, Some, None, IfSome, IsSome};
 ghost use Rattle.std.specs.Arc.{arc_value};
 
-use crate::{Keeper, Place, Registry, Version};
+use crate::{Keeper, Place, Registry, Retention, Version};
 use std::sync::{Arc, Mutex, MutexGuard, Wait};
 
 /// A registry under a lock, shared by lookers and the publisher. Each call takes the lock once, for the registry's call
@@ -99,6 +99,11 @@ impl Domain {
         ensures { keeper.new.noted ≡ (arc_value version).count }
     {
         keeper.note(&mut self.lock(rt), version);
+    }
+
+    /// Returns how many versions are retired, and which looker holds them back. It gives up none.
+    pub fn retention<H: Wait>(&self, rt: &H) -> Retention {
+        self.lock(rt).retention()
     }
 
     /// Gives up each retired version that no looker can hold any more. Returns how many went.

@@ -12,6 +12,7 @@ pub mod laws;
 mod limits;
 mod place;
 mod registry;
+mod retention;
 mod retired;
 
 pub use domain::Domain;
@@ -20,3 +21,4 @@ pub use limits::{MOST_RETIRED, PLACES};
 pub use place::{Place, PlaceState};
 pub use prt_version::Version;
 pub use registry::Registry;
+pub use retention::Retention;

@@ -3,9 +3,10 @@ ghost use Rattle.std.specs.Prelude.{◌≡◌, ◌+◌, ◌<◌, ◌≤◌, ◌�
 ghost use Rattle.std.specs.Arc.{arc_value};
 ghost use Rattle.std.specs.List.{list_any};
 ghost use Rattle.prt_grace.specs.GracePeriod.{may_hold};
-ghost use Rattle.prt_grace.specs.Registry.{HasPlace, announced, announcing, is_free, new_registry, noted_by, reclaimed, with_noted, with_place};
+ghost use Rattle.prt_grace.specs.Registry.{HasPlace, announced, announcing, has_announced, is_free, new_registry, noted_by, reclaimed, with_noted, with_place};
 ghost use Rattle.prt_grace.specs.declared.place.PlaceState.TheVariants.{Free, Offline, Online};
 
+use crate::retention::{Retention, holder_of};
 use crate::retired::RetiredVersions;
 use crate::{MOST_RETIRED, PLACES, Place, PlaceState, Version};
 use std::marker::Model;
@@ -181,6 +182,20 @@ impl Registry {
         let before = self.retired.len();
         self.retired.keep_from(lowest_announced(&self.places));
         before - self.retired.len()
+    }
+
+    /// Returns how many versions are retired, and which looker holds them back.
+    pub fn retention(&self) -> Retention
+        ensures retired { result.retired ≡ length self.now.retired }
+        ensures lowest { (n : ℕ) → may_hold n result.lowest ≡ list_any (may_hold n) (map announced self.now.places) }
+        ensures holder { IfSome result.lowest (λ number. result.holder ≡ position (has_announced number) self.now.places) }
+    {
+        let lowest = lowest_announced(&self.places);
+        Retention {
+            retired: self.retired.len(),
+            lowest,
+            holder: holder_of(&self.places, lowest),
+        }
     }
 
     /// Reclaims, and returns whether one more version can be retired then.

@@ -24,6 +24,7 @@ use Rattle.prt_questions.specs.Sessions.{RunsOverMachine}
 use Rattle.prt_host.specs.Serving.{HasServed, IsServed}
 use Rattle.prt_questions.specs.declared.asking.TheConstants.{REFUSED}
 use Rattle.prt_questions.specs.declared.asserting.TheConstants.{UNREADABLE}
+use Rattle.prt_questions.specs.declared.status.TheConstants.{CLOSED}
 
 module _ {M S : Type 0} (g : Ghosts S) (opens : M → M → List ℕ → Held S → Type 0) (refuses : M → M → List ℕ → Type 0) (closes : M → M → Held S → Type 0) (old new : M) where
   -- The database at a path was opened, served and closed; or it was refused, and no other was touched. This is the exit status.
@@ -36,7 +37,7 @@ module _ {M S : Type 0} (g : Ghosts S) (opens : M → M → List ℕ → Held S 
   -- A question was answered, in part at most, or to its end. This is the exit status.
   pub record Asks (writer0 writer : Option (List ℕ)) (status : ℕ) : Type 0 where
     pub question : Asked
-    pub status_is : (status ≡ DONE) ⊎ ((status ≡ REFUSED) ⊎ ((status ≡ UNREADABLE) ⊎ (status ≡ FAULT)))
+    pub status_is : (status ≡ DONE) ⊎ ((status ≡ REFUSED) ⊎ ((status ≡ UNREADABLE) ⊎ ((status ≡ CLOSED) ⊎ (status ≡ FAULT))))
     pub whole : status ≡ DONE → IsDone g opens refuses closes old new writer0 writer question
     pub found : status ≡ REFUSED → IsFound g opens refuses closes old new writer0 writer question
     pub at_most : IsDoneAtMost g opens refuses closes old new writer0 writer question

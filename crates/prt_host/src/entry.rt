@@ -3,7 +3,9 @@ ghost use Rattle.prt_host.specs.Runs.{RunsPrt};
 ghost use Rattle.prt_program.specs.Program.{streams_of};
 ghost use Rattle.prt_words.specs.Invocation.{arguments, invocation};
 
+use crate::door::ServerNet;
 use crate::server::serve;
+use crate::status::Measures;
 use crate::telling::tell_failure;
 use prt_program::{Next, Noting, program};
 use prt_questions::{DatabaseFiles, Machine, answer_question};
@@ -11,7 +13,6 @@ use sqlite::{Alter, Connection};
 use std::alloc::{Alloc, Global};
 use std::fs::Files;
 use std::io::{IsTerminal, Read, Write};
-use std::net::Net;
 use std::rt::Clock;
 use std::sync::Wait;
 use std::thread::Threads;
@@ -27,8 +28,8 @@ use std::thread::Threads;
 pub fn run<
     S: Alter + Drop + Send,
     M: Machine<Connection<S>> + Drop,
-    F: Files + Alloc + Clone + Clock + Drop,
-    N: Net + Threads + Wait + Clock + Copy + Drop + Send + Sync,
+    F: Files + Measures + Alloc + Clone + Clock + Drop + Sync,
+    N: ServerNet + Threads + Wait + Clock + Copy + Drop + Send + Sync,
     R: Read,
     W: Write + IsTerminal,
     E: Write + IsTerminal + Drop + Send,
@@ -42,7 +43,7 @@ pub fn run<
 ) -> u8
 where
     N::Stream: Send,
-    N::Listener: Sync,
+    N::Door: Sync,
     ensures { RunsPrt S.Store M.opens M.refuses M.closes databases.old.machine databases.new.machine F.File.remaining (invocation (arguments words.now))
         (streams_of (⟦<Noting<R> as Read>⟧.remaining input.old) (⟦<Noting<W> as Write>⟧.contents output.old) (⟦<Noting<W> as Write>⟧.contents output.new)) result }
 {

@@ -5,7 +5,10 @@ ghost use Rattle.prt_words.specs.declared.fault.Fault.{Fault};
 ghost use Rattle.prt_publisher.specs.Standing.{IsQuiet};
 ghost use Rattle.prt_service.specs.Named.{IsReleased};
 
-use crate::serving::{NotListened, faults_of, listen, serve_named};
+use crate::door::ServerNet;
+use crate::doors::{NotListened, listen};
+use crate::serving::{faults_of, serve_named};
+use crate::status::Measures;
 use crate::telling::tell_shared;
 use prt_grace::Domain;
 use prt_program::{cause_message, log_message};
@@ -18,7 +21,6 @@ use std::fmt::Display;
 use std::fs::Files;
 use std::io::{self, Write};
 use std::marker::Brand;
-use std::net::Net;
 use std::rt::Clock;
 use std::sync::{Mutex, Wait};
 use std::thread::Threads;
@@ -58,12 +60,14 @@ impl NotServed {
 /// Listens, and serves what comes over a publisher. Returns why not all that was asked for was served, and the connection.
 fn serve_over<
     S: Alter + Drop + Send,
-    N: Net + Threads + Wait + Clock + Drop + Send + Sync,
+    F: Files + Measures + Sync,
+    N: ServerNet + Threads + Wait + Clock + Drop + Send + Sync,
     W: Write,
     E: Write + Drop + Send,
 >(
     rt: &N,
     alloc: Global,
+    files: &F,
     mut publisher: Publisher<S>,
     domain: Domain,
     asked: &Serving<'_>,
@@ -72,13 +76,13 @@ fn serve_over<
 ) -> (Option<NotServed>, Connection<S>)
 where
     N::Stream: Send,
-    N::Listener: Sync,
+    N::Door: Sync,
     requires { IsQuiet publisher.phase }
     ensures fault { IfSome result.0 (λ failure. IsFaultOfServing failure.fault) }
     ensures released { IsReleased S.Store publisher.line.book publisher.line.base publisher.ours_first result.1 }
 {
-    let listeners = match listen(rt, asked, output) {
-        Ok(listeners) => listeners,
+    let doors = match listen(rt, files, alloc, asked, output) {
+        Ok(doors) => doors,
         Err(NotListened { place, error }) => {
             let failure = NotServed::new(alloc, Fault::Listener, &place, Some(&error));
             return (Some(failure), publisher.end(rt));
@@ -89,12 +93,22 @@ where
         Err(refusal) => {
             let opening = Fault::Opening(refusal);
             let failure = NotServed::new(alloc, opening, &asked.database, None::<&io::Error>);
+            doors.remove_files(files);
             return (Some(failure), publisher.end(rt));
         }
     };
-    let (end, conn) = serve_named::<Brand, _, _, _, _, _>(
-        rt, alloc, publisher, seats, domain, &listeners, asked, errors,
+    let (end, conn) = serve_named::<Brand, _, _, _, _, _, _>(
+        rt,
+        alloc,
+        files,
+        publisher,
+        seats,
+        domain,
+        &doors.entrances,
+        asked,
+        errors,
     );
+    doors.remove_files(files);
     let (fault, further) = faults_of(end);
     match fault {
         Some(fault) => (
@@ -117,8 +131,8 @@ where
 fn serve_database<
     S: Alter + Drop + Send,
     M: Machine<Connection<S>> + Drop,
-    F: Files,
-    N: Net + Threads + Wait + Clock + Copy + Drop + Send + Sync,
+    F: Files + Measures + Sync,
+    N: ServerNet + Threads + Wait + Clock + Copy + Drop + Send + Sync,
     W: Write,
     E: Write + Drop + Send,
 >(
@@ -130,18 +144,12 @@ fn serve_database<
 ) -> Result<(), NotServed>
 where
     N::Stream: Send,
-    N::Listener: Sync,
+    N::Door: Sync,
     ensures ok { OnOk result (IsServed M.opens M.closes S.Store databases.old.machine databases.new.machine asked.now.database.now) }
     ensures err { IfErr result (λ failure. IsNotServed M.opens M.refuses M.closes S.Store databases.old.machine databases.new.machine asked.now.database.now failure.fault) }
 {
     let (rt, path) = (databases.rt, asked.database);
-    let opened = open_publisher(
-        &mut databases.machine,
-        databases.files,
-        alloc,
-        path,
-        Wanted::Any,
-    );
+    let opened = open_publisher(&mut databases.machine, alloc, path, Wanted::Any);
     let (publisher, domain) = match opened {
         Ok(made) => made,
         Err((refusal, cause)) => {
@@ -149,7 +157,8 @@ where
             return Err(NotServed::new(alloc, fault, &path, cause.as_ref()));
         }
     };
-    let (failure, conn) = serve_over(&rt, alloc, publisher, domain, asked, output, errors);
+    let files = databases.files;
+    let (failure, conn) = serve_over(&rt, alloc, files, publisher, domain, asked, output, errors);
     if let Err(reason) = databases.machine.close(conn) {
         tell_shared(&rt, log_message(alloc, path, &reason), errors);
     }
@@ -166,8 +175,8 @@ where
 pub(crate) fn serve<
     S: Alter + Drop + Send,
     M: Machine<Connection<S>> + Drop,
-    F: Files,
-    N: Net + Threads + Wait + Clock + Copy + Drop + Send + Sync,
+    F: Files + Measures + Sync,
+    N: ServerNet + Threads + Wait + Clock + Copy + Drop + Send + Sync,
     W: Write,
     E: Write + Drop + Send,
 >(
@@ -179,7 +188,7 @@ pub(crate) fn serve<
 ) -> u8
 where
     N::Stream: Send,
-    N::Listener: Sync,
+    N::Door: Sync,
     ensures done { result ≡ DONE → IsServed M.opens M.closes S.Store databases.old.machine databases.new.machine asked.now.database.now }
     ensures fault { result ≢ DONE → result ≡ FAULT }
     ensures why { result ≢ DONE → (fault : Fault) × IsNotServed M.opens M.refuses M.closes S.Store databases.old.machine databases.new.machine asked.now.database.now fault }

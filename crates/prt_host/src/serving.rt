@@ -1,82 +1,27 @@
-//! Serving what a listener accepts, over a publisher.
+//! Serving what listeners accept, over a publisher.
 ghost use Rattle.std.specs.Prelude.{◌≡◌};
 ghost use Rattle.prt_host.specs.Serving.{fault_of, further_of, is_failed, is_listeners, lacks_workers, looker_fault};
 ghost use Rattle.prt_publisher.specs.Standing.{IsQuiet};
 ghost use Rattle.prt_service.specs.Named.{IsNamed, IsReleased};
 
+use crate::counts::Counts;
+use crate::status::Measures;
 use crate::telling::Telling;
 use prt_grace::Domain;
 use prt_program::Refusal;
 use prt_publisher::{Publisher, Seats};
-use prt_serve::{Accepting, Limits, ServeEnd, serve_all, serve_and_feed};
+use prt_serve::{Accepting, Entrances, Limits, ServeEnd, serve_entrances};
 use prt_service::{Naming, Service};
 use prt_words::{Fault, Serving};
 use sqlite::{Alter, Connection};
 use std::alloc::Global;
-use std::io::{self, Read, Write};
-use std::net::{Net, OpenListener, OpenStream, SocketAddr, SocketAddrV4};
+use std::io::{Read, Write};
+use std::net::{OpenListener, OpenStream};
 use std::rt::Clock;
 use std::sync::atomic::AtomicBool;
 use std::sync::{Mutex, Wait};
 use std::thread::Threads;
 use std::time::Duration;
-
-/// Where a server listens.
-#[derive(Drop)]
-pub(crate) struct Listeners<L: Drop> {
-    /// For sessions.
-    sessions: L,
-    /// For those that follow the changes, if for any.
-    feed: Option<L>,
-}
-
-/// Why a place can't be listened at.
-pub(crate) struct NotListened {
-    pub(crate) place: SocketAddrV4,
-    pub(crate) error: io::Error,
-}
-
-/// Listens at a place, and says where on `output`, after this word.
-fn bind_and_tell<N: Net, W: Write>(
-    rt: &N,
-    place: SocketAddrV4,
-    word: &str,
-    output: &mut W,
-) -> io::Result<N::Listener> {
-    let listener = rt.bind(SocketAddr::V4(place))?;
-    let address = listener.local_addr()?;
-    write!(output, "{word} {address}\n")?;
-    output.flush()?;
-    Ok(listener)
-}
-
-/// As `bind_and_tell`, whose error names the place.
-fn listen_at<N: Net, W: Write>(
-    rt: &N,
-    place: SocketAddrV4,
-    word: &str,
-    output: &mut W,
-) -> Result<N::Listener, NotListened> {
-    match bind_and_tell(rt, place, word, output) {
-        Ok(listener) => Ok(listener),
-        Err(error) => Err(NotListened { place, error }),
-    }
-}
-
-/// Listens where it is asked for, and says where on `output`, before anything is accepted: `listening ADDR:PORT`, and with
-/// a feed `feeding ADDR:PORT`.
-pub(crate) fn listen<N: Net, W: Write>(
-    rt: &N,
-    asked: &Serving<'_>,
-    output: &mut W,
-) -> Result<Listeners<N::Listener>, NotListened> {
-    let sessions = listen_at(rt, asked.listen, "listening", output)?;
-    let feed = match asked.feed {
-        Some(place) => Some(listen_at(rt, place, "feeding", output)?),
-        None => None,
-    };
-    Ok(Listeners { sessions, feed })
-}
 
 /// Computes how long a client may send nothing or take nothing; 0 seconds are without end.
 fn idle_of(seconds: u64) -> Option<Duration> {
@@ -96,55 +41,59 @@ fn limits_of(asked: &Serving<'_>) -> Limits {
     }
 }
 
-/// Serves what listeners accept by a service, and reports on `errors` why a commit failed, and why nothing is accepted.
+/// Serves what comes at the entrances by a service, and reports on `errors` why a commit failed, and why nothing is accepted.
 fn serve_telling<
     'a,
     J: Naming + Send,
     S: Alter + Drop + Send,
     H: Threads + Wait + Clock + Sync,
+    F: Measures + Sync,
     T: Read + Write + OpenStream + Drop + Send,
     L: OpenListener<Stream = T> + Drop + Sync,
     E: Write + Drop + Send,
 >(
     rt: &'a H,
     alloc: Global,
+    files: &'a F,
     service: &'a Service<S, J>,
     path: &'a str,
     errors: &'a Mutex<E>,
-    listeners: &Listeners<L>,
+    is_logged: bool,
+    entrances: &Entrances<L>,
     limits: Limits,
 ) -> ServeEnd {
     let telling = Telling {
         rt,
         alloc,
         service,
+        files,
         path,
         errors,
+        is_logged,
+        counts: Counts::new(),
         is_failure_told: AtomicBool::new(false),
         accept_told: Mutex::new(None),
     };
-    let sessions = &listeners.sessions;
-    match &listeners.feed {
-        Some(feed) => serve_and_feed(rt, alloc, service, &telling, sessions, limits, feed),
-        None => serve_all(rt, alloc, service, &telling, sessions, limits),
-    }
+    serve_entrances(rt, alloc, service, &telling, entrances, limits)
 }
 
-/// Serves what listeners accept, by a service that is named here. Returns how that ended, and the connection.
+/// Serves what comes at the entrances, by a service that is named here. Returns how that ended, and the connection.
 pub(crate) fn serve_named<
     J: Naming + Send,
     S: Alter + Drop + Send,
     H: Threads + Wait + Clock + Sync,
+    F: Measures + Sync,
     T: Read + Write + OpenStream + Drop + Send,
     L: OpenListener<Stream = T> + Drop + Sync,
     E: Write + Drop + Send,
 >(
     rt: &H,
     alloc: Global,
+    files: &F,
     publisher: Publisher<S>,
     seats: Seats,
     domain: Domain,
-    listeners: &Listeners<L>,
+    entrances: &Entrances<L>,
     asked: &Serving<'_>,
     errors: &Mutex<E>,
 ) -> (ServeEnd, Connection<S>)
@@ -154,15 +103,16 @@ pub(crate) fn serve_named<
     ensures { IsReleased S.Store J.book J.base J.ours_first result.1 }
 {
     let service: Service<S, J> = Service::new(publisher, seats, domain);
-    let limits = limits_of(asked);
     let end = serve_telling(
         rt,
         alloc,
+        files,
         &service,
         asked.database,
         errors,
-        listeners,
-        limits,
+        asked.is_logged,
+        entrances,
+        limits_of(asked),
     );
     (end, service.end(rt))
 }

@@ -1,12 +1,18 @@
 //! What is reported on standard error beside a session.
+use crate::counts::Counts;
+use crate::log::log_line;
+use crate::status::{Measures, Status, sizes_of, status_text};
+use prt_command::Command;
 use prt_program::{Noting, Refusal, cause_message};
 use prt_questions::tell;
-use prt_serve::Gate;
+use prt_serve::{Gate, Queued};
 use prt_service::{Naming, Service};
 use prt_session::Reply;
+use prt_spelling::command_line;
 use sqlite::Alter;
 use std::alloc::{AllocError, Global};
 use std::io::{self, Write};
+use std::net::SocketAddr;
 use std::rt::Clock;
 use std::sync::atomic::{AtomicBool, Ordering};
 use std::sync::{Mutex, Wait};
@@ -39,22 +45,42 @@ pub(crate) fn tell_failure<S, E: Write>(
 const TELLING_PAUSE: u64 = 60;
 
 /// Lets every line pass, and reports why a commit failed: once, since no command is taken after it. It reports why no
-/// connection could be accepted, too, at most once a minute.
+/// connection could be accepted, too, at most once a minute. It counts what becomes of commands and of sessions, logs
+/// accepted commands if that is asked for, and makes the status.
 #[derive(Drop)]
-pub(crate) struct Telling<'a, H: Wait + Clock, S: Alter + Drop, J: Naming, E: Write + Drop> {
+pub(crate) struct Telling<
+    'a,
+    H: Wait + Clock,
+    S: Alter + Drop,
+    J: Naming,
+    F: Measures,
+    E: Write + Drop,
+> {
     pub(crate) rt: &'a H,
     pub(crate) alloc: Global,
     pub(crate) service: &'a Service<S, J>,
+    /// Where the system is asked for the sizes of the database's files.
+    pub(crate) files: &'a F,
     /// The path of the database.
     pub(crate) path: &'a str,
     pub(crate) errors: &'a Mutex<E>,
+    /// Whether accepted commands are logged.
+    pub(crate) is_logged: bool,
+    pub(crate) counts: Counts,
     /// Whether the failed commit was reported.
     pub(crate) is_failure_told: AtomicBool,
     /// When a failed acceptance was last reported, by the clock.
     pub(crate) accept_told: Mutex<Option<Duration>>,
 }
 
-impl<'a, H: Wait + Clock, S: Alter + Drop, J: Naming, E: Write + Drop> Telling<'a, H, S, J, E> {
+impl<'a, H: Wait + Clock, S: Alter + Drop, J: Naming, F: Measures, E: Write + Drop> Telling<
+    'a,
+    H,
+    S,
+    J,
+    F,
+    E,
+> {
     /// Decides whether a failed acceptance is reported now, and notes that it is. Without a clock it is reported once.
     fn is_due(&self) -> bool {
         let now = self.rt.monotonic().unwrap_or(Duration::from_secs(0));
@@ -68,16 +94,9 @@ impl<'a, H: Wait + Clock, S: Alter + Drop, J: Naming, E: Write + Drop> Telling<'
         }
         is_due
     }
-}
 
-impl<'a, H: Wait + Clock, S: Alter + Drop, J: Naming, E: Write + Drop> Gate
-    for Telling<'a, H, S, J, E> {
-    fn before(&self, _session: u64, _line: u64) {}
-
-    fn after(&self, _session: u64, _line: u64, reply: &Reply) {
-        let Reply::Refused(Refusal::StoreFailed(_)) = reply else {
-            return;
-        };
+    /// Reports why the commit failed, if that wasn't reported.
+    fn tell_commit(&self) {
         // Each client of the transaction gets the refusal.
         if self.is_failure_told.swap(true, Ordering::SeqCst) {
             return;
@@ -89,10 +108,76 @@ impl<'a, H: Wait + Clock, S: Alter + Drop, J: Naming, E: Write + Drop> Gate
         tell_shared(self.rt, message, self.errors);
     }
 
+    /// Logs an accepted command, with no lock of the service held.
+    fn log(&self, number: u64, session: u64, client: &SocketAddr, line: &[u8]) {
+        if self.is_logged {
+            let message = log_line(self.alloc, number, session, client, line);
+            tell_shared(self.rt, message, self.errors);
+        }
+    }
+
+    /// Collects what the status is made of. Each lock is held for one copy, and none with another.
+    fn collect(&self) -> Result<Status, AllocError> {
+        Ok(Status {
+            figures: self.service.figures(self.rt),
+            failure: self.service.failure(self.rt),
+            retention: self.service.retention(self.rt),
+            counted: self.counts.copy(),
+            sizes: sizes_of(self.files, self.alloc, self.path)?,
+        })
+    }
+}
+
+impl<'a, H: Wait + Clock, S: Alter + Drop, J: Naming, F: Measures, E: Write + Drop> Gate
+    for Telling<'a, H, S, J, F, E> {
+    fn before(&self, _session: u64, _line: u64) {}
+
+    fn after(&self, session: u64, client: &SocketAddr, _line: u64, text: &[u8], reply: &Reply) {
+        match reply {
+            Reply::Accepted(number) => {
+                self.counts.accept();
+                self.log(*number, session, client, text);
+            }
+            Reply::Refused(reason) => {
+                self.counts.refuse();
+                if let Refusal::StoreFailed(_) = reason {
+                    self.tell_commit();
+                }
+            }
+            _ => {}
+        }
+    }
+
+    fn made(&self, session: u64, client: &SocketAddr, number: u64, command: &Command) {
+        self.counts.accept();
+        if self.is_logged {
+            if let Ok(line) = command_line(self.alloc, command) {
+                self.log(number, session, client, &line);
+            }
+        }
+    }
+
+    fn begins(&self, _session: u64) {
+        self.counts.begin();
+    }
+
+    fn ends(&self, _session: u64) {
+        self.counts.end();
+    }
+
+    fn queued(&self, queued: Queued) {
+        self.counts.queue(queued);
+    }
+
     fn not_accepted(&self, error: &io::Error) {
         if self.is_due() {
             let message = cause_message(self.alloc, &"no connection can be accepted", error);
             tell_shared(self.rt, message, self.errors);
         }
+    }
+
+    fn status(&self, alloc: Global) -> Option<String> {
+        let status = self.collect().ok()?;
+        status_text(alloc, &status).ok()
     }
 }

@@ -84,12 +84,6 @@ abbrev pub IsUntouched : {D : Type 0} → (refuses : D → D → Word → Refusa
 IsUntouched refuses None old new = new ≡ old
 IsUntouched refuses (Some path) old new = (new ≡ old) ⊎ ((reason : Refusal) × refuses old new path reason)
 
--- a session over a text was run at a path, and went on after refused lines; or the database there was refused, and nothing was written
-abbrev pub RunsText : {D : Type 0} → (refuses : D → D → Word → Refusal → Type 0) → (Word → SessionFact) → D → D → Word → List ℕ → Option (List ℕ) → Option (List ℕ) → ℕ → Type 0
-RunsText refuses RunAt old new path text writer0 writer status =
-    RunAt path (InTurn GoOn) (streams_of (Some text) writer0 writer) status
-    ⊎ ((status ≡ 3) × (writer ≡ writer0) × IsUntouched refuses (Some path) old new)
-
 -- A check was run, and this is its exit status.
 pub record RunsCheck (streams : Streams) (status : ℕ) : Type 0 where
   pub reader : Option (List ℕ)

@@ -7,7 +7,6 @@ mod messages;
 mod next;
 mod noting;
 mod prt;
-mod text;
 
 pub use databases::Databases;
 pub use messages::{cause_message, log_message, question_message};
@@ -15,4 +14,3 @@ pub use next::Next;
 pub use noting::Noting;
 pub use prt::program;
 pub use prt_session::{Desk, Refusal, ScriptEnd};
-pub use text::run_text;

@@ -1,5 +1,5 @@
 -- A run over the databases of a machine, as the machine alone sees it.
-use Rattle.std.proofs.Common.{◌≡◌, inl, inr, ℕ, List, Option, Some, None, ap, subst}
+use Rattle.std.proofs.Common.{inl, inr, ℕ, List, Option, Some, None, ap}
 use Rattle.sqlite.specs.Held.{Held}
 use Rattle.sqlite.specs.Store.{Ghosts}
 use Rattle.prt_addr.specs.Word.{Word}
@@ -7,18 +7,12 @@ use Rattle.prt_refusals.specs.declared.refusal.Refusal.{Refusal}
 use Rattle.prt_desk.specs.Remains.{Remains}
 use Rattle.prt_desk.specs.StoreDesk.{IsKept, IsStoreMishap, LeavesFound, StandsFor}
 use Rattle.prt_program.specs.Faults.{database_of}
-use Rattle.prt_program.specs.Program.{IsUntouched, Runs, RunsAt, RunsBatch, RunsNothing, RunsOver, RunsText, SessionFact, Streams, streams_of}
+use Rattle.prt_program.specs.Program.{IsUntouched, Runs, RunsAt, RunsBatch, RunsNothing, RunsOver, SessionFact, Streams}
 use Rattle.prt_publisher.specs.Openings.{OpensOne}
 use Rattle.prt_version.specs.Sound.{IsSound}
 use Rattle.prt_words.specs.Invocation.{Invocation, batch, check, replay}
-use Rattle.prt_words.specs.declared.fault.TheConstants.{DONE}
 use Rattle.prt_words.specs.declared.task.Mode.{Mode}
-use Rattle.prt_words.specs.declared.task.Mode.TheVariants.{InTurn}
-use Rattle.prt_refusals.specs.declared.on_refusal.OnRefusal.TheVariants.{GoOn}
-use Rattle.prt_questions.specs.Closing.{LeavesNoneOpen}
-use Rattle.prt_questions.specs.Asking.{IsImported}
 use Rattle.prt_questions.specs.Sessions.{RunsOverMachine}
-use Rattle.prt_import.specs.declared.accepted.Accepted.{Accepted}
 
 -- ---- the same run, of the machine alone
 
@@ -68,23 +62,3 @@ module _ {D M S : Type 0} (g : Ghosts S) (opens : M → M → List ℕ → Held 
   pub runs_nothing_alone : (refuses : M → M → Word → Refusal → Type 0) (asked : Invocation) (writer0 writer : Option (List ℕ)) (status : ℕ)
       → RunsNothing (λ (old new : D) path reason. refuses (machine old) (machine new) path reason) old new asked writer0 writer status → RunsNothing refuses (machine old) (machine new) asked writer0 writer status
   runs_nothing_alone refuses asked writer0 writer status nothing = (nothing.0, nothing.1, nothing_alone refuses (database_of asked) nothing.2)
-
-  pub text_alone : (refuses : M → M → Word → Refusal → Type 0) (path : Word) (text : List ℕ) (writer0 writer : Option (List ℕ)) (status : ℕ)
-      → RunsText (λ (old new : D) path reason. refuses (machine old) (machine new) path reason) RunsRound old new path text writer0 writer status
-      → RunsText refuses Alone (machine old) (machine new) path text writer0 writer status
-  text_alone refuses path text writer0 writer status (inl run) = inl (at_alone path (InTurn GoOn) (streams_of (Some text) writer0 writer) status run)
-  text_alone refuses path text writer0 writer status (inr not_run) = inr (not_run.0, not_run.1, nothing_alone refuses (Some path) not_run.2)
-
--- the script of a listing, which was run
-pub run_imports : {D M S : Type 0} (g : Ghosts S) (opens : M → M → List ℕ → Held S → Type 0) (refuses : M → M → List ℕ → Type 0) (closes : M → M → Held S → Type 0) (old new : D) (machine : D → M)
-    (writer0 writer : Option (List ℕ)) (path : Word) (accepted : Accepted) (text : List ℕ) (status : ℕ) → text ≡ accepted.script.items
-    → RunsText (λ (old new : D) path reason. LeavesNoneOpen opens refuses closes g reason (machine old) (machine new) path) (RunsRound g opens closes old new machine) old new path text writer0 writer status
-    → IsImported g opens refuses closes (machine old) (machine new) writer0 writer (Some path) accepted status
-run_imports g opens refuses closes old new machine writer0 writer path accepted text status is ran =
-    let alone = text_alone g opens closes old new machine (λ old new path reason. LeavesNoneOpen opens refuses closes g reason old new path) path text writer0 writer status ran in
-    subst (λ text. RunsText (λ old new path reason. LeavesNoneOpen opens refuses closes g reason old new path) (RunsOverMachine g opens closes (machine old) (machine new)) (machine old) (machine new) path text writer0 writer status) is alone
-
-pub ends_done : {M S : Type 0} (g : Ghosts S) (opens : M → M → List ℕ → Held S → Type 0) (refuses : M → M → List ℕ → Type 0) (closes : M → M → Held S → Type 0) (old new : M)
-    (writer0 writer : Option (List ℕ)) (database : Option Word) (accepted : Accepted) (status : ℕ) → status ≡ DONE
-    → IsImported g opens refuses closes old new writer0 writer database accepted status → IsImported g opens refuses closes old new writer0 writer database accepted DONE
-ends_done g opens refuses closes old new writer0 writer database accepted status done imported = subst (IsImported g opens refuses closes old new writer0 writer database accepted) done imported

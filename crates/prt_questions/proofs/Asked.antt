@@ -2,7 +2,7 @@
 use Rattle.std.proofs.Common.{◌≡◌, ◌⊎◌, ◌∙◌, arith, eqb-true, inl, inr, ℕ, true, List, [], ◌∷◌, ◌++◌, length, Option, Some, ap, append-nil, refl, sym}
 use Rattle.std.specs.Prelude.{◌==◌, false}
 use Rattle.std.specs.Io.KnownBytes.{Appends}
-use Rattle.std.specs.declared.net.socket_addr.SocketAddrV4.{SocketAddrV4}
+use Rattle.prt_words.specs.declared.server_place.ServerPlace.{ServerPlace}
 use Rattle.sqlite.specs.Held.{Held}
 use Rattle.sqlite.specs.Store.{Ghosts}
 use Rattle.prt_import.specs.Accepted.{IsExecuted}
@@ -67,13 +67,13 @@ of_script machine writer0 writer says (inr made) = inr (refl, made.0, made.1, ma
 
 -- what a server said and was written, of its tables or by a session
 module _ {M S : Type 0} (g : Ghosts S) (opens : M → M → List ℕ → Held S → Type 0) (refuses : M → M → List ℕ → Type 0) (closes : M → M → Held S → Type 0) (machine : M) (writer0 writer : Option (List ℕ)) where
-  pub told_whole : (place : SocketAddrV4) (inquiry : Inquiry) (text : List ℕ) → IsTold inquiry text → Appends writer0 writer text
+  pub told_whole : (place : ServerPlace) (inquiry : Inquiry) (text : List ℕ) → IsTold inquiry text → Appends writer0 writer text
       → IsAnswered g opens refuses closes machine machine writer0 writer (Server place) (said inquiry)
       ⊎ IsReplied g opens refuses closes machine machine writer0 writer (Server place) (called inquiry.labels inquiry.form (names_of inquiry.names.now))
   told_whole place inquiry text (inl (told, is)) appended = inl (refl, told, rw (sym is) appended)
   told_whole place inquiry text (inr (reply, is)) appended = inr (refl, reply, rw (sym is) appended)
 
-  pub told_at_most : (place : SocketAddrV4) (inquiry : Inquiry) → (writer ≡ writer0) ⊎ ((text : List ℕ) × IsTold inquiry text × IsCutOff text writer0 writer)
+  pub told_at_most : (place : ServerPlace) (inquiry : Inquiry) → (writer ≡ writer0) ⊎ ((text : List ℕ) × IsTold inquiry text × IsCutOff text writer0 writer)
       → IsAnsweredAtMost g opens refuses closes machine machine writer0 writer (Server place) (said inquiry)
       ⊎ IsRepliedAtMost g opens refuses closes machine machine writer0 writer (Server place) (called inquiry.labels inquiry.form (names_of inquiry.names.now))
   told_at_most place inquiry (inl same) = inl (inl (refl, same))

@@ -4,3 +4,4 @@ mod Comments
 mod Followed
 mod ReadTables
 mod Rehearsals
+mod Applied

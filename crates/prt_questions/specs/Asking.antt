@@ -30,7 +30,6 @@ use Rattle.prt_import.specs.declared.naming.Text.TheVariants as forms
 use Rattle.prt_import.specs.declared.reason.Reason.{Reason}
 use Rattle.prt_import.specs.declared.reason.Reason.TheVariants.{Kernel}
 use Rattle.prt_partition.specs.declared.sameness.Sameness.TheVariants.{Outcomes}
-use Rattle.prt_program.specs.Program.{RunsText}
 use Rattle.prt_refusals.specs.declared.refusal.Refusal.{Refusal}
 use Rattle.prt_publisher.specs.Openings.{HasOpened}
 use Rattle.prt_replies.specs.Written.{Written}
@@ -45,11 +44,9 @@ use Rattle.prt_words.specs.declared.asking.Shown.{Shown}
 use Rattle.prt_words.specs.declared.asking.Shown.TheVariants.{Impact, Lines, Status}
 use Rattle.prt_words.specs.declared.asking.Source.{Source}
 use Rattle.prt_words.specs.declared.asking.Source.TheVariants.{Database, Server, Script}
-use Rattle.prt_words.specs.declared.fault.TheConstants.{DONE}
 use Rattle.prt_words.specs.declared.reach.Reach.{Reach}
 use Rattle.prt_questions.specs.Fencing.{IsFenceOf}
 use Rattle.prt_questions.specs.Closing.{IsClosedAgain, LeavesNoneOpen}
-use Rattle.prt_questions.specs.Sessions.{RunsOverMachine}
 use Rattle.prt_questions.specs.declared.inquiry.Inquiry.{Inquiry}
 
 -- ---- what is said
@@ -224,22 +221,3 @@ module _ {M S : Type 0} (g : Ghosts S) (opens : M → M → List ℕ → Held S 
       (writer ≡ writer0) × (IsNotAsked g opens refuses closes old new source ⊎ IsAskedOf g opens refuses closes old new source (λ state. Unit {0}))
       ⊎ ((accepted : Accepted) × IsListing accepted × (fence : Fence) × IsFenceOf reach fence × IsAskedOf g opens refuses closes old new source (λ state. (text : List ℕ) × IsWithImpact fence accepted.version state text × IsCutOff text writer0 writer))
   HasComparedAtMost reach Status source = (writer ≡ writer0) × (IsNotAsked g opens refuses closes old new source ⊎ IsAskedOf g opens refuses closes old new source (λ state. Unit {0}))
-
-  -- the script of a listing was written, or run over the database at a path, with this status
-  abbrev pub IsImported : Option Word → Accepted → (status : ℕ) → Type 0
-  IsImported None accepted status = (new ≡ old) × Appends writer0 writer accepted.script.items
-  IsImported (Some path) accepted status =
-      RunsText (λ old new path reason. LeavesNoneOpen opens refuses closes g reason old new path) (RunsOverMachine g opens closes old new) old new path accepted.script.items writer0 writer status
-
-  -- all of a listing was imported, and no line was refused
-  abbrev pub HasImported : Option Word → Type 0
-  HasImported database = (accepted : Accepted) × IsWholeListing accepted × IsImported database accepted DONE
-
-  -- the script was written in part, or run to its end with some status
-  abbrev pub IsImportedInPart : Option Word → Accepted → Type 0
-  IsImportedInPart None accepted = (new ≡ old) × IsCutOff accepted.script.items writer0 writer
-  IsImportedInPart (Some path) accepted = (status : ℕ) × IsImported (Some path) accepted status
-
-  -- in any case: there was no listing, and nothing was done, or it was imported in part
-  abbrev pub HasImportedAtMost : Option Word → Type 0
-  HasImportedAtMost database = ((new ≡ old) × (writer ≡ writer0)) ⊎ ((accepted : Accepted) × IsListing accepted × IsImportedInPart database accepted)

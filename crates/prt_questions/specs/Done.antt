@@ -3,10 +3,12 @@ use Rattle.std.specs.Prelude.{◌≡◌, ℕ, List, Option, option_map}
 use Rattle.sqlite.specs.Held.{Held}
 use Rattle.sqlite.specs.Store.{Ghosts}
 use Rattle.prt_words.specs.declared.asking.Asked.{Asked}
-use Rattle.prt_words.specs.declared.asking.Asked.TheVariants.{Assert, Diff, Follow, Impact, Import, Tables, Unused, Wait}
+use Rattle.prt_words.specs.declared.asking.Asked.TheVariants.{Apply, Assert, Diff, Follow, Impact, Import, Status, Tables, Unused, Wait}
 use Rattle.prt_words.specs.declared.fault.TheConstants.{DONE}
 use Rattle.prt_questions.specs.Analyses.{IsAsserted, IsAssertedAtMost, IsFoundAtMost, IsFoundOf, IsRehearsed, IsRehearsedAtMost, IsSearched, IsSearchedAtMost}
-use Rattle.prt_questions.specs.Asking.{HasAnswered, HasAnsweredAtMost, HasCompared, HasComparedAtMost, HasFollowed, HasFollowedAtMost, HasImported, HasImportedAtMost}
+use Rattle.prt_questions.specs.Asking.{HasAnswered, HasAnsweredAtMost, HasCompared, HasComparedAtMost, HasFollowed, HasFollowedAtMost}
+use Rattle.prt_questions.specs.Applying.{HasApplied, HasAppliedAtMost}
+use Rattle.prt_questions.specs.Importing.{HasImported, HasImportedAtMost}
 use Rattle.prt_questions.specs.declared.asking.TheConstants.{REFUSED}
 
 module _ {M S : Type 0} (g : Ghosts S) (opens : M → M → List ℕ → Held S → Type 0) (refuses : M → M → List ℕ → Type 0) (closes : M → M → Held S → Type 0) (old new : M) (writer0 writer : Option (List ℕ)) where
@@ -20,6 +22,8 @@ module _ {M S : Type 0} (g : Ghosts S) (opens : M → M → List ℕ → Held S 
   IsDone (Impact rehearsing) = IsFoundOf g opens refuses closes old new rehearsing.source (IsRehearsed writer0 writer rehearsing DONE)
   IsDone (Assert asserting) = IsFoundOf g opens refuses closes old new asserting.source (IsAsserted writer0 writer asserting DONE)
   IsDone (Unused source) = IsFoundOf g opens refuses closes old new source (IsSearched writer0 writer DONE)
+  IsDone (Apply applying) = HasApplied g opens refuses closes old new writer0 writer applying
+  IsDone (Status inspecting) = new ≡ old
 
   -- what status 1 says of a question about all packets
   abbrev pub IsFound : Asked → Type 0
@@ -38,3 +42,5 @@ module _ {M S : Type 0} (g : Ghosts S) (opens : M → M → List ℕ → Held S 
   IsDoneAtMost (Impact rehearsing) = IsFoundAtMost g opens refuses closes old new writer0 writer rehearsing.source (IsRehearsedAtMost writer0 writer rehearsing)
   IsDoneAtMost (Assert asserting) = IsFoundAtMost g opens refuses closes old new writer0 writer asserting.source (IsAssertedAtMost writer0 writer asserting)
   IsDoneAtMost (Unused source) = IsFoundAtMost g opens refuses closes old new writer0 writer source (IsSearchedAtMost writer0 writer)
+  IsDoneAtMost (Apply applying) = HasAppliedAtMost g opens refuses closes old new writer0 writer applying
+  IsDoneAtMost (Status inspecting) = new ≡ old

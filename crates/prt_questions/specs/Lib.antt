@@ -4,3 +4,6 @@ pub mod Analyses
 pub mod Asking
 pub mod Fencing
 pub mod Done
+pub mod Applying
+pub mod Tried
+pub mod Importing

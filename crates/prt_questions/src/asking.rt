@@ -12,6 +12,7 @@ ghost use Rattle.prt_words.specs.declared.asking.Source.TheVariants.{Server};
 use crate::databases::DatabaseFiles;
 use crate::inquiry::{Inquiry, called, said};
 use crate::left::{tell_left, tell_left_out};
+use crate::local::LocalNet;
 use crate::machine::{Machine, Wanted};
 use crate::opening::open_desk;
 use crate::reading::{names_for, read_whole, report_no_memory};
@@ -21,13 +22,12 @@ use prt_ask::{Answered, NotAnswered, Question, question_of};
 use prt_import::{Accepted, accept};
 use prt_program::{cause_message, log_message, question_message};
 use prt_replies::{Reply, Text, write_reply};
-use prt_words::{Asking, DONE, FAULT, Fault, Form, STANDARD_INPUT, Source, report};
+use prt_words::{Asking, DONE, FAULT, Fault, Form, STANDARD_INPUT, ServerPlace, Source, report};
 use sqlite::{Alter, Connection};
 use std::alloc::{Alloc, AllocError, Global};
 use std::fmt::Display;
 use std::fs::Files;
 use std::io::{Read, Write};
-use std::net::{Net, SocketAddrV4};
 use std::sync::Wait;
 
 /// The exit status if the words ask nothing, if a rule or a route has no line, if a line is refused or can't be kept, and if
@@ -154,8 +154,8 @@ fn ask_database<
     ensures at_most { (IsNotOpened S.Store M.opens M.refuses M.closes databases.old.machine databases.new.machine path.now × (W.contents output.new ≡ W.contents output.old))
         ⊎ IsAskedAt S.Store M.opens M.refuses M.closes databases.old.machine databases.new.machine path.now (λ state. IsCutOff (said inquiry.now state) (W.contents output.old) (W.contents output.new)) }
 {
-    let (files, rt) = (databases.files, databases.rt);
-    let opened = open_desk(&mut databases.machine, files, rt, alloc, path, Wanted::Ours);
+    let rt = databases.rt;
+    let opened = open_desk(&mut databases.machine, rt, alloc, path, Wanted::Ours);
     let desk = match opened {
         Ok(desk) => desk,
         Err((refusal, cause)) => {
@@ -174,10 +174,10 @@ fn ask_database<
 }
 
 /// Asks the server whose feed is at a place, and returns the exit status.
-fn ask_server<N: Net, W: Write, E: Write>(
+fn ask_server<N: LocalNet, W: Write, E: Write>(
     rt: &N,
     alloc: Global,
-    place: SocketAddrV4,
+    place: &ServerPlace<'_>,
     inquiry: &Inquiry<'_>,
     output: &mut W,
     errors: &mut E,
@@ -189,10 +189,10 @@ fn ask_server<N: Net, W: Write, E: Write>(
     match read_tables(rt, alloc, place) {
         Ok(version) => {
             let answered = said(alloc, &version, inquiry);
-            write_answer(alloc, &place, answered, output, errors)
+            write_answer(alloc, place, answered, output, errors)
         }
         Err(reason) => {
-            tell(cause_message(alloc, &place, &reason), errors);
+            tell(cause_message(alloc, place, &reason), errors);
             FAULT
         }
     }
@@ -213,10 +213,10 @@ fn said_by(alloc: Global, told: Told, inquiry: &Inquiry<'_>) -> Result<Vec<u8>, 
 
 /// Sends a server the line of an inquiry, and returns the exit status. A session replies to it; a feed tells its tables,
 /// and they are asked.
-fn ask_session<N: Net, W: Write, E: Write>(
+fn ask_session<N: LocalNet, W: Write, E: Write>(
     rt: &N,
     alloc: Global,
-    place: SocketAddrV4,
+    place: &ServerPlace<'_>,
     line: &[u8],
     inquiry: &Inquiry<'_>,
     output: &mut W,
@@ -229,18 +229,18 @@ fn ask_session<N: Net, W: Write, E: Write>(
     let told = match ask_line(rt, alloc, place, line) {
         Ok(told) => told,
         Err(reason) => {
-            tell(cause_message(alloc, &place, &reason), errors);
+            tell(cause_message(alloc, place, &reason), errors);
             return FAULT;
         }
     };
     match said_by(alloc, told, inquiry) {
         Ok(text) => write_text(text, output),
-        Err(reason) => report_none(alloc, &place, reason, output, errors),
+        Err(reason) => report_none(alloc, place, reason, output, errors),
     }
 }
 
 /// Finds the server that is queried by a line: its session or its feed.
-fn session_of(source: &Source<'_>, question: &Question<'_>) -> Option<SocketAddrV4>
+fn session_of<'a>(source: &Source<'a>, question: &Question<'_>) -> Option<ServerPlace<'a>>
     ensures { IfSome result (λ place. source.now ≡ Server place) }
 {
     match (source, question) {
@@ -309,7 +309,7 @@ pub(crate) fn ask_source<
     S: Alter + Drop,
     M: Machine<Connection<S>> + Drop,
     F: Files,
-    N: Net + Wait + Copy + Drop,
+    N: LocalNet + Wait + Copy + Drop,
     R: Read,
     W: Write,
     E: Write,
@@ -328,7 +328,7 @@ pub(crate) fn ask_source<
 {
     match source {
         Source::Database(path) => ask_database(databases, alloc, path, inquiry, output, errors),
-        Source::Server(place) => ask_server(&databases.rt, alloc, *place, inquiry, output, errors),
+        Source::Server(place) => ask_server(&databases.rt, alloc, place, inquiry, output, errors),
         Source::Script(file) => {
             ask_script(
                 databases.files,
@@ -348,7 +348,7 @@ fn ask_tables<
     S: Alter + Drop,
     M: Machine<Connection<S>> + Drop,
     F: Files,
-    N: Net + Wait + Copy + Drop,
+    N: LocalNet + Wait + Copy + Drop,
     R: Read,
     W: Write,
     E: Write,
@@ -369,7 +369,7 @@ fn ask_tables<
 {
     let (source, rt) = (&asking.source, databases.rt);
     match session_of(source, &inquiry.question) {
-        Some(place) => ask_session(&rt, alloc, place, &asking.line, inquiry, output, errors),
+        Some(place) => ask_session(&rt, alloc, &place, &asking.line, inquiry, output, errors),
         None => ask_source(databases, alloc, source, inquiry, input, output, errors),
     }
 }
@@ -387,7 +387,7 @@ pub(crate) fn ask<
     S: Alter + Drop,
     M: Machine<Connection<S>> + Drop,
     F: Files + Alloc + Clone + Drop,
-    N: Net + Wait + Copy + Drop,
+    N: LocalNet + Wait + Copy + Drop,
     R: Read,
     W: Write,
     E: Write,

@@ -5,6 +5,7 @@ ghost use Rattle.prt_questions.specs.Analyses.{IsAsserted, IsAssertedAtMost, IsF
 use crate::asking::{REFUSED, write_text};
 use crate::databases::DatabaseFiles;
 use crate::impact::report_undivided;
+use crate::local::LocalNet;
 use crate::machine::Machine;
 use crate::reading::{read_whole, report_no_memory};
 use crate::tables::{Tables, tables_at};
@@ -18,7 +19,6 @@ use sqlite::{Alter, Connection};
 use std::alloc::{AllocError, Global};
 use std::fs::Files;
 use std::io::{Read, Write};
-use std::net::Net;
 use std::sync::Wait;
 
 /// The exit status if a claim can't be read.
@@ -160,7 +160,7 @@ pub(crate) fn assert_claims<
     S: Alter + Drop,
     M: Machine<Connection<S>> + Drop,
     F: Files,
-    N: Net + Wait + Copy + Drop,
+    N: LocalNet + Wait + Copy + Drop,
     R: Read,
     W: Write,
     E: Write,

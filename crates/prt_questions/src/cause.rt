@@ -6,7 +6,6 @@ use crate::machine::{Machine, Wanted};
 use prt_program::Refusal;
 use prt_reasons::{Reason, columns_reason, rows_reason};
 use sqlite::{Alter, Connection, Error as LibraryError, ErrorCode};
-use std::fs::{self, Files, OpenOptions};
 use std::io;
 use thiserror::Error;
 
@@ -21,34 +20,6 @@ pub enum Cause {
     Library(LibraryError),
     #[error("{0}: a server has it, which --server queries")]
     Locked(LibraryError),
-}
-
-/// Asks the system why there is no new file at a path. One that it makes is removed again.
-fn reason_for_none<F: Files>(files: &F, path: &str) -> Option<io::Error> {
-    match OpenOptions::new()
-        .write(true)
-        .create_new(true)
-        .open(files, path)
-    {
-        Ok(_) => {
-            let _ = fs::remove_file(files, path);
-            None
-        }
-        Err(error) => Some(error),
-    }
-}
-
-/// Asks the system why a file can't be opened for reading and writing and, if any is wanted, can't be made. Returns `None` if
-/// it can be.
-fn system_reason<F: Files>(files: &F, path: &str, wanted: Wanted) -> Option<io::Error> {
-    let error = match OpenOptions::new().read(true).write(true).open(files, path) {
-        Ok(_) => return None,
-        Err(error) => error,
-    };
-    match (wanted, error.kind()) {
-        (Wanted::Any, io::ErrorKind::NotFound) => reason_for_none(files, path),
-        _ => Some(error),
-    }
 }
 
 /// Finds which columns of a database, or else which rows, were refused so, if that is known.
@@ -89,17 +60,17 @@ fn library_cause(wanted: Wanted, error: LibraryError) -> Cause {
     }
 }
 
-/// Finds out why a database could not be opened, if that is known. The system is asked first, since the library says no
+/// Finds out why a database could not be opened, if that is known. The machine is asked first, since the library says no
 /// more of a file than that it can't be opened.
-pub(crate) fn cause_of<F: Files>(
-    files: &F,
+pub(crate) fn cause_of<C, M: Machine<C>>(
+    machine: &M,
     path: &str,
     wanted: Wanted,
     refusal: Refusal,
     found: Result<Option<Reason>, LibraryError>,
 ) -> Option<Cause> {
     if let Refusal::OpenFailed = refusal {
-        if let Some(reason) = system_reason(files, path, wanted) {
+        if let Some(reason) = machine.why_not(path, wanted) {
             return Some(Cause::System(reason));
         }
     }

@@ -23,7 +23,7 @@ pub struct DatabaseFiles<
 > {
     /// What opens and closes their files.
     pub machine: M,
-    /// Where the system is asked why a file can't be opened.
+    /// Where scripts and listings are read.
     pub files: &'a F,
     /// What desks wait with.
     pub rt: H,
@@ -83,14 +83,7 @@ impl<
         alloc: Global,
         path: &str,
     ) -> Result<StoreDesk<S, H>, (Refusal, Option<Cause>)> {
-        open_desk(
-            &mut self.machine,
-            self.files,
-            self.rt,
-            alloc,
-            path,
-            Wanted::Any,
-        )
+        open_desk(&mut self.machine, self.rt, alloc, path, Wanted::Any)
     }
 
     fn failure(&self, desk: &StoreDesk<S, H>) -> Option<Cause> {

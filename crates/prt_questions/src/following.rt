@@ -5,17 +5,17 @@ ghost use Rattle.prt_questions.specs.Asking.{HasFollowed, HasFollowedAtMost};
 use crate::asking::{REFUSED, none_message, report_none, write_made};
 use crate::fencing::fence_beside;
 use crate::importing::read_listing;
+use crate::local::LocalNet;
 use crate::reading::report_no_memory;
 use crate::remote::{is_there, open_feed};
 use crate::telling::tell;
 use prt_ask::{FollowEnd, Mirror, follow};
 use prt_feed::NotRead;
 use prt_program::cause_message;
-use prt_words::{DONE, FAULT, Following, Waiting};
+use prt_words::{DONE, FAULT, Following, ServerPlace, Waiting};
 use std::alloc::{Alloc, Global};
 use std::fs::Files;
 use std::io::{Read, Write};
-use std::net::{Net, SocketAddrV4};
 use std::rt::Clock;
 use std::thread;
 use std::time::Duration;
@@ -24,13 +24,13 @@ use std::time::Duration;
 const PAUSE: u64 = 100;
 
 /// Reports why following a server ended, unless the reader of the lines has gone.
-fn tell_end<E: Write>(alloc: Global, place: SocketAddrV4, end: FollowEnd, errors: &mut E) {
+fn tell_end<E: Write>(alloc: Global, place: &ServerPlace<'_>, end: FollowEnd, errors: &mut E) {
     match end {
         FollowEnd::Feed(NotRead::CutOff) => {
-            tell(cause_message(alloc, &place, &"the feed ended"), errors);
+            tell(cause_message(alloc, place, &"the feed ended"), errors);
         }
-        FollowEnd::Feed(reason) => tell(cause_message(alloc, &place, &reason), errors),
-        FollowEnd::NoLines(reason) => tell(none_message(alloc, &place, reason), errors),
+        FollowEnd::Feed(reason) => tell(cause_message(alloc, place, &reason), errors),
+        FollowEnd::NoLines(reason) => tell(none_message(alloc, place, reason), errors),
         FollowEnd::Unwritten => {}
     }
 }
@@ -40,7 +40,13 @@ fn tell_end<E: Write>(alloc: Global, place: SocketAddrV4, end: FollowEnd, errors
 ///
 /// With `--once` it ends after the first lines, with the status of `diff`. Otherwise it ends with 3: if the feed ends, if a
 /// change has no lines, and if the lines can't be written. No database is touched.
-pub(crate) fn follow_server<F: Files + Alloc + Clone + Drop, N: Net, R: Read, W: Write, E: Write>(
+pub(crate) fn follow_server<
+    F: Files + Alloc + Clone + Drop,
+    N: LocalNet,
+    R: Read,
+    W: Write,
+    E: Write,
+>(
     files: &F,
     rt: &N,
     alloc: Global,
@@ -53,7 +59,7 @@ pub(crate) fn follow_server<F: Files + Alloc + Clone + Drop, N: Net, R: Read, W:
     ensures whole { result ≡ DONE → HasFollowed (W.contents output.old) (W.contents output.new) following.now.reach }
     ensures at_most { HasFollowedAtMost (W.contents output.old) (W.contents output.new) following.now.reach }
 {
-    let place = following.server;
+    let place = &following.server;
     let read = read_listing(files, alloc, following.file, input, output, errors);
     let (accepted, left, unread) = match read {
         Ok(read) => read,
@@ -65,13 +71,13 @@ pub(crate) fn follow_server<F: Files + Alloc + Clone + Drop, N: Net, R: Read, W:
     let (mut reader, wanted) = match open_feed(rt, alloc, place) {
         Ok(opened) => opened,
         Err(reason) => {
-            tell(cause_message(alloc, &place, &reason), errors);
+            tell(cause_message(alloc, place, &reason), errors);
             return FAULT;
         }
     };
     let (mut mirror, made) = match Mirror::begin(alloc, fence, accepted.version, wanted) {
         Ok(begun) => begun,
-        Err(reason) => return report_none(alloc, &place, reason, output, errors),
+        Err(reason) => return report_none(alloc, place, reason, output, errors),
     };
     let told = made.notes.rest().unwrap_or_else(|_| String::new(alloc));
     let written = write_made(made, output, errors);
@@ -91,10 +97,10 @@ fn time<N: Clock>(rt: &N) -> Duration {
 /// Waits until a server answers at a place, its sessions or its feed, and returns the exit status: 3 if none has answered
 /// after the seconds that are given. Without a clock it waits through as many pauses. No database is touched, and nothing
 /// printed.
-pub(crate) fn wait_for<N: Net + Clock, E: Write>(
+pub(crate) fn wait_for<N: LocalNet + Clock, E: Write>(
     rt: &N,
     alloc: Global,
-    waiting: &Waiting,
+    waiting: &Waiting<'_>,
     errors: &mut E,
 ) -> u8
     ensures { (result ≡ DONE) ⊎ (result ≡ FAULT) }
@@ -103,7 +109,7 @@ pub(crate) fn wait_for<N: Net + Clock, E: Write>(
     let patience = Duration::from_secs(waiting.seconds);
     let tries = waiting.seconds.saturating_mul(1000 / PAUSE);
     for _try in 0..=tries {
-        if matches!(is_there(rt, waiting.server), Ok(true)) {
+        if matches!(is_there(rt, alloc, &waiting.server), Ok(true)) {
             return DONE;
         }
         if time(rt).saturating_sub(begun) >= patience {

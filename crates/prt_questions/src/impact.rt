@@ -10,6 +10,7 @@ ghost use Rattle.prt_questions.specs.Asking.{IsCutOff};
 use crate::asking::{REFUSED, write_text};
 use crate::databases::DatabaseFiles;
 use crate::left::tell_left;
+use crate::local::LocalNet;
 use crate::machine::Machine;
 use crate::reading::{read_whole, report_no_memory};
 use crate::tables::{Tables, tables_at};
@@ -25,7 +26,6 @@ use sqlite::{Alter, Connection};
 use std::alloc::Global;
 use std::fs::Files;
 use std::io::{Read, Write};
-use std::net::Net;
 use std::sync::Wait;
 
 /// Chooses which verdicts count as the same.
@@ -154,7 +154,7 @@ pub(crate) fn rehearse<
     S: Alter + Drop,
     M: Machine<Connection<S>> + Drop,
     F: Files,
-    N: Net + Wait + Copy + Drop,
+    N: LocalNet + Wait + Copy + Drop,
     R: Read,
     W: Write,
     E: Write,

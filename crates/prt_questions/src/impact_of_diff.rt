@@ -7,6 +7,7 @@ ghost use Rattle.prt_questions.specs.Asking.{IsAskedOf, IsCutOff, IsWithImpact, 
 use crate::asking::{REFUSED, report_none, write_made};
 use crate::databases::DatabaseFiles;
 use crate::impact::report_undivided;
+use crate::local::LocalNet;
 use crate::machine::Machine;
 use crate::reading::report_no_memory;
 use crate::tables::tables_at;
@@ -21,7 +22,6 @@ use sqlite::{Alter, Connection};
 use std::alloc::{AllocError, Global};
 use std::fs::Files;
 use std::io::{Read, Write};
-use std::net::Net;
 use std::sync::Wait;
 
 /// Appends a comment with the line of a group.
@@ -33,7 +33,7 @@ fn push_comment(out: &mut Vec<u8>, group: &Group) -> Result<(), AllocError>
 }
 
 /// Appends a comment for each group of packets.
-fn push_comments(out: &mut Vec<u8>, groups: &[Group]) -> Result<(), AllocError>
+pub(crate) fn push_comments(out: &mut Vec<u8>, groups: &[Group]) -> Result<(), AllocError>
     ensures { OnOk result (out.new.items ≡ out.old.items ++ comments_of groups.now) }
 {
     for group in groups {
@@ -88,7 +88,7 @@ pub(crate) fn diff_with_impact<
     S: Alter + Drop,
     M: Machine<Connection<S>> + Drop,
     F: Files,
-    N: Net + Wait + Copy + Drop,
+    N: LocalNet + Wait + Copy + Drop,
     R: Read,
     W: Write,
     E: Write,

@@ -1,29 +1,30 @@
 //! What `ip` prints, as a script, and what differs from it.
 ghost use Rattle.std.specs.Prelude.{◌≡◌, ◌⊎◌, IfErr, IfOk, [], option_map};
-ghost use Rattle.prt_questions.specs.Asking.{HasCompared, HasImported, HasComparedAtMost, HasImportedAtMost, IsAskedOf, IsImported, IsImportedInPart, IsListing, IsNotAsked, IsWholeListing, said};
+ghost use Rattle.prt_questions.specs.Asking.{HasCompared, HasComparedAtMost, IsAskedOf, IsListing, IsNotAsked, IsWholeListing, said};
+ghost use Rattle.prt_questions.specs.Importing.{HasImported, HasImportedAtMost, IsImported, IsImportedAtMost};
 ghost use Rattle.prt_import.specs.Imported.{IsImportOf};
 ghost use Rattle.prt_import.specs.TableNames.{KnownNames};
 ghost use Rattle.prt_words.specs.declared.asking.Shown.TheVariants as shows;
 
+use crate::applying::{PLAIN, apply_to_database};
 use crate::asking::{REFUSED, ask_source, write_text};
 use crate::databases::DatabaseFiles;
 use crate::fencing::fence_beside;
 use crate::impact_of_diff::diff_with_impact;
 use crate::inquiry::Inquiry;
 use crate::left::tell_left;
+use crate::local::LocalNet;
 use crate::machine::Machine;
 use crate::reading::{host_names, read_whole, report_no_memory, report_unread};
 use prt_ask::{Comparison, Question};
 use prt_import::{Accepted, Imported, Left, Names, accept, check_listing, import};
 use prt_ip_json::{NotListed, is_json, listing_of};
-use prt_program::{Refusal, run_text};
+use prt_program::Refusal;
 use prt_words::{DONE, Diffing, FAULT, Form, Importing, Labels, Shown, Source};
 use sqlite::{Alter, Connection};
 use std::alloc::{Alloc, Global};
 use std::fs::Files;
-use std::io::{IsTerminal, Read, Write};
-use std::net::Net;
-use std::rt::Clock;
+use std::io::{Read, Write};
 use std::sync::Wait;
 
 /// Returns the lines of what `ip` printed, also if that is the JSON of `ip -j`.
@@ -112,13 +113,13 @@ pub(crate) fn read_listing<F: Files + Alloc + Clone + Drop, R: Read, W: Write, E
     }
 }
 
-/// Prints a script, or runs it over the database at a path, and returns the exit status.
-fn print_or_run<
+/// Prints a script, or makes the tables of the database at a path those that it makes. Returns the exit status.
+fn print_or_make<
     S: Alter + Drop,
     M: Machine<Connection<S>> + Drop,
-    F: Files + Clock,
+    F: Files,
     N: Wait + Copy + Drop,
-    W: Write + IsTerminal,
+    W: Write,
     E: Write,
 >(
     databases: &mut DatabaseFiles<'_, S, M, F, N>,
@@ -128,39 +129,32 @@ fn print_or_run<
     output: &mut W,
     errors: &mut E,
 ) -> u8
-    ensures status { (result ≡ DONE) ⊎ ((result ≡ REFUSED) ⊎ (result ≡ FAULT)) }
-    ensures whole { result ≡ DONE → IsImported S.Store M.opens M.refuses M.closes databases.old.machine databases.new.machine (W.contents output.old) (W.contents output.new) (option_map (λ path. path.now) database.entry) accepted DONE }
-    ensures part { IsImportedInPart S.Store M.opens M.refuses M.closes databases.old.machine databases.new.machine (W.contents output.old) (W.contents output.new) (option_map (λ path. path.now) database.entry) accepted }
+    ensures status { (result ≡ DONE) ⊎ (result ≡ FAULT) }
+    ensures whole { result ≡ DONE → IsImported S.Store M.opens M.refuses M.closes databases.old.machine databases.new.machine (W.contents output.old) (W.contents output.new) (option_map (λ path. path.now) database.entry) accepted }
+    ensures at_most { IsImportedAtMost S.Store M.opens M.refuses M.closes databases.old.machine databases.new.machine (W.contents output.old) (W.contents output.new) (option_map (λ path. path.now) database.entry) accepted }
 {
     match database {
         Some(path) => {
-            let files = databases.files;
-            run_text(
-                files,
-                databases,
-                alloc,
-                path,
-                &accepted.script,
-                output,
-                errors,
-            )
+            let wanted = &accepted.version;
+            apply_to_database(databases, alloc, path, wanted, PLAIN, output, errors)
         }
         None => write_text(accepted.script, output),
     }
 }
 
-/// Prints the script of what `ip` printed, or runs it over a database, and returns the exit status.
+/// Prints the script of what `ip` printed, or makes the tables of a database those that it makes, as `apply` does. Returns the
+/// exit status.
 ///
-/// The status is 1 if a line can't be kept, which standard error names, unless the kernel makes it itself. It is also 1 if
-/// the database refuses a line. It is 3 if the listing can't be read, for want of memory, and for a fault of opening or of
-/// the store. It is also 3 if the script or a reply can't be written.
+/// The status is 1 if a line can't be kept, which standard error names, unless the kernel makes it itself. It is 3 if the
+/// listing can't be read, for want of memory, and for a fault of opening or of the store. It is also 3 if the script or the
+/// changes can't be written.
 pub(crate) fn import_listing<
     S: Alter + Drop,
     M: Machine<Connection<S>> + Drop,
-    F: Files + Alloc + Clone + Clock + Drop,
+    F: Files + Alloc + Clone + Drop,
     N: Wait + Copy + Drop,
     R: Read,
-    W: Write + IsTerminal,
+    W: Write,
     E: Write,
 >(
     databases: &mut DatabaseFiles<'_, S, M, F, N>,
@@ -186,7 +180,7 @@ pub(crate) fn import_listing<
         Ok(read) => read,
         Err(status) => return status,
     };
-    match print_or_run(
+    match print_or_make(
         databases,
         alloc,
         importing.database,
@@ -204,7 +198,7 @@ fn compare<
     S: Alter + Drop,
     M: Machine<Connection<S>> + Drop,
     F: Files,
-    N: Net + Wait + Copy + Drop,
+    N: LocalNet + Wait + Copy + Drop,
     R: Read,
     E: Write,
 >(
@@ -241,7 +235,7 @@ pub(crate) fn diff<
     S: Alter + Drop,
     M: Machine<Connection<S>> + Drop,
     F: Files + Alloc + Clone + Drop,
-    N: Net + Wait + Copy + Drop,
+    N: LocalNet + Wait + Copy + Drop,
     R: Read,
     W: Write,
     E: Write,

@@ -1,6 +1,8 @@
 //! Questions from outside a session: to the databases of a machine, to a server, or to what a script makes.
 #![tactic(auto)]
 
+mod apply_remote;
+mod applying;
 mod asking;
 mod asserting;
 mod cause;
@@ -12,12 +14,15 @@ mod impact_of_diff;
 mod importing;
 mod inquiry;
 mod left;
+mod local;
 mod machine;
 mod opening;
+mod planning;
 mod questions;
 mod reading;
 mod remote;
 mod searching;
+mod status;
 mod tables;
 mod telling;
 
@@ -25,7 +30,9 @@ pub use asking::REFUSED;
 pub use asserting::UNREADABLE;
 pub use cause::Cause;
 pub use databases::DatabaseFiles;
+pub use local::{LocalNet, Socket, set_local_accept_timeout};
 pub use machine::{Machine, Wanted};
 pub use opening::open_publisher;
 pub use questions::answer_question;
+pub use status::CLOSED;
 pub use telling::tell;

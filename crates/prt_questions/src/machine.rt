@@ -2,6 +2,7 @@
 ghost use Rattle.std.specs.Prelude.{◌≡◌, IfOk, OnErr, OnOk};
 
 use sqlite::Error;
+use std::io;
 
 /// Which files an opening takes.
 #[derive(Clone, Copy)]
@@ -38,6 +39,10 @@ pub trait Machine<C> {
         ensures opened { IfOk result (λ conn. opens self.old self.new path.now conn) }
         ensures there { wanted ≡ Wanted.Ours → OnOk result (is_there self.old path.now) }
         ensures unopened { OnErr result (refuses self.old self.new path.now) };
+
+    /// Asks the system why the file at a path can't be opened for reading and writing and, if any is wanted, can't be made.
+    /// Returns `None` if it can be.
+    fn why_not(&self, path: &str, wanted: Wanted) -> Option<io::Error>;
 
     /// Closes a database, so that its file alone has all of it.
     ///

@@ -17,7 +17,6 @@ use prt_program::Refusal;
 use prt_publisher::{Phase, Publisher, publisher_over};
 use sqlite::{Alter, Connection};
 use std::alloc::Global;
-use std::fs::Files;
 use std::sync::Wait;
 
 /// Opens a publisher over the database at a path of the machine, if it is one that is wanted.
@@ -26,9 +25,8 @@ use std::sync::Wait;
 ///
 /// As of `publisher_over`, with the cause if it is known. No database is open then: one that was refused was closed
 /// again, and after the refusal only read.
-pub fn open_publisher<S: Alter + Drop, M: Machine<Connection<S>>, F: Files>(
+pub fn open_publisher<S: Alter + Drop, M: Machine<Connection<S>>>(
     machine: &mut M,
-    files: &F,
     alloc: Global,
     path: &str,
     wanted: Wanted,
@@ -45,10 +43,16 @@ pub fn open_publisher<S: Alter + Drop, M: Machine<Connection<S>>, F: Files>(
         Ok(made) => Ok(made),
         Err((refusal, Ok(conn))) => {
             let reason = close_refused(machine, conn, refusal);
-            Err((refusal, cause_of(files, path, wanted, refusal, Ok(reason))))
+            Err((
+                refusal,
+                cause_of(machine, path, wanted, refusal, Ok(reason)),
+            ))
         }
         Err((refusal, Err(error))) => {
-            Err((refusal, cause_of(files, path, wanted, refusal, Err(error))))
+            Err((
+                refusal,
+                cause_of(machine, path, wanted, refusal, Err(error)),
+            ))
         }
     }
 }
@@ -58,14 +62,8 @@ pub fn open_publisher<S: Alter + Drop, M: Machine<Connection<S>>, F: Files>(
 /// # Errors
 ///
 /// As of `open_publisher`.
-pub(crate) fn open_desk<
-    S: Alter + Drop,
-    M: Machine<Connection<S>>,
-    F: Files,
-    H: Wait + Copy + Drop,
->(
+pub(crate) fn open_desk<S: Alter + Drop, M: Machine<Connection<S>>, H: Wait + Copy + Drop>(
     machine: &mut M,
-    files: &F,
     rt: H,
     alloc: Global,
     path: &str,
@@ -77,7 +75,7 @@ pub(crate) fn open_desk<
     ensures reason { IfErr result (λ refused. IsOpenRefusal refused.0) }
     ensures closed { IfErr result (λ refused. LeavesNoneOpen M.opens M.refuses M.closes S.Store refused.0 machine.old machine.new path.now) }
 {
-    match open_publisher(machine, files, alloc, path, wanted) {
+    match open_publisher(machine, alloc, path, wanted) {
         Ok((publisher, domain)) => Ok(StoreDesk::new(rt, publisher, domain)),
         Err(refused) => Err(refused),
     }

@@ -2,30 +2,32 @@
 ghost use Rattle.std.specs.Prelude.{◌≡◌, ◌⊎◌};
 ghost use Rattle.prt_questions.specs.Done.{IsDone, IsDoneAtMost, IsFound};
 
+use crate::applying::apply;
 use crate::asking::{REFUSED, ask};
 use crate::asserting::{UNREADABLE, assert_claims};
 use crate::databases::DatabaseFiles;
 use crate::following::{follow_server, wait_for};
 use crate::impact::rehearse;
 use crate::importing::{diff, import_listing};
+use crate::local::LocalNet;
 use crate::machine::Machine;
 use crate::searching::search;
+use crate::status::{CLOSED, show_status};
 use prt_words::{Asked, DONE, FAULT};
 use sqlite::{Alter, Connection};
 use std::alloc::{Alloc, Global};
 use std::fs::Files;
 use std::io::{IsTerminal, Read, Write};
-use std::net::Net;
 use std::rt::Clock;
 use std::sync::Wait;
 
 /// Answers what is asked, and returns the exit status: that of `ask`, `diff`, `follow_server`, `wait_for`, `import_listing`,
-/// `rehearse`, `assert_claims` or `search`.
+/// `rehearse`, `assert_claims`, `search`, `apply` or `show_status`.
 pub fn answer_question<
     S: Alter + Drop,
     M: Machine<Connection<S>> + Drop,
     F: Files + Alloc + Clone + Clock + Drop,
-    N: Net + Wait + Clock + Copy + Drop,
+    N: LocalNet + Wait + Clock + Copy + Drop,
     R: Read,
     W: Write + IsTerminal,
     E: Write,
@@ -37,7 +39,7 @@ pub fn answer_question<
     output: &mut W,
     errors: &mut E,
 ) -> u8
-    ensures status { (result ≡ DONE) ⊎ ((result ≡ REFUSED) ⊎ ((result ≡ UNREADABLE) ⊎ (result ≡ FAULT))) }
+    ensures status { (result ≡ DONE) ⊎ ((result ≡ REFUSED) ⊎ ((result ≡ UNREADABLE) ⊎ ((result ≡ CLOSED) ⊎ (result ≡ FAULT)))) }
     ensures whole { result ≡ DONE → IsDone S.Store M.opens M.refuses M.closes databases.old.machine databases.new.machine (W.contents output.old) (W.contents output.new) asked.now }
     ensures found { result ≡ REFUSED → IsFound S.Store M.opens M.refuses M.closes databases.old.machine databases.new.machine (W.contents output.old) (W.contents output.new) asked.now }
     ensures at_most { IsDoneAtMost S.Store M.opens M.refuses M.closes databases.old.machine databases.new.machine (W.contents output.old) (W.contents output.new) asked.now }
@@ -60,5 +62,9 @@ pub fn answer_question<
             assert_claims(databases, alloc, asserting, input, output, errors)
         }
         Asked::Unused(source) => search(databases, alloc, source, input, output, errors),
+        Asked::Apply(applying) => apply(databases, alloc, applying, input, output, errors),
+        Asked::Status(inspecting) => {
+            show_status(&databases.rt, alloc, inspecting, output, errors)
+        }
     }
 }

@@ -1,10 +1,14 @@
-//! What a server says over TCP: its feed the tables, a session the reply to a line.
+//! What a server says: its feed the tables, a session the reply to a line.
+use crate::local::{LocalNet, Socket};
+use itoa::Buffer;
 use prt_feed::{NotRead, read_opening};
 use prt_program::Refusal;
 use prt_version::Version;
+use prt_words::ServerPlace;
 use std::alloc::{AllocError, Global};
 use std::io::{self, BufRead, BufReader, ErrorKind, Read, Write};
-use std::net::{Net, OpenStream, Shutdown, SocketAddr, SocketAddrV4, TcpStream};
+use std::net::{OpenStream, Shutdown, SocketAddr, TcpStream};
+use std::os::unix::net::UnixStream;
 use std::time::Duration;
 use thiserror::Error;
 
@@ -26,6 +30,15 @@ const QUERY: &[u8] = b"route get 127.0.0.1\n";
 /// What the last line of a whole reply to a query begins with: that of `route get`, and that of a listing.
 const LAST_LINES: [&[u8]; 2] = [b"answer ", b"end "];
 
+/// An atomic script without commands, for a number that no tables reach.
+const NO_NUMBER: &[u8] = b"at 18446744073709551615\n";
+
+/// What the reply to an atomic script begins with if the tables have another number. That of a session, and a feed, don't.
+const MOVED: &[u8] = b"at ";
+
+/// The first byte of that.
+const MOVED_BYTE: u8 = b'a';
+
 /// Why a server says nothing.
 #[derive(Debug, Drop, Error)]
 pub(crate) enum NotTold {
@@ -37,13 +50,24 @@ pub(crate) enum NotTold {
     Tables(Refusal),
     #[error("the session gave no whole answer")]
     NoAnswer,
-    #[error("this is no feed: tables come from the port after --feed, 7801 in the package")]
+    #[error("{0}")]
+    Refused(String),
+    #[error("this isn't the server's feed, which `prt serve --feed` opens")]
     NoFeed,
+    #[error("this isn't the server's port of atomic scripts, which `prt serve --atomic` opens")]
+    NoAtomic,
+    #[error("no answer came in time")]
+    Silent,
+    #[error("no whole answer came, so the changes may have been made")]
+    Unknown,
 }
 
 impl From<io::Error> for NotTold {
     fn from(error: io::Error) -> NotTold {
-        NotTold::System(error)
+        match error.kind() {
+            ErrorKind::WouldBlock | ErrorKind::TimedOut => NotTold::Silent,
+            _ => NotTold::System(error),
+        }
     }
 }
 
@@ -101,18 +125,50 @@ fn is_feed<T: Read + Write + OpenStream>(
     Ok(first.is_none() || first == Some(FEED))
 }
 
-/// Connects to a server.
-pub(crate) fn connect<N: Net>(rt: &N, place: SocketAddrV4) -> io::Result<N::Stream> {
-    let patience = Some(Duration::from_secs(PATIENCE));
-    let stream = TcpStream::connect_timeout(
-        rt,
-        &SocketAddr::V4(place),
-        Duration::from_secs(PATIENCE),
-    )?;
+/// Connects to a socket in a folder.
+fn connect_in<N: LocalNet>(
+    rt: &N,
+    alloc: Global,
+    folder: &str,
+    socket: Socket,
+) -> io::Result<N::Stream> {
+    let path = format!(in alloc; "{folder}/{}", socket.name())?;
+    Ok(N::stream_of(UnixStream::connect(rt, path.as_str())?))
+}
+
+/// Connects to a server: to its address, or to a socket in its folder. No read and no write waits for longer than this.
+pub(crate) fn connect<N: LocalNet>(
+    rt: &N,
+    alloc: Global,
+    place: &ServerPlace<'_>,
+    socket: Socket,
+    patience: Duration,
+) -> io::Result<N::Stream> {
+    let stream = match place {
+        ServerPlace::Address(address) => {
+            TcpStream::connect_timeout(rt, &SocketAddr::V4(*address), patience)?
+        }
+        ServerPlace::Folder(folder) => connect_in(rt, alloc, folder, socket)?,
+    };
     // A server that hangs would keep its client without end.
-    stream.set_read_timeout(patience)?;
-    stream.set_write_timeout(patience)?;
+    stream.set_read_timeout(Some(patience))?;
+    stream.set_write_timeout(Some(patience))?;
     Ok(stream)
+}
+
+/// Connects to the sessions of a server, or to its feed if the sessions of its folder may not be opened.
+fn connect_to_ask<N: LocalNet>(
+    rt: &N,
+    alloc: Global,
+    place: &ServerPlace<'_>,
+    patience: Duration,
+) -> io::Result<N::Stream> {
+    match connect(rt, alloc, place, Socket::Session, patience) {
+        Err(error) if error.kind() == ErrorKind::PermissionDenied => {
+            connect(rt, alloc, place, Socket::Feed, patience)
+        }
+        connected => connected,
+    }
 }
 
 /// Connects to the feed of a server, and reads the tables as they are now. The reader is behind them.
@@ -120,12 +176,13 @@ pub(crate) fn connect<N: Net>(rt: &N, place: SocketAddrV4) -> io::Result<N::Stre
 /// # Errors
 ///
 /// `NoFeed` if something else answers, as a session does. Otherwise what befell the connection, or the tables.
-pub(crate) fn open_feed<N: Net>(
+pub(crate) fn open_feed<N: LocalNet>(
     rt: &N,
     alloc: Global,
-    place: SocketAddrV4,
+    place: &ServerPlace<'_>,
 ) -> Result<(BufReader<N::Stream>, Version), NotTold> {
-    let stream = connect(rt, place)?;
+    let patience = Duration::from_secs(PATIENCE);
+    let stream = connect(rt, alloc, place, Socket::Feed, patience)?;
     let mut same = stream.try_clone()?;
     let mut reader = BufReader::new(alloc, stream)?;
     if !is_feed(&mut reader, &mut same)? {
@@ -139,21 +196,22 @@ pub(crate) fn open_feed<N: Net>(
 }
 
 /// Connects to the feed of a server, and reads the tables as they are now.
-pub(crate) fn read_tables<N: Net>(
+pub(crate) fn read_tables<N: LocalNet>(
     rt: &N,
     alloc: Global,
-    place: SocketAddrV4,
+    place: &ServerPlace<'_>,
 ) -> Result<Version, NotTold> {
     let (_, version) = open_feed(rt, alloc, place)?;
     Ok(version)
 }
 
 /// Checks whether a server says something at a place: its feed the tables, or a session the reply to a query.
-pub(crate) fn is_there<N: Net>(rt: &N, place: SocketAddrV4) -> io::Result<bool> {
-    let patience = Duration::from_secs(TRY);
-    let mut stream = TcpStream::connect_timeout(rt, &SocketAddr::V4(place), patience)?;
-    stream.set_read_timeout(Some(patience))?;
-    stream.set_write_timeout(Some(patience))?;
+pub(crate) fn is_there<N: LocalNet>(
+    rt: &N,
+    alloc: Global,
+    place: &ServerPlace<'_>,
+) -> io::Result<bool> {
+    let mut stream = connect_to_ask(rt, alloc, place, Duration::from_secs(TRY))?;
     stream.write_all(QUERY)?;
     let mut byte = [0u8; 1];
     let count = stream.read(&mut byte)?;
@@ -172,13 +230,13 @@ fn is_whole(reply: &[u8]) -> bool {
 }
 
 /// Sends the line of a query to a server, and reads what it says: a session the reply, a feed the tables.
-pub(crate) fn ask_line<N: Net>(
+pub(crate) fn ask_line<N: LocalNet>(
     rt: &N,
     alloc: Global,
-    place: SocketAddrV4,
+    place: &ServerPlace<'_>,
     line: &[u8],
 ) -> Result<Told, NotTold> {
-    let mut stream = connect(rt, place)?;
+    let mut stream = connect_to_ask(rt, alloc, place, Duration::from_secs(PATIENCE))?;
     stream.write_all(line)?;
     stream.write_all(b"\n")?;
     // A session ends with its last line.
@@ -195,4 +253,116 @@ pub(crate) fn ask_line<N: Net>(
     } else {
         Err(NotTold::NoAnswer)
     }
+}
+
+/// What a server made of changes.
+#[derive(Clone, Copy)]
+pub(crate) enum Made {
+    /// All of them.
+    All,
+    /// None, since its tables are at another number.
+    Moved,
+}
+
+/// Checks whether a reply accepts as many commands, each with the number after the one before.
+fn accepts_all(reply: &[u8], number: u64, count: usize) -> bool {
+    let mut rest = reply;
+    for done in 1..=count as u64 {
+        let mut digits = Buffer::new();
+        let ok = digits.format(number.saturating_add(done)).as_bytes();
+        let Some(after) = rest
+            .strip_prefix(b"ok ")
+            .and_then(|rest| rest.strip_prefix(ok))
+            .and_then(|rest| rest.strip_prefix(b"\n"))
+        else {
+            return false;
+        };
+        rest = after;
+    }
+    rest.is_empty()
+}
+
+/// Asks a server whether it takes atomic scripts at a place: it has none of this number, and says which it has.
+///
+/// # Errors
+///
+/// `NoAtomic` if something else answers, as a session or a feed does, or nothing. Otherwise what befell the connection.
+pub(crate) fn expect_atomic<N: LocalNet>(
+    rt: &N,
+    alloc: Global,
+    place: &ServerPlace<'_>,
+) -> Result<(), NotTold> {
+    let patience = Duration::from_secs(PATIENCE);
+    let mut stream = connect(rt, alloc, place, Socket::Atomic, patience)?;
+    stream.write_all(NO_NUMBER)?;
+    stream.shutdown(Shutdown::Write)?;
+    let mut byte = [0u8; 1];
+    let count = stream.read(&mut byte)?;
+    if count == 1 && byte[0] == MOVED_BYTE {
+        return Ok(());
+    }
+    Err(NotTold::NoAtomic)
+}
+
+/// Sends a server the lines of so many changes over its tables at a number, and reads what it makes of them: all, or none.
+///
+/// # Errors
+///
+/// `Unknown` if its reply is missing or cut off: all of them may be made. Otherwise what befell the connection before, or the
+/// server's refusal: none is made.
+pub(crate) fn send_changes<N: LocalNet>(
+    rt: &N,
+    alloc: Global,
+    atomic: &ServerPlace<'_>,
+    number: u64,
+    count: usize,
+    lines: &[u8],
+) -> Result<Made, NotTold> {
+    let patience = Duration::from_secs(PATIENCE);
+    let mut stream = connect(rt, alloc, atomic, Socket::Atomic, patience)?;
+    // What is cut off before its last command is not made.
+    let head = format!(in alloc; "at {number}\ncommands {count}\n")?;
+    stream.write_all(head.as_bytes())?;
+    stream.write_all(lines)?;
+    stream.shutdown(Shutdown::Write)?;
+    let mut reply = Vec::new(alloc);
+    if stream.read_to_end(&mut reply).is_err() {
+        return Err(NotTold::Unknown);
+    }
+    if accepts_all(&reply, number, count) {
+        Ok(Made::All)
+    } else if reply.starts_with(MOVED) {
+        Ok(Made::Moved)
+    } else if reply.starts_with(b"error ") && reply.ends_with(b"\n") {
+        Err(NotTold::Refused(refused_text(alloc, &reply)?))
+    } else {
+        Err(NotTold::Unknown)
+    }
+}
+
+/// Returns the first line of a refusal, as far as it can be printed.
+fn refused_text(alloc: Global, reply: &[u8]) -> Result<String, AllocError> {
+    let mut text = String::new(alloc);
+    for byte in reply {
+        if *byte == b'\n' {
+            break;
+        }
+        let is_shown = *byte >= b' ' && *byte <= b'~';
+        text.push(char::from(if is_shown { *byte } else { b'?' }))?;
+    }
+    Ok(text)
+}
+
+/// Reads what a server says of itself at the socket for that in its folder.
+pub(crate) fn read_status<N: LocalNet>(
+    rt: &N,
+    alloc: Global,
+    folder: &str,
+) -> Result<Vec<u8>, NotTold> {
+    let place = ServerPlace::Folder(folder);
+    let patience = Duration::from_secs(PATIENCE);
+    let mut stream = connect(rt, alloc, &place, Socket::Status, patience)?;
+    let mut said = Vec::new(alloc);
+    stream.read_to_end(&mut said)?;
+    Ok(said)
 }

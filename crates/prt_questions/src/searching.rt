@@ -6,6 +6,7 @@ ghost use Rattle.prt_questions.specs.Analyses.{IsFoundAtMost, IsFoundOf, IsSearc
 use crate::asking::{REFUSED, write_text};
 use crate::databases::DatabaseFiles;
 use crate::impact::report_undivided;
+use crate::local::LocalNet;
 use crate::machine::Machine;
 use crate::reading::report_no_memory;
 use crate::tables::{Tables, tables_at};
@@ -16,7 +17,6 @@ use sqlite::{Alter, Connection};
 use std::alloc::Global;
 use std::fs::Files;
 use std::io::{Read, Write};
-use std::net::Net;
 use std::sync::Wait;
 
 /// Makes the text of unused rules and routes.
@@ -75,7 +75,7 @@ pub(crate) fn search<
     S: Alter + Drop,
     M: Machine<Connection<S>> + Drop,
     F: Files,
-    N: Net + Wait + Copy + Drop,
+    N: LocalNet + Wait + Copy + Drop,
     R: Read,
     W: Write,
     E: Write,

@@ -8,6 +8,7 @@ ghost use Rattle.prt_questions.specs.Asking.{IsAskedAt, IsNotOpened};
 use crate::asking::{REFUSED, run_over_new};
 use crate::databases::DatabaseFiles;
 use crate::left::tell_left;
+use crate::local::LocalNet;
 use crate::machine::{Machine, Wanted};
 use crate::opening::open_desk;
 use crate::reading::{read_whole, report_no_memory};
@@ -15,12 +16,11 @@ use crate::remote::read_tables;
 use crate::telling::tell;
 use prt_program::{cause_message, log_message};
 use prt_version::Version;
-use prt_words::{DONE, FAULT, Fault, Source, report};
+use prt_words::{DONE, FAULT, Fault, ServerPlace, Source, report};
 use sqlite::{Alter, Connection};
 use std::alloc::Global;
 use std::fs::Files;
 use std::io::{Read, Write};
-use std::net::{Net, SocketAddrV4};
 use std::sync::Wait;
 
 /// The tables of a source.
@@ -57,8 +57,8 @@ fn database_tables<
     ensures fault { IfErr result (λ status. status ≡ FAULT) }
     ensures unwritten { W.contents output.new ≡ W.contents output.old }
 {
-    let (files, rt) = (databases.files, databases.rt);
-    let opened = open_desk(&mut databases.machine, files, rt, alloc, path, Wanted::Ours);
+    let rt = databases.rt;
+    let opened = open_desk(&mut databases.machine, rt, alloc, path, Wanted::Ours);
     let desk = match opened {
         Ok(desk) => desk,
         Err((refusal, cause)) => {
@@ -87,10 +87,10 @@ fn database_tables<
 /// # Errors
 ///
 /// The exit status: the server doesn't send its tables. Standard error has the cause.
-fn server_tables<N: Net, E: Write>(
+fn server_tables<N: LocalNet, E: Write>(
     rt: &N,
     alloc: Global,
-    place: SocketAddrV4,
+    place: &ServerPlace<'_>,
     errors: &mut E,
 ) -> Result<Tables, u8>
     ensures left { IfOk result (λ tables. (tables.left ≡ DONE) ⊎ (tables.left ≡ REFUSED)) }
@@ -102,7 +102,7 @@ fn server_tables<N: Net, E: Write>(
             left: DONE,
         }),
         Err(reason) => {
-            tell(cause_message(alloc, &place, &reason), errors);
+            tell(cause_message(alloc, place, &reason), errors);
             Err(FAULT)
         }
     }
@@ -144,7 +144,7 @@ pub(crate) fn tables_at<
     S: Alter + Drop,
     M: Machine<Connection<S>> + Drop,
     F: Files,
-    N: Net + Wait + Copy + Drop,
+    N: LocalNet + Wait + Copy + Drop,
     R: Read,
     W: Write,
     E: Write,
@@ -164,7 +164,7 @@ pub(crate) fn tables_at<
 {
     match source {
         Source::Database(path) => database_tables(databases, alloc, path, output, errors),
-        Source::Server(place) => server_tables(&databases.rt, alloc, *place, errors),
+        Source::Server(place) => server_tables(&databases.rt, alloc, place, errors),
         Source::Script(file) => {
             script_tables(databases.files, alloc, *file, input, output, errors)
         }

@@ -2,16 +2,26 @@
 use Rattle.std.specs.Prelude.{◌≡◌, ℕ, List, [], ◌∷◌, Option}
 use Rattle.std.specs.Iterator.{Drains}
 use Rattle.prt_front.specs.Line.{Line}
+use Rattle.prt_replies.specs.declared.script_end.ScriptEnd.{ScriptEnd}
 use Rattle.prt_serve.specs.Serving.{Serves}
+use Rattle.prt_serve.specs.Together.{ServesTogether}
 use Rattle.prt_serve.specs.declared.worker.Job.{Job}
+use Rattle.prt_serve.specs.declared.worker.Kind.{Kind}
+use Rattle.prt_serve.specs.declared.worker.Kind.TheVariants.{InTurn, Together}
 use Rattle.prt_serve.specs.declared.worker.Served.{Served}
 
+-- a session or an atomic file was served, as the kind says
+abbrev pub ServesKind : Kind → (known0 known : Line) → (reader0 reader writer0 writer : Option (List ℕ)) → ScriptEnd → Type 0
+ServesKind InTurn known0 known reader0 reader writer0 writer end = Serves known0 known reader0 reader writer0 writer end
+ServesKind Together known0 known reader0 reader writer0 writer end = ServesTogether known0 known reader0 reader writer0 writer end
+
 module _ {R W F : Type 0} (remaining : R → Option (List ℕ)) (contents : W → Option (List ℕ)) (takes : F → Served R W → F → Type 0) where
-  -- A session served the job: its lines are what the job's reader had, and its replies came after what the job's writer had; it may end by a fault before its first line. What is called after each session then took the job as it was left, with how the session had ended.
+  -- A session of the job's kind served the job: its lines are what the job's reader had, and its replies came after what the job's writer had; it may end by a fault before its first line. What is called after each session then took the job as it was left, with how the session had ended.
   pub record ServesJob (known0 : Line) (after0 : F) (job : Job R W) (known : Line) (after : F) : Type 0 where
     pub left : Served R W
     pub session : left.job.session ≡ job.session
-    pub served : Serves known0 known (remaining job.reader) (remaining left.job.reader) (contents job.writer) (contents left.job.writer) left.end
+    pub kind : left.job.kind ≡ job.kind
+    pub served : ServesKind job.kind known0 known (remaining job.reader) (remaining left.job.reader) (contents job.writer) (contents left.job.writer) left.end
     pub taken : takes after0 left after
 
   -- each of the jobs was served in its turn, by a looker that knew at first what it knew after the one before

@@ -3,6 +3,10 @@ pub mod Requests
 pub mod Lists
 pub mod Growing
 pub mod Serving
+pub mod Opening
+pub mod Resumed
+pub mod Together
 pub mod Jobs
 pub mod Feed
 pub mod Idle
+pub mod Accepting

@@ -2,7 +2,7 @@
 
 use crate::gate::Gate;
 use std::io::{self, ErrorKind};
-use std::net::OpenListener;
+use std::net::{OpenListener, SocketAddr};
 use std::thread;
 use std::time::{Clock, Duration};
 
@@ -15,8 +15,8 @@ const PERMANENT: [i32; 5] = [9, 14, 22, 88, 95];
 
 /// What became of an `accept`.
 pub(crate) enum Accepted<T> {
-    /// A connection.
-    Stream(T),
+    /// A connection, and where its client is.
+    Stream(T, SocketAddr),
     /// None, and the next `accept` may return one.
     Nobody,
     /// None, and there will be none.
@@ -48,7 +48,7 @@ pub(crate) fn accept_one<H: Clock, G: Gate, L: OpenListener>(
     listener: &L,
 ) -> Accepted<L::Stream> {
     match listener.accept() {
-        Ok((stream, _)) => Accepted::Stream(stream),
+        Ok((stream, client)) => Accepted::Stream(stream, client),
         Err(error) => {
             if is_nobody(&error) {
                 return Accepted::Nobody;

@@ -3,6 +3,7 @@ ghost use Rattle.std.specs.Prelude.{◌≡◌, IfOk, true};
 ghost use Rattle.std.specs.Io.Buffered.{reader_remaining, writer_contents};
 ghost use Rattle.prt_serve.specs.Blocks.{BeginsWithLine};
 
+use crate::worker::Kind;
 use std::alloc::Global;
 use std::io::{self, BufReader, BufWriter, ErrorKind, Read, Write};
 use std::sync::Arc;
@@ -52,6 +53,8 @@ impl NextLine {
 #[derive(Drop)]
 pub struct Lines<T: Read + Drop> {
     blocks: BufReader<T>,
+    /// A line of an atomic file gets no reply of its own, so no flush waits for it.
+    kind: Kind,
     next: Arc<NextLine>,
     /// How the last read failed, if it did.
     fault: Option<ErrorKind>,
@@ -71,6 +74,7 @@ pub(crate) fn ends_over<T: Read + Write + Drop>(
     alloc: Global,
     from: T,
     to: T,
+    kind: Kind,
 ) -> io::Result<(Lines<T>, Replies<T>)>
     ensures from { IfOk result (λ ends. reader_remaining T.remaining ends.0.blocks ≡ T.remaining from) }
     ensures to { IfOk result (λ ends. writer_contents T.contents ends.1.blocks ≡ T.contents to) }
@@ -82,6 +86,7 @@ pub(crate) fn ends_over<T: Read + Write + Drop>(
     };
     let lines = Lines {
         blocks: BufReader::new(alloc, from)?,
+        kind,
         next,
         fault: None,
     };
@@ -91,6 +96,9 @@ pub(crate) fn ends_over<T: Read + Write + Drop>(
 impl<T: Read + Drop> Lines<T> {
     /// Notes what comes after these bytes, which were read.
     fn note(&self, bytes: &[u8]) {
+        if let Kind::Together = self.kind {
+            return;
+        }
         let block = self.blocks.buffer();
         let is_at_hand = bytes.last() == Some(&b'\n') && begins_with_line(block);
         self.next.note(is_at_hand, block);

@@ -1,14 +1,16 @@
 //! A feed: the tables as they are published, and each change after them.
-ghost use Rattle.std.specs.Prelude.{◌≡◌, ◌++◌, IfOk, IfErr, OnErr, codes};
+ghost use Rattle.std.specs.Prelude.{◌≡◌, ◌++◌, IfOk, IfErr, None, OnErr, Some, codes};
 ghost use Rattle.std.specs.Arc.{arc_value};
 ghost use Rattle.prt_feed.specs.Feed.{change_line, opening_text};
 ghost use Rattle.prt_front.specs.Line.{Line, line_state};
-ghost use Rattle.prt_serve.specs.Feed.{Beats, Feeds, Tells, heartbeat};
+ghost use Rattle.prt_serve.specs.Feed.{Feeds, Remarks, Tells, comment_text};
 ghost use Rattle.prt_service.specs.Service.{IsFollowRefusal};
 ghost use Rattle.prt_replies.specs.Written.{Written};
 
 use crate::places::{Place, Places};
 use crate::watch::{Due, Peer, Watch, look};
+use arrayvec::ArrayString;
+use itoa::Buffer;
 use prt_command::Command;
 use prt_feed::{change_line, opening_text};
 use prt_replies::write_bytes;
@@ -59,15 +61,44 @@ fn write_change<W: Write>(writer: &mut W, alloc: Global, number: u64, command: &
 
 /// Writes a line that says nothing, by which a peer that has gone is found; returns whether all of it went well.
 fn write_heartbeat<W: Write>(writer: &mut W) -> bool
-    ensures { Written result (W.contents writer.old) (W.contents writer.new) (heartbeat ++ codes "\n") }
+    ensures { Written result (W.contents writer.old) (W.contents writer.new) (comment_text None ++ codes "\n") }
 {
     write_bytes(writer, b"#\n")
+}
+
+/// Formats the comment before this many commands that were made together, with its newline.
+fn together_text(count: u64) -> ArrayString<40>
+    ensures { result.bytes ≡ comment_text (Some count) ++ codes "\n" }
+{
+    let mut digits = Buffer::new();
+    let mut line = ArrayString::new();
+    line.push_str("# together ");
+    line.push_str(digits.format(count));
+    line.push_str("\n");
+    line
+}
+
+/// Writes the comment before this many commands that were made together; returns whether all of it went well.
+fn write_count<W: Write>(writer: &mut W, count: u64) -> bool
+    ensures { Written result (W.contents writer.old) (W.contents writer.new) (comment_text (Some count) ++ codes "\n") }
+{
+    write_bytes(writer, together_text(count).as_bytes())
+}
+
+/// Writes the comment before commands that were made together, if there are several; returns whether all of it went well.
+fn write_together<W: Write>(writer: &mut W, count: u64) -> bool
+    ensures { Remarks result (W.contents writer.old) (W.contents writer.new) }
+{
+    if count <= 1 {
+        return true;
+    }
+    write_count(writer, count)
 }
 
 /// Looks at the peer while nothing is published, and writes a heartbeat if one is due; returns whether all of it went
 /// well. It didn't if the peer has gone.
 fn write_quiet<R: Read, W: Write>(watch: &mut Watch<'_, R>, writer: &mut W) -> bool
-    ensures { Beats result (W.contents writer.old) (W.contents writer.new) }
+    ensures { Remarks result (W.contents writer.old) (W.contents writer.new) }
 {
     match watch.look() {
         Due::Nothing => true,
@@ -79,7 +110,7 @@ fn write_quiet<R: Read, W: Write>(watch: &mut Watch<'_, R>, writer: &mut W) -> b
     }
 }
 
-/// Writes each command that the follower learns, until it learns none, and heartbeats; returns whether all of it went well.
+/// Writes each command that the follower learns, until it learns none, and comments; returns whether all of it went well.
 fn tell_on<H: Wait + Clock, J: Naming, R: Read, W: Write>(
     rt: &H,
     alloc: Global,
@@ -91,8 +122,11 @@ fn tell_on<H: Wait + Clock, J: Naming, R: Read, W: Write>(
 {
     for _ in rt.forever() {
         match follower.next_within(rt, watch.pause()) {
-            News::Command(command) => {
+            News::Command { command, together } => {
                 watch.wrote();
+                if !write_together(writer, together) {
+                    return false;
+                }
                 if !write_change(writer, alloc, follower.number(), &command) {
                     return false;
                 }
@@ -162,7 +196,8 @@ fn feed<H: Wait + Clock, J: Naming, R: Read, W: Write>(
 /// After the tables it needs a place, and ends if none gets free within a second. With one it goes on until following
 /// ends, the writer falls behind by more than 1,000 commands, or the peer has gone; nobody waits for the writer. The
 /// reader, whose reads hardly wait, shows whether the peer is there; while nothing is published it is looked at once a
-/// second, and a line `#` is written after each 15 seconds.
+/// second, and a line `#` is written after each 15 seconds. A line `# together K` comes before K commands that were made
+/// together, if there are several: their readers saw all of them at once.
 ///
 /// Returns whether all of it was written. It was not if the writer fails, if no line can express a rule, a route or a
 /// command, or if memory is refused: then a part of it was written.

@@ -3,7 +3,7 @@
 use crate::accepting::{Accepted, accept_one};
 use crate::feed::serve_feed;
 use crate::gate::Gate;
-use crate::listen::{Accepting, Limits, ServeEnd, serve_all};
+use crate::listen::{Accepting, Entrance, Limits, ServeEnd, serve_all};
 use crate::places::Places;
 use crossbeam_channel::{Receiver, Sender, bounded};
 use prt_service::{Naming, Service};
@@ -74,34 +74,77 @@ fn feed_streams<H: Wait + Clock, S: Alter + Drop, J: Naming, T: Read + Write + O
     }
 }
 
+/// What came of a round over the listeners.
+#[derive(Clone, Copy)]
+enum Round {
+    /// A connection came by one of them.
+    Came,
+    /// Nobody did.
+    Nobody,
+    /// One of them failed for good.
+    Never,
+}
+
+/// Accepts a connection at each listener, if one waits there, and hands it to a feeder. One for which no feeder gets free
+/// in time is closed.
+fn accept_round<H: Wait + Clock, G: Gate, T: Drop, L: OpenListener<Stream = T>>(
+    rt: &H,
+    gate: &G,
+    listeners: &[L],
+    streams: &Sender<T>,
+) -> Round {
+    let patience = Duration::from_secs(FOR_FEEDER);
+    let mut round = Round::Nobody;
+    for listener in listeners {
+        match accept_one(rt, gate, listener) {
+            Accepted::Stream(stream, _) => {
+                round = Round::Came;
+                drop(streams.send_timeout(rt, stream, patience));
+            }
+            Accepted::Nobody => {}
+            Accepted::Never => return Round::Never,
+        }
+    }
+    round
+}
+
+/// Has calls on the listeners wait for no client. Returns whether all of them do.
+fn stop_waiting<L: OpenListener>(listeners: &[L]) -> bool {
+    for listener in listeners {
+        if listener.set_nonblocking(true).is_err() {
+            return false;
+        }
+    }
+    true
+}
+
 /// Accepts connections, and hands each to a feeder that is free or soon is, until it is told to end. One for which no feeder
 /// is free is closed. Closes the channel behind it.
 fn accept_feeds<H: Wait + Clock, G: Gate, T: Drop, L: OpenListener<Stream = T>>(
     rt: &H,
     gate: &G,
-    listener: &L,
+    listeners: &[L],
     streams: Sender<T>,
     is_ended: &AtomicBool,
 ) -> Accepting {
     // Waits for no client, so that it sees when it is to end.
-    if listener.set_nonblocking(true).is_err() {
+    if !stop_waiting(listeners) {
         return Accepting::Failed;
     }
-    let patience = Duration::from_secs(FOR_FEEDER);
     for _ in rt.forever() {
         if is_ended.load(Ordering::SeqCst) {
             return Accepting::Ended;
         }
-        match accept_one(rt, gate, listener) {
-            Accepted::Stream(stream) => drop(streams.send_timeout(rt, stream, patience)),
-            Accepted::Nobody => thread::sleep(rt, Duration::from_millis(PAUSE)),
-            Accepted::Never => return Accepting::Failed,
+        match accept_round(rt, gate, listeners, &streams) {
+            Round::Came => {}
+            Round::Nobody => thread::sleep(rt, Duration::from_millis(PAUSE)),
+            Round::Never => return Accepting::Failed,
         }
     }
     unreachable!()
 }
 
-/// Feeds the connections of a listener until it is told to end, and following has ended.
+/// Feeds the connections of listeners until it is told to end, and following has ended.
 fn feed_all<
     H: Threads + Wait + Clock + Sync,
     S: Alter + Drop + Send,
@@ -114,7 +157,7 @@ fn feed_all<
     alloc: Global,
     service: &Service<S, J>,
     gate: &G,
-    listener: &L,
+    listeners: &[L],
     is_ended: &AtomicBool,
 ) -> Accepting {
     let Ok((sender, streams)) = bounded(alloc, 0) else {
@@ -127,7 +170,7 @@ fn feed_all<
             let feeder = |_| feed_streams(rt, alloc, service, &places, &streams);
             thread::map_indices(rt, alloc, FEEDERS, &feeder).is_ok()
         },
-        move || accept_feeds(rt, gate, listener, sender, is_ended),
+        move || accept_feeds(rt, gate, listeners, sender, is_ended),
     );
     if has_fed {
         accepting
@@ -136,7 +179,7 @@ fn feed_all<
     }
 }
 
-/// Serves the connections of a listener as `serve_all` does, and beside it feeds those of another: up to 80 at once, of
+/// Serves the connections of listeners as `serve_all` does, and beside it feeds those of others: up to 80 at once, of
 /// which 16 follow once they have read the tables. A further one waits up to 10 seconds for a thread, and is closed then.
 /// A feed has a thread of its own, and its faults end it alone. All threads have ended when it returns.
 pub fn serve_and_feed<
@@ -145,22 +188,22 @@ pub fn serve_and_feed<
     J: Naming + Send,
     G: Gate + Sync,
     T: Read + Write + OpenStream + Drop + Send,
-    L: OpenListener<Stream = T> + Sync,
+    L: OpenListener<Stream = T> + Drop + Sync,
 >(
     rt: &H,
     alloc: Global,
     service: &Service<S, J>,
     gate: &G,
-    listener: &L,
+    entrances: &[Entrance<L>],
     limits: Limits,
-    feed_listener: &L,
+    feeds: &[L],
 ) -> ServeEnd {
     let is_ended = AtomicBool::new(false);
     let (feeding, end) = thread::join(
         rt,
-        || feed_all(rt, alloc, service, gate, feed_listener, &is_ended),
+        || feed_all(rt, alloc, service, gate, feeds, &is_ended),
         || {
-            let end = serve_all(rt, alloc, service, gate, listener, limits);
+            let end = serve_all(rt, alloc, service, gate, entrances, limits);
             is_ended.store(true, Ordering::SeqCst);
             service.end_following(rt);
             end

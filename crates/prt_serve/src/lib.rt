@@ -1,7 +1,8 @@
-//! Sessions over a service that others share, and the workers that serve them.
+//! Sessions and atomic files over a service that others share, and the workers that serve them.
 #![tactic(auto)]
 
 mod accepting;
+mod atomic;
 mod connection;
 mod feed;
 mod feeding;
@@ -9,18 +10,25 @@ mod gate;
 mod idle;
 pub mod laws;
 mod listen;
+mod opening;
 mod places;
+mod reporting;
+mod resumed;
 mod room;
 mod session;
+mod turnstile;
 mod watch;
 mod worker;
 
+pub use atomic::{FileServed, serve_atomic};
 pub use connection::{Lines, Replies};
 pub use feed::{Fed, serve_feed};
 pub use feeding::serve_and_feed;
-pub use gate::{Gate, OpenGate};
-pub use listen::{Accepting, Limits, ServeEnd, accept, serve_all};
+pub use gate::{Gate, OpenGate, Queued};
+pub use listen::{Accepting, Entrance, Limits, ServeEnd, accept, serve_all};
 pub use places::Places;
+pub use reporting::{Entrances, serve_entrances};
 pub use room::{Arrival, Connected};
 pub use session::{Visit, serve_session};
-pub use worker::{Job, Served, work};
+pub use turnstile::Turnstile;
+pub use worker::{Job, Kind, Served, work};

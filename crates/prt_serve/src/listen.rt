@@ -1,11 +1,14 @@
 //! The loop that accepts connections, and the threads that serve them.
+ghost use Rattle.std.specs.Prelude.{◌≡◌};
+ghost use Rattle.prt_serve.specs.Accepting.{worse};
 
 use crate::accepting::{Accepted, accept_one};
 use crate::connection::{Lines, Replies};
 use crate::gate::Gate;
 use crate::idle::close;
 use crate::room::{Arrival, Connected, attend};
-use crate::worker::{Served, work};
+use crate::turnstile::Turnstile;
+use crate::worker::{Kind, Served, work};
 use crossbeam_channel::{Receiver, Sender, bounded};
 use prt_service::{Naming, Service};
 use prt_session::Refusal;
@@ -32,6 +35,14 @@ pub struct Limits {
     pub idle: Option<Duration>,
 }
 
+/// A listener for sessions.
+#[derive(Drop)]
+pub struct Entrance<L: Drop> {
+    pub listener: L,
+    /// How the sessions that come by it execute their lines.
+    pub kind: Kind,
+}
+
 /// How accepting ended.
 #[derive(Clone, Copy)]
 pub enum Accepting {
@@ -43,44 +54,160 @@ pub enum Accepting {
     NoWorkers,
 }
 
+impl Accepting {
+    /// Chooses the worse of two ends: a failure, or that no worker is left.
+    pub(crate) fn worse(self, other: Accepting) -> Accepting
+        ensures { result ≡ worse self other }
+    {
+        match (self, other) {
+            (Accepting::Failed, _) | (_, Accepting::Failed) => Accepting::Failed,
+            (Accepting::NoWorkers, _) | (_, Accepting::NoWorkers) => Accepting::NoWorkers,
+            (Accepting::Ended, Accepting::Ended) => Accepting::Ended,
+        }
+    }
+}
+
 /// How serving ended. Each of its parts may be a fault.
 #[derive(Clone, Copy)]
 pub struct ServeEnd {
     /// How accepting sessions ended.
     pub accepting: Accepting,
-    /// How accepting connections of a feed ended: by `Failed` or `Ended`, which it is too if there is no feed.
+    /// How accepting connections of feeds and for the status ended: by `Failed` or `Ended`, which it is too if there are none.
     pub feeding: Accepting,
     /// Why a worker got no looker, if one got none.
     pub refused: Option<Refusal>,
 }
 
-/// Accepts connections, numbers them from 1 and hands them over, and ends after the last that may come. Closes the channel
-/// behind it.
-///
-/// After an error that may pass it notifies the gate, pauses and tries again.
-pub fn accept<H: Wait + Clock, G: Gate, T: Drop, L: OpenListener<Stream = T>>(
+/// Accepts connections until the turnstile is shut, or this ends by itself.
+fn accept_each<H: Wait + Clock, G: Gate, T: Drop, L: OpenListener<Stream = T> + Drop>(
     rt: &H,
     gate: &G,
-    listener: &L,
+    entrance: &Entrance<L>,
     arrivals: Sender<Arrival<T>>,
-    sessions: u64,
+    turnstile: &Turnstile,
 ) -> Accepting {
-    let mut session = 1u64;
+    let kind = entrance.kind;
     for _ in rt.forever() {
-        let stream = match accept_one(rt, gate, listener) {
-            Accepted::Stream(stream) => stream,
+        if turnstile.is_shut() {
+            return Accepting::Ended;
+        }
+        let (stream, client) = match accept_one(rt, gate, &entrance.listener) {
+            Accepted::Stream(stream, client) => (stream, client),
             Accepted::Nobody => continue,
             Accepted::Never => return Accepting::Failed,
         };
-        if arrivals.send(rt, Arrival { session, stream }).is_err() {
+        let Some(session) = turnstile.pass() else {
+            return Accepting::Ended;
+        };
+        let arrival = Arrival {
+            session,
+            client,
+            kind,
+            stream,
+        };
+        if arrivals.send(rt, arrival).is_err() {
             return Accepting::NoWorkers;
         }
-        if session == sessions {
+        if turnstile.is_last(session) {
             return Accepting::Ended;
         }
-        session = session.saturating_add(1);
     }
     unreachable!()
+}
+
+/// Accepts connections at one of several listeners, numbers them with the others' from 1 and hands them over. Ends after
+/// the last that may come, and then or after a failure has the others end too. Closes the channel behind it.
+///
+/// After an error that may pass it notifies the gate, pauses and tries again. It sees that it is to end once its listener
+/// returns, by a connection or an error.
+pub fn accept<H: Wait + Clock, G: Gate, T: Drop, L: OpenListener<Stream = T> + Drop>(
+    rt: &H,
+    gate: &G,
+    entrance: &Entrance<L>,
+    arrivals: Sender<Arrival<T>>,
+    turnstile: &Turnstile,
+) -> Accepting {
+    let accepting = accept_each(rt, gate, entrance, arrivals, turnstile);
+    turnstile.shut();
+    accepting
+}
+
+/// One who accepts at a listener, whose thread is still to be started.
+#[derive(Drop)]
+struct Doorkeeper<'a, H: Wait + Clock, G: Gate, T: Drop, L: OpenListener<Stream = T> + Drop> {
+    rt: &'a H,
+    gate: &'a G,
+    entrance: &'a Entrance<L>,
+    arrivals: Sender<Arrival<T>>,
+    turnstile: &'a Turnstile,
+    /// Where it notes how it ended.
+    ended: &'a Mutex<Accepting>,
+}
+
+impl<'a, H: Wait + Clock, G: Gate, T: Drop, L: OpenListener<Stream = T> + Drop> Doorkeeper<
+    'a,
+    H,
+    G,
+    T,
+    L,
+> {
+    /// Accepts until it or another ends.
+    fn serve(self) {
+        let accepting = accept(
+            self.rt,
+            self.gate,
+            self.entrance,
+            self.arrivals,
+            self.turnstile,
+        );
+        note_end(self.rt, self.ended, accepting);
+    }
+}
+
+/// Notes how one of those who accept ended.
+fn note_end<H: Wait>(rt: &H, ended: &Mutex<Accepting>, accepting: Accepting) {
+    let mut ended = ended.lock(rt);
+    *ended = ended.worse(accepting);
+}
+
+/// Accepts connections at all listeners, each in a thread of its own. Returns once all of these have ended.
+fn accept_all<
+    H: Threads + Wait + Clock + Sync,
+    G: Gate + Sync,
+    T: Drop + Send,
+    L: OpenListener<Stream = T> + Drop + Sync,
+>(
+    rt: &H,
+    gate: &G,
+    entrances: &[Entrance<L>],
+    arrivals: Sender<Arrival<T>>,
+    sessions: u64,
+) -> Accepting {
+    let (turnstile, ended) = (Turnstile::new(sessions), Mutex::new(Accepting::Ended));
+    let (turnstile, noted) = (&turnstile, &ended);
+    thread::scope(thread::scope_env(), rt, |scope| {
+        for entrance in entrances {
+            let is_started = match arrivals.clone() {
+                Ok(arrivals) => {
+                    let doorkeeper = Doorkeeper {
+                        rt,
+                        gate,
+                        entrance,
+                        arrivals,
+                        turnstile,
+                        ended: noted,
+                    };
+                    scope.spawn(move || doorkeeper.serve()).is_ok()
+                }
+                Err(_) => false,
+            };
+            if !is_started {
+                turnstile.shut();
+                note_end(rt, noted, Accepting::Failed);
+            }
+        }
+    });
+    ended.into_inner()
 }
 
 /// A worker whose thread is still to be started.
@@ -117,18 +244,26 @@ impl<'a, H: Wait + Clock, S: Alter + Drop, J: Naming, G: Gate, T: Read + Write +
 
 /// The waiting room, whose thread is still to be started.
 #[derive(Drop)]
-struct Attendant<'a, H: Wait + Clock, T: Read + Write + OpenStream + Drop> {
+struct Attendant<'a, H: Wait + Clock, G: Gate, T: Read + Write + OpenStream + Drop> {
     rt: &'a H,
     alloc: Global,
+    gate: &'a G,
     arrivals: Receiver<Arrival<T>>,
     jobs: Sender<Connected<T>>,
     idle: Option<Duration>,
 }
 
-impl<'a, H: Wait + Clock, T: Read + Write + OpenStream + Drop> Attendant<'a, H, T> {
+impl<'a, H: Wait + Clock, G: Gate, T: Read + Write + OpenStream + Drop> Attendant<'a, H, G, T> {
     /// Attends to connections until no more come.
     fn serve(self) {
-        attend(self.rt, self.alloc, self.arrivals, self.jobs, self.idle);
+        attend(
+            self.rt,
+            self.alloc,
+            self.gate,
+            self.arrivals,
+            self.jobs,
+            self.idle,
+        );
     }
 }
 
@@ -161,13 +296,13 @@ fn accept_among_workers<
     J: Naming + Send,
     G: Gate + Sync,
     T: Read + Write + OpenStream + Drop + Send,
-    L: OpenListener<Stream = T>,
+    L: OpenListener<Stream = T> + Drop + Sync,
 >(
     rt: &H,
     alloc: Global,
     service: &Service<S, J>,
     gate: &G,
-    listener: &L,
+    entrances: &[Entrance<L>],
     limits: Limits,
     channels: Channels<T>,
     refused: &Mutex<Option<Refusal>>,
@@ -202,6 +337,7 @@ fn accept_among_workers<
         let attendant = Attendant {
             rt,
             alloc,
+            gate,
             arrivals,
             jobs: to_workers,
             idle,
@@ -209,18 +345,19 @@ fn accept_among_workers<
         if scope.spawn(move || attendant.serve()).is_err() {
             return Accepting::Failed;
         }
-        accept(rt, gate, listener, to_room, limits.sessions)
+        accept_all(rt, gate, entrances, to_room, limits.sessions)
     })
 }
 
-/// Serves the connections of a listener by so many workers, each a session of its own, until the last that may come has
-/// ended. All threads have ended then.
+/// Serves the connections of listeners by so many workers, each a session of its own, until the last that may come has
+/// ended. All threads have ended then. The listeners share one numbering and one limit; each `accept` is to return within a
+/// short time, also if nobody comes.
 ///
 /// A connection takes a worker once its client has sent something or ended; up to 1,024 wait for that. One whose second
 /// end can't be made for want of a descriptor waits for one. One whose buffer or time limit is refused is closed without a
 /// reply; it keeps its number and counts.
 ///
-/// Accepting stops for good if the listener fails for good, if a thread or a channel can't be made, or if no worker is
+/// Accepting stops for good if a listener fails for good, if a thread or a channel can't be made, or if no worker is
 /// left. A worker that gets no looker ends, and the others serve on.
 pub fn serve_all<
     H: Threads + Wait + Clock + Sync,
@@ -228,13 +365,13 @@ pub fn serve_all<
     J: Naming + Send,
     G: Gate + Sync,
     T: Read + Write + OpenStream + Drop + Send,
-    L: OpenListener<Stream = T>,
+    L: OpenListener<Stream = T> + Drop + Sync,
 >(
     rt: &H,
     alloc: Global,
     service: &Service<S, J>,
     gate: &G,
-    listener: &L,
+    entrances: &[Entrance<L>],
     limits: Limits,
 ) -> ServeEnd {
     let Ok(channels) = Channels::new(alloc) else {
@@ -246,7 +383,7 @@ pub fn serve_all<
     };
     let refused = Mutex::new(None);
     let accepting = accept_among_workers(
-        rt, alloc, service, gate, listener, limits, channels, &refused,
+        rt, alloc, service, gate, entrances, limits, channels, &refused,
     );
     ServeEnd {
         accepting,

@@ -2,13 +2,14 @@
 
 use crate::accepting::is_permanent;
 use crate::connection::{Lines, Replies, ends_over};
+use crate::gate::{Gate, Queued};
 use crate::idle::idle_line;
-use crate::worker::Job;
+use crate::worker::{Job, Kind};
 use crossbeam_channel::{Receiver, RecvTimeoutError, Sender, TrySendError};
 use std::alloc::Global;
 use std::collections::VecDeque;
 use std::io::{self, ErrorKind, Read, Write};
-use std::net::OpenStream;
+use std::net::{OpenStream, SocketAddr};
 use std::sync::Wait;
 use std::thread;
 use std::time::{Clock, Duration};
@@ -41,6 +42,10 @@ pub type Connected<T> = Job<Lines<T>, Replies<T>>;
 #[derive(Drop)]
 pub struct Arrival<T: Drop> {
     pub session: u64,
+    /// Where its client is; 0.0.0.0:0 for one at a Unix socket.
+    pub client: SocketAddr,
+    /// How its commands are made.
+    pub kind: Kind,
     pub stream: T,
 }
 
@@ -48,6 +53,8 @@ pub struct Arrival<T: Drop> {
 #[derive(Drop)]
 struct Guest<T: Drop> {
     session: u64,
+    client: SocketAddr,
+    kind: Kind,
     stream: T,
     /// When it came or, once its client has spoken, when that was seen, by the clock that never goes back.
     since: Duration,
@@ -58,10 +65,17 @@ struct Guest<T: Drop> {
 impl<T: OpenStream + Drop> Guest<T> {
     /// Lets a connection in: calls on it don't wait from now on, if it has a mode for that.
     fn new(arrival: Arrival<T>, now: Duration) -> Guest<T> {
-        let Arrival { session, stream } = arrival;
+        let Arrival {
+            session,
+            client,
+            kind,
+            stream,
+        } = arrival;
         let is_nonblocking = stream.set_nonblocking(true).is_ok();
         Guest {
             session,
+            client,
+            kind,
             stream,
             since: now,
             is_nonblocking,
@@ -115,11 +129,13 @@ fn connected<T: Read + Write + OpenStream + Drop>(
     to: T,
     idle: Option<Duration>,
 ) -> io::Result<Connected<T>> {
-    let session = guest.session;
+    let (session, client, kind) = (guest.session, guest.client, guest.kind);
     let stream = make_ready(guest, idle)?;
-    let (reader, writer) = ends_over(alloc, stream, to)?;
+    let (reader, writer) = ends_over(alloc, stream, to, kind)?;
     Ok(Job {
         session,
+        client,
+        kind,
         reader,
         writer,
     })
@@ -167,6 +183,8 @@ struct Room<T: Read + Write + OpenStream + Drop> {
     saw_young: Duration,
     /// When all were.
     saw_all: Duration,
+    /// How many were handed to the workers.
+    handed_over: u64,
 }
 
 impl<T: Read + Write + OpenStream + Drop> Room<T> {
@@ -179,6 +197,7 @@ impl<T: Read + Write + OpenStream + Drop> Room<T> {
             next: None,
             saw_young: Duration::ZERO,
             saw_all: Duration::ZERO,
+            handed_over: 0,
         }
     }
 
@@ -188,6 +207,16 @@ impl<T: Read + Write + OpenStream + Drop> Room<T> {
 
     fn is_empty(&self) -> bool {
         self.silent.is_empty() && !self.has_spoken_ones()
+    }
+
+    /// Counts those that wait, and those that have gone to the workers.
+    fn queued(&self) -> Queued {
+        let next = usize::from(self.next.is_some());
+        let in_room = self.silent.len().saturating_add(self.spoken.len());
+        Queued {
+            in_room: in_room.saturating_add(next),
+            handed_over: self.handed_over,
+        }
     }
 
     /// Chooses how long to wait before the next look.
@@ -295,7 +324,7 @@ impl<T: Read + Write + OpenStream + Drop> Room<T> {
                 return true;
             };
             match jobs.try_send(rt, job) {
-                Ok(()) => {}
+                Ok(()) => self.handed_over = self.handed_over.saturating_add(1),
                 Err(TrySendError::Disconnected(_)) => return false,
                 Err(refused) => {
                     self.next = Some(refused.into_inner());
@@ -339,10 +368,11 @@ fn time<H: Clock>(rt: &H) -> Duration {
 /// none waits. Ends if no worker is left.
 ///
 /// One whose client sends nothing for longer than `idle` is closed. So is the oldest of 1,024 of them if one more
-/// comes.
-pub(crate) fn attend<H: Wait + Clock, T: Read + Write + OpenStream + Drop>(
+/// comes. After each look the gate learns how many wait.
+pub(crate) fn attend<H: Wait + Clock, G: Gate, T: Read + Write + OpenStream + Drop>(
     rt: &H,
     alloc: Global,
+    gate: &G,
     arrivals: Receiver<Arrival<T>>,
     jobs: Sender<Connected<T>>,
     idle: Option<Duration>,
@@ -356,7 +386,9 @@ pub(crate) fn attend<H: Wait + Clock, T: Read + Write + OpenStream + Drop>(
             room.sort_in(guest, now);
         }
         room.look(now);
-        if !room.hand_over(rt, &jobs, now) || (is_closed && room.is_empty()) {
+        let has_workers = room.hand_over(rt, &jobs, now);
+        gate.queued(room.queued());
+        if !has_workers || (is_closed && room.is_empty()) {
             return;
         }
     }

@@ -13,6 +13,7 @@ use prt_version::Version;
 use sqlite::Alter;
 use std::alloc::Global;
 use std::io::{Read, Write};
+use std::net::SocketAddr;
 use std::sync::Wait;
 use std::time::Clock;
 
@@ -118,6 +119,7 @@ pub fn serve_session<H: Wait + Clock, S: Alter + Drop, J: Naming, G: Gate, R: Re
     service: &Service<S, J>,
     looker: &mut Looker,
     session: u64,
+    client: SocketAddr,
     gate: &G,
     reader: &mut R,
     writer: &mut W,
@@ -130,6 +132,10 @@ pub fn serve_session<H: Wait + Clock, S: Alter + Drop, J: Naming, G: Gate, R: Re
 {
     looker.rest(rt, service);
     let visit = Visit { rt, alloc, service };
-    let mut gated = Gated { gate, session };
+    let mut gated = Gated {
+        gate,
+        session,
+        client,
+    };
     run_session(&visit, looker, reader, writer, OnRefusal::GoOn, &mut gated)
 }

@@ -1,10 +1,12 @@
-//! Workers: each serves one session after another.
+//! Workers: each serves one connection after another, a session or an atomic file.
 ghost use Rattle.std.specs.Prelude.{◌≡◌, None, IfErr, IfOk};
 ghost use Rattle.std.specs.Iterator.{IsFinite};
 ghost use Rattle.prt_front.specs.Line.{Begins, Line};
 ghost use Rattle.prt_serve.specs.Jobs.{ServesAll};
 ghost use Rattle.prt_serve.specs.Serving.{Serves};
+ghost use Rattle.prt_serve.specs.Together.{ServesTogether};
 
+use crate::atomic::{FileServed, serve_atomic};
 use crate::gate::Gate;
 use crate::session::serve_session;
 use prt_service::{Departure, Looker, Naming, Service};
@@ -12,14 +14,27 @@ use prt_session::{Refusal, ScriptEnd};
 use sqlite::Alter;
 use std::alloc::Global;
 use std::io::{Read, Write};
+use std::net::SocketAddr;
 use std::sync::Wait;
 use std::time::Clock;
+
+/// How the commands of a connection are made.
+#[derive(Clone, Copy)]
+pub enum Kind {
+    /// One after another: each line is replied to before the next is read.
+    InTurn,
+    /// All together or none, once the last line is read.
+    Together,
+}
 
 /// A session that waits for a worker.
 #[derive(Drop)]
 pub struct Job<R: Read + Drop, W: Write + Drop> {
     /// The number of the session, from 1.
     pub session: u64,
+    /// Where its client is; 0.0.0.0:0 for one at a Unix socket.
+    pub client: SocketAddr,
+    pub kind: Kind,
     pub reader: R,
     pub writer: W,
 }
@@ -45,19 +60,81 @@ fn serve_job<H: Wait + Clock, S: Alter + Drop, J: Naming, G: Gate, R: Read + Dro
     ensures of { (looker.new.known.book ≡ J.book) × (looker.new.known.base ≡ J.base) }
     ensures offline { (looker.new.held ≡ None) × (looker.new.announced ≡ None) }
     ensures session { job.new.session ≡ job.old.session }
+    ensures kind { job.new.kind ≡ job.old.kind }
     ensures served { Serves looker.old.known looker.new.known (R.remaining job.old.reader) (R.remaining job.new.reader)
         (W.contents job.old.writer) (W.contents job.new.writer) result }
 {
-    serve_session(
+    gate.begins(job.session);
+    let end = serve_session(
         rt,
         alloc,
         service,
         looker,
         job.session,
+        job.client,
         gate,
         &mut job.reader,
         &mut job.writer,
-    )
+    );
+    gate.ends(job.session);
+    end
+}
+
+/// Serves the atomic file of a job, as `serve_atomic` does.
+fn serve_together<
+    H: Wait + Clock,
+    S: Alter + Drop,
+    J: Naming,
+    G: Gate,
+    R: Read + Drop,
+    W: Write + Drop,
+>(
+    rt: &H,
+    alloc: Global,
+    service: &Service<S, J>,
+    looker: &mut Looker,
+    job: Job<R, W>,
+    gate: &G,
+) -> Served<R, W>
+    requires { (looker.old.known.book ≡ J.book) × (looker.old.known.base ≡ J.base) }
+    ensures of { (looker.new.known.book ≡ J.book) × (looker.new.known.base ≡ J.base) }
+    ensures offline { (looker.new.held ≡ None) × (looker.new.announced ≡ None) }
+    ensures grows { Begins looker.old.known looker.new.known }
+    ensures session { result.job.session ≡ job.session }
+    ensures kind { result.job.kind ≡ job.kind }
+    ensures served { ServesTogether looker.old.known looker.new.known (R.remaining job.reader) (R.remaining result.job.reader)
+        (W.contents job.writer) (W.contents result.job.writer) result.end }
+{
+    let Job {
+        session,
+        client,
+        kind,
+        reader,
+        mut writer,
+    } = job;
+    gate.begins(session);
+    let FileServed { end, reader } = serve_atomic(
+        rt,
+        alloc,
+        service,
+        looker,
+        session,
+        client,
+        gate,
+        reader,
+        &mut writer,
+    );
+    gate.ends(session);
+    Served {
+        job: Job {
+            session,
+            client,
+            kind,
+            reader,
+            writer,
+        },
+        end,
+    }
 }
 
 /// Serves jobs until no more come, each with all that the looker learned from those before. A fault ends its own session
@@ -89,8 +166,13 @@ fn serve_jobs<
     ensures served { ServesAll I.next_gives R.remaining W.contents (λ to left later. F.step to left tt later) jobs looker.old.known after looker.new.known }
 {
     for mut job in jobs {
-        let end = serve_job(rt, alloc, service, looker, &mut job, gate);
-        after(Served { job, end });
+        match job.kind {
+            Kind::InTurn => {
+                let end = serve_job(rt, alloc, service, looker, &mut job, gate);
+                after(Served { job, end });
+            }
+            Kind::Together => after(serve_together(rt, alloc, service, looker, job, gate)),
+        }
     }
 }
 

@@ -6,7 +6,7 @@ use Rattle.prt_service.specs.declared.news.News.TheVariants.{Command, Quiet, End
 
 -- by this news a follower that knew the one list knows the other
 abbrev pub IsNews : Line → News → Line → Type 0
-IsNews old (Command command) new = new ≡ grown old command
+IsNews old (Command command together) new = new ≡ grown old command
 IsNews old Quiet new = new ≡ old
 IsNews old Ended new = new ≡ old
 

@@ -1,10 +1,12 @@
 -- What a service says of a command.
-use Rattle.std.specs.Prelude.{◌≡◌, List, [], ◌∷◌, ◌++◌, IfErr, IfOk, Result}
+use Rattle.std.specs.Prelude.{◌≡◌, ◌≢◌, ◌+◌, ℕ, List, [], ◌∷◌, ◌++◌, IfErr, IfOk, Option, Some, Result, length}
 use Rattle.logbook.specs.Pages.{Book}
 use Rattle.prt_refusals.specs.declared.refusal.Refusal.{Refusal}
 use Rattle.prt_refusals.specs.declared.refusal.Refusal.TheVariants.{Busy, Closed, CountFull, Exists, Full, NoMemory, NoSuch, NotFetched, NotPublished, StoreFailed}
 use Rattle.prt_command.specs.declared.request.Command.{Command}
 use Rattle.prt_front.specs.Line.{Line}
+use Rattle.prt_service.specs.declared.not_made.NotMade.{NotMade}
+use Rattle.prt_service.specs.declared.not_made.NotMade.TheVariants.{Moved, Refused}
 use Rattle.prt_version.specs.State.{State}
 
 -- the commands are the last of the list
@@ -14,6 +16,10 @@ EndsWithAll list commands = (before : List Command) × (list ≡ before ++ comma
 -- the command is the last of the list
 abbrev pub EndsWith : List Command → Command → Type 0
 EndsWith list command = EndsWithAll list (command ∷ [])
+
+-- without these commands, which are its last, the list has this number
+abbrev pub IsAfter : ℕ → List Command → Line → Type 0
+IsAfter number commands line = (before : List Command) × (line.list ≡ before ++ commands) × (line.base.count + length before ≡ number)
 
 -- what a command can be refused for
 abbrev pub IsServiceRefusal : Refusal → Type 0
@@ -27,6 +33,11 @@ IsServiceRefusal NoMemory = Unit {0}
 IsServiceRefusal (StoreFailed call) = Unit {0}
 IsServiceRefusal NotPublished = Unit {0}
 IsServiceRefusal _ = ⊥
+
+-- why commands that were to be made at this number, if at one, are not made: they are refused, or the published list has another number
+abbrev pub IsWhyNotMade : Option ℕ → NotMade → Type 0
+IsWhyNotMade expected (Refused reason) = IsServiceRefusal reason
+IsWhyNotMade expected (Moved number) = (other : ℕ) × (expected ≡ Some other) × (other ≢ number)
 
 -- what a follower can be refused for
 abbrev pub IsFollowRefusal : Refusal → Type 0

@@ -14,6 +14,8 @@ use std::marker::{Model, PhantomData};
 pub(crate) struct Change<J: Naming> {
     pub(crate) number: u64,
     pub(crate) command: Command,
+    /// How many commands were made together, if it is the first of them; 0 otherwise.
+    pub(crate) together: u64,
     pub(crate) told: Told,
     pub(crate) of: PhantomData<J>,
 }
@@ -39,8 +41,8 @@ fn same(told: &Told) -> Told
 }
 
 impl<J: Naming> Change<J> {
-    /// Reports the command that was accepted so many commands before the last of a receipt.
-    pub(crate) fn new(last: &Receipt, later: u64, command: &Command) -> Change<J>
+    /// Reports the command that was accepted so many commands before the last of a receipt, and how many it begins.
+    pub(crate) fn new(last: &Receipt, later: u64, command: &Command, together: u64) -> Change<J>
         requires of { (last.now.book ≡ J.book) × (last.now.base ≡ J.base) }
         requires earlier { later < length last.now.list }
         requires ends { EndsWith (take (length last.now.list - later) last.now.list) command.now }
@@ -50,6 +52,7 @@ impl<J: Naming> Change<J> {
         Change {
             number: receipt.number(),
             command: *command,
+            together,
             told: same(receipt.told()),
             of: PhantomData,
         }
@@ -62,6 +65,7 @@ impl<J: Naming> Change<J> {
         Change {
             number: self.number,
             command: self.command,
+            together: self.together,
             told: same(&self.told),
             of: PhantomData,
         }

@@ -79,6 +79,7 @@ impl<J: Naming> Follower<J> {
         let Change {
             number,
             command,
+            together,
             told,
             of: _,
         } = match self.changes.receiver.recv_timeout(rt, patience) {
@@ -93,7 +94,7 @@ impl<J: Naming> Follower<J> {
         let _is_before = self.told.known().is_before(told.known());
         self.number = number;
         self.told = told;
-        News::Command(command)
+        News::Command { command, together }
     }
 
     /// Ends its channel: the service that it is of reports nothing more to it. The result says that it left, with the

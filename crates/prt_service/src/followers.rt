@@ -115,6 +115,13 @@ impl<J: Naming> Followers<J> {
         Unfollowed { told }
     }
 
+    /// Returns how many there are.
+    pub(crate) fn len(&self) -> usize
+        ensures { result ≡ length self.now }
+    {
+        self.recipients.len()
+    }
+
     /// Lets all of them go, and takes none from now on.
     pub(crate) fn end(&mut self)
         ensures { self.new ≡ [] }
@@ -135,12 +142,14 @@ impl<J: Naming> Followers<J> {
         requires ends { EndsWithAll last.now.list commands.now }
     {
         let mut later = commands.len();
+        let mut together = commands.len() as u64;
         for command in commands {
             if self.recipients.is_empty() {
                 return;
             }
             later -= 1;
-            self.tell(rt, &Change::new(last, later as u64, command));
+            self.tell(rt, &Change::new(last, later as u64, command, together));
+            together = 0;
         }
     }
 }

@@ -7,7 +7,9 @@
 #![tactic(auto)]
 
 mod change;
+mod contents;
 mod departure;
+mod figures;
 mod follower;
 mod followers;
 mod group;
@@ -16,16 +18,22 @@ mod lobby;
 mod looker;
 mod naming;
 mod news;
+mod not_made;
 mod quiet;
 mod service;
 mod spare;
 mod submitted;
+mod tally;
 mod waiting;
 
+pub use contents::{Contents, contents_of};
 pub use departure::Departure;
+pub use figures::Figures;
 pub use follower::Follower;
 pub use followers::Unfollowed;
 pub use looker::Looker;
 pub use naming::Naming;
 pub use news::News;
+pub use not_made::NotMade;
 pub use service::Service;
+pub use tally::{Commit, Tally};

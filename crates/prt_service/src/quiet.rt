@@ -1,5 +1,5 @@
 //! What lies under the lock of a service.
-ghost use Rattle.std.specs.Prelude.{◌≡◌, ◌≤◌, [], All, IfErr, IfOk, OnOk, length};
+ghost use Rattle.std.specs.Prelude.{◌≡◌, ◌≤◌, ◌↔◌, [], All, IfErr, IfOk, IfSome, IsTrue, OnOk, false, length, true};
 ghost use Rattle.std.specs.Arc.{arc_value};
 ghost use Rattle.sqlite.specs.Held.{state};
 ghost use Rattle.sqlite.specs.State.{HasCleanDisk};
@@ -8,18 +8,21 @@ ghost use Rattle.prt_front.specs.Line.{grown, grown_by, line_state};
 ghost use Rattle.prt_publisher.specs.Exits.{AreNotAcknowledged, HasCommitted, HaveCommitted, IsNotAcknowledged, Spares, Takes, TakesAll};
 ghost use Rattle.prt_publisher.specs.Standing.{IsQuiet, Stands};
 ghost use Rattle.prt_publisher.specs.declared.phase.Phase.TheVariants.{Ready};
+ghost use Rattle.prt_service.specs.Group.{AreNotMade};
 ghost use Rattle.prt_service.specs.Named.{IsNamed};
-ghost use Rattle.prt_service.specs.Service.{EndsWith, EndsWithAll, IsFollowRefusal, IsServiceRefusal};
+ghost use Rattle.prt_service.specs.Service.{EndsWith, EndsWithAll, IsAfter, IsFollowRefusal, IsServiceRefusal, IsWhyNotMade};
 ghost use Rattle.prt_version.specs.Accepted.{IsAccepted};
 
 use crate::change::Change;
 use crate::followers::{FollowerNumber, Followers};
+use crate::not_made::NotMade;
+use crate::tally::{Commit, Tally};
 use crate::{Naming, Unfollowed};
 use crossbeam_channel::Sender;
 use prt_command::{Command, Refusal};
 use prt_front::{Known, Told};
 use prt_grace::Domain;
-use prt_publisher::{Publisher, Receipt};
+use prt_publisher::{Phase, Publisher, Receipt};
 use prt_version::Version;
 use sqlite::{Alter, Connection, Error};
 use std::alloc::Global;
@@ -27,17 +30,19 @@ use std::marker::{Model, PhantomData};
 use std::slice;
 use std::sync::{Arc, Wait};
 
-/// A publisher of the named front with no command under way, and its followers.
+/// A publisher of the named front with no command under way, its followers, and what came of its submissions.
 #[derive(Drop)]
 pub(crate) struct QuietPublisher<S: Alter + Drop, J: Naming> {
     publisher: Publisher<S>,
     followers: Followers<J>,
+    tally: Tally,
     of: PhantomData<J>,
 }
 
 impl<S: Alter + Drop, J: Naming> Model for QuietPublisher<S, J> {
     ghost use Rattle.sqlite.specs.Held.{Held, held_code};
     ghost use Rattle.prt_publisher.specs.Standing.{IsQuiet, Standing, standing_code};
+    ghost use Rattle.prt_service.specs.Group.{AreNotMade};
     ghost use Rattle.prt_service.specs.Named.{IsNamed};
 
     ghost Value = { Standing (Held S) };
@@ -58,6 +63,7 @@ impl<S: Alter + Drop, J: Naming> QuietPublisher<S, J> {
         QuietPublisher {
             publisher,
             followers: Followers::new(alloc),
+            tally: Tally::new(),
             of: PhantomData,
         }
     }
@@ -130,6 +136,44 @@ impl<S: Alter + Drop, J: Naming> QuietPublisher<S, J> {
         Ok(last)
     }
 
+    /// The same, if the published version has the expected number, where one is given.
+    ///
+    /// # Errors
+    ///
+    /// `Refused`, as of `submit_all`. `Moved` if the version has another number, which it returns: nothing has changed.
+    pub(crate) fn submit_all_at<W: Wait>(
+        &mut self,
+        rt: &W,
+        domain: &Domain,
+        expected: Option<u64>,
+        commands: &[Command],
+    ) -> Result<Receipt, NotMade>
+        requires some { 1 ≤ length commands.now }
+        requires storable { All IsStorable commands.now }
+        ensures of { IfOk result (λ receipt. (receipt.book ≡ J.book) × (receipt.base ≡ J.base)) }
+        ensures last { IfOk result (λ receipt. EndsWithAll receipt.list commands.now) }
+        ensures after { IfOk result (λ receipt. IfSome expected (λ number. IsAfter number commands.now receipt)) }
+        ensures reason { IfErr result (IsWhyNotMade expected) }
+        ensures quiet { IsQuiet self.new.phase }
+        ensures ok { IfOk result (λ receipt. (receipt ≡ grown_by self.old.line commands.now) × (self.new ≡ record self.old { phase = Ready; line = grown_by self.old.line commands.now; commands = []; tables = self.new.tables })) }
+        ensures took { OnOk result (TakesAll self.old commands.now) }
+        ensures met { OnOk result (IfSome expected (λ number. number ≡ (line_state self.old.line).count)) }
+        ensures err { IfErr result (λ why. AreNotMade S.Store self.old commands.now why self.new) }
+    {
+        let number = self.publisher.published().number();
+        if is_moved(expected, number) {
+            return Err(NotMade::Moved(number));
+        }
+        match self.submit_all(rt, domain, commands) {
+            Ok(receipt) => {
+                // Recalls what a receipt's number is.
+                let _last = receipt.number();
+                Ok(receipt)
+            }
+            Err(reason) => Err(NotMade::Refused(reason)),
+        }
+    }
+
     /// Returns the version that was published last.
     pub(crate) fn published(&self) -> &Version
         ensures { result.now ≡ line_state self.now.line }
@@ -177,6 +221,37 @@ impl<S: Alter + Drop, J: Naming> QuietPublisher<S, J> {
         self.followers.end();
     }
 
+    /// Counts commands that were submitted together and acknowledged.
+    pub(crate) fn count(&mut self, commands: u64, commit: Commit)
+        ensures { self.new ≡ self.old }
+    {
+        self.tally.count(commands, commit);
+    }
+
+    /// Notes why a submission was refused, if it closed with it.
+    pub(crate) fn refuse(&mut self, reason: Refusal)
+        ensures { self.new ≡ self.old }
+    {
+        self.tally.refuse(reason);
+    }
+
+    /// Returns what came of the submissions so far.
+    pub(crate) fn tally(&self) -> Tally {
+        self.tally
+    }
+
+    /// Returns whether it takes commands.
+    pub(crate) fn is_open(&self) -> bool
+        ensures { IsTrue result ↔ (self.now.phase ≡ Ready) }
+    {
+        matches!(self.publisher.phase(), Phase::Ready)
+    }
+
+    /// Returns how many followers there are.
+    pub(crate) fn followers(&self) -> usize {
+        self.followers.len()
+    }
+
     /// Returns the library's error of the commit that closed it, if one did.
     pub(crate) fn failure(&self) -> Option<Error> {
         self.publisher.failure()
@@ -200,5 +275,16 @@ impl<S: Alter + Drop, J: Naming> QuietPublisher<S, J> {
         ensures stands { Stands S.Store self }
     {
         self.publisher.end(rt)
+    }
+}
+
+/// Checks whether a number was expected, and this is another one.
+fn is_moved(expected: Option<u64>, number: u64) -> bool
+    ensures moved { result ≡ true → IsWhyNotMade expected (NotMade.Moved number) }
+    ensures met { result ≡ false → IfSome expected (λ other. other ≡ number) }
+{
+    match expected {
+        Some(other) => other != number,
+        None => false,
     }
 }

@@ -5,20 +5,23 @@ ghost use Rattle.prt_command.specs.Storable.{IsStorable};
 ghost use Rattle.prt_front.specs.Line.{line_state};
 ghost use Rattle.prt_publisher.specs.Standing.{IsQuiet};
 ghost use Rattle.prt_service.specs.Named.{IsNamed, IsReleased};
-ghost use Rattle.prt_service.specs.Service.{EndsWith, EndsWithAll, IsAnswer, IsFollowRefusal, IsServiceRefusal};
+ghost use Rattle.prt_service.specs.Service.{EndsWith, EndsWithAll, IsAfter, IsAnswer, IsFollowRefusal, IsServiceRefusal, IsWhyNotMade};
 
+use crate::figures::{Figures, figures_of};
 use crate::follower::Changes;
 use crate::followers::FollowerNumber;
 use crate::group::submit_waiting;
 use crate::lobby::{Entered, Lobby};
+use crate::not_made::NotMade;
 use crate::quiet::QuietPublisher;
 use crate::spare::{Returned, SpareReaders};
+use crate::tally::{Commit, Stopwatch};
 use crate::waiting::Waiting;
 use crate::{Follower, Looker, Naming, Unfollowed};
 use crossbeam_channel::bounded;
 use prt_command::{Command, Refusal};
 use prt_front::{FrontReader, Told};
-use prt_grace::Domain;
+use prt_grace::{Domain, Retention};
 use prt_publisher::{Publisher, Receipt, Seats};
 use prt_version::Version;
 use sqlite::{Alter, Connection, Error};
@@ -101,7 +104,7 @@ impl<S: Alter + Drop, J: Naming> Service<S, J> {
     }
 
     /// The same without a pause: `Busy` comes at once.
-    fn try_submit<W: Wait>(&self, rt: &W, command: &Command) -> Result<Receipt, Refusal>
+    fn try_submit<W: Wait + Clock>(&self, rt: &W, command: &Command) -> Result<Receipt, Refusal>
         requires { IsStorable command.now }
         ensures of { IfOk result (λ receipt. (receipt.book ≡ J.book) × (receipt.base ≡ J.base)) }
         ensures last { IfOk result (λ receipt. EndsWith receipt.list command.now) }
@@ -109,12 +112,26 @@ impl<S: Alter + Drop, J: Naming> Service<S, J> {
     {
         match self.submit_in_group(rt, command) {
             Some(result) => result,
-            None => self.publisher.lock(rt).submit(rt, &self.domain, command),
+            None => self.submit_alone(rt, command),
         }
     }
 
+    /// Has a command submitted by itself, and counts it.
+    fn submit_alone<W: Wait + Clock>(&self, rt: &W, command: &Command) -> Result<Receipt, Refusal>
+        requires { IsStorable command.now }
+        ensures of { IfOk result (λ receipt. (receipt.book ≡ J.book) × (receipt.base ≡ J.base)) }
+        ensures last { IfOk result (λ receipt. EndsWith receipt.list command.now) }
+        ensures reason { IfErr result IsServiceRefusal }
+    {
+        let mut publisher = self.publisher.lock(rt);
+        let watch = Stopwatch::start(rt);
+        let became = publisher.submit(rt, &self.domain, command);
+        note(&mut publisher, 1, &became, watch.stop(rt));
+        became
+    }
+
     /// Has a command submitted together with those that wait. `None` if it can't wait, or was left out of its group.
-    fn submit_in_group<W: Wait>(
+    fn submit_in_group<W: Wait + Clock>(
         &self,
         rt: &W,
         command: &Command,
@@ -133,12 +150,16 @@ impl<S: Alter + Drop, J: Naming> Service<S, J> {
     }
 
     /// Submits the commands that wait once the publisher is free, and answers those that were submitted.
-    fn submit_waiting<W: Wait>(&self, rt: &W) {
+    fn submit_waiting<W: Wait + Clock>(&self, rt: &W) {
         let mut publisher = self.publisher.lock(rt);
         let waiting = self.lobby.lock(rt).take_all(self.alloc);
+        let watch = Stopwatch::start(rt);
         let submitted = submit_waiting(&mut publisher, rt, self.alloc, &self.domain, waiting);
-        // Sends the answers under the lock: those that are answered then come back in time for the next group.
+        let commit = watch.stop(rt);
         if let Some(submitted) = submitted {
+            let commands = submitted.waiting.len() as u64;
+            note(&mut publisher, commands, &submitted.became, commit);
+            // Sends the answers under the lock: those that are answered then come back in time for the next group.
             submitted.answer(rt);
         }
         drop(publisher);
@@ -162,27 +183,71 @@ impl<S: Alter + Drop, J: Naming> Service<S, J> {
         ensures last { IfOk result (λ receipt. EndsWithAll receipt.list commands.now) }
         ensures reason { IfErr result IsServiceRefusal }
     {
-        for _ in 0..MOST_PAUSES {
-            let became = self.try_submit_all(rt, commands);
-            if !is_busy(&became) {
-                return became;
-            }
-            thread::sleep(rt, Duration::from_millis(PAUSE));
+        match self.submit_all_at(rt, None, commands) {
+            Ok(receipt) => Ok(receipt),
+            Err(NotMade::Refused(reason)) => Err(reason),
+            Err(NotMade::Moved(_)) => unreachable!(),
         }
-        self.try_submit_all(rt, commands)
     }
 
-    /// The same without a pause: `Busy` comes at once.
-    fn try_submit_all<W: Wait>(&self, rt: &W, commands: &[Command]) -> Result<Receipt, Refusal>
+    /// The same, if the published version has the expected number, where one is given. The number is looked at under the
+    /// lock under which the commands are made, again at each try.
+    ///
+    /// # Errors
+    ///
+    /// `Refused`, as of `submit_all`. `Moved` if the version has another number, which it returns: nothing has changed.
+    pub fn submit_all_at<W: Wait + Clock>(
+        &self,
+        rt: &W,
+        expected: Option<u64>,
+        commands: &[Command],
+    ) -> Result<Receipt, NotMade>
         requires some { 1 ≤ length commands.now }
         requires storable { All IsStorable commands.now }
         ensures of { IfOk result (λ receipt. (receipt.book ≡ J.book) × (receipt.base ≡ J.base)) }
         ensures last { IfOk result (λ receipt. EndsWithAll receipt.list commands.now) }
-        ensures reason { IfErr result IsServiceRefusal }
+        ensures after { IfOk result (λ receipt. IfSome expected (λ number. IsAfter number commands.now receipt)) }
+        ensures reason { IfErr result (IsWhyNotMade expected) }
     {
-        self.publisher
-            .lock(rt)
-            .submit_all(rt, &self.domain, commands)
+        for _ in 0..MOST_PAUSES {
+            let became = self.try_submit_all_at(rt, expected, commands);
+            if !had_no_room(&became) {
+                return became;
+            }
+            thread::sleep(rt, Duration::from_millis(PAUSE));
+        }
+        self.try_submit_all_at(rt, expected, commands)
+    }
+
+    /// The same without a pause: `Busy` comes at once.
+    fn try_submit_all_at<W: Wait + Clock>(
+        &self,
+        rt: &W,
+        expected: Option<u64>,
+        commands: &[Command],
+    ) -> Result<Receipt, NotMade>
+        requires some { 1 ≤ length commands.now }
+        requires storable { All IsStorable commands.now }
+        ensures of { IfOk result (λ receipt. (receipt.book ≡ J.book) × (receipt.base ≡ J.base)) }
+        ensures last { IfOk result (λ receipt. EndsWithAll receipt.list commands.now) }
+        ensures after { IfOk result (λ receipt. IfSome expected (λ number. IsAfter number commands.now receipt)) }
+        ensures reason { IfErr result (IsWhyNotMade expected) }
+    {
+        let mut publisher = self.publisher.lock(rt);
+        let watch = Stopwatch::start(rt);
+        let became = publisher.submit_all_at(rt, &self.domain, expected, commands);
+        note_made(
+            &mut publisher,
+            commands.len() as u64,
+            &became,
+            watch.stop(rt),
+        );
+        became
+    }
+
+    /// Returns the number of the published version.
+    pub fn number<W: Wait>(&self, rt: &W) -> u64 {
+        self.publisher.lock(rt).published().number()
     }
 
     /// Makes a looker, offline, with a place of the domain and one of the spare readers.
@@ -273,6 +338,17 @@ impl<S: Alter + Drop, J: Naming> Service<S, J> {
         self.publisher.lock(rt).failure()
     }
 
+    /// Returns what the publisher shows of itself, all at one moment. The lock is held for as long as it takes to copy it, and
+    /// nothing changes.
+    pub fn figures<W: Wait>(&self, rt: &W) -> Figures {
+        figures_of(&self.publisher.lock(rt))
+    }
+
+    /// Returns how many retired versions are kept for lookers, and which looker holds them back. Nothing changes.
+    pub fn retention<W: Wait>(&self, rt: &W) -> Retention {
+        self.domain.retention(rt)
+    }
+
     /// Ends the service, and returns the connection, with its tables as the lock keeps them. Of a file that is known, a
     /// ready publisher's tables hold the published state, and those of a closed one that or the state after one
     /// submission more, the same one whatever a crash leaves; a crash leaves no other. It waits for nobody: the front's
@@ -291,7 +367,43 @@ impl<S: Alter + Drop, J: Naming> Service<S, J> {
     }
 }
 
+/// Counts so many commands that were submitted together, or notes why they were refused.
+fn note<S: Alter + Drop, J: Naming>(
+    publisher: &mut QuietPublisher<S, J>,
+    commands: u64,
+    became: &Result<Receipt, Refusal>,
+    commit: Commit,
+)
+    ensures { publisher.new ≡ publisher.old }
+{
+    match became {
+        Ok(_) => publisher.count(commands, commit),
+        Err(reason) => publisher.refuse(*reason),
+    }
+}
+
+/// The same of commands that were to be made at a number.
+fn note_made<S: Alter + Drop, J: Naming>(
+    publisher: &mut QuietPublisher<S, J>,
+    commands: u64,
+    became: &Result<Receipt, NotMade>,
+    commit: Commit,
+)
+    ensures { publisher.new ≡ publisher.old }
+{
+    match became {
+        Ok(_) => publisher.count(commands, commit),
+        Err(NotMade::Refused(reason)) => publisher.refuse(*reason),
+        Err(NotMade::Moved(_)) => {}
+    }
+}
+
 /// Checks whether there was no room for one more retired version.
 fn is_busy(became: &Result<Receipt, Refusal>) -> bool {
     matches!(became, Err(Refusal::Busy))
+}
+
+/// The same of commands that were to be made at a number.
+fn had_no_room(became: &Result<Receipt, NotMade>) -> bool {
+    matches!(became, Err(NotMade::Refused(Refusal::Busy)))
 }

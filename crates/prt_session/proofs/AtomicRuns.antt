@@ -6,10 +6,10 @@ use Rattle.prt_refusals.specs.declared.on_refusal.OnRefusal.TheVariants.{Stop}
 use Rattle.prt_refusals.specs.declared.refusal.Refusal.{Refusal}
 use Rattle.prt_refusals.specs.declared.refusal.Refusal.TheVariants.{WriteFault}
 use Rattle.prt_command.specs.declared.request.Command.{Command}
-use Rattle.prt_session.proofs.Collected.{IsReading, alone, collected_alike, collected_told, found, its_refusal, refused_or_fault, says_alone}
+use Rattle.prt_session.proofs.Collected.{IsReading, collected_alike, collected_told, found, its_refusal, refused_or_fault, says_alone}
 use Rattle.prt_replies.proofs.Known.{Gives, appends_more, gives_all, gives_beyond, left_of}
 use Rattle.prt_session.proofs.Replies.{cons_not_nil, one_text}
-use Rattle.prt_session.specs.Atomic.{AtomicIs, CollectMay, Outcome, SubmittedIs, WroteReplies, after_reading, collect_turn, collected, atomic_output, submitted}
+use Rattle.prt_session.specs.Atomic.{AtomicIs, CollectMay, Outcome, ReadIs, SubmittedIs, WroteReplies, after_reading, alone, collect_turn, collected, atomic_output, submitted}
 use Rattle.prt_session.specs.Desk.{DeskState, Mishap}
 use Rattle.prt_replies.specs.Reply.{is_refused, replies_text, reply_text}
 use Rattle.prt_session.specs.Run.{Cut, RanWhole, RunIs, fault_in, refused_in}
@@ -19,23 +19,6 @@ use Rattle.prt_session.specs.declared.form.Form.TheVariants.{Plain}
 use Rattle.prt_replies.specs.declared.reply.Reply.{Reply}
 use Rattle.prt_replies.specs.declared.reply.Reply.TheVariants.{Refused, Silent}
 use Rattle.prt_replies.specs.declared.script_end.ScriptEnd.{ScriptEnd}
-
--- The file was read, and its refusal written, if there is one.
-pub record ReadIs (commands : List Command) (reader0 reader writer0 writer : Option (List ℕ)) (end : ScriptEnd) : Type 0 where
-  pub input : Input
-  pub mishaps : List (Option Mishap)
-  pub refusal : Option Reply
-  pub are : commands ≡ (collected input mishaps).desk
-  pub path : Path collect_turn CollectMay [] (collected input mishaps).exchanges (collected input mishaps).desk
-  pub is_first : refusal ≡ find is_refused (replies (collected input mishaps))
-  pub is_refusal : (refusal ≡ None) ⊎ ((reason : Refusal) × (refusal ≡ Some (Refused reason)))
-  pub beyond : List ℕ
-  pub bytes_before : IfSome reader0 (λ bytes. bytes ≡ input.bytes ++ beyond)
-  pub whole : input.ending ≡ end_of_input → beyond ≡ []
-  pub bytes_left : IfSome reader0 (λ _. reader ≡ Some ((collected input mishaps).unread ++ beyond))
-  pub refused_is : end.refused ≡ refused_in false (alone refusal)
-  pub wrote : (Appends writer0 writer (replies_text (alone refusal)) × (end.fault ≡ fault_in None (alone refusal)))
-      ⊎ ((reply : Reply) × (part : List ℕ) × (cut_off : List ℕ) × (refusal ≡ Some reply) × (replies_text (alone refusal) ≡ part ++ cut_off) × Appends writer0 writer part × (end.fault ≡ Some WriteFault))
 
 had_of : (a b : Option (List ℕ)) (more unread beyond : List ℕ) → Gives a b more unread beyond → IfSome a (λ xs. xs ≡ more ++ beyond)
 had_of None b more unread beyond p = tt
@@ -188,7 +171,7 @@ module _ (may : Mishap → Type 0) (commands : List Command) (reader0 reader wri
       }
 
   -- a reading without a refusal
-  unrefused : (between : Option (List ℕ)) (end : ScriptEnd) (read : ReadIs commands reader0 reader writer0 between end) → end.refused ≡ false → end.fault ≡ None → read.refusal ≡ None
+  pub unrefused : (between : Option (List ℕ)) (end : ScriptEnd) (read : ReadIs commands reader0 reader writer0 between end) → end.refused ≡ false → end.fault ≡ None → read.refusal ≡ None
   unrefused between end read refused fault = elim read.is_refusal [
     | inl none ↦ none
     | inr r ↦ elim read.wrote [

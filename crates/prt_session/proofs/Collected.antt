@@ -13,7 +13,7 @@ use Rattle.prt_command.specs.declared.request.Command.{Command}
 use Rattle.prt_command.specs.declared.request.Request.{Request}
 use Rattle.prt_command.specs.declared.request.Request.TheVariants as requests
 use Rattle.prt_session.proofs.Length.{sides}
-use Rattle.prt_session.specs.Atomic.{CollectMay, collect_turn, collected, with_command}
+use Rattle.prt_session.specs.Atomic.{CollectMay, alone, collect_turn, collected, with_command}
 use Rattle.prt_session.specs.Desk.{Mishap, no_memory}
 use Rattle.prt_replies.specs.Reply.{is_refused, replies_text}
 use Rattle.prt_replies.specs.ScriptEnd.{is_fault_refusal}
@@ -91,11 +91,6 @@ unfolding session
 collected_told input mishaps = lines_told limits input.ending limits.lines (lines_of input.bytes) mishaps []
 
 -- ---- what the refusal says for all
-
--- a refusal, if there is one
-abbrev pub alone : Option Reply → List Reply
-alone None = []
-alone (Some reply) = reply ∷ []
 
 -- The replies of a reading say what its refusal says.
 pub record SaysAlone (told : List Reply) (refusal : Option Reply) : Type 0 where

@@ -40,6 +40,28 @@ CollectMay commands request mishap = IfSome mishap IsNoMemory
 abbrev pub collected : Input → List (Option Mishap) → Session (List Command) Mishap
 collected input mishaps = session collect_turn [] input Stop mishaps
 
+-- a refusal, if there is one
+abbrev pub alone : Option Reply → List Reply
+alone None = []
+alone (Some reply) = reply ∷ []
+
+-- The file was read, and its refusal written, if there is one.
+pub record ReadIs (commands : List Command) (reader0 reader writer0 writer : Option (List ℕ)) (end : ScriptEnd) : Type 0 where
+  pub input : Input
+  pub mishaps : List (Option Mishap)
+  pub refusal : Option Reply
+  pub are : commands ≡ (collected input mishaps).desk
+  pub path : Path collect_turn CollectMay [] (collected input mishaps).exchanges (collected input mishaps).desk
+  pub is_first : refusal ≡ find is_refused (replies (collected input mishaps))
+  pub is_refusal : (refusal ≡ None) ⊎ ((reason : Refusal) × (refusal ≡ Some (Refused reason)))
+  pub beyond : List ℕ
+  pub bytes_before : IfSome reader0 (λ bytes. bytes ≡ input.bytes ++ beyond)
+  pub whole : input.ending ≡ end_of_input → beyond ≡ []
+  pub bytes_left : IfSome reader0 (λ _. reader ≡ Some ((collected input mishaps).unread ++ beyond))
+  pub refused_is : end.refused ≡ refused_in false (alone refusal)
+  pub wrote : (Appends writer0 writer (replies_text (alone refusal)) × (end.fault ≡ fault_in None (alone refusal)))
+      ⊎ ((reply : Reply) × (part : List ℕ) × (cut_off : List ℕ) × (refusal ≡ Some reply) × (replies_text (alone refusal) ≡ part ++ cut_off) × Appends writer0 writer part × (end.fault ≡ Some WriteFault))
+
 -- ---- what comes of it
 
 -- What is replied to the whole file, and the desk after it.

@@ -1,10 +1,12 @@
 //! Atomic files: their commands are made together or not at all.
-ghost use Rattle.std.specs.Prelude.{◌≤◌, ◌<◌, ◌+◌, ◌^◌, length};
+ghost use Rattle.std.specs.Prelude.{◌≤◌, ◌<◌, ◌+◌, ◌^◌, [], length};
 ghost use Rattle.std.specs.List.{All};
 ghost use Rattle.prt_command.specs.Storable.{IsStorable};
-ghost use Rattle.prt_session.specs.Atomic.{AtomicIs, SubmittedIs, accepted_after};
+ghost use Rattle.prt_session.specs.Atomic.{AtomicIs, CollectMay, ReadIs, SubmittedIs, accepted_after, collect_turn};
 ghost use Rattle.prt_replies.specs.Reply.{replies_text};
+ghost use Rattle.prt_session.specs.Run.{RunIs};
 ghost use Rattle.prt_session.specs.Stands.{Explained, StandsForSome};
+ghost use Rattle.prt_session.specs.Steps.{AreSubmittable};
 ghost use Rattle.prt_replies.specs.Written.{Written};
 
 use crate::collector::Collector;
@@ -18,8 +20,50 @@ use prt_replies::{Observer, Reply, ScriptEnd};
 use std::alloc::Global;
 use std::io::{Read, Write};
 
+/// What was read of an atomic file.
+#[derive(Drop)]
+pub struct CommandsRead {
+    /// How the reading ended: with a refusal or a fault, or well.
+    pub end: ScriptEnd,
+    /// The commands of the lines before that.
+    pub commands: Vec<Command>,
+}
+
+/// Reads the lines of an atomic file, up to the first that is refused, and collects their commands. A refusal is all that
+/// is written.
+///
+/// The lines are read as in `run_session`. Beyond what is refused of any line, a query is (`UnknownVerb`), and each command
+/// after `MOST_TOGETHER` (`TooManyCommands`). The commands are kept in memory of `alloc`. The observer is called as in
+/// `run_session`.
+pub fn collect_commands<R: Read, W: Write, O: Observer>(
+    alloc: Global,
+    reader: &mut R,
+    writer: &mut W,
+    observer: &mut O,
+) -> CommandsRead
+    ensures run { RunIs collect_turn CollectMay OnRefusal.Stop [] result.commands.items
+        (R.remaining reader.old) (R.remaining reader.new) (W.contents writer.old) (W.contents writer.new) result.end }
+    ensures read { ReadIs result.commands.items (R.remaining reader.old) (R.remaining reader.new)
+        (W.contents writer.old) (W.contents writer.new) result.end }
+    ensures submittable { AreSubmittable result.commands.items }
+{
+    let mut collector = Collector::new(alloc);
+    let end = run_session(
+        &(),
+        &mut collector,
+        reader,
+        writer,
+        OnRefusal::Stop,
+        observer,
+    );
+    CommandsRead {
+        end,
+        commands: collector.commands,
+    }
+}
+
 /// Writes `ok N` for each of the `count` numbers after this one, and flushes each; returns whether all of it went well.
-fn write_accepted<W: Write>(writer: &mut W, number: u64, count: usize) -> bool
+pub fn write_accepted<W: Write>(writer: &mut W, number: u64, count: usize) -> bool
     requires { number + count < 2 ^ 64 }
     ensures { Written result (W.contents writer.old) (W.contents writer.new) (replies_text (accepted_after number count)) }
 {
@@ -80,17 +124,9 @@ pub fn run_atomic<D: Desk, R: Read, W: Write, O: Observer>(
     ensures left { StandsForSome D.stands desk.old → StandsForSome D.stands desk.new }
     ensures keeps { D.keeps desk.old desk.new }
 {
-    let mut collector = Collector::new(alloc);
-    let end = run_session(
-        &(),
-        &mut collector,
-        reader,
-        writer,
-        OnRefusal::Stop,
-        observer,
-    );
-    if end.refused || end.fault.is_some() || collector.commands.is_empty() {
+    let CommandsRead { end, commands } = collect_commands(alloc, reader, writer, observer);
+    if end.refused || end.fault.is_some() || commands.is_empty() {
         return end;
     }
-    submit(desk, &collector.commands, writer)
+    submit(desk, &commands, writer)
 }

@@ -5,14 +5,14 @@ use prt_command::{LONGEST_LINE, LONGEST_UNENDED};
 use std::io::Read;
 
 /// What a read of one byte gave.
-pub(crate) enum ByteRead {
+pub enum ByteRead {
     Byte(u8),
     End,
     Fault,
 }
 
 /// Reads one byte, by one call.
-pub(crate) fn next_byte<R: Read>(reader: &mut R) -> ByteRead
+pub fn next_byte<R: Read>(reader: &mut R) -> ByteRead
     ensures { ByteIs result (R.remaining reader.old) (R.remaining reader.new) }
 {
     let mut byte = [0u8; 1];

@@ -7,13 +7,14 @@ use crossbeam_channel::bounded;
 use prt_command::Refusal;
 use prt_grace::Domain;
 use prt_publisher::Publisher;
-use prt_serve::{Accepting, Limits, OpenGate, accept, serve_all};
+use prt_serve::{Accepting, Entrance, Kind, Limits, OpenGate, Turnstile, accept, serve_all};
 use prt_service::{Naming, Service};
 use sqlite::{Alter, Connection};
 use std::alloc::{AllocError, Global};
 use std::io::{self, ErrorKind, Read, Write};
 use std::marker::Brand;
 use std::net::{Ipv4Addr, OpenListener, OpenStream, SocketAddr};
+use std::slice;
 use std::sync::Wait;
 use std::sync::atomic::{AtomicU64, Ordering};
 use std::test::Fail;
@@ -86,6 +87,14 @@ impl OpenListener for Queue {
     }
 }
 
+/// Makes a listener one of sessions that execute each line once it is read.
+fn entrance(listener: Queue) -> Entrance<Queue> {
+    Entrance {
+        listener,
+        kind: Kind::InTurn,
+    }
+}
+
 /// Builds the limits of one worker, and so many sessions.
 fn limited_to(sessions: u64) -> Limits {
     Limits {
@@ -99,12 +108,18 @@ fn limited_to(sessions: u64) -> Limits {
 fn handed_over<H: Wait + Clock>(
     rt: &H,
     alloc: Global,
-    listener: &Queue,
+    listener: Queue,
     sessions: u64,
 ) -> Result<(Vec<u64>, bool), AllocError> {
     let (to, from) = bounded(alloc, 64)?;
     let is_ended = matches!(
-        accept(rt, &OpenGate, listener, to, sessions),
+        accept(
+            rt,
+            &OpenGate,
+            &entrance(listener),
+            to,
+            &Turnstile::new(sessions)
+        ),
         Accepting::Ended
     );
     let mut numbers = Vec::new(alloc);
@@ -117,11 +132,11 @@ fn handed_over<H: Wait + Clock>(
 #[test]
 fn connections_are_numbered(rt: HostRuntime) -> Result<(), Fail> {
     let alloc = rt.alloc();
-    let (numbers, is_ended) = handed_over(&rt, alloc, &Queue::new(5, 9), 3)?;
+    let (numbers, is_ended) = handed_over(&rt, alloc, Queue::new(5, 9), 3)?;
     assert_eq!(rt; numbers.as_slice(), [1, 2, 3].as_slice());
     assert!(rt; is_ended);
     // Without an end, until the listener fails.
-    let (numbers, is_ended) = handed_over(&rt, alloc, &Queue::new(4, 9), 0)?;
+    let (numbers, is_ended) = handed_over(&rt, alloc, Queue::new(4, 9), 0)?;
     assert_eq!(rt; numbers.as_slice(), [1, 2, 3, 4].as_slice());
     assert!(rt; !is_ended);
     Ok(())
@@ -130,12 +145,12 @@ fn connections_are_numbered(rt: HostRuntime) -> Result<(), Fail> {
 #[test]
 fn nobody_takes_a_connection(rt: HostRuntime) -> Result<(), Fail> {
     let alloc = rt.alloc();
-    let listener = Queue::new(5, 9);
+    let only = entrance(Queue::new(5, 9));
     let (to, from) = bounded(alloc, 64)?;
     drop(from);
-    let end = accept(&rt, &OpenGate, &listener, to, 5);
+    let end = accept(&rt, &OpenGate, &only, to, &Turnstile::new(5));
     assert!(rt; matches!(end, Accepting::NoWorkers));
-    assert_eq!(rt; listener.accepted.load(Ordering::SeqCst), 1);
+    assert_eq!(rt; only.listener.accepted.load(Ordering::SeqCst), 1);
     Ok(())
 }
 
@@ -145,7 +160,7 @@ fn serve_without_looker<H: Threads + Wait + Clock + Sync, S: Alter + Drop + Send
     alloc: Global,
     publisher: Publisher<S>,
     domain: Domain,
-    listener: &Queue,
+    entrances: &[Entrance<Queue>],
 ) -> Result<Option<Refusal>, Refusal>
     requires quiet { IsQuiet publisher.phase }
     requires of { IsNamed J.book J.base J.ours_first publisher }
@@ -158,7 +173,7 @@ fn serve_without_looker<H: Threads + Wait + Clock + Sync, S: Alter + Drop + Send
             return Err(Refusal::NoMemory);
         }
     }
-    let end = serve_all(rt, alloc, &service, &OpenGate, listener, limited_to(0));
+    let end = serve_all(rt, alloc, &service, &OpenGate, entrances, limited_to(0));
     match end.accepting {
         Accepting::NoWorkers => Ok(end.refused),
         Accepting::Ended | Accepting::Failed => Ok(None),
@@ -175,9 +190,10 @@ fn worker_without_looker(rt: HostRuntime) -> Result<(), Fail> {
     let connection = Connection::open_in_memory(alloc)?;
     let (publisher, domain) = adopted(alloc, connection)?;
     // More connections than may wait: a send fails once the worker is gone.
-    let listener = Queue::new(10_000, 10_000);
-    let refused = serve_without_looker::<_, _, Brand>(&rt, alloc, publisher, domain, &listener)?;
+    let only = entrance(Queue::new(10_000, 10_000));
+    let entrances = slice::from_ref(&only);
+    let refused = serve_without_looker::<_, _, Brand>(&rt, alloc, publisher, domain, entrances)?;
     assert_eq!(rt; refused, Some(Refusal::Full));
-    assert!(rt; listener.accepted.load(Ordering::SeqCst) <= UNSERVED);
+    assert!(rt; only.listener.accepted.load(Ordering::SeqCst) <= UNSERVED);
     Ok(())
 }

@@ -31,8 +31,11 @@ enum Heard {
 /// Returns what a follower hears.
 fn hear<H: Wait + Clock, J: Naming>(rt: &H, follower: &mut Follower<J>) -> Heard {
     match follower.next_within(rt, Duration::from_millis(PATIENCE)) {
-        News::Command(Command::RuleFlush) => Heard::Flush(follower.number()),
-        News::Command(_) => Heard::Other,
+        News::Command {
+            command: Command::RuleFlush,
+            together: 1,
+        } => Heard::Flush(follower.number()),
+        News::Command { .. } => Heard::Other,
         News::Quiet => Heard::Nothing,
         News::Ended => Heard::End,
     }

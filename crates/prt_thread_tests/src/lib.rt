@@ -1,7 +1,9 @@
-//! Tests of registries of grace periods, of publishers and services over databases in memory, of sessions over a service, of
-//! workers and of the loop that accepts connections.
+//! Tests of registries of grace periods, of publishers and services over databases in memory, of sessions and atomic files
+//! over a service, of workers and of the loop that accepts connections.
 #![tactic(auto)]
 
+#[cfg(test)]
+mod atomic;
 #[cfg(test)]
 mod caller;
 #[cfg(test)]

@@ -6,13 +6,14 @@ use crate::caller::{adopted, service_over};
 use prt_command::Refusal;
 use prt_grace::Domain;
 use prt_publisher::Publisher;
-use prt_serve::{Accepting, Limits, OpenGate, serve_all};
+use prt_serve::{Accepting, Entrance, Kind, Limits, OpenGate, serve_all};
 use prt_service::{Naming, Service};
 use sqlite::{Alter, Connection};
 use std::alloc::Global;
 use std::io::{self, ErrorKind, Read, Write};
 use std::marker::Brand;
 use std::net::{Ipv4Addr, Net, Shutdown, SocketAddr, TcpListener, TcpStream};
+use std::slice;
 use std::sync::Wait;
 use std::test::Fail;
 use std::thread::Threads;
@@ -36,7 +37,12 @@ fn converse<
         sessions: 1,
         idle: None,
     };
-    let end = serve_all(rt, alloc, service, &OpenGate, &listener, limits);
+    let only = Entrance {
+        listener,
+        kind: Kind::InTurn,
+    };
+    let entrances = slice::from_ref(&only);
+    let end = serve_all(rt, alloc, service, &OpenGate, entrances, limits);
     let mut text = Vec::new(alloc);
     client.read_to_end(&mut text)?;
     let is_ended = matches!(end.accepting, Accepting::Ended) && end.refused.is_none();

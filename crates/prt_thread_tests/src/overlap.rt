@@ -6,7 +6,7 @@ use crate::caller::{adopted, service_over};
 use prt_command::Refusal;
 use prt_grace::Domain;
 use prt_publisher::Publisher;
-use prt_serve::{Accepting, Gate, Limits, serve_all};
+use prt_serve::{Accepting, Entrance, Gate, Kind, Limits, serve_all};
 use prt_service::{Naming, Service};
 use prt_session::Reply;
 use sqlite::{Alter, Connection};
@@ -14,6 +14,7 @@ use std::alloc::Global;
 use std::io::{self, ErrorKind, Read, Write};
 use std::marker::Brand;
 use std::net::{Ipv4Addr, OpenListener, OpenStream, SocketAddr};
+use std::slice;
 use std::sync::atomic::{AtomicU64, Ordering};
 use std::sync::{Arc, Mutex, Wait};
 use std::test::Fail;
@@ -63,7 +64,7 @@ impl Gate for Meeting {
         }
     }
 
-    fn after(&self, session: u64, _line: u64, _reply: &Reply) {
+    fn after(&self, session: u64, _client: &SocketAddr, _line: u64, _text: &[u8], _reply: &Reply) {
         if session == 2 {
             self.second_left.store(1, Ordering::SeqCst);
         }
@@ -147,7 +148,7 @@ fn meet<
     publisher: Publisher<S>,
     domain: Domain,
     gate: &Meeting,
-    listener: &Two<H>,
+    entrances: &[Entrance<Two<H>>],
 ) -> bool
     requires quiet { IsQuiet publisher.phase }
     requires of { IsNamed J.book J.base J.ours_first publisher }
@@ -161,7 +162,7 @@ fn meet<
         sessions: 2,
         idle: None,
     };
-    let end = serve_all(rt, alloc, &service, gate, listener, limits);
+    let end = serve_all(rt, alloc, &service, gate, entrances, limits);
     matches!(end.accepting, Accepting::Ended) && end.refused.is_none()
 }
 
@@ -171,13 +172,18 @@ fn overlapping_sessions(rt: HostRuntime) -> Result<(), Fail> {
     let connection = Connection::open_in_memory(alloc)?;
     let (publisher, domain) = adopted(alloc, connection)?;
     let gate = Meeting::new();
-    let listener = Two {
-        rt,
-        accepted: AtomicU64::new(0),
-        first: Arc::new(alloc, Mutex::new(Vec::new(alloc)))?,
-        second: Arc::new(alloc, Mutex::new(Vec::new(alloc)))?,
+    let only = Entrance {
+        listener: Two {
+            rt,
+            accepted: AtomicU64::new(0),
+            first: Arc::new(alloc, Mutex::new(Vec::new(alloc)))?,
+            second: Arc::new(alloc, Mutex::new(Vec::new(alloc)))?,
+        },
+        kind: Kind::InTurn,
     };
-    assert!(rt; meet::<_, _, Brand>(&rt, alloc, publisher, domain, &gate, &listener));
+    let entrances = slice::from_ref(&only);
+    assert!(rt; meet::<_, _, Brand>(&rt, alloc, publisher, domain, &gate, entrances));
+    let listener = &only.listener;
     assert_eq!(rt;
         listener.first.lock(&rt).as_slice(),
         b"answer 0 none\n".as_slice()

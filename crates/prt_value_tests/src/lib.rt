@@ -4,6 +4,8 @@
 #![tactic(auto)]
 
 #[cfg(test)]
+mod apply;
+#[cfg(test)]
 mod claims;
 #[cfg(test)]
 mod diff;

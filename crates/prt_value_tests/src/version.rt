@@ -13,3 +13,5 @@ mod script;
 mod sharing;
 mod tables;
 mod versions;
+
+pub(crate) use script::{commands_of, version_after};

@@ -13,7 +13,7 @@ use Rattle.clap.specs.Walk.{Names, Row, Text, Walk, walked, bundle_met, walk_fro
 use Rattle.clap.specs.declared.error.kind.ErrorKind.TheVariants as kind
 use Rattle.prt_addr.specs.Word.{Word}
 use Rattle.prt_words.specs.CommandLine.{asks_question, command_line, subcommand_name}
-use Rattle.prt_words.specs.Invocation.{Invocation, Subcommand, Batch, Check, Replay, anywhere, ask, asked_by, invocation, help, nothing_given, usage_error, is_help, is_question, is_version, version}
+use Rattle.prt_words.specs.Invocation.{Invocation, Subcommand, Batch, Check, Replay, anywhere, ask, asked_by, invocation, help, nothing_given, usage_error, is_analysis, is_help, is_question, is_service, is_version, version}
 use Rattle.prt_words.proofs.WordClasses.{IsMistake, rules_of, shape_of, same_bytes, long_name, long_of_is, before_none, no_value_in, no_name_of, differs, flipped}
 use Rattle.prt_words.proofs.CommandWords.{subcommand_reads}
 use Rattle.prt_words.proofs.Walks.{Agrees, name_of}
@@ -53,6 +53,8 @@ record IsOther (word : Text) : Type 0 where
   no_impact : bytes_eq (codes "impact") word ≡ false
   no_assert : bytes_eq (codes "assert") word ≡ false
   no_unused : bytes_eq (codes "unused") word ≡ false
+  no_apply : bytes_eq (codes "apply") word ≡ false
+  no_status : bytes_eq (codes "status") word ≡ false
   no_help : bytes_eq (codes "help") word ≡ false
 
 first_empty : First []
@@ -65,7 +67,7 @@ first_hyphen = mistake refl refl refl
 
 first_plain : (byte : ℕ) (rest : Text) → (byte == 45) ≡ false → IsOther (byte ∷ rest) → First (byte ∷ rest)
 unfolding clap_on_literals
-first_plain byte rest plain other = mistake (rw plain refl) (rw plain refl) (rw (other.no_batch, other.no_check, other.no_replay, other.no_serve, other.no_get, other.no_show, other.no_explain, other.no_dump, other.no_diff, other.no_follow, other.no_wait, other.no_import, other.no_impact, other.no_assert, other.no_unused, other.no_help, plain, plain) refl)
+first_plain byte rest plain other = mistake (rw plain refl) (rw plain refl) (rw (other.no_batch, other.no_check, other.no_replay, other.no_serve, other.no_get, other.no_show, other.no_explain, other.no_dump, other.no_diff, other.no_follow, other.no_wait, other.no_import, other.no_impact, other.no_assert, other.no_unused, other.no_apply, other.no_status, other.no_help, plain, plain) refl)
 
 first_short : (byte : ℕ) (rest : Text) (letter : Option ℕ) → (byte == 45) ≡ false → slice_get (chars (byte ∷ rest)) 0 ≡ letter → First (45 ∷ byte ∷ rest)
 unfolding walked bundle_met flags_fault
@@ -87,16 +89,16 @@ first_long_other byte rest no_help no_version turn =
 
 no_long : (word name : Text) (value : Option Text) → bytes_eq word (codes "--") ≡ false → IsOther word
     → long_of word ≡ Some (name, value) → bytes_eq (codes "help") name ≡ false → bytes_eq (codes "version") name ≡ false → IsMistake (first_turn word)
-no_long word name value plain other long no_help no_version = rw (other.no_batch, other.no_check, other.no_replay, other.no_serve, other.no_get, other.no_show, other.no_explain, other.no_dump, other.no_diff, other.no_follow, other.no_wait, other.no_import, other.no_impact, other.no_assert, other.no_unused, other.no_help, plain, long, no_help, no_version) refl
+no_long word name value plain other long no_help no_version = rw (other.no_batch, other.no_check, other.no_replay, other.no_serve, other.no_get, other.no_show, other.no_explain, other.no_dump, other.no_diff, other.no_follow, other.no_wait, other.no_import, other.no_impact, other.no_assert, other.no_unused, other.no_apply, other.no_status, other.no_help, plain, long, no_help, no_version) refl
 
 help_valued : (word value : Text) → bytes_eq word (codes "--") ≡ false → IsOther word → long_of word ≡ Some (codes "help", Some value) → IsMistake (first_turn word)
-help_valued word value plain other long = rw (other.no_batch, other.no_check, other.no_replay, other.no_serve, other.no_get, other.no_show, other.no_explain, other.no_dump, other.no_diff, other.no_follow, other.no_wait, other.no_import, other.no_impact, other.no_assert, other.no_unused, other.no_help, plain, long) refl
+help_valued word value plain other long = rw (other.no_batch, other.no_check, other.no_replay, other.no_serve, other.no_get, other.no_show, other.no_explain, other.no_dump, other.no_diff, other.no_follow, other.no_wait, other.no_import, other.no_impact, other.no_assert, other.no_unused, other.no_apply, other.no_status, other.no_help, plain, long) refl
 
 version_valued : (word value : Text) → bytes_eq word (codes "--") ≡ false → IsOther word → long_of word ≡ Some (codes "version", Some value) → IsMistake (first_turn word)
-version_valued word value plain other long = rw (other.no_batch, other.no_check, other.no_replay, other.no_serve, other.no_get, other.no_show, other.no_explain, other.no_dump, other.no_diff, other.no_follow, other.no_wait, other.no_import, other.no_impact, other.no_assert, other.no_unused, other.no_help, plain, long) refl
+version_valued word value plain other long = rw (other.no_batch, other.no_check, other.no_replay, other.no_serve, other.no_get, other.no_show, other.no_explain, other.no_dump, other.no_diff, other.no_follow, other.no_wait, other.no_import, other.no_impact, other.no_assert, other.no_unused, other.no_apply, other.no_status, other.no_help, plain, long) refl
 
 long_other : (rest : Text) → IsOther (45 ∷ 45 ∷ rest)
-long_other rest = record { no_batch = refl; no_check = refl; no_replay = refl; no_serve = refl; no_get = refl; no_show = refl; no_explain = refl; no_dump = refl; no_diff = refl; no_follow = refl; no_wait = refl; no_import = refl; no_impact = refl; no_assert = refl; no_unused = refl; no_help = refl }
+long_other rest = record { no_batch = refl; no_check = refl; no_replay = refl; no_serve = refl; no_get = refl; no_show = refl; no_explain = refl; no_dump = refl; no_diff = refl; no_follow = refl; no_wait = refl; no_import = refl; no_impact = refl; no_assert = refl; no_unused = refl; no_apply = refl; no_status = refl; no_help = refl }
 
 -- one with a value
 first_valued : (byte : ℕ) (rest name : Text) → name ≡ long_name (byte ∷ rest) → has_byte 61 (byte ∷ rest) ≡ true
@@ -248,6 +250,14 @@ unused_named : (program : Text) (words : List Text) → named_is (codes "unused"
 unfolding walked
 unused_named program words = ap (λ (at : Walk). subcommand_name (entered (built command_line) at.stopped)) (stays (codes "unused") [] words)
 
+apply_named : (program : Text) (words : List Text) → named_is (codes "apply") program words
+unfolding walked
+apply_named program words = ap (λ (at : Walk). subcommand_name (entered (built command_line) at.stopped)) (stays (codes "apply") [] words)
+
+status_named : (program : Text) (words : List Text) → named_is (codes "status") program words
+unfolding walked
+status_named program words = ap (λ (at : Walk). subcommand_name (entered (built command_line) at.stopped)) (stays (codes "status") [] words)
+
 -- one of two words
 either_word : {X : Type 0} (a b : Bool) → (a || b) ≡ true → (a ≡ true → X) → (b ≡ true → X) → X
 either_word true b is one other = one refl
@@ -263,9 +273,12 @@ question_found program word words is =
     (λ is. either_word _ _ is (λ e. by (codes "follow") e (follow_named program words))
     (λ is. either_word _ _ is (λ e. by (codes "wait") e (wait_named program words))
     (λ is. either_word _ _ is (λ e. by (codes "import") e (import_named program words))
-    (λ is. either_word _ _ is (λ e. by (codes "impact") e (impact_named program words))
-    (λ is. either_word _ _ is (λ e. by (codes "assert") e (assert_named program words))
-    (λ e. by (codes "unused") e (unused_named program words)))))))))))
+    (λ is. either_word _ _ is
+    (λ analysis. either_word _ _ analysis (λ e. by (codes "impact") e (impact_named program words))
+    (λ analysis. either_word _ _ analysis (λ e. by (codes "assert") e (assert_named program words))
+    (λ e. by (codes "unused") e (unused_named program words))))
+    (λ service. either_word _ _ service (λ e. by (codes "apply") e (apply_named program words))
+    (λ e. by (codes "status") e (status_named program words)))))))))))
   where
     by : (name : Text) → bytes_eq word name ≡ true → named_is name program words → named_is word program words
     by name same named = subst (λ w. named_is w program words) (sym (same_bytes word name same)) named
@@ -303,7 +316,7 @@ after_delimiter program [] = refl
 after_delimiter program (word ∷ words) = refl
 
 no_question : (word : Word) → IsOther word → is_question word ≡ false
-no_question word other = rw (flipped (codes "get") word other.no_get, flipped (codes "show") word other.no_show, flipped (codes "explain") word other.no_explain, flipped (codes "dump") word other.no_dump, flipped (codes "diff") word other.no_diff, flipped (codes "follow") word other.no_follow, flipped (codes "wait") word other.no_wait, flipped (codes "import") word other.no_import, flipped (codes "impact") word other.no_impact, flipped (codes "assert") word other.no_assert, flipped (codes "unused") word other.no_unused) refl
+no_question word other = rw (flipped (codes "get") word other.no_get, flipped (codes "show") word other.no_show, flipped (codes "explain") word other.no_explain, flipped (codes "dump") word other.no_dump, flipped (codes "diff") word other.no_diff, flipped (codes "follow") word other.no_follow, flipped (codes "wait") word other.no_wait, flipped (codes "import") word other.no_import, flipped (codes "impact") word other.no_impact, flipped (codes "assert") word other.no_assert, flipped (codes "unused") word other.no_unused, flipped (codes "apply") word other.no_apply, flipped (codes "status") word other.no_status) refl
 
 asks_help : (word : Word) (words : List Word) → IsOther word → is_help word ≡ true → invocation (word ∷ words) ≡ help
 asks_help word words other h = rw (flipped (codes "batch") word other.no_batch, flipped (codes "check") word other.no_check, flipped (codes "replay") word other.no_replay, flipped (codes "serve") word other.no_serve, no_question word other, flipped (codes "help") word other.no_help, h) refl
@@ -345,8 +358,10 @@ other_word word b c r s q h =
     let after_follow = neither (bytes_eq word (codes "follow")) _ after_diff.1 in
     let after_wait = neither (bytes_eq word (codes "wait")) _ after_follow.1 in
     let after_import = neither (bytes_eq word (codes "import")) _ after_wait.1 in
-    let after_impact = neither (bytes_eq word (codes "impact")) _ after_import.1 in
+    let groups = neither (is_analysis word) (is_service word) after_import.1 in
+    let after_impact = neither (bytes_eq word (codes "impact")) _ groups.0 in
     let last = neither (bytes_eq word (codes "assert")) (bytes_eq word (codes "unused")) after_impact.1 in
+    let services = neither (bytes_eq word (codes "apply")) (bytes_eq word (codes "status")) groups.1 in
     record {
       no_batch = flipped word (codes "batch") b;
       no_check = flipped word (codes "check") c;
@@ -363,6 +378,8 @@ other_word word b c r s q h =
       no_impact = flipped word (codes "impact") after_impact.0;
       no_assert = flipped word (codes "assert") last.0;
       no_unused = flipped word (codes "unused") last.1;
+      no_apply = flipped word (codes "apply") services.0;
+      no_status = flipped word (codes "status") services.1;
       no_help = flipped word (codes "help") h;
     }
 

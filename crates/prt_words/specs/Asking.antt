@@ -24,6 +24,8 @@ name_of_word word.Import = codes "import"
 name_of_word word.Impact = codes "impact"
 name_of_word word.Assert = codes "assert"
 name_of_word word.Unused = codes "unused"
+name_of_word word.Apply = codes "apply"
+name_of_word word.Status = codes "status"
 
 abbrev pub name_of_asked : Asked → Word
 name_of_asked (asked.Tables asking) = name_of_verb asking.verb
@@ -34,3 +36,5 @@ name_of_asked (asked.Import importing) = codes "import"
 name_of_asked (asked.Impact rehearsing) = codes "impact"
 name_of_asked (asked.Assert asserting) = codes "assert"
 name_of_asked (asked.Unused source) = codes "unused"
+name_of_asked (asked.Apply applying) = codes "apply"
+name_of_asked (asked.Status inspecting) = codes "status"

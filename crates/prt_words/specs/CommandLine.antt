@@ -42,8 +42,16 @@ needed_rule name = record (option_rule name) { required = true }
 abbrev pub number_rule : Text → Text → Rule
 number_rule name missing = record (option_rule name) { defaults = missing ∷ [] }
 
+-- with the places at which a server listens
+abbrev pub with_places : App → App
+with_places app = with_rule (with_rule (with_rule (with_rule app (option_rule (codes "listen"))) (option_rule (codes "atomic"))) (option_rule (codes "feed"))) (option_rule (codes "sockets"))
+
+-- with how much it serves
+abbrev pub with_limits : App → App
+with_limits app = with_rule (with_rule (with_rule app (number_rule (codes "workers") (codes "4"))) (number_rule (codes "sessions") (codes "0"))) (number_rule (codes "idle") (codes "0"))
+
 abbrev pub serve_line : App
-serve_line = with_rule (with_rule (with_rule (with_rule (with_rule (with_rule (new_app (codes "serve")) (needed_rule (codes "db"))) (needed_rule (codes "listen"))) (option_rule (codes "feed"))) (number_rule (codes "workers") (codes "4"))) (number_rule (codes "sessions") (codes "0"))) (number_rule (codes "idle") (codes "0"))
+serve_line = with_rule (with_limits (with_places (with_rule (new_app (codes "serve")) (needed_rule (codes "db"))))) (flag_rule (codes "log"))
 
 -- the words of a question
 abbrev pub words_rule : Rule
@@ -106,6 +114,13 @@ assert_line = with_rule (with_rule (place_line (codes "assert")) (flag_rule (cod
 abbrev pub unused_line : App
 unused_line = with_rule (place_line (codes "unused")) file_rule
 
+-- the tables are those of `--db`, or those of `--server` and `--atomic`
+abbrev pub apply_line : App
+apply_line = with_rule (with_rule (with_rule (with_rule (place_line (codes "apply")) (option_rule (codes "atomic"))) (flag_rule (codes "dry-run"))) (flag_rule (codes "impact"))) file_rule
+
+abbrev pub status_line : App
+status_line = with_rule (with_rule (server_line (codes "status")) (flag_rule (codes "json"))) (flag_rule (codes "metrics"))
+
 abbrev pub opening_line : App
 opening_line = on_top (λ top. record top { subcommand_required = true; arg_required_else_help = true; has_version = true }) (new_app (codes "prt"))
 
@@ -117,8 +132,12 @@ with_questions app = with_subcommand (with_subcommand (with_subcommand (with_sub
 abbrev pub with_analyses : App → App
 with_analyses app = with_subcommand (with_subcommand (with_subcommand app impact_line.top) assert_line.top) unused_line.top
 
+-- with those that make tables, and that look after a server
+abbrev pub with_services : App → App
+with_services app = with_subcommand (with_subcommand app apply_line.top) status_line.top
+
 abbrev pub command_line : App
-command_line = with_analyses (with_questions (with_subcommand (with_subcommand (with_subcommand (with_subcommand opening_line batch_line.top) check_line.top) replay_line.top) serve_line.top))
+command_line = with_services (with_analyses (with_questions (with_subcommand (with_subcommand (with_subcommand (with_subcommand opening_line batch_line.top) check_line.top) replay_line.top) serve_line.top)))
 
 -- whether an argument of the command is one of its subcommands too
 abbrev pub has_globals : Command → Bool

@@ -26,7 +26,7 @@ pub data Invocation : Type 0 where
   replay : Option Word → Invocation
   -- the word `serve`: sessions over TCP, help on that, or bad words
   serve : Invocation
-  -- the word of a question: what tables say, what differs from them or is imported, whether a server answers, what an analysis finds, help on that, or bad words
+  -- the word of a question: what tables say, what differs from them or is imported, whether a server answers, what an analysis finds, what a server does, or what tables are made, help on that, or bad words
   ask : Invocation
   help : Invocation
   -- the version, and the formats of database file that are read
@@ -205,9 +205,13 @@ arguments words = drop 1 (map string_bytes words)
 abbrev pub is_analysis : Word → Bool
 is_analysis word = bytes_eq word (codes "impact") || (bytes_eq word (codes "assert") || bytes_eq word (codes "unused"))
 
+-- `apply` and `status`
+abbrev pub is_service : Word → Bool
+is_service word = bytes_eq word (codes "apply") || bytes_eq word (codes "status")
+
 -- `get`, `show`, `explain`, `dump`, `diff`, `follow`, `wait`, `import` and these
 abbrev pub is_question : Word → Bool
-is_question word = bytes_eq word (codes "get") || (bytes_eq word (codes "show") || (bytes_eq word (codes "explain") || (bytes_eq word (codes "dump") || (bytes_eq word (codes "diff") || (bytes_eq word (codes "follow") || (bytes_eq word (codes "wait") || (bytes_eq word (codes "import") || is_analysis word)))))))
+is_question word = bytes_eq word (codes "get") || (bytes_eq word (codes "show") || (bytes_eq word (codes "explain") || (bytes_eq word (codes "dump") || (bytes_eq word (codes "diff") || (bytes_eq word (codes "follow") || (bytes_eq word (codes "wait") || (bytes_eq word (codes "import") || (is_analysis word || is_service word))))))))
 
 -- what they ask for
 abbrev pub invocation : List Word → Invocation

@@ -4,3 +4,4 @@ pub mod CommandLine
 pub mod Faults
 pub mod Invocation
 pub mod Reaching
+pub mod Services

@@ -7,7 +7,7 @@ use Rattle.prt_addr.specs.Number.{number}
 use Rattle.prt_addr.specs.Word.{Word, all_of, keep}
 use Rattle.prt_route.specs.Names.{protocol, table}
 use Rattle.prt_words.specs.declared.asking.Asked.{Asked}
-use Rattle.prt_words.specs.declared.asking.Asked.TheVariants.{Assert, Diff, Follow, Impact, Import, Tables, Unused, Wait}
+use Rattle.prt_words.specs.declared.asking.Asked.TheVariants.{Apply, Assert, Diff, Follow, Impact, Import, Status, Tables, Unused, Wait}
 use Rattle.prt_words.specs.declared.reach.Ends.{Ends}
 use Rattle.prt_words.specs.declared.reach.Ends.TheVariants as ends
 use Rattle.prt_words.specs.declared.reach.NumberSpan.{NumberSpan}
@@ -63,3 +63,5 @@ IsAsked (Import importing) = Unit {0}
 IsAsked (Impact rehearsing) = Unit {0}
 IsAsked (Assert asserting) = Unit {0}
 IsAsked (Unused source) = Unit {0}
+IsAsked (Apply applying) = Unit {0}
+IsAsked (Status inspecting) = Unit {0}

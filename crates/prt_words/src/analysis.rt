@@ -14,11 +14,11 @@ const NO_FILE: &str = "a value is required for '<FILE>...'";
 
 /// What is wrong if neither tables nor two files are named.
 const NO_SCRIPT: &str =
-    "one of '--db <PATH>', '--server <ADDR:PORT>' and a script before the file is required";
+    "one of '--db <PATH>', '--server <WHERE>' and a script before the file is required";
 
 /// What is wrong if tables and more than one file are named.
 const ONE_FILE: &str =
-    "only one value can be used for '<FILE>...' with '--db <PATH>' or '--server <ADDR:PORT>'";
+    "only one value can be used for '<FILE>...' with '--db <PATH>' or '--server <WHERE>'";
 
 /// What is wrong if more than two files are named.
 const TWO_FILES: &str = "at most two values can be used for '<FILE>...': a script and a file";
@@ -28,7 +28,7 @@ const ONE_INPUT: &str = "only one value of '<FILE>...' can be '-'";
 
 /// What is wrong if the words of `unused` name tables and a script.
 const SCRIPT_CONFLICT: &str =
-    "the argument '[FILE]' cannot be used with '--db <PATH>' or '--server <ADDR:PORT>'";
+    "the argument '[FILE]' cannot be used with '--db <PATH>' or '--server <WHERE>'";
 
 /// When a packet keeps its answer.
 #[derive(Clone, Copy, Debug, PartialEq, Eq)]

@@ -3,7 +3,7 @@ ghost use Rattle.std.specs.Prelude.{◌≡◌, IfOk, false};
 ghost use Rattle.clap.specs.Words.{app_of};
 ghost use Rattle.prt_words.specs.CommandLine.{assert_line, has_globals, impact_line, unused_line, with_analyses};
 
-use crate::command_line::{file_operand, flag, place_line, words_operand};
+use crate::command_line::{QUERIED, file_operand, flag, place_line, words_operand};
 use clap::Command;
 use std::alloc::{AllocError, Global};
 
@@ -32,6 +32,7 @@ pub(crate) fn impact_line<'a>(alloc: Global) -> Result<Command<'a>, AllocError>
         alloc,
         "impact",
         "Executes commands on a copy of the tables, and shows which packets they send another way",
+        QUERIED,
     )?;
     place.arg(json)?.arg(exact)?.arg(force)?.arg(files)
 }
@@ -55,6 +56,7 @@ pub(crate) fn assert_line<'a>(alloc: Global) -> Result<Command<'a>, AllocError>
         alloc,
         "assert",
         "Checks claims of where packets go, and shows those that fail",
+        QUERIED,
     )?;
     place.arg(explain)?.arg(files)
 }
@@ -72,6 +74,7 @@ pub(crate) fn unused_line<'a>(alloc: Global) -> Result<Command<'a>, AllocError>
         alloc,
         "unused",
         "Lists rules and routes that no packet uses",
+        QUERIED,
     )?;
     place.arg(file)
 }

@@ -1,31 +1,32 @@
 //! What the words of a question ask for: those of `get`, `show`, `explain`, `dump`, `diff`, `follow`, `wait`, `import`,
-//! `impact`, `assert` and `unused`.
-ghost use Rattle.std.specs.Prelude.{◌≡◌, IfErr, IfOk, IfSome, MatchOption, None, Some, codes, is_some, true};
+//! `impact`, `assert`, `unused`, `apply` and `status`.
+ghost use Rattle.std.specs.Prelude.{◌≡◌, ◌||◌, IfErr, IfOk, IfSome, MatchOption, None, Some, codes, is_some, true};
 ghost use Rattle.clap.specs.Words.{subcommand_name_of};
 ghost use Rattle.prt_words.specs.Analysis.{IsFlag, IsNamed, IsShownBy, NoneIsNamed, form_of};
 ghost use Rattle.prt_words.specs.Asking.{name_of_asked, name_of_verb, name_of_word};
 ghost use Rattle.prt_words.specs.CommandLine.{asks_question};
 ghost use Rattle.prt_words.specs.Faults.{IsWordsFault};
-ghost use Rattle.prt_words.specs.Invocation.{ask, is_analysis};
+ghost use Rattle.prt_words.specs.Invocation.{ask, is_analysis, is_service};
 ghost use Rattle.prt_words.specs.Reaching.{IsAsked, IsReach};
 
 use crate::analysis::{Asserting, Rehearsing, asserting_of, rehearsing_of, searched_of};
 use crate::fault::{BadQuestion, Fault, asking_fault};
 use crate::following::{BAD_SERVER, Following, Waiting, following_of, waiting_of};
 use crate::reach::{Reach, reach_of};
-use crate::serving::place_of;
+use crate::server_place::{ServerPlace, server_place_of};
+use crate::service::{Applying, Inspecting, applying_of, inspecting_of};
 use crate::task::{file_in, file_of};
 use clap::ArgMatches;
 use prt_refusals::Refusal;
 use std::alloc::{AllocError, Global};
-use std::net::SocketAddrV4;
 
 /// What is wrong if no tables are named, or more than one.
-const NO_TABLES: &str = "one of '--db <PATH>' and '--server <ADDR:PORT>' is required, and not both";
+pub(crate) const NO_TABLES: &str =
+    "one of '--db <PATH>' and '--server <WHERE>' is required, and not both";
 
 /// What is wrong if no tables and no script are named.
 const NO_SCRIPT: &str =
-    "one of '--db <PATH>', '--server <ADDR:PORT>' and a script before the address is required";
+    "one of '--db <PATH>', '--server <WHERE>' and a script before the address is required";
 
 /// What is wrong if no packet is named.
 const NO_ADDRESS: &str = "a value is required for '<ADDRESS>...'";
@@ -69,13 +70,19 @@ const ASSERT: &str = "assert";
 /// The subcommand that lists rules and routes that no packet gets.
 const UNUSED: &str = "unused";
 
+/// The subcommand that makes tables what a script says.
+const APPLY: &str = "apply";
+
+/// The subcommand that shows how a server does.
+const STATUS: &str = "status";
+
 /// Where the queried tables are.
 #[derive(Clone, Copy)]
 pub enum Source<'a> {
     /// In the database file at this path.
     Database(&'a str),
     /// At the server whose feed is at this place.
-    Server(SocketAddrV4),
+    Server(ServerPlace<'a>),
     /// Those that the script at this path makes of a new database; the one on standard input if there is none.
     Script(Option<&'a str>),
 }
@@ -166,7 +173,7 @@ pub enum Asked<'a> {
     /// What differs from the tables of a server, now and after each of their changes.
     Follow(Following<'a>),
     /// Whether a server answers.
-    Wait(Waiting),
+    Wait(Waiting<'a>),
     /// Which script makes what `ip` printed.
     Import(Importing<'a>),
     /// Which packets get another answer once the commands of a file were executed over tables.
@@ -175,6 +182,10 @@ pub enum Asked<'a> {
     Assert(Asserting<'a>),
     /// Which rules and routes of these tables no packet gets.
     Unused(Source<'a>),
+    /// To make tables what a script makes of a new database.
+    Apply(Applying<'a>),
+    /// How a server does.
+    Status(Inspecting<'a>),
 }
 
 /// A subcommand that asks a question.
@@ -188,6 +199,8 @@ pub(crate) enum QuestionWord {
     Impact,
     Assert,
     Unused,
+    Apply,
+    Status,
 }
 
 /// Finds the subcommand of a name, if that is `impact`, `assert` or `unused`.
@@ -203,6 +216,31 @@ fn analysis_word(name: &str) -> Option<QuestionWord>
         Some(QuestionWord::Unused)
     } else {
         None
+    }
+}
+
+/// Finds the subcommand of a name, if that is `apply` or `status`.
+fn service_word(name: &str) -> Option<QuestionWord>
+    ensures known { is_some result ≡ is_service name.now }
+    ensures word { IfSome result (λ word. name.now ≡ name_of_word word) }
+{
+    if name == APPLY {
+        Some(QuestionWord::Apply)
+    } else if name == STATUS {
+        Some(QuestionWord::Status)
+    } else {
+        None
+    }
+}
+
+/// Finds the subcommand of a name, if that analyses tables, makes them, or looks after a server.
+fn later_word(name: &str) -> Option<QuestionWord>
+    ensures known { is_some result ≡ (is_analysis name.now || is_service name.now) }
+    ensures word { IfSome result (λ word. name.now ≡ name_of_word word) }
+{
+    match analysis_word(name) {
+        Some(word) => Some(word),
+        None => service_word(name),
     }
 }
 
@@ -228,7 +266,7 @@ fn question_word(name: &str) -> Option<QuestionWord>
     } else if name == IMPORT {
         Some(QuestionWord::Import)
     } else {
-        analysis_word(name)
+        later_word(name)
     }
 }
 
@@ -266,7 +304,7 @@ pub(crate) fn named_source<'a>(matches: &ArgMatches<'a>) -> Result<Option<Source
     match (matches.get_str("db"), matches.get_str("server")) {
         (None, None) => Ok(None),
         (Some(path), None) => Ok(Some(Source::Database(path))),
-        (None, Some(word)) => match place_of(word) {
+        (None, Some(word)) => match server_place_of(word) {
             Some(place) => Ok(Some(Source::Server(place))),
             None => Err(BadQuestion::Words(BAD_SERVER)),
         },
@@ -433,6 +471,8 @@ fn asked_of<'a>(
         QuestionWord::Impact => Ok(Asked::Impact(rehearsing_of(matches)?)),
         QuestionWord::Assert => Ok(Asked::Assert(asserting_of(matches)?)),
         QuestionWord::Unused => Ok(Asked::Unused(searched_of(matches)?)),
+        QuestionWord::Apply => Ok(Asked::Apply(applying_of(matches)?)),
+        QuestionWord::Status => Ok(Asked::Status(inspecting_of(matches)?)),
     }
 }
 

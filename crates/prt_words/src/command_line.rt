@@ -1,10 +1,12 @@
 //! The words that the program knows, as clap reads them.
 ghost use Rattle.std.specs.Prelude.{◌≡◌, IfOk, false};
 ghost use Rattle.clap.specs.Words.{app_of, rule_of};
-ghost use Rattle.prt_words.specs.CommandLine.{batch_line, check_line, command_line, database_rule, diff_line, dump_line, explain_line, file_rule, flag_rule, get_line, has_globals, import_line, needed_rule, number_rule, option_rule, place_line, question_line, replay_line, serve_line, show_line, tables_line, with_questions, words_rule};
+ghost use Rattle.prt_words.specs.CommandLine.{batch_line, check_line, command_line, database_rule, diff_line, dump_line, explain_line, file_rule, flag_rule, get_line, has_globals, import_line, needed_rule, number_rule, option_rule, place_line, question_line, replay_line, show_line, tables_line, with_questions, words_rule};
 
 use crate::analysis_lines::with_analyses;
 use crate::reach_lines::{follow_line, wait_line, with_reach};
+use crate::service_lines::with_services;
+use crate::serving_lines::serve_line;
 use crate::version::VERSION;
 use clap::{Arg, ArgAction, Command};
 use std::alloc::{AllocError, Global};
@@ -134,60 +136,6 @@ fn replay_line<'a>(alloc: Global) -> Result<Command<'a>, AllocError>
         .arg(file)
 }
 
-/// Says which words may follow `serve`.
-pub(crate) fn serve_line<'a>(alloc: Global) -> Result<Command<'a>, AllocError>
-    ensures line { IfOk result (λ command. app_of command ≡ serve_line) }
-    ensures own { IfOk result (λ command. has_globals command ≡ false) }
-{
-    let database = needed_option(
-        alloc,
-        "db",
-        "PATH",
-        "The database file, created if it is missing",
-    );
-    let listen = needed_option(
-        alloc,
-        "listen",
-        "ADDR:PORT",
-        "The address and port to listen on; port 0 takes a free one",
-    );
-    let feed = option(
-        alloc,
-        "feed",
-        "ADDR:PORT",
-        "The address and port of the feed, which sends the tables and then each change; none without it",
-    );
-    let workers = number_option(
-        alloc,
-        "workers",
-        "W",
-        "4",
-        "How many sessions are served at once, 1 to 64",
-    );
-    let sessions = number_option(
-        alloc,
-        "sessions",
-        "K",
-        "0",
-        "End after this many connections, up to 1000000; 0 means never",
-    );
-    let idle = number_option(
-        alloc,
-        "idle",
-        "SECONDS",
-        "0",
-        "End a session that sends nothing for so long, up to 1000000; 0 means never",
-    );
-    Command::new(alloc, "serve")
-        .about("Serves sessions of route and rule commands over TCP")
-        .arg(database)?
-        .arg(listen)?
-        .arg(feed)?
-        .arg(workers)?
-        .arg(sessions)?
-        .arg(idle)
-}
-
 /// Makes the operand that has the words of a question.
 pub(crate) fn words_operand<'a>(alloc: Global, value: &'a str, help: &'a str) -> Arg<'a>
     ensures rule { rule_of result ≡ words_rule }
@@ -199,26 +147,26 @@ pub(crate) fn words_operand<'a>(alloc: Global, value: &'a str, help: &'a str) ->
         .help(help)
 }
 
-/// Says which words name the tables that are queried.
+/// Says of a database that is queried what becomes of it.
+pub(crate) const QUERIED: &str =
+    "The database file, which must exist; none of its rules and routes changes";
+
+/// Says which words name tables, and of a database what becomes of it.
 pub(crate) fn place_line<'a>(
     alloc: Global,
     name: &'a str,
     about: &'a str,
+    database_help: &'a str,
 ) -> Result<Command<'a>, AllocError>
     ensures line { IfOk result (λ command. app_of command ≡ place_line name.entry.now) }
     ensures own { IfOk result (λ command. has_globals command ≡ false) }
 {
-    let database = option(
-        alloc,
-        "db",
-        "PATH",
-        "The database file, which must exist; none of its rules and routes changes",
-    );
+    let database = option(alloc, "db", "PATH", database_help);
     let server = option(
         alloc,
         "server",
-        "ADDR:PORT",
-        "The address and port of a server's feed",
+        "WHERE",
+        "A server: the folder of its sockets, or the address and port of its feed",
     );
     Command::new(alloc, name)
         .about(about)
@@ -241,7 +189,7 @@ fn tables_line<'a>(alloc: Global, name: &'a str, about: &'a str) -> Result<Comma
         "names",
         "Print tables by their names in iproute2's `rt_tables`",
     );
-    let place = place_line(alloc, name, about)?;
+    let place = place_line(alloc, name, about, QUERIED)?;
     place.arg(json)?.arg(names)
 }
 
@@ -352,6 +300,7 @@ pub(crate) fn diff_line<'a>(alloc: Global) -> Result<Command<'a>, AllocError>
         alloc,
         "diff",
         "Prints the lines for `ip -batch` that bring the kernel to a database, as far as the options allow",
+        QUERIED,
     )?;
     with_reach(alloc, place)?.arg(check)?.arg(impact)?.arg(file)
 }
@@ -365,7 +314,7 @@ pub(crate) fn import_line<'a>(alloc: Global) -> Result<Command<'a>, AllocError>
         alloc,
         "db",
         "PATH",
-        "Run the script over this database file instead of printing it",
+        "Make the tables of this database file what the script makes, instead of printing it",
     );
     let file = listing_operand(alloc);
     Command::new(alloc, "import")
@@ -416,5 +365,6 @@ pub(crate) fn command_line<'a>(alloc: Global) -> Result<Command<'a>, AllocError>
         .subcommand(replay)?
         .subcommand(serve)?;
     let asking = with_questions(alloc, command)?;
-    with_analyses(alloc, asking)
+    let analysing = with_analyses(alloc, asking)?;
+    with_services(alloc, analysing)
 }

@@ -9,10 +9,11 @@ ghost use Rattle.prt_words.specs.declared.fault.Fault.TheVariants.{Opening};
 use crate::analysis_lines::{assert_line, impact_line, unused_line};
 use crate::asking::{QuestionWord, Verb};
 use crate::command_line::{
-    batch_line, command_line, diff_line, dump_line, explain_line, get_line, import_line,
-    serve_line, show_line,
+    batch_line, command_line, diff_line, dump_line, explain_line, get_line, import_line, show_line,
 };
 use crate::reach_lines::{follow_line, wait_line};
+use crate::service_lines::{apply_line, status_line};
+use crate::serving_lines::serve_line;
 use clap::Command;
 use clap::error::ErrorKind;
 use prt_refusals::Refusal;
@@ -166,6 +167,8 @@ fn asking_line<'a>(
         QuestionWord::Impact => Ok(("prt impact", impact_line(alloc)?)),
         QuestionWord::Assert => Ok(("prt assert", assert_line(alloc)?)),
         QuestionWord::Unused => Ok(("prt unused", unused_line(alloc)?)),
+        QuestionWord::Apply => Ok(("prt apply", apply_line(alloc)?)),
+        QuestionWord::Status => Ok(("prt status", status_line(alloc)?)),
     }
 }
 

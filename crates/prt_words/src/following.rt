@@ -4,15 +4,15 @@ ghost use Rattle.prt_words.specs.Reaching.{IsReach};
 
 use crate::fault::BadQuestion;
 use crate::reach::{Reach, reach_of};
-use crate::serving::{number_in, place_of};
+use crate::server_place::{ServerPlace, server_place_of};
+use crate::serving::number_in;
 use crate::task::file_in;
 use clap::ArgMatches;
 use std::alloc::Global;
-use std::net::SocketAddrV4;
 
 /// What is wrong with a place of a server.
 pub(crate) const BAD_SERVER: &str =
-    "invalid value for '--server <ADDR:PORT>': it is an IPv4 address, `:` and a port of 0 to 65535";
+    "invalid value for '--server <WHERE>': it is a folder with a `/`, or an IPv4 address, `:` and a port of 0 to 65535";
 
 /// What is wrong with a number of seconds to wait.
 const BAD_SECONDS: &str = "invalid value for '--seconds <S>': it is a number of 0 to 1000000";
@@ -21,7 +21,7 @@ const BAD_SECONDS: &str = "invalid value for '--seconds <S>': it is a number of 
 #[derive(Drop)]
 pub struct Following<'a> {
     /// Where the feed of the server is.
-    pub server: SocketAddrV4,
+    pub server: ServerPlace<'a>,
     /// What of the kernel may be changed.
     pub reach: Reach,
     /// The path of what `ip` printed; standard input if there is none.
@@ -32,20 +32,20 @@ pub struct Following<'a> {
 
 /// A wait for a server, until it answers.
 #[derive(Clone, Copy)]
-pub struct Waiting {
+pub struct Waiting<'a> {
     /// Where the server listens: for sessions, or for clients that follow.
-    pub server: SocketAddrV4,
+    pub server: ServerPlace<'a>,
     /// For how many seconds to wait at most, up to 1,000,000.
     pub seconds: u64,
 }
 
-/// Parses the place of the server that the matches of `follow` or `wait` name.
+/// Reads the place of the server that the matches name.
 ///
 /// # Errors
 ///
 /// It is none.
-fn server_in(matches: &ArgMatches<'_>) -> Result<SocketAddrV4, BadQuestion> {
-    match matches.get_str("server").and_then(place_of) {
+pub(crate) fn server_in<'a>(matches: &ArgMatches<'a>) -> Result<ServerPlace<'a>, BadQuestion> {
+    match matches.get_str("server").and_then(server_place_of) {
         Some(place) => Ok(place),
         None => Err(BadQuestion::Words(BAD_SERVER)),
     }
@@ -77,7 +77,7 @@ pub(crate) fn following_of<'a>(
 /// # Errors
 ///
 /// What is wrong with them.
-pub(crate) fn waiting_of(matches: &ArgMatches<'_>) -> Result<Waiting, BadQuestion>
+pub(crate) fn waiting_of<'a>(matches: &ArgMatches<'a>) -> Result<Waiting<'a>, BadQuestion>
     ensures { IfOk result (λ waiting. waiting.seconds ≤ 1000000) }
 {
     let server = server_in(matches)?;

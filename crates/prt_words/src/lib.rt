@@ -9,7 +9,11 @@ mod fault;
 mod following;
 mod reach;
 mod reach_lines;
+mod server_place;
+mod service;
+mod service_lines;
 mod serving;
+mod serving_lines;
 mod task;
 mod version;
 
@@ -18,5 +22,8 @@ pub use asking::{Asked, Asking, Diffing, Form, Importing, Labels, Shown, Source,
 pub use fault::{DONE, FAULT, Fault, report, words_fault};
 pub use following::{Following, Waiting};
 pub use reach::{NumberSpan, Reach};
+pub use server_place::ServerPlace;
+pub use service::{Applying, Inspecting, ServerEnds, StatusForm, Target};
 pub use serving::Serving;
 pub use task::{Batch, Mode, STANDARD_INPUT, Task, read_words};
+pub use version::VERSION;

@@ -46,17 +46,20 @@ pub(crate) fn with_reach<'a>(alloc: Global, command: Command<'a>) -> Result<Comm
     command.arg(all)?.arg(table)?.arg(protocol)?.arg(priority)
 }
 
+/// Says of the server of a question where it is.
+const WHERE: &str = "The server: the folder of its sockets, or the address and port of its feed";
+
 /// Says which words name the server that is queried.
-fn server_line<'a>(alloc: Global, name: &'a str, about: &'a str) -> Result<Command<'a>, AllocError>
+pub(crate) fn server_line<'a>(
+    alloc: Global,
+    name: &'a str,
+    about: &'a str,
+    where_help: &'a str,
+) -> Result<Command<'a>, AllocError>
     ensures line { IfOk result (λ command. app_of command ≡ server_line name.entry.now) }
     ensures own { IfOk result (λ command. has_globals command ≡ false) }
 {
-    let server = needed_option(
-        alloc,
-        "server",
-        "ADDR:PORT",
-        "The address and port of the server's feed",
-    );
+    let server = needed_option(alloc, "server", "WHERE", where_help);
     Command::new(alloc, name).about(about).arg(server)
 }
 
@@ -71,6 +74,7 @@ pub(crate) fn follow_line<'a>(alloc: Global) -> Result<Command<'a>, AllocError>
         alloc,
         "follow",
         "Prints the lines for `ip -batch` that bring the kernel to a server's tables, now and after each change",
+        WHERE,
     )?;
     with_reach(alloc, server)?.arg(once)?.arg(file)
 }
@@ -87,6 +91,6 @@ pub(crate) fn wait_line<'a>(alloc: Global) -> Result<Command<'a>, AllocError>
         "30",
         "How many seconds to wait at most, up to 1000000",
     );
-    let server = server_line(alloc, "wait", "Waits until a server answers")?;
+    let server = server_line(alloc, "wait", "Waits until a server answers", WHERE)?;
     server.arg(seconds)
 }

@@ -17,6 +17,13 @@ const NO_DATABASE: &str = "a value is required for '--db <PATH>'";
 const BAD_LISTEN: &str =
     "invalid value for '--listen <ADDR:PORT>': it is an IPv4 address, `:` and a port of 0 to 65535";
 
+/// What is wrong with a place of atomic sessions.
+const BAD_ATOMIC: &str =
+    "invalid value for '--atomic <ADDR:PORT>': it is an IPv4 address, `:` and a port of 0 to 65535";
+
+/// What is wrong if no place is named at which sessions come.
+const NO_PLACE: &str = "one of '--listen <ADDR:PORT>' and '--sockets <DIR>' is required";
+
 /// What is wrong with a place of the feed.
 const BAD_FEED: &str =
     "invalid value for '--feed <ADDR:PORT>': it is an IPv4 address, `:` and a port of 0 to 65535";
@@ -30,15 +37,21 @@ const BAD_SESSIONS: &str = "invalid value for '--sessions <K>': it is a number o
 /// What is wrong with a number of seconds.
 const BAD_IDLE: &str = "invalid value for '--idle <SECONDS>': it is a number of 0 to 1000000";
 
-/// Sessions over TCP that are to be served.
+/// Sessions that are to be served: over TCP, over Unix sockets or over both.
 #[derive(Drop)]
 pub struct Serving<'a> {
     /// The path of the database.
     pub database: &'a str,
-    /// Where to listen; port 0 is any free one.
-    pub listen: SocketAddrV4,
+    /// Where to listen, if anywhere; port 0 is any free one.
+    pub listen: Option<SocketAddrV4>,
+    /// Where to listen for sessions whose changes are made together, if anywhere; port 0 is any free one.
+    pub atomic: Option<SocketAddrV4>,
     /// Where to listen for clients that follow the changes, if anywhere; port 0 is any free one.
     pub feed: Option<SocketAddrV4>,
+    /// The directory of the Unix sockets, if there are any. There are some if there is no `listen`.
+    pub sockets: Option<&'a str>,
+    /// Whether each accepted command is logged.
+    pub is_logged: bool,
     /// How many sessions are served at once, 1 to 64.
     pub workers: u32,
     /// How many connections are accepted, up to 1,000,000; 0 is without end.
@@ -79,26 +92,60 @@ pub(crate) fn number_in(matches: &ArgMatches<'_>, name: &str, least: u32, most: 
     number_within(matches.get_str(name)?, least, most)
 }
 
-/// Parses the place to listen at that the matches of `serve` have.
-fn listen_in(matches: &ArgMatches<'_>) -> Option<SocketAddrV4> {
-    place_of(matches.get_str("listen")?)
-}
-
-/// Parses the place of the feed that the matches of `serve` have, if they have one.
+/// Parses the place that the matches of `serve` have for an option, if they have one.
 ///
 /// # Errors
 ///
-/// `Words` if the value is no place, `Opening` with `NoMemory` if memory is refused.
-fn feed_in(alloc: Global, matches: &ArgMatches<'_>) -> Result<Option<SocketAddrV4>, Fault>
+/// `Words` with the text `wrong` if the value is no place, `Opening` with `NoMemory` if memory is refused.
+fn place_in(
+    alloc: Global,
+    matches: &ArgMatches<'_>,
+    name: &str,
+    wrong: &str,
+) -> Result<Option<SocketAddrV4>, Fault>
     ensures { IfErr result (IsWordsFault serve) }
 {
-    let Some(word) = matches.get_str("feed") else {
+    let Some(word) = matches.get_str(name) else {
         return Ok(None);
     };
     match place_of(word) {
         Some(place) => Ok(Some(place)),
-        None => Err(serving_fault(alloc, BAD_FEED)),
+        None => Err(serving_fault(alloc, wrong)),
     }
+}
+
+/// How much is to be served.
+#[derive(Clone, Copy)]
+struct Limits {
+    workers: u32,
+    sessions: u32,
+    idle: u32,
+}
+
+/// Parses how much the matches of `serve` ask for.
+///
+/// # Errors
+///
+/// `Words` if a value is none that its option may have, `Opening` with `NoMemory` if memory is refused.
+fn limits_in(alloc: Global, matches: &ArgMatches<'_>) -> Result<Limits, Fault>
+    ensures workers { IfOk result (λ limits. (1 ≤ limits.workers) × (limits.workers ≤ 64)) }
+    ensures others { IfOk result (λ limits. (limits.sessions ≤ 1000000) × (limits.idle ≤ 1000000)) }
+    ensures fault { IfErr result (IsWordsFault serve) }
+{
+    let Some(workers) = number_in(matches, "workers", 1, 64) else {
+        return Err(serving_fault(alloc, BAD_WORKERS));
+    };
+    let Some(sessions) = number_in(matches, "sessions", 0, 1_000_000) else {
+        return Err(serving_fault(alloc, BAD_SESSIONS));
+    };
+    let Some(idle) = number_in(matches, "idle", 0, 1_000_000) else {
+        return Err(serving_fault(alloc, BAD_IDLE));
+    };
+    Ok(Limits {
+        workers,
+        sessions,
+        idle,
+    })
 }
 
 /// Reads what the matches of `serve` ask for.
@@ -113,25 +160,23 @@ pub(crate) fn serving_of<'a>(alloc: Global, matches: &ArgMatches<'a>) -> Result<
     let Some(database) = matches.get_str("db") else {
         return Err(serving_fault(alloc, NO_DATABASE));
     };
-    let Some(listen) = listen_in(matches) else {
-        return Err(serving_fault(alloc, BAD_LISTEN));
-    };
-    let feed = feed_in(alloc, matches)?;
-    let Some(workers) = number_in(matches, "workers", 1, 64) else {
-        return Err(serving_fault(alloc, BAD_WORKERS));
-    };
-    let Some(sessions) = number_in(matches, "sessions", 0, 1_000_000) else {
-        return Err(serving_fault(alloc, BAD_SESSIONS));
-    };
-    let Some(idle) = number_in(matches, "idle", 0, 1_000_000) else {
-        return Err(serving_fault(alloc, BAD_IDLE));
-    };
+    let listen = place_in(alloc, matches, "listen", BAD_LISTEN)?;
+    let atomic = place_in(alloc, matches, "atomic", BAD_ATOMIC)?;
+    let feed = place_in(alloc, matches, "feed", BAD_FEED)?;
+    let sockets = matches.get_str("sockets");
+    if listen.is_none() && sockets.is_none() {
+        return Err(serving_fault(alloc, NO_PLACE));
+    }
+    let limits = limits_in(alloc, matches)?;
     Ok(Serving {
         database,
         listen,
+        atomic,
         feed,
-        workers,
-        sessions: u64::from(sessions),
-        idle: u64::from(idle),
+        sockets,
+        is_logged: matches.get_flag("log"),
+        workers: limits.workers,
+        sessions: u64::from(limits.sessions),
+        idle: u64::from(limits.idle),
     })
 }

@@ -1,5 +1,6 @@
 """`get` and `show` may be asked of a server's sessions, which need not send its tables: the answers are those of its feed, and of
 3,000 routes hardly a byte comes. What needs the tables, as JSON does, fails there.
+Nor does `apply` send its changes to sessions, which would make them one by one, or to a feed.
 """
 
 import socket
@@ -84,6 +85,11 @@ def main():
     for words in (["explain", "10.0.3.4"], ["dump"], ["get", "--json", "10.0.3.4"]):
         status, said, told = ask(server.port, words)
         print(*words, status, repr(said), told.replace(str(server.port), "PORT"), end="")
+    for port in (server.port, server.feed_port):
+        words = ["apply", "--server", f"127.0.0.1:{server.feed_port}", "--atomic", f"127.0.0.1:{port}"]
+        done = subprocess.run([PROGRAM, *words], input="route add 10/8 dev eth0\n", capture_output=True, text=True)
+        print(done.returncode, repr(done.stdout), done.stderr.replace(str(port), "PORT"), end="")
+    print(ask(server.port, ["get", "10.0.3.4"]))
     server.kill(15)
 
 

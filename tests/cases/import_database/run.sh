@@ -1,4 +1,4 @@
-# A listing is run over a database in place of being printed. What the database refuses is told.
+# The tables of a database become what a listing makes, which isn't printed then: what the listing doesn't have goes.
 prt=$1
 import() {
   "$prt" import "$@" 2>&1
@@ -19,6 +19,9 @@ cmp <("$prt" dump --db a.db) <("$prt" dump --db b.db)
 sed 's/eth0/eth2/' listing >changed
 import --db=a.db - <changed
 "$prt" show --db a.db
+grep -v 'table 100 ' listing | import --db a.db
+import --db a.db listing
+import --db a.db listing
 import --db a.db missing
 import --db /missing/a.db listing
 import --db a.db --server 127.0.0.1:1

@@ -9,12 +9,17 @@ import time
 from serving import Client, Follower, Server, preloaded
 
 
+def fault_at(port):
+    """The file by which each accept fails on a port, or on the socket at a path."""
+    return f"fault.{os.path.basename(str(port))}"
+
+
 def fail(port, number):
-    """Has each accept on a port fail from now on."""
-    with open(f"new.{port}", "w", encoding="ascii") as file:
+    """Has each accept there fail from now on."""
+    with open("new", "w", encoding="ascii") as file:
         file.write(str(number))
     # A server never sees it half written.
-    os.rename(f"new.{port}", f"fault.{port}")
+    os.rename("new", fault_at(port))
 
 
 def serve_in_passing(variables):
@@ -32,7 +37,7 @@ def serve_in_passing(variables):
     time.sleep(1.5)
     print(first.ask("route add 11/8 dev eth1"))
     for port in (server.port, server.feed_port):
-        os.remove(f"fault.{port}")
+        os.remove(fault_at(port))
     print(third.replies.readline().decode(), end="")
     follower = Follower(server)
     print(follower.number, first.ask("rule flush"), follower.changes(1))
@@ -58,6 +63,8 @@ def serve_until_it_fails(variables, *names):
     first.close()
     status, told = server.end()
     print(status, told, end="")
+    for name in names:
+        os.remove(fault_at(ports[name]))
 
 
 def main():

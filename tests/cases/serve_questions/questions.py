@@ -19,7 +19,7 @@ def ask(server, turn):
         follower.close()
         return follower.number == 1
     words = ["dump"] if turn % 4 else ["explain", "10.1.2.3"]
-    done = subprocess.run([PROGRAM, *words, "--server", f"127.0.0.1:{server.feed_port}"], capture_output=True, text=True)
+    done = subprocess.run([PROGRAM, *words, *server.asked()], capture_output=True, text=True)
     return done.returncode == 0 and "10.0.0.0/8 dev eth0" in done.stdout and not done.stderr
 
 

@@ -1,22 +1,18 @@
-use Rattle.std.proofs.Common.{arith, refl, subst, ◌∙◌}
+use Rattle.std.proofs.Common.{arith}
 use Rattle.std.proofs.lemmas.Bool.Decides.{nat_tests}
-use Rattle.prt_refusals.specs.declared.on_refusal.OnRefusal.TheVariants.{Stop}
-use Rattle.prt_session.proofs.AtomicRuns.{empty_there, faulty_first, is_quiet, no_fault_there, refused_first, only_read, read_and_submitted, read_is}
-use Rattle.prt_session.specs.Atomic.{CollectMay, collect_turn}
-use Rattle.prt_session.specs.Run.{RunIs}
+use Rattle.prt_session.proofs.AtomicRuns.{empty_there, faulty_first, is_quiet, no_fault_there, refused_first, only_read, read_and_submitted}
 use Rattle.prt_session.proofs.atomic.run_atomic.Goals as goal
 use Rattle.prt_session.proofs.atomic.run_atomic.Goals.{then-end-via-then-end, then-end-via-else-end+then-is_some, then-end-via-else-end+else-is_some+then-is_empty}
 
 pub returns-then-end-clause-run : goal.returns-then-end-clause-run
 returns-then-end-clause-run g c = λ after stands.
-    let commands = c.run_session-end.new.executor.commands.items in
+    let commands = c.collect_commands-commands.result.commands.items in
     let reader0 = g.R.Read.remaining c.args.reader.now in
-    let reader = g.R.Read.remaining c.run_session-end.new.reader in
+    let reader = g.R.Read.remaining c.collect_commands-commands.new.reader in
     let writer0 = g.W.Write.contents c.args.writer.now in
-    let writer = g.W.Write.contents c.run_session-end.new.writer in
-    let end = c.run_session-end.result in
-    let ran = c.run_session-end.ensures.run commands refl in
-    let read = read_is commands reader0 reader writer0 writer end (subst (λ start. RunIs collect_turn CollectMay Stop start commands reader0 reader writer0 writer end) (ran.1 ∙ c.new-collector.ensures) ran.2) in (
+    let writer = g.W.Write.contents c.collect_commands-commands.new.writer in
+    let end = c.collect_commands-commands.result.end in
+    let read = c.collect_commands-commands.ensures.read in (
       after,
       stands,
       only_read g.D.Desk.may commands reader0 reader writer0 after writer end read (λ none.
@@ -30,13 +26,12 @@ returns-then-end-clause-run g c = λ after stands.
 
 pub returns-clause-run : goal.returns-clause-run
 returns-clause-run g c = λ after stands.
-    let commands = c.run_session-end.new.executor.commands.items in
+    let commands = c.collect_commands-commands.result.commands.items in
     let reader0 = g.R.Read.remaining c.args.reader.now in
-    let reader = g.R.Read.remaining c.run_session-end.new.reader in
+    let reader = g.R.Read.remaining c.collect_commands-commands.new.reader in
     let writer0 = g.W.Write.contents c.args.writer.now in
-    let between = g.W.Write.contents c.run_session-end.new.writer in
-    let end = c.run_session-end.result in
-    let ran = c.run_session-end.ensures.run commands refl in
-    let read = read_is commands reader0 reader writer0 between end (subst (λ start. RunIs collect_turn CollectMay Stop start commands reader0 reader writer0 between end) (ran.1 ∙ c.new-collector.ensures) ran.2) in
+    let between = g.W.Write.contents c.collect_commands-commands.new.writer in
+    let end = c.collect_commands-commands.result.end in
+    let read = c.collect_commands-commands.ensures.read in
     let before = c.submit.ensures.run after stands in
     (before.0, before.1, read_and_submitted g.D.Desk.may commands reader0 reader writer0 before.0 after between (g.W.Write.contents c.submit.new.writer) end c.submit.result read c.if-end.false (no_fault_there end.fault c.is_some.result c.is_some.ensures c.if-is_some.false) before.2)

@@ -4,7 +4,7 @@ use Rattle.clap.specs.Words.{App, app_of, with_subcommand}
 use Rattle.clap.specs.Simple.{Shape, app_of_fields, on_top}
 use Rattle.clap.specs.declared.builder.command.Command.{Command}
 use Rattle.clap.specs.declared.builder.command.Command.TheOpen.{Command-F}
-use Rattle.prt_words.specs.CommandLine.{opening_line, with_analyses, with_questions}
+use Rattle.prt_words.specs.CommandLine.{opening_line, with_analyses, with_questions, with_services}
 use Rattle.prt_words.proofs.command_line.command_line.Goals as goal
 
 -- what the program's own line asks for
@@ -29,4 +29,5 @@ returns c =
     let with_replay = c.in_ok-subcommand-3.ensures.shape c.in_ok-replay.ensures.own ∙ ap₂ with_subcommand with_check (ap top_of c.in_ok-replay.ensures.line) in
     let with_serve = c.in_ok-command.ensures.shape c.in_ok-serve.ensures.own ∙ ap₂ with_subcommand with_replay (ap top_of c.in_ok-serve.ensures.line) in
     let asking = c.in_ok-asking.ensures ∙ ap with_questions with_serve in
-    IfOk-weaker c.with_analyses.result _ _ (λ command added. added ∙ ap with_analyses asking) c.with_analyses.ensures
+    let analysing = c.in_ok-analysing.ensures ∙ ap with_analyses asking in
+    IfOk-weaker c.with_services.result _ _ (λ command added. added ∙ ap with_services analysing) c.with_services.ensures

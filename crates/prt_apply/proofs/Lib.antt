@@ -1,0 +1,16 @@
+pub mod Members
+pub mod Accepted
+pub mod SameRoutes
+pub mod RouteSteps
+pub mod RouteEnds
+pub mod Runs
+pub mod RuleSteps
+pub mod Stages
+pub mod Stored
+pub mod Alike
+pub mod Brings
+pub mod Room
+pub mod RouteWalks
+pub mod RuleWalks
+pub mod Listed
+pub mod Between

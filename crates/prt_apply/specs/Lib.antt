@@ -1,0 +1,5 @@
+pub mod Routes
+pub mod Rules
+pub mod Plan
+pub mod Walk
+pub mod Brings

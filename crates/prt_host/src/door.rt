@@ -1,0 +1,124 @@
+//! Where a server listens: a TCP port, or a Unix socket.
+
+use prt_questions::{LocalNet, set_local_accept_timeout};
+use std::fs::Files;
+use std::io::{self, ErrorKind};
+use std::net::{
+    Ipv4Addr, Net, OpenListener, OpenStream, SocketAddr, SocketAddrV4, TcpListener, TcpStream,
+};
+use std::os::unix::fs::FileTypeExt;
+use std::os::unix::net::{UnixListener, UnixStream};
+use std::time::Duration;
+
+/// For how many milliseconds an `accept` waits if nobody comes.
+const PATIENCE: u64 = 100;
+
+/// A network on which a server listens.
+pub trait ServerNet: LocalNet {
+    /// A listener. An `accept` returns after 100 ms with `WouldBlock` if nobody comes.
+    type Door: OpenListener<Stream = Self::Stream> + Drop;
+
+    /// Listens at a TCP port; port 0 is any free one.
+    fn at_address(&self, place: SocketAddrV4) -> io::Result<Self::Door>;
+
+    /// Makes a socket file, and listens there. A socket file at which nobody listens goes before.
+    ///
+    /// # Errors
+    ///
+    /// The system's. `AddrInUse` if somebody listens there, or the file is no socket: it stays as it is.
+    fn at_path<F: Files>(&self, files: &F, path: &str) -> io::Result<Self::Door>;
+}
+
+/// A listener at a TCP port or at a Unix socket.
+#[derive(Drop)]
+pub enum Door {
+    Tcp(TcpListener),
+    Local(UnixListener),
+}
+
+/// Checks whether a file is a socket at which nobody listens.
+fn is_left_over<N: LocalNet, F: Files>(rt: &N, files: &F, path: &str) -> bool {
+    let Ok(found) = files.symlink_metadata(path) else {
+        return false;
+    };
+    if !found.file_type().is_socket() {
+        return false;
+    }
+    match UnixStream::connect(rt, path) {
+        Ok(_) => false,
+        Err(error) => error.kind() == ErrorKind::ConnectionRefused,
+    }
+}
+
+/// Makes a socket file, in place of one that an earlier server left.
+fn bind_at<N: LocalNet, F: Files>(rt: &N, files: &F, path: &str) -> io::Result<UnixListener> {
+    match rt.bind_local(path) {
+        Err(error) if error.kind() == ErrorKind::AddrInUse => {
+            if !is_left_over(rt, files, path) {
+                return Err(error);
+            }
+            files.remove_file(path)?;
+            rt.bind_local(path)
+        }
+        bound => bound,
+    }
+}
+
+impl ServerNet for HostRuntime {
+    type Door = Door;
+
+    fn at_address(&self, place: SocketAddrV4) -> io::Result<Door> {
+        let listener = self.bind(SocketAddr::V4(place))?;
+        HostRuntime::set_accept_timeout(&listener, Duration::from_millis(PATIENCE))?;
+        Ok(Door::Tcp(listener))
+    }
+
+    fn at_path<F: Files>(&self, files: &F, path: &str) -> io::Result<Door> {
+        let listener = bind_at(self, files, path)?;
+        set_local_accept_timeout(&listener, Duration::from_millis(PATIENCE))?;
+        Ok(Door::Local(listener))
+    }
+}
+
+/// Returns the address that stands for a client at a Unix socket.
+fn local_client() -> SocketAddr {
+    SocketAddr::V4(SocketAddrV4::new(Ipv4Addr::UNSPECIFIED, 0))
+}
+
+/// Checks whether a client is at a Unix socket.
+pub(crate) fn is_local(client: &SocketAddr) -> bool {
+    *client == local_client()
+}
+
+impl OpenListener for Door {
+    type Stream = TcpStream;
+
+    fn accept(&self) -> io::Result<(TcpStream, SocketAddr)> {
+        let (stream, client) = match self {
+            Door::Tcp(listener) => listener.accept()?,
+            Door::Local(listener) => {
+                let (stream, _) = listener.accept()?;
+                (HostRuntime::stream_of(stream), local_client())
+            }
+        };
+        // Linux passes the listener's time limit on to what it accepts.
+        if stream.set_read_timeout(None).is_err() {
+            return Err(io::Error::from(ErrorKind::Interrupted));
+        }
+        Ok((stream, client))
+    }
+
+    fn local_addr(&self) -> io::Result<SocketAddr> {
+        match self {
+            Door::Tcp(listener) => listener.local_addr(),
+            Door::Local(_) => Ok(local_client()),
+        }
+    }
+
+    fn set_nonblocking(&self, nonblocking: bool) -> io::Result<()> {
+        match self {
+            Door::Tcp(listener) => listener.set_nonblocking(nonblocking),
+            Door::Local(listener) => listener.set_nonblocking(nonblocking),
+        }
+    }
+}

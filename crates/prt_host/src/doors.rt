@@ -1,0 +1,241 @@
+//! Where a server listens, all of it.
+
+use crate::door::ServerNet;
+use prt_questions::Socket;
+use prt_serve::{Entrance, Entrances, Kind};
+use prt_words::Serving;
+use std::alloc::Global;
+use std::fmt;
+use std::fs::Files;
+use std::io::{self, ErrorKind, Write};
+use std::net::{OpenListener, SocketAddrV4};
+
+/// The names of the sockets in their directory, in the order in which they are made. The status comes first: to ask there
+/// whether an earlier server still answers takes no session of it.
+const SOCKETS: [Socket; 4] = [
+    Socket::Status,
+    Socket::Session,
+    Socket::Atomic,
+    Socket::Feed,
+];
+
+/// A place at which a server listens.
+#[derive(Clone, Copy)]
+pub(crate) enum Place<'a> {
+    Address(SocketAddrV4),
+    /// A directory, and the name of a socket in it.
+    Socket(&'a str, &'static str),
+    /// A directory of sockets.
+    Directory(&'a str),
+}
+
+impl<'a> fmt::Display for Place<'a> {
+    fn fmt<W: fmt::Write>(&self, f: &mut fmt::Formatter<W>) -> fmt::Result {
+        match self {
+            Place::Address(address) => write!(f, "{address}"),
+            Place::Socket(directory, name) => write!(f, "{directory}/{name}"),
+            Place::Directory(directory) => write!(f, "{directory}"),
+        }
+    }
+}
+
+/// Why a place can't be listened at.
+pub(crate) struct NotListened<'a> {
+    pub(crate) place: Place<'a>,
+    pub(crate) error: io::Error,
+}
+
+/// Where a server listens, and the socket files that it made.
+#[derive(Drop)]
+pub(crate) struct Doors<N: ServerNet> {
+    pub(crate) entrances: Entrances<N::Door>,
+    files: Vec<String>,
+}
+
+impl<N: ServerNet> Doors<N> {
+    fn new(alloc: Global) -> Doors<N> {
+        Doors {
+            entrances: Entrances {
+                sessions: Vec::new(alloc),
+                feeds: Vec::new(alloc),
+                status: None,
+            },
+            files: Vec::new(alloc),
+        }
+    }
+
+    /// Adds a listener for sessions.
+    fn add_sessions(&mut self, listener: N::Door, kind: Kind) -> io::Result<()> {
+        self.entrances.sessions.push(Entrance { listener, kind })?;
+        Ok(())
+    }
+
+    /// Adds a listener for what a socket is for.
+    fn add(&mut self, socket: Socket, listener: N::Door) -> io::Result<()> {
+        match socket {
+            Socket::Status => self.entrances.status = Some(listener),
+            Socket::Session => self.add_sessions(listener, Kind::InTurn)?,
+            Socket::Atomic => self.add_sessions(listener, Kind::Together)?,
+            Socket::Feed => self.entrances.feeds.push(listener)?,
+        }
+        Ok(())
+    }
+
+    /// Makes a socket in a directory, and listens there.
+    fn open_socket<F: Files>(
+        &mut self,
+        rt: &N,
+        files: &F,
+        alloc: Global,
+        directory: &str,
+        socket: Socket,
+    ) -> io::Result<()> {
+        let path = format!(in alloc; "{directory}/{}", socket.name())?;
+        self.files.reserve(1)?;
+        let listener = rt.at_path(files, &path)?;
+        self.files.push(path)?;
+        self.add(socket, listener)
+    }
+
+    /// Makes all sockets in a directory.
+    fn open_sockets<'a, F: Files>(
+        &mut self,
+        rt: &N,
+        files: &F,
+        alloc: Global,
+        directory: &'a str,
+    ) -> Result<(), NotListened<'a>> {
+        for socket in SOCKETS {
+            if let Err(error) = self.open_socket(rt, files, alloc, directory, socket) {
+                let place = match error.kind() {
+                    ErrorKind::NotFound => Place::Directory(directory),
+                    _ => Place::Socket(directory, socket.name()),
+                };
+                return Err(NotListened { place, error });
+            }
+        }
+        Ok(())
+    }
+
+    /// Removes the socket files. The listeners still have them, so no other server has taken one over.
+    pub(crate) fn remove_files<F: Files>(&self, files: &F) {
+        for path in &self.files {
+            let _removed = files.remove_file(path).is_ok();
+        }
+    }
+}
+
+/// Listens at a port, and says where on `output`, after this word.
+fn bind_and_tell<N: ServerNet, W: Write>(
+    rt: &N,
+    place: SocketAddrV4,
+    word: &str,
+    output: &mut W,
+) -> io::Result<N::Door> {
+    let door = rt.at_address(place)?;
+    let address = door.local_addr()?;
+    write!(output, "{word} {address}\n")?;
+    output.flush()?;
+    Ok(door)
+}
+
+/// As `bind_and_tell`, whose error names the place.
+fn listen_at<N: ServerNet, W: Write>(
+    rt: &N,
+    place: SocketAddrV4,
+    word: &str,
+    output: &mut W,
+) -> Result<N::Door, NotListened<'static>> {
+    match bind_and_tell(rt, place, word, output) {
+        Ok(door) => Ok(door),
+        Err(error) => Err(NotListened {
+            place: Place::Address(place),
+            error,
+        }),
+    }
+}
+
+/// Says on `output` in which directory the sockets are.
+fn tell_directory<W: Write>(directory: &str, output: &mut W) -> io::Result<()> {
+    write!(output, "sockets {directory}\n")?;
+    output.flush()
+}
+
+/// Names the place in the error, if there is one.
+fn named(place: Place<'_>, done: io::Result<()>) -> Result<(), NotListened<'_>> {
+    match done {
+        Ok(()) => Ok(()),
+        Err(error) => Err(NotListened { place, error }),
+    }
+}
+
+/// Listens at the ports that are asked for.
+fn open_ports<N: ServerNet, W: Write>(
+    doors: &mut Doors<N>,
+    rt: &N,
+    asked: &Serving<'_>,
+    output: &mut W,
+) -> Result<(), NotListened<'static>> {
+    if let Some(place) = asked.listen {
+        let door = listen_at(rt, place, "listening", output)?;
+        named(
+            Place::Address(place),
+            doors.add_sessions(door, Kind::InTurn),
+        )?;
+    }
+    if let Some(place) = asked.atomic {
+        let door = listen_at(rt, place, "atomic", output)?;
+        named(
+            Place::Address(place),
+            doors.add_sessions(door, Kind::Together),
+        )?;
+    }
+    if let Some(place) = asked.feed {
+        let door = listen_at(rt, place, "feeding", output)?;
+        named(Place::Address(place), doors.add(Socket::Feed, door))?;
+    }
+    Ok(())
+}
+
+/// Listens at all places that are asked for.
+fn open_all<'a, N: ServerNet, F: Files, W: Write>(
+    doors: &mut Doors<N>,
+    rt: &N,
+    files: &F,
+    alloc: Global,
+    asked: &Serving<'a>,
+    output: &mut W,
+) -> Result<(), NotListened<'a>> {
+    open_ports(doors, rt, asked, output)?;
+    if let Some(directory) = asked.sockets {
+        doors.open_sockets(rt, files, alloc, directory)?;
+        named(
+            Place::Directory(directory),
+            tell_directory(directory, output),
+        )?;
+    }
+    Ok(())
+}
+
+/// Listens where it is asked for, and says where on `output`, before anything is accepted: `listening ADDR:PORT`, `atomic
+/// ADDR:PORT`, `feeding ADDR:PORT` and `sockets DIR`, each if it is open.
+///
+/// # Errors
+///
+/// The first place that can't be listened at, and why. No socket file is left then of those that were made.
+pub(crate) fn listen<'a, N: ServerNet, F: Files, W: Write>(
+    rt: &N,
+    files: &F,
+    alloc: Global,
+    asked: &Serving<'a>,
+    output: &mut W,
+) -> Result<Doors<N>, NotListened<'a>> {
+    let mut doors = Doors::new(alloc);
+    match open_all(&mut doors, rt, files, alloc, asked, output) {
+        Ok(()) => Ok(doors),
+        Err(failure) => {
+            doors.remove_files(files);
+            Err(failure)
+        }
+    }
+}

@@ -1,0 +1,35 @@
+-- Tables that were made those that are wanted.
+use Rattle.std.proofs.Common.{◌≡◌, ◌∙◌, List, Bool, true, false, refl, sym, ap, subst}
+use Rattle.sqlite.specs.Held.{Held}
+use Rattle.sqlite.specs.Store.{Ghosts}
+use Rattle.prt_apply.specs.Brings.{AreAlike}
+use Rattle.prt_apply.specs.Plan.{plan}
+use Rattle.prt_apply.proofs.Room.{accepted_leaves}
+use Rattle.prt_command.specs.declared.request.Command.{Command}
+use Rattle.prt_publisher.specs.Openings.{OpensOne}
+use Rattle.prt_publisher.specs.Standing.{Standing}
+use Rattle.prt_publisher.specs.declared.phase.Phase.TheVariants.{Ready}
+use Rattle.prt_front.specs.Line.{line_state}
+use Rattle.prt_version.specs.Accepted.{IsAccepted}
+use Rattle.prt_version.specs.Change.{fold}
+use Rattle.prt_version.specs.Sound.{IsSound}
+use Rattle.prt_version.specs.State.{State}
+use Rattle.prt_questions.specs.Applying.{Leaves, MakesTables}
+
+-- the commands of the plan were accepted, so they made the tables those that are wanted
+pub brought : (found wanted shown : State) (commands slice : List Command) (end : State) → shown ≡ found → IsSound shown → IsSound wanted → commands ≡ plan shown wanted → slice ≡ commands
+    → IsAccepted found slice → end ≡ fold found slice → AreAlike end wanted
+brought found wanted shown commands slice end is sound wanted_sound planned same accepted made =
+    let all : slice ≡ plan found wanted = same ∙ planned ∙ ap (λ s. plan s wanted) is in
+    subst (λ s. AreAlike s wanted) (sym (made ∙ ap (fold found) all))
+    (accepted_leaves found wanted (subst IsSound is sound) wanted_sound (subst (IsAccepted found) all accepted))
+
+-- what a publisher leaves, by whether the changes were only planned
+pub makes_tables : {S : Type 0} {g : Ghosts S} {begun : Standing (Held S)} {last : Held S} (is_dry_run : Bool) (wanted : State) (left : Leaves g begun last)
+    → (is_dry_run ≡ true → left.done ≡ begun) → (is_dry_run ≡ false → (left.done.phase ≡ Ready) × AreAlike (line_state left.done.line) wanted) → MakesTables is_dry_run wanted left
+makes_tables true wanted left same made = same refl
+makes_tables false wanted left same made = made refl
+
+-- the publisher was opened over the tables that were found
+pub over_found : {S : Type 0} (g : Ghosts S) (IsFound : Held S → Type 0) (begun : Standing (Held S)) (opens : OpensOne g IsFound begun) → OpensOne g (λ was. was ≡ opens.was) begun
+over_found g IsFound begun opens = record { was = opens.was; found = refl; format = opens.format; opened = opens.opened; begun = opens.begun }

@@ -1,0 +1,32 @@
+use Rattle.std.proofs.Common.{inr, sym}
+use Rattle.prt_questions.specs.Applying.{Leaves}
+use Rattle.prt_questions.proofs.Applied.{makes_tables, over_found}
+use Rattle.prt_questions.proofs.applying.apply_to_database.Goals as goal
+
+pub returns-clause-whole : goal.returns-clause-whole
+returns-clause-whole g c = λ done.
+    let opened = c.in-Ok.ensures.opened in
+    let made = c.make-status.ensures in
+    let left : Leaves g.S.Store c.in-Ok.made.0 c.end.result = record { done = c.make-status.new.publisher; its = sym c.end.ensures.tables; quiet = made.quiet; file = made.file; stands = c.end.ensures.stands } in
+    record {
+      between = c.open_publisher-opened.new.machine;
+      first = opened.was;
+      last = c.end.result;
+      is_opened = opened.found;
+      made = (c.in-Ok.made.0, over_found g.S.Store _ _ opened, (left, makes_tables c.args.manner.is_dry_run c.args.wanted.now left made.dry (made.made done)), made.whole done);
+      is_closed = c.close.ensures;
+    }
+
+pub returns-clause-at_most : goal.returns-clause-at_most
+returns-clause-at_most g c =
+    let opened = c.in-Ok.ensures.opened in
+    let made = c.make-status.ensures in
+    let left : Leaves g.S.Store c.in-Ok.made.0 c.end.result = record { done = c.make-status.new.publisher; its = sym c.end.ensures.tables; quiet = made.quiet; file = made.file; stands = c.end.ensures.stands } in
+    inr (record {
+      between = c.open_publisher-opened.new.machine;
+      first = opened.was;
+      last = c.end.result;
+      is_opened = opened.found;
+      made = (c.in-Ok.made.0, over_found g.S.Store _ _ opened, left, made.part);
+      is_closed = c.close.ensures;
+    })

@@ -1,0 +1,12 @@
+use Rattle.std.proofs.Common.{arith}
+use Rattle.prt_questions.proofs.Applied.{brought}
+use Rattle.prt_questions.proofs.applying.make.Goals.{then-not-manner+in_default, else-not-manner}
+use Rattle.prt_questions.proofs.applying.make.Goals as goal
+
+pub returns-clause-made : goal.returns-clause-made
+returns-clause-made g c = λ done wet. elim c.if-not-manner.branch [
+  | then-not-manner+in_default w ↦
+      let made = w.in_default.ensures.made in
+      rw w.publisher-is (made.0, brought _ _ _ _ _ _ c.published-found.ensures c.plan_changes.ensures.sound.0 c.plan_changes.ensures.sound.1 c.in-Ok.ensures.commands w.as_slice.ensures.value made.1 made.2)
+  | else-not-manner w ↦ grind (arith, w.if-not-manner.false, wet)
+]

@@ -1,0 +1,103 @@
+-- Tables that are made what a script makes of a new database.
+use Rattle.std.specs.Prelude.{◌≡◌, ◌⊎◌, ◌++◌, ℕ, Bool, true, false, List, Option, codes, decimal, length}
+use Rattle.std.specs.Io.KnownBytes.{Appends}
+use Rattle.sqlite.specs.Held.{Held}
+use Rattle.sqlite.specs.Store.{Ghosts}
+use Rattle.prt_apply.specs.Brings.{AreAlike}
+use Rattle.prt_apply.specs.Plan.{plan}
+use Rattle.prt_command.specs.declared.request.Command.{Command}
+use Rattle.prt_diff.specs.Text.{commands_text}
+use Rattle.prt_front.specs.Line.{line_state}
+use Rattle.prt_impact.specs.Groups.{AreGroups}
+use Rattle.prt_impact.specs.declared.group.Group.{Group}
+use Rattle.prt_import.specs.Accepted.{IsExecuted}
+use Rattle.prt_import.specs.declared.accepted.Accepted.{Accepted}
+use Rattle.prt_partition.specs.declared.sameness.Sameness.TheVariants.{Outcomes}
+use Rattle.prt_publisher.specs.Openings.{OpensOne}
+use Rattle.prt_publisher.specs.Standing.{IsQuiet, Standing, Stands}
+use Rattle.prt_publisher.specs.declared.phase.Phase.TheVariants.{Ready}
+use Rattle.prt_version.specs.State.{State}
+use Rattle.prt_words.specs.declared.service.Applying.{Applying}
+use Rattle.prt_words.specs.declared.service.Target.{Target}
+use Rattle.prt_words.specs.declared.service.Target.TheVariants.{Database, Server}
+use Rattle.prt_questions.specs.Asking.{AreKernels, IsCutOff, IsNotOpened, comments_of}
+use Rattle.prt_questions.specs.Closing.{IsClosedAgain}
+
+-- ---- what is printed
+
+-- the lines of the commands, and how many there are
+abbrev pub made_text : List Command → List ℕ
+made_text commands = commands_text commands ++ codes "changes " ++ decimal (length commands) ++ codes "\n"
+
+-- what a plan prints, after the packets that it sends another way if these are to be shown
+abbrev pub IsPlanText : (shows : Bool) → (found wanted : State) → List ℕ → Type 0
+IsPlanText true found wanted text = (groups : List Group) × AreGroups Outcomes found wanted groups × (text ≡ comments_of groups ++ made_text (plan found wanted))
+IsPlanText false found wanted text = text ≡ made_text (plan found wanted)
+
+-- ---- what is done to a database
+
+-- What a publisher leaves at its end, with no command under way: the tables as it had them. Of a known file they hold what it
+-- published or, once it is closed, that or what was stored and not published.
+pub record Leaves {S : Type 0} (g : Ghosts S) (begun : Standing (Held S)) (last : Held S) : Type 0 where
+  pub done : Standing (Held S)
+  pub its : done.tables ≡ last
+  pub quiet : IsQuiet done.phase
+  pub file : done.ours_first ≡ begun.ours_first
+  pub stands : Stands g done
+
+-- It made the tables those that are wanted, and is ready: what it published is stored. Or the changes were only planned, and
+-- nothing was stored.
+abbrev pub MakesTables : {S : Type 0} {g : Ghosts S} {begun : Standing (Held S)} {last : Held S} → (is_dry_run : Bool) → State → Leaves g begun last → Type 0
+MakesTables {S} {g} {begun} false wanted left = (left.done.phase ≡ Ready) × AreAlike (line_state left.done.line) wanted
+MakesTables {S} {g} {begun} true wanted left = left.done ≡ begun
+
+-- all that is printed of a plan was printed
+abbrev pub IsPrinted : (shows : Bool) → (found wanted : State) → (writer0 writer : Option (List ℕ)) → Type 0
+IsPrinted shows found wanted writer0 writer = (text : List ℕ) × IsPlanText shows found wanted text × Appends writer0 writer text
+
+-- or a part of it, perhaps none
+abbrev pub IsPrintedAtMost : (shows : Bool) → (found wanted : State) → (writer0 writer : Option (List ℕ)) → Type 0
+IsPrintedAtMost shows found wanted writer0 writer = (writer ≡ writer0) ⊎ ((text : List ℕ) × IsPlanText shows found wanted text × IsCutOff text writer0 writer)
+
+-- a publisher was opened over the first tables, and made those of the last that are wanted
+abbrev pub Makes : {S : Type 0} → Ghosts S → (shows is_dry_run : Bool) → (wanted : State) → (writer0 writer : Option (List ℕ)) → Held S → Held S → Type 0
+Makes g shows is_dry_run wanted writer0 writer first last =
+    (begun : Standing (Held _)) × OpensOne g (λ was. was ≡ first) begun × ((left : Leaves g begun last) × MakesTables is_dry_run wanted left)
+    × IsPrinted shows (line_state begun.line) wanted writer0 writer
+
+abbrev pub MakesAtMost : {S : Type 0} → Ghosts S → (shows : Bool) → (wanted : State) → (writer0 writer : Option (List ℕ)) → Held S → Held S → Type 0
+MakesAtMost g shows wanted writer0 writer first last =
+    (begun : Standing (Held _)) × OpensOne g (λ was. was ≡ first) begun × Leaves g begun last × IsPrintedAtMost shows (line_state begun.line) wanted writer0 writer
+
+-- the tables at a path were made these, and what was printed says how
+abbrev pub IsMadeAt : {M S : Type 0} → Ghosts S → (opens : M → M → List ℕ → Held S → Type 0) → (closes : M → M → Held S → Type 0) → (old new : M) → (writer0 writer : Option (List ℕ)) → (path : List ℕ) → (shows is_dry_run : Bool) → (wanted : State) → Type 0
+IsMadeAt g opens closes old new writer0 writer path shows is_dry_run wanted = IsClosedAgain opens closes (Makes g shows is_dry_run wanted writer0 writer) old new path
+
+-- what a script makes of a new database, none of whose lines is refused
+abbrev pub IsScript : Accepted → Type 0
+IsScript made = (text : List ℕ) × IsExecuted made text × AreKernels made.left.items
+
+module _ {M S : Type 0} (g : Ghosts S) (opens : M → M → List ℕ → Held S → Type 0) (refuses : M → M → List ℕ → Type 0) (closes : M → M → Held S → Type 0) (old new : M) (writer0 writer : Option (List ℕ)) where
+  -- in any case: the database could not be opened and nothing was printed, or a part at most
+  abbrev pub IsMadeAtMost : (path : List ℕ) (shows : Bool) → (wanted : State) → Type 0
+  IsMadeAtMost path shows wanted =
+      (IsNotOpened g opens refuses closes old new path × (writer ≡ writer0))
+      ⊎ IsClosedAgain opens closes (MakesAtMost g shows wanted writer0 writer) old new path
+
+  -- the tables of a target were made these; of a server this is what it told before
+  abbrev pub IsAppliedTo : Target → (shows is_dry_run : Bool) → (wanted : State) → Type 0
+  IsAppliedTo (Database path) shows is_dry_run wanted = IsMadeAt g opens closes old new writer0 writer path.now shows is_dry_run wanted
+  IsAppliedTo (Server ends) shows is_dry_run wanted = (new ≡ old) × ((told : State) × IsPrinted shows told wanted writer0 writer)
+
+  -- in any case
+  abbrev pub IsAppliedAtMost : Target → (shows : Bool) → (wanted : State) → Type 0
+  IsAppliedAtMost (Database path) shows wanted = IsMadeAtMost path.now shows wanted
+  IsAppliedAtMost (Server ends) shows wanted = (new ≡ old) × ((told : State) × IsPrintedAtMost shows told wanted writer0 writer)
+
+  -- the tables were made what the script makes
+  abbrev pub HasApplied : Applying → Type 0
+  HasApplied applying = (made : Accepted) × IsScript made × IsAppliedTo applying.target applying.has_impact applying.is_dry_run made.version
+
+  -- in any case: a line of the script is refused, or it can't be read, and nothing was done; or it was applied at most
+  abbrev pub HasAppliedAtMost : Applying → Type 0
+  HasAppliedAtMost applying = ((new ≡ old) × (writer ≡ writer0)) ⊎ ((made : Accepted) × IsScript made × IsAppliedAtMost applying.target applying.has_impact made.version)

@@ -1,0 +1,13 @@
+-- What a try to change the tables of a server says.
+use Rattle.std.specs.Prelude.{◌≡◌, ℕ, Bool}
+use Rattle.prt_version.specs.State.{State}
+use Rattle.prt_words.specs.declared.fault.TheConstants.{FAULT}
+use Rattle.prt_questions.specs.Applying.{IsPlanText}
+use Rattle.prt_questions.specs.declared.apply_remote.Tried.{Tried}
+use Rattle.prt_questions.specs.declared.apply_remote.Tried.TheVariants.{Failed, Moved, Text}
+
+-- a text is that of a plan for the tables that the server told, and a status is that of a fault
+abbrev pub IsTriedFor : (shows : Bool) → State → Tried → Type 0
+IsTriedFor shows wanted (Text text) = (told : State) × IsPlanText shows told wanted text.items
+IsTriedFor shows wanted Moved = Unit {0}
+IsTriedFor shows wanted (Failed status) = status ≡ FAULT

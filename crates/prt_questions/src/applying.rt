@@ -1,0 +1,260 @@
+//! Tables that are made what a script makes of a new database.
+ghost use Rattle.std.specs.Prelude.{◌≡◌, ◌⊎◌, All, IfErr, IfOk, OnOk, false, true};
+ghost use Rattle.prt_apply.specs.Brings.{AreAlike};
+ghost use Rattle.prt_command.specs.Storable.{IsStorable};
+ghost use Rattle.prt_front.specs.Line.{line_state};
+ghost use Rattle.prt_publisher.specs.Standing.{IsQuiet};
+ghost use Rattle.prt_publisher.specs.declared.phase.Phase.TheVariants.{Ready};
+ghost use Rattle.prt_questions.specs.Applying.{HasApplied, HasAppliedAtMost, IsMadeAt, IsMadeAtMost, IsPrinted, IsPrintedAtMost, IsScript};
+ghost use Rattle.prt_version.specs.Accepted.{IsAccepted};
+ghost use Rattle.prt_version.specs.Change.{fold};
+
+use crate::apply_remote::apply_to_server;
+use crate::asking::{REFUSED, run_over_new, write_text};
+use crate::databases::DatabaseFiles;
+use crate::left::tell_left;
+use crate::local::LocalNet;
+use crate::machine::{Machine, Wanted};
+use crate::opening::open_publisher;
+use crate::planning::{Planned, plan_changes, report_unplanned};
+use crate::reading::read_whole;
+use crate::telling::tell;
+use prt_command::Command;
+use prt_grace::Domain;
+use prt_import::Accepted;
+use prt_program::{Refusal, cause_message, log_message};
+use prt_publisher::Publisher;
+use prt_version::Version;
+use prt_words::{Applying, DONE, FAULT, Fault, Target, report};
+use sqlite::{Alter, Connection};
+use std::alloc::Global;
+use std::fs::Files;
+use std::io::{Read, Write};
+use std::sync::Wait;
+
+/// What is done with a plan.
+#[derive(Clone, Copy)]
+pub(crate) struct Manner {
+    /// Whether the changes are only printed.
+    pub(crate) is_dry_run: bool,
+    /// Whether it is shown first which packets they send another way.
+    pub(crate) shows_impact: bool,
+}
+
+/// To make changes and print them, and nothing else.
+pub(crate) const PLAIN: Manner = Manner {
+    is_dry_run: false,
+    shows_impact: false,
+};
+
+/// Has all changes of a plan stored in one transaction, unless there is none.
+///
+/// # Errors
+///
+/// Those of `Publisher::submit_all`: all of them are stored or none, and none if they are refused.
+fn submit<S: Alter + Drop, H: Wait>(
+    rt: &H,
+    publisher: &mut Publisher<S>,
+    domain: &Domain,
+    commands: &[Command],
+) -> Result<(), Refusal>
+    requires ready { publisher.old.phase ≡ Ready }
+    requires storable { All IsStorable commands.now }
+    ensures quiet { IsQuiet publisher.new.phase }
+    ensures file { publisher.new.ours_first ≡ publisher.old.ours_first }
+    ensures made { OnOk result ((publisher.new.phase ≡ Ready) × IsAccepted (line_state publisher.old.line) commands.now
+        × (line_state publisher.new.line ≡ fold (line_state publisher.old.line) commands.now)) }
+{
+    if commands.is_empty() {
+        return Ok(());
+    }
+    if let Err(reason) = publisher.submit_all(rt, domain, commands) {
+        return Err(reason);
+    }
+    Ok(())
+}
+
+/// Reports why changes were not made, and returns the exit status for it.
+fn report_unmade<S: Alter + Drop, W: Write, E: Write>(
+    alloc: Global,
+    path: &str,
+    publisher: &Publisher<S>,
+    reason: Refusal,
+    output: &mut W,
+    errors: &mut E,
+) -> u8
+    ensures status { result ≡ FAULT }
+    ensures unwritten { W.contents output.new ≡ W.contents output.old }
+{
+    let status = report(&Fault::Opening(reason), output, errors);
+    if let Some(error) = publisher.failure() {
+        tell(cause_message(alloc, &path, &error), errors);
+    }
+    status
+}
+
+/// Makes the tables of a publisher those that are wanted, and prints how. Returns the exit status.
+fn make<S: Alter + Drop, H: Wait, W: Write, E: Write>(
+    rt: &H,
+    alloc: Global,
+    path: &str,
+    publisher: &mut Publisher<S>,
+    domain: &Domain,
+    wanted: &Version,
+    manner: Manner,
+    output: &mut W,
+    errors: &mut E,
+) -> u8
+    requires { publisher.old.phase ≡ Ready }
+    ensures status { (result ≡ DONE) ⊎ (result ≡ FAULT) }
+    ensures quiet { IsQuiet publisher.new.phase }
+    ensures file { publisher.new.ours_first ≡ publisher.old.ours_first }
+    ensures dry { manner.is_dry_run ≡ true → publisher.new ≡ publisher.old }
+    ensures made { result ≡ DONE → manner.is_dry_run ≡ false → (publisher.new.phase ≡ Ready) × AreAlike (line_state publisher.new.line) wanted.now }
+    ensures whole { result ≡ DONE → IsPrinted manner.shows_impact (line_state publisher.old.line) wanted.now (W.contents output.old) (W.contents output.new) }
+    ensures part { IsPrintedAtMost manner.shows_impact (line_state publisher.old.line) wanted.now (W.contents output.old) (W.contents output.new) }
+{
+    let found = publisher.published();
+    let Planned { commands, text } = match plan_changes(alloc, found, wanted, manner.shows_impact) {
+        Ok(planned) => planned,
+        Err(reason) => return report_unplanned(alloc, &path, reason, output, errors),
+    };
+    if !manner.is_dry_run {
+        if let Err(reason) = submit(rt, publisher, domain, commands.as_slice()) {
+            return report_unmade(alloc, path, publisher, reason, output, errors);
+        }
+    }
+    write_text(text, output)
+}
+
+/// Chooses which database is opened: changes that are only printed make none.
+fn wanted_by(manner: Manner) -> Wanted {
+    if manner.is_dry_run {
+        Wanted::Ours
+    } else {
+        Wanted::Any
+    }
+}
+
+/// Makes the tables of the database at a path those that are wanted, in one transaction, and prints how. It is created if it
+/// is missing, unless changes are only printed. Returns the exit status.
+pub(crate) fn apply_to_database<
+    S: Alter + Drop,
+    M: Machine<Connection<S>> + Drop,
+    F: Files,
+    H: Wait + Copy + Drop,
+    W: Write,
+    E: Write,
+>(
+    databases: &mut DatabaseFiles<'_, S, M, F, H>,
+    alloc: Global,
+    path: &str,
+    wanted: &Version,
+    manner: Manner,
+    output: &mut W,
+    errors: &mut E,
+) -> u8
+    ensures status { (result ≡ DONE) ⊎ (result ≡ FAULT) }
+    ensures whole { result ≡ DONE → IsMadeAt S.Store M.opens M.closes databases.old.machine databases.new.machine (W.contents output.old) (W.contents output.new) path.now manner.shows_impact manner.is_dry_run wanted.now }
+    ensures at_most { IsMadeAtMost S.Store M.opens M.refuses M.closes databases.old.machine databases.new.machine (W.contents output.old) (W.contents output.new) path.now manner.shows_impact wanted.now }
+{
+    let rt = databases.rt;
+    let opened = open_publisher(&mut databases.machine, alloc, path, wanted_by(manner));
+    let (mut publisher, domain) = match opened {
+        Ok(made) => made,
+        Err((refusal, cause)) => {
+            let status = report(&Fault::Opening(refusal), output, errors);
+            if let Some(cause) = cause {
+                tell(cause_message(alloc, &path, &cause), errors);
+            }
+            return status;
+        }
+    };
+    let status = make(
+        &rt,
+        alloc,
+        path,
+        &mut publisher,
+        &domain,
+        wanted,
+        manner,
+        output,
+        errors,
+    );
+    if let Err(reason) = databases.machine.close(publisher.end(&rt)) {
+        tell(log_message(alloc, path, &reason), errors);
+    }
+    status
+}
+
+/// Reads a script, and makes what it makes of a new database.
+///
+/// # Errors
+///
+/// The exit status: it can't be read, a line is refused, or memory is. Standard error has the cause.
+fn read_script<F: Files, R: Read, W: Write, E: Write>(
+    files: &F,
+    alloc: Global,
+    file: Option<&str>,
+    input: &mut R,
+    output: &mut W,
+    errors: &mut E,
+) -> Result<Accepted, u8>
+    ensures script { IfOk result IsScript }
+    ensures fault { IfErr result (λ status. (status ≡ REFUSED) ⊎ (status ≡ FAULT)) }
+    ensures unwritten { W.contents output.new ≡ W.contents output.old }
+{
+    let script = read_whole(files, alloc, file, input, output, errors)?;
+    let made = run_over_new(alloc, &script, output, errors)?;
+    if tell_left(alloc, &made.left, errors) == DONE {
+        Ok(made)
+    } else {
+        Err(REFUSED)
+    }
+}
+
+/// Makes the tables of a target what a script makes of a new database, prints the changes and their number, and returns the
+/// exit status.
+///
+/// The status is 0 if the tables are so, also if nothing was to be changed. It is 1 if a line of the script is refused, which
+/// standard error names: nothing is changed then. It is 3 for a fault of reading, of opening, of the store, of the server, of
+/// memory or of the writer. If the changes can't be printed, they were made nevertheless.
+pub(crate) fn apply<
+    S: Alter + Drop,
+    M: Machine<Connection<S>> + Drop,
+    F: Files,
+    N: LocalNet + Wait + Copy + Drop,
+    R: Read,
+    W: Write,
+    E: Write,
+>(
+    databases: &mut DatabaseFiles<'_, S, M, F, N>,
+    alloc: Global,
+    applying: &Applying<'_>,
+    input: &mut R,
+    output: &mut W,
+    errors: &mut E,
+) -> u8
+    ensures status { (result ≡ DONE) ⊎ ((result ≡ REFUSED) ⊎ (result ≡ FAULT)) }
+    ensures whole { result ≡ DONE → HasApplied S.Store M.opens M.refuses M.closes databases.old.machine databases.new.machine (W.contents output.old) (W.contents output.new) applying.now }
+    ensures at_most { HasAppliedAtMost S.Store M.opens M.refuses M.closes databases.old.machine databases.new.machine (W.contents output.old) (W.contents output.new) applying.now }
+{
+    let read = read_script(databases.files, alloc, applying.file, input, output, errors);
+    let made = match read {
+        Ok(made) => made,
+        Err(status) => return status,
+    };
+    let manner = Manner {
+        is_dry_run: applying.is_dry_run,
+        shows_impact: applying.has_impact,
+    };
+    let wanted = &made.version;
+    match &applying.target {
+        Target::Database(path) => {
+            apply_to_database(databases, alloc, path, wanted, manner, output, errors)
+        }
+        Target::Server(ends) => {
+            apply_to_server(&databases.rt, alloc, ends, wanted, manner, output, errors)
+        }
+    }
+}

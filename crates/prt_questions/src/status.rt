@@ -1,0 +1,185 @@
+//! How a server does.
+ghost use Rattle.std.specs.Prelude.{◌≡◌, ◌⊎◌};
+
+use crate::asking::write_text;
+use crate::local::LocalNet;
+use crate::reading::report_no_memory;
+use crate::remote::{NotTold, read_status};
+use crate::telling::tell;
+use prt_program::cause_message;
+use prt_words::{DONE, FAULT, Inspecting, StatusForm};
+use std::alloc::{AllocError, Global};
+use std::io::Write;
+
+/// The exit status if the server takes no command any more.
+pub const CLOSED: u8 = 4;
+
+/// What the line of a closed server begins with.
+const CLOSED_LINE: &[u8] = b"state closed";
+
+/// What the name of each metric begins with.
+const PREFIX: &[u8] = b"prt_";
+
+/// One figure of a server: its name and its value.
+#[derive(Clone, Copy)]
+struct Figure<'a> {
+    name: &'a [u8],
+    value: &'a [u8],
+}
+
+/// Splits a line at its first space.
+fn figure_of(line: &[u8]) -> Option<Figure<'_>> {
+    let space = line.iter().position(|byte| *byte == b' ')?;
+    Some(Figure {
+        name: &line[..space],
+        value: &line[space + 1..],
+    })
+}
+
+/// Checks whether a text is one digit or more, and nothing else.
+fn is_digits(text: &[u8]) -> bool {
+    !text.is_empty() && text.iter().all(|byte| byte.is_ascii_digit())
+}
+
+impl<'a> Figure<'a> {
+    /// Checks whether the value is a number, which may have decimals. A version with two dots is none.
+    fn is_number(&self) -> bool {
+        match self.value.iter().position(|byte| *byte == b'.') {
+            Some(dot) => is_digits(&self.value[..dot]) && is_digits(&self.value[dot + 1..]),
+            None => is_digits(self.value),
+        }
+    }
+
+    /// Appends it as a line for a person.
+    fn push_line(&self, out: &mut Vec<u8>) -> Result<(), AllocError> {
+        for byte in self.name {
+            out.push(if *byte == b'_' { b' ' } else { *byte })?;
+        }
+        out.extend_from_slice(b": ")?;
+        out.extend_from_slice(self.value)?;
+        out.extend_from_slice(b"\n")
+    }
+
+    /// Appends it as a member of an object of JSON.
+    fn push_json(&self, out: &mut Vec<u8>) -> Result<(), AllocError> {
+        out.push(b'"')?;
+        out.extend_from_slice(self.name)?;
+        out.extend_from_slice(b"\":")?;
+        if self.is_number() {
+            return out.extend_from_slice(self.value);
+        }
+        push_string(out, self.value)
+    }
+
+    /// Appends it as a metric, if it is a number. Whether the server is open is one too.
+    fn push_metric(&self, out: &mut Vec<u8>) -> Result<(), AllocError> {
+        if self.name == b"state".as_slice() {
+            let value: &[u8] = if self.value == b"open".as_slice() {
+                b"1"
+            } else {
+                b"0"
+            };
+            return push_sample(out, b"open", value);
+        }
+        if self.is_number() {
+            return push_sample(out, self.name, self.value);
+        }
+        Ok(())
+    }
+}
+
+/// Appends a sample of a metric.
+fn push_sample(out: &mut Vec<u8>, name: &[u8], value: &[u8]) -> Result<(), AllocError> {
+    out.extend_from_slice(PREFIX)?;
+    out.extend_from_slice(name)?;
+    out.push(b' ')?;
+    out.extend_from_slice(value)?;
+    out.extend_from_slice(b"\n")
+}
+
+/// Appends a string of JSON. What isn't printable is shown as `?`.
+fn push_string(out: &mut Vec<u8>, text: &[u8]) -> Result<(), AllocError> {
+    out.push(b'"')?;
+    for byte in text {
+        if *byte == b'"' || *byte == b'\\' {
+            out.push(b'\\')?;
+        }
+        let is_shown = *byte >= b' ' && *byte <= b'~';
+        out.push(if is_shown { *byte } else { b'?' })?;
+    }
+    out.extend_from_slice(b"\"")
+}
+
+/// Formats what a server said of itself.
+fn status_text(alloc: Global, said: &[u8], form: StatusForm) -> Result<Vec<u8>, AllocError> {
+    let mut out = Vec::new(alloc);
+    let mut is_first = true;
+    for line in said.split(|byte| *byte == b'\n') {
+        let Some(figure) = figure_of(line) else {
+            continue;
+        };
+        match form {
+            StatusForm::Lines => figure.push_line(&mut out)?,
+            StatusForm::Metrics => figure.push_metric(&mut out)?,
+            StatusForm::Json => {
+                out.push(if is_first { b'{' } else { b',' })?;
+                figure.push_json(&mut out)?;
+            }
+        }
+        is_first = false;
+    }
+    if matches!(form, StatusForm::Json) {
+        out.extend_from_slice(b"}\n")?;
+    }
+    Ok(out)
+}
+
+/// Checks whether a server said that it takes no command any more.
+fn is_closed(said: &[u8]) -> bool {
+    said.split(|byte| *byte == b'\n')
+        .any(|line| line.starts_with(CLOSED_LINE))
+}
+
+/// Checks whether all of a status came: it ends with the line of the state.
+fn is_whole(said: &[u8]) -> bool {
+    let Some(lines) = said.strip_suffix(b"\n") else {
+        return false;
+    };
+    match lines.rsplit(|byte| *byte == b'\n').next() {
+        Some(last) => last.starts_with(b"state "),
+        None => false,
+    }
+}
+
+/// Prints how a server does, and returns the exit status: 4 if the server takes no command any more, and 3 if it doesn't
+/// answer or the status can't be written. No database is touched.
+pub(crate) fn show_status<N: LocalNet, W: Write, E: Write>(
+    rt: &N,
+    alloc: Global,
+    inspecting: &Inspecting<'_>,
+    output: &mut W,
+    errors: &mut E,
+) -> u8
+    ensures { (result ≡ DONE) ⊎ ((result ≡ CLOSED) ⊎ (result ≡ FAULT)) }
+{
+    let folder = inspecting.folder;
+    let said = match read_status(rt, alloc, folder) {
+        Ok(said) if is_whole(&said) => said,
+        Ok(_) => {
+            tell(cause_message(alloc, &folder, &NotTold::NoAnswer), errors);
+            return FAULT;
+        }
+        Err(reason) => {
+            tell(cause_message(alloc, &folder, &reason), errors);
+            return FAULT;
+        }
+    };
+    let Ok(text) = status_text(alloc, &said, inspecting.form) else {
+        return report_no_memory(output, errors);
+    };
+    let written = write_text(text, output);
+    if written == DONE && is_closed(&said) {
+        return CLOSED;
+    }
+    written
+}

@@ -1,0 +1,47 @@
+use Rattle.std.proofs.Common.{◌≡◌, Option, List, ℕ, Err, ap, inl, inr, subst, sym, ◌∙◌}
+use Rattle.prt_front.specs.Line.{Line}
+use Rattle.prt_refusals.specs.declared.refusal.Refusal.{Refusal}
+use Rattle.prt_serve.proofs.Files.{together_grows}
+use Rattle.prt_serve.proofs.Resuming.{all_gone}
+use Rattle.prt_serve.specs.Opening.{HasLetGo}
+use Rattle.prt_serve.specs.Resumed.{resumed_remaining, unread_head}
+use Rattle.prt_serve.specs.Together.{FileIs, ServesTogether, ToldIs}
+use Rattle.prt_service.specs.Look.{Look}
+use Rattle.prt_service.specs.declared.not_made.NotMade.TheVariants as why
+use Rattle.prt_serve.proofs.atomic.serve_atomic.Goals as goal
+
+pub returns-in-Err-clause-served : goal.returns-in-Err-clause-served
+returns-in-Err-clause-served g c =
+    let end = c.refuse-end.result in
+    let writer0 = g.W.Write.contents c.args.writer.now in
+    let writer = g.W.Write.contents c.refuse-end.new.writer in
+    inr (record {
+      same = ap (λ (l : Look). l.known) c.rest.ensures;
+      read = c.in-Err.ensures.fault.1;
+      told = subst (λ (reason : Refusal). ToldIs 0 (Err (why.Refused reason)) writer0 writer end) c.in-Err.ensures.fault.0 c.refuse-end.ensures;
+    })
+
+pub returns-clause-served : goal.returns-clause-served
+returns-clause-served g c =
+    let remaining = g.R.Read.remaining in
+    let known0 = c.args.looker.now.known in
+    let known = c.serve_file-end.new.looker.known in
+    let announced = c.in-Ok.opened.0 in
+    let file = c.serve_file-end.new.reader in
+    let inner = c.into_reader.result in
+    let given = resumed_remaining (resumed_remaining remaining) c.in-Ok.opened.1 in
+    let left = resumed_remaining (resumed_remaining remaining) file in
+    let writer0 = g.W.Write.contents c.args.writer.now in
+    let writer = g.W.Write.contents c.serve_file-end.new.writer in
+    let end = c.serve_file-end.result in
+    let same : c.rest.new.self.known ≡ known0 = ap (λ (l : Look). l.known) c.rest.ensures in
+    let gone : HasLetGo (resumed_remaining remaining inner) (remaining c.let_go.new.reader) =
+    all_gone (unread_head inner) (remaining c.into_reader-reader.result) (remaining c.let_go.new.reader) (resumed_remaining remaining inner) c.into_reader-reader.ensures c.let_go.ensures in
+    inl (record {
+      announced = announced;
+      given = given;
+      opens = c.in-Ok.ensures.opens;
+      left = left;
+      file = subst (λ (line : Line). FileIs announced line known given left writer0 writer end) same c.serve_file-end.ensures.served;
+      goes = all_gone (unread_head file) (resumed_remaining remaining inner) (remaining c.let_go.new.reader) left c.into_reader.ensures gone;
+    })

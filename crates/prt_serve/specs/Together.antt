@@ -1,0 +1,120 @@
+-- What serving an atomic file does: its commands are made together, at the number that was expected, or none of them is.
+use Rattle.std.specs.Prelude.{◌≡◌, ◌-◌, ◌≤◌, ◌<◌, ◌^◌, ◌⊎◌, ℕ, Bool, true, false, List, [], ◌++◌, Option, Some, None, IfSome, is_some, Result, Ok, Err, codes, if◌then◌else◌, length}
+use Rattle.prt_command.specs.declared.request.Command.{Command}
+use Rattle.prt_front.specs.Line.{Begins, Line}
+use Rattle.prt_refusals.specs.declared.refusal.Refusal.{Refusal}
+use Rattle.prt_refusals.specs.declared.refusal.Refusal.TheVariants.{ReadFault, WriteFault}
+use Rattle.prt_replies.specs.Reply.{replies_text, reply_text}
+use Rattle.prt_replies.specs.ScriptEnd.{fault_after, refused_after}
+use Rattle.prt_replies.specs.Written.{Written}
+use Rattle.prt_replies.specs.declared.reply.Reply.{Reply}
+use Rattle.prt_replies.specs.declared.reply.Reply.TheVariants.{Refused}
+use Rattle.prt_replies.specs.declared.script_end.ScriptEnd.{ScriptEnd}
+use Rattle.prt_serve.specs.Opening.{AreAnnounced, HasLetGo, at_line, is_as_many}
+use Rattle.prt_serve.specs.Requests.{number_of}
+use Rattle.prt_serve.specs.declared.opening.Announcement.{Announcement}
+use Rattle.prt_service.specs.Service.{EndsWithAll, IsAfter, IsServiceRefusal, IsWhyNotMade}
+use Rattle.prt_service.specs.declared.not_made.NotMade.{NotMade}
+use Rattle.prt_service.specs.declared.not_made.NotMade.TheVariants as why
+use Rattle.prt_session.specs.Atomic.{ReadIs, accepted_after}
+use Rattle.prt_session.specs.Steps.{AreSubmittable}
+
+-- ---- what comes of the commands
+
+-- what came of a file's commands: the number of the last, nothing for none, or why they were not made
+abbrev pub Outcome : Type 0
+Outcome = Result (Option ℕ) NotMade
+
+-- Commands are made with a receipt of a list that ends with them, and is known from then on; if they were to be made at a number, the list had this number before them. Commands that are not made leave what is known.
+abbrev pub Comes : Option ℕ → (known0 known : Line) → List Command → Outcome → Type 0
+Comes expected known0 known commands (Ok None) = (commands ≡ []) × (known ≡ known0)
+Comes expected known0 known commands (Ok (Some last)) =
+    (1 ≤ length commands) × ((receipt : Line) × (last ≡ number_of receipt) × EndsWithAll receipt.list commands × IfSome expected (λ number. IsAfter number commands receipt)
+    × Begins receipt known × Begins known0 known)
+Comes expected known0 known commands (Err (why.Refused reason)) = (1 ≤ length commands) × IsServiceRefusal reason × (known ≡ known0)
+Comes expected known0 known commands (Err (why.Moved number)) = IsWhyNotMade expected (why.Moved number) × (known ≡ known0)
+
+-- the number of the last is one of 64 bits
+abbrev pub FitsNumbers : Outcome → Type 0
+FitsNumbers (Ok (Some last)) = last < 2 ^ 64
+FitsNumbers _ = Unit {0}
+
+-- ---- what is written of it
+
+-- `ok N` for each of this many commands, up to the number of the last; the refusal; or the line `at N`
+abbrev pub outcome_text : ℕ → Outcome → List ℕ
+outcome_text count (Ok None) = []
+outcome_text count (Ok (Some last)) = replies_text (accepted_after (last - count) count)
+outcome_text count (Err (why.Refused reason)) = reply_text (Refused reason)
+outcome_text count (Err (why.Moved number)) = at_line number ++ codes "\n"
+
+-- whether the commands were not made, for another reason than a fault
+abbrev pub outcome_refused : Outcome → Bool
+outcome_refused (Ok made) = false
+outcome_refused (Err (why.Refused reason)) = refused_after false (Refused reason)
+outcome_refused (Err (why.Moved number)) = true
+
+-- the fault for which they were not made
+abbrev pub outcome_fault : Outcome → Option Refusal
+outcome_fault (Ok made) = None
+outcome_fault (Err (why.Refused reason)) = fault_after None (Refused reason)
+outcome_fault (Err (why.Moved number)) = None
+
+-- The outcome was written; if not all of it went well, a part of it.
+pub record ToldIs (count : ℕ) (came : Outcome) (writer0 writer : Option (List ℕ)) (end : ScriptEnd) : Type 0 where
+  pub whole : Bool
+  pub wrote : Written whole writer0 writer (outcome_text count came)
+  pub refused_is : end.refused ≡ outcome_refused came
+  pub fault_is : end.fault ≡ (if whole then outcome_fault came else Some WriteFault)
+
+-- ---- a file
+
+-- Nothing was refused, and the commands were submitted, if there are any.
+pub record IsSubmitted (expected : Option ℕ) (known0 known : Line) (commands : List Command) (writer0 writer : Option (List ℕ)) (end : ScriptEnd) : Type 0 where
+  pub came : Outcome
+  pub comes : Comes expected known0 known commands came
+  pub told : ToldIs (length commands) came writer0 writer end
+
+-- A number of commands was announced, and the file is cut off: none of them is made, as if its reading had failed.
+pub record IsCutShort (announced : Announcement) (known0 known : Line) (writer0 writer : Option (List ℕ)) (end : ScriptEnd) : Type 0 where
+  pub counted : is_some announced.count ≡ true
+  pub same : known ≡ known0
+  pub told : ToldIs 0 (Err (why.Refused ReadFault)) writer0 writer end
+
+-- what follows the reading: nothing after a refusal; and else the submission, if as many commands came as were announced
+abbrev pub Follows : Option Reply → Announcement → (known0 known : Line) → List Command → (writer0 writer : Option (List ℕ)) → (reading end : ScriptEnd) → Type 0
+Follows (Some refused) announced known0 known commands writer0 writer reading end = (known ≡ known0) × (writer ≡ writer0) × (end ≡ reading)
+Follows None announced known0 known commands writer0 writer reading end =
+    ((is_as_many announced.count (length commands) ≡ true) × IsSubmitted announced.number known0 known commands writer0 writer end)
+    ⊎ IsCutShort announced known0 known writer0 writer end
+
+-- The lines were read, up to the first refusal, which is all that was written then; or there was none, and the commands of all lines were submitted together.
+pub record FileIs (announced : Announcement) (known0 known : Line) (reader0 reader writer0 writer : Option (List ℕ)) (end : ScriptEnd) : Type 0 where
+  pub commands : List Command
+  pub submittable : AreSubmittable commands
+  pub between : Option (List ℕ)
+  pub reading : ScriptEnd
+  pub read : ReadIs commands reader0 reader writer0 between reading
+  pub follows : Follows read.refusal announced known0 known commands between writer reading end
+
+-- ---- a connection
+
+-- The lines before the file were read, if there are any, and then the file. Of what it left a part was let go.
+pub record OpensFile (known0 known : Line) (reader0 reader writer0 writer : Option (List ℕ)) (end : ScriptEnd) : Type 0 where
+  pub announced : Announcement
+  pub given : Option (List ℕ)
+  pub opens : AreAnnounced announced reader0 given
+  pub left : Option (List ℕ)
+  pub file : FileIs announced known0 known given left writer0 writer end
+  pub goes : HasLetGo left reader
+
+-- The reader failed before the file's first line was over, and that is the refusal.
+pub record FailsToOpen (known0 known : Line) (reader0 reader writer0 writer : Option (List ℕ)) (end : ScriptEnd) : Type 0 where
+  pub same : known ≡ known0
+  pub read : HasLetGo reader0 reader
+  pub told : ToldIs 0 (Err (why.Refused ReadFault)) writer0 writer end
+
+-- a connection was served whose commands are made together
+abbrev pub ServesTogether : (known0 known : Line) → (reader0 reader writer0 writer : Option (List ℕ)) → ScriptEnd → Type 0
+ServesTogether known0 known reader0 reader writer0 writer end =
+    OpensFile known0 known reader0 reader writer0 writer end ⊎ FailsToOpen known0 known reader0 reader writer0 writer end

@@ -1,0 +1,3 @@
+//! Tests of the plans that make the tables of one version those of another.
+
+mod plans;

@@ -1,0 +1,26 @@
+-- Which tables the words of `apply` name, and in which form those of `status` want it.
+use Rattle.std.specs.Prelude.{◌≡◌, Bool, true, false, Option, None, Some, codes}
+use Rattle.clap.specs.Matches.{found_of, one_text}
+use Rattle.clap.specs.declared.parser.matches.ArgMatches.{ArgMatches}
+use Rattle.prt_words.specs.Analysis.{IsNamed}
+use Rattle.prt_words.specs.CommandLine.{text_of_flag}
+use Rattle.prt_words.specs.declared.asking.Source.TheVariants as sources
+use Rattle.prt_words.specs.declared.service.StatusForm.{StatusForm}
+use Rattle.prt_words.specs.declared.service.StatusForm.TheVariants.{Json, Lines, Metrics}
+use Rattle.prt_words.specs.declared.service.Target.{Target}
+use Rattle.prt_words.specs.declared.service.Target.TheVariants.{Database, Server}
+
+-- by whether `--json` and `--metrics` are given; not both
+abbrev pub status_form_of : Bool → Bool → Option StatusForm
+status_form_of false false = Some Lines
+status_form_of true false = Some Json
+status_form_of false true = Some Metrics
+status_form_of true true = None
+
+abbrev pub IsStatusFormBy : ArgMatches → Option StatusForm → Type 0
+IsStatusFormBy matches form = (json metrics : Bool) → one_text (found_of matches) (codes "json") ≡ Some (text_of_flag json) → one_text (found_of matches) (codes "metrics") ≡ Some (text_of_flag metrics) → form ≡ status_form_of json metrics
+
+-- `--db` or `--server`, and not both, names the tables that are changed
+abbrev pub IsTarget : ArgMatches → Target → Type 0
+IsTarget matches (Database path) = IsNamed matches (sources.Database path)
+IsTarget matches (Server ends) = IsNamed matches (sources.Server ends.feed)
