@@ -65,7 +65,13 @@ fn serve<J: Naming, S: Alter + Drop, H: Wait + Clock + Copy + Drop>(
         looks,
         b"at 3\ncommands 2\nrule flush\n",
     );
-    let whole = replies(&rt, alloc, &service, looks, b"commands 1\nrule del table 7\n");
+    let whole = replies(
+        &rt,
+        alloc,
+        &service,
+        looks,
+        b"commands 1\nrule del table 7\n",
+    );
     looker.leave(&rt, &service);
     Ok((
         [made, at_two, moved, refused, query, alone, cut_off, whole],
