@@ -25,7 +25,7 @@ pub trait ServerNet: LocalNet {
     ///
     /// # Errors
     ///
-    /// The system's. `AddrInUse` if somebody listens there, or the file is no socket: it stays as it is.
+    /// The system's. `AddrInUse` if somebody listens there, `AlreadyExists` if the file is no socket: it stays as it is.
     fn at_path<F: Files>(&self, files: &F, path: &str) -> io::Result<Self::Door>;
 }
 
@@ -36,17 +36,14 @@ pub enum Door {
     Local(UnixListener),
 }
 
-/// Checks whether a file is a socket at which nobody listens.
-fn is_left_over<N: LocalNet, F: Files>(rt: &N, files: &F, path: &str) -> bool {
-    let Ok(found) = files.symlink_metadata(path) else {
-        return false;
-    };
-    if !found.file_type().is_socket() {
-        return false;
+/// Checks that a file is a socket at which nobody listens.
+fn check_left_over<N: LocalNet, F: Files>(rt: &N, files: &F, path: &str) -> io::Result<()> {
+    if !files.symlink_metadata(path)?.file_type().is_socket() {
+        return Err(io::Error::from(ErrorKind::AlreadyExists));
     }
     match UnixStream::connect(rt, path) {
-        Ok(_) => false,
-        Err(error) => error.kind() == ErrorKind::ConnectionRefused,
+        Err(error) if error.kind() == ErrorKind::ConnectionRefused => Ok(()),
+        _ => Err(io::Error::from(ErrorKind::AddrInUse)),
     }
 }
 
@@ -54,9 +51,7 @@ fn is_left_over<N: LocalNet, F: Files>(rt: &N, files: &F, path: &str) -> bool {
 fn bind_at<N: LocalNet, F: Files>(rt: &N, files: &F, path: &str) -> io::Result<UnixListener> {
     match rt.bind_local(path) {
         Err(error) if error.kind() == ErrorKind::AddrInUse => {
-            if !is_left_over(rt, files, path) {
-                return Err(error);
-            }
+            check_left_over(rt, files, path)?;
             files.remove_file(path)?;
             rt.bind_local(path)
         }

@@ -39,10 +39,40 @@ impl<'a> fmt::Display for Place<'a> {
     }
 }
 
-/// Why a place can't be listened at.
+/// Why nothing listens at a place.
+pub(crate) enum ListenError {
+    /// Another server listens at the socket.
+    Served,
+    /// The file is no socket.
+    NoSocket,
+    System(io::Error),
+}
+
+impl ListenError {
+    /// Says why a socket can't be made.
+    fn of_socket(error: io::Error) -> ListenError {
+        match error.kind() {
+            ErrorKind::AddrInUse => ListenError::Served,
+            ErrorKind::AlreadyExists => ListenError::NoSocket,
+            _ => ListenError::System(error),
+        }
+    }
+}
+
+impl fmt::Display for ListenError {
+    fn fmt<W: fmt::Write>(&self, f: &mut fmt::Formatter<W>) -> fmt::Result {
+        match self {
+            ListenError::Served => f.write_str("another server listens there"),
+            ListenError::NoSocket => f.write_str("the file is no socket"),
+            ListenError::System(error) => write!(f, "{error}"),
+        }
+    }
+}
+
+/// A place that can't be listened at, and why.
 pub(crate) struct NotListened<'a> {
     pub(crate) place: Place<'a>,
-    pub(crate) error: io::Error,
+    pub(crate) error: ListenError,
 }
 
 /// Where a server listens, and the socket files that it made.
@@ -111,6 +141,7 @@ impl<N: ServerNet> Doors<N> {
                     ErrorKind::NotFound => Place::Directory(directory),
                     _ => Place::Socket(directory, socket.name()),
                 };
+                let error = ListenError::of_socket(error);
                 return Err(NotListened { place, error });
             }
         }
@@ -150,7 +181,7 @@ fn listen_at<N: ServerNet, W: Write>(
         Ok(door) => Ok(door),
         Err(error) => Err(NotListened {
             place: Place::Address(place),
-            error,
+            error: ListenError::System(error),
         }),
     }
 }
@@ -165,7 +196,10 @@ fn tell_directory<W: Write>(directory: &str, output: &mut W) -> io::Result<()> {
 fn named(place: Place<'_>, done: io::Result<()>) -> Result<(), NotListened<'_>> {
     match done {
         Ok(()) => Ok(()),
-        Err(error) => Err(NotListened { place, error }),
+        Err(error) => Err(NotListened {
+            place,
+            error: ListenError::System(error),
+        }),
     }
 }
 

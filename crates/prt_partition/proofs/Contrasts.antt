@@ -21,7 +21,7 @@ use Rattle.prt_partition.specs.declared.differences.Contrast.{Contrast}
 use Rattle.prt_partition.specs.declared.differences.Difference.{Difference}
 use Rattle.prt_partition.specs.declared.differing.Differing.{Differing}
 use Rattle.prt_partition.specs.declared.sameness.Sameness.{Sameness}
-use Rattle.prt_partition.specs.declared.touching.Transition.{Transition}
+use Rattle.prt_partition.specs.declared.comparison.Transition.{Transition}
 use Rattle.prt_partition.proofs.Starts.{IsIn, IsSteady, Rises, begins_at_zero, contains_in, each_joined, each_moved, first_from, none_from, rise_joined, rise_made, steady, tells, tells_joined}
 use Rattle.prt_partition.proofs.Verdicts.{all_same, verdicts_same}
 use Rattle.prt_partition.proofs.SpanList.{rises}

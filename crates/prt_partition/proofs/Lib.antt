@@ -10,6 +10,7 @@ pub mod Listed
 pub mod Locality
 pub mod MarkBlocks
 pub mod Merging
+pub mod OfClass
 pub mod SpanList
 pub mod Starts
 pub mod Verdicts

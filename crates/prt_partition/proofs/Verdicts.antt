@@ -24,7 +24,7 @@ use Rattle.prt_version.specs.declared.answer.Verdict.TheVariants as verdict
 use Rattle.prt_partition.specs.Sameness.{AreSame, are_same, is_same_outcome, is_same_route, is_same_verdict, outcome_of}
 use Rattle.prt_partition.specs.Touching.{transition_of}
 use Rattle.prt_partition.specs.declared.sameness.Outcome.{Outcome}
-use Rattle.prt_partition.specs.declared.touching.Transition.{Transition}
+use Rattle.prt_partition.specs.declared.comparison.Transition.{Transition}
 use Rattle.prt_partition.specs.declared.sameness.Sameness.{Sameness}
 use Rattle.prt_partition.specs.declared.sameness.Sameness.TheVariants.{Outcomes, Verdicts}
 

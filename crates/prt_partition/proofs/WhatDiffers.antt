@@ -24,7 +24,7 @@ use Rattle.prt_partition.specs.Sameness.{are_same, is_same_route}
 use Rattle.prt_partition.specs.Touching.{IsTouching, can_match, transition_of}
 use Rattle.prt_partition.specs.declared.sameness.Sameness.{Sameness}
 use Rattle.prt_partition.specs.declared.touching.Touching.{Touching}
-use Rattle.prt_partition.specs.declared.touching.Transition.{Transition}
+use Rattle.prt_partition.specs.declared.comparison.Transition.{Transition}
 use Rattle.prt_partition.proofs.Between.{each_left, each_of_each, each_right, from_cuts, same_between, same_contains, within_cuts}
 use Rattle.prt_partition.proofs.Joined.{reorder}
 use Rattle.prt_partition.proofs.Locality.{same_but_ids}
@@ -117,7 +117,7 @@ and_false : (a b : Bool) → b ≡ false → (a && b) ≡ false
 and_false true b h = h
 and_false false b h = refl
 
-not_candidate : (rule : Rule) (packet : Packet) (addr : ℕ) → can_match packet rule ≡ false → matches rule (to packet addr) ≡ false
+pub not_candidate : (rule : Rule) (packet : Packet) (addr : ℕ) → can_match packet rule ≡ false → matches rule (to packet addr) ≡ false
 not_candidate rule packet addr out =
     let there : Bool = contains rule.to (record { 0 = addr }) in
     let parts : (rule.inverted ≡ false) × (takes_apart rule packet ≡ false) = neither rule.inverted (takes_apart rule packet) out in

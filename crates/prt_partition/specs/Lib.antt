@@ -1,5 +1,7 @@
 pub mod Boxes
+pub mod ClassRules
 pub mod Classes
+pub mod Comparison
 pub mod Cuts
 pub mod Differing
 pub mod Equivalence

@@ -11,7 +11,7 @@ use Rattle.prt_partition.specs.declared.destinations.Span.{Span}
 use Rattle.prt_partition.specs.declared.differences.Contrast.{Contrast}
 use Rattle.prt_partition.specs.declared.differences.Difference.{Difference}
 use Rattle.prt_partition.specs.declared.sameness.Sameness.{Sameness}
-use Rattle.prt_partition.specs.declared.touching.Transition.{Transition}
+use Rattle.prt_partition.specs.declared.comparison.Transition.{Transition}
 
 -- the span that begins at the address
 abbrev pub span_from : State → Packet → ℕ → Span

@@ -14,7 +14,7 @@ use Rattle.prt_partition.specs.Differing.{IsUntouched}
 use Rattle.prt_partition.specs.Sameness.{are_same}
 use Rattle.prt_partition.specs.declared.sameness.Sameness.{Sameness}
 use Rattle.prt_partition.specs.declared.touching.Touching.{Touching}
-use Rattle.prt_partition.specs.declared.touching.Transition.{Transition}
+use Rattle.prt_partition.specs.declared.comparison.Transition.{Transition}
 
 -- the rule matches the packet if it is given some destination
 abbrev pub can_match : Packet → Rule → Bool

@@ -3,14 +3,15 @@ ghost use Rattle.std.specs.Prelude.{◌≡◌, ◌≤◌, IfErr, IfOk, drop, len
 ghost use Rattle.std.specs.List.{dedup};
 ghost use Rattle.std.specs.Option.{option_eq};
 ghost use Rattle.prt_refusals.specs.declared.refusal.Refusal.TheVariants.{NoMemory};
+ghost use Rattle.prt_partition.specs.Comparison.{CanCompare, after_of, before_of};
 ghost use Rattle.prt_partition.specs.Differing.{IsDiffering};
 ghost use Rattle.prt_partition.specs.Spans.{AreDifferences};
 ghost use Rattle.prt_partition.specs.Steps.{contrast_from, differences_of, have_same, is_same_transition, last_before};
-ghost use Rattle.prt_partition.specs.Touching.{IsQuiet};
 
+use crate::comparison::{Comparison, Transition};
 use crate::differing::Differing;
 use crate::sameness::{Sameness, is_same_verdict};
-use crate::touching::{Touching, Transition, is_nothing, transition_at, what_touches};
+use crate::touching::{is_nothing, what_touches};
 use prt_addr::Addr;
 use prt_refusals::Refusal;
 use prt_rule::Packet;
@@ -39,38 +40,34 @@ pub struct Difference {
 
 /// Finds what becomes of the packet before and after, from this destination on.
 fn contrast_from(
-    before: &Version,
-    after: &Version,
-    touching: &Touching,
+    comparison: &Comparison<'_>,
     sameness: Sameness,
     packet: &Packet,
     first: u32,
 ) -> Contrast
-    requires { IsQuiet before.now after.now touching.now packet.now }
-    ensures { result ≡ contrast_from sameness before.now after.now packet.now first }
+    requires { CanCompare packet.now comparison.now }
+    ensures { result ≡ contrast_from sameness (before_of comparison.now) (after_of comparison.now) packet.now first }
 {
     Contrast {
         first: Addr(first),
-        transition: transition_at(before, after, touching, sameness, packet, first),
+        transition: comparison.transition_at(sameness, packet, first),
     }
 }
 
 /// Finds what becomes of the packet before and after, from each of these destinations on.
 fn contrasts_from(
     alloc: Global,
-    before: &Version,
-    after: &Version,
-    touching: &Touching,
+    comparison: &Comparison<'_>,
     sameness: Sameness,
     packet: &Packet,
     starts: &[u32],
 ) -> Result<Vec<Contrast>, AllocError>
-    requires { IsQuiet before.now after.now touching.now packet.now }
-    ensures { IfOk result (λ contrasts. contrasts.items ≡ map (contrast_from sameness before.now after.now packet.now) starts.now) }
+    requires { CanCompare packet.now comparison.now }
+    ensures { IfOk result (λ contrasts. contrasts.items ≡ map (contrast_from sameness (before_of comparison.now) (after_of comparison.now) packet.now) starts.now) }
 {
     starts
         .iter()
-        .map(|first| contrast_from(before, after, touching, sameness, packet, *first))
+        .map(|first| contrast_from(comparison, sameness, packet, *first))
         .collect(alloc)
 }
 
@@ -157,8 +154,9 @@ pub fn changes(
     if is_nothing(&touching) {
         return Ok(Vec::new(alloc));
     }
+    let comparison = Comparison::new(alloc, before, after, touching, packet)?;
     let starts = &differing.starts;
-    let mut contrasts = contrasts_from(alloc, before, after, &touching, sameness, packet, starts)?;
+    let mut contrasts = contrasts_from(alloc, &comparison, sameness, packet, starts)?;
     join(&mut contrasts);
     let differences = differences_of(alloc, &contrasts)?;
     Ok(differences)

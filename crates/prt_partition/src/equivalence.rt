@@ -1,14 +1,15 @@
 //! Whether two versions answer every packet alike.
 ghost use Rattle.std.specs.Prelude.{◌≡◌, ◌≤◌, ◌++◌, IfErr, IfOk, length};
 ghost use Rattle.prt_partition.specs.Boxes.{IsUndivided};
+ghost use Rattle.prt_partition.specs.Comparison.{CanCompare, after_of, before_of};
 ghost use Rattle.prt_partition.specs.Differing.{IsDiffering};
 ghost use Rattle.prt_partition.specs.Equivalence.{IsChange, IsChangeOf, IsFirstChange};
-ghost use Rattle.prt_partition.specs.Touching.{IsQuiet};
 
 use crate::class_list::joined_classes;
+use crate::comparison::Comparison;
 use crate::differing::{Differing, is_same_everywhere, what_differs};
 use crate::sameness::Sameness;
-use crate::touching::{Touching, is_nothing, to, transition_at, what_touches};
+use crate::touching::{is_nothing, to, what_touches};
 use prt_refusals::Refusal;
 use prt_rule::{Packet, Rule};
 use prt_version::Version;
@@ -16,21 +17,16 @@ use std::alloc::{AllocError, Global};
 
 /// Finds the first of these destinations at which the verdicts on the packet are not the same.
 fn first_change(
-    before: &Version,
-    after: &Version,
-    touching: &Touching,
+    comparison: &Comparison<'_>,
     sameness: Sameness,
     packet: &Packet,
     starts: &[u32],
 ) -> Option<u32>
-    requires { IsQuiet before.now after.now touching.now packet.now }
-    ensures { IsFirstChange sameness before.now after.now packet.now starts.now result }
+    requires { CanCompare packet.now comparison.now }
+    ensures { IsFirstChange sameness (before_of comparison.now) (after_of comparison.now) packet.now starts.now result }
 {
-    if is_nothing(touching) {
-        return None;
-    }
     for start in starts {
-        if transition_at(before, after, touching, sameness, packet, *start).is_some() {
+        if comparison.transition_at(sameness, packet, *start).is_some() {
             return Some(*start);
         }
     }
@@ -50,8 +46,11 @@ fn change_of(
     ensures { IfOk result (IsChangeOf sameness before.now after.now class.now) }
 {
     let touching = what_touches(alloc, differing, class)?;
-    let starts = &differing.starts;
-    match first_change(before, after, &touching, sameness, class, starts) {
+    if is_nothing(&touching) {
+        return Ok(None);
+    }
+    let comparison = Comparison::new(alloc, before, after, touching, class)?;
+    match first_change(&comparison, sameness, class, &differing.starts) {
         Some(addr) => Ok(Some(to(class, addr))),
         None => Ok(None),
     }

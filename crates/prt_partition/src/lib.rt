@@ -6,6 +6,8 @@
 #![tactic(auto)]
 
 mod class_list;
+mod class_rules;
+mod comparison;
 mod cuts;
 mod destinations;
 mod differences;

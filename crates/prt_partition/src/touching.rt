@@ -4,18 +4,15 @@ ghost use Rattle.prt_addr.specs.Prefix.{contains};
 ghost use Rattle.prt_rule.specs.Rule.{matches};
 ghost use Rattle.std.specs.Prelude.{◌≡◌, IfOk, false, filter, true};
 ghost use Rattle.prt_rule.specs.declared.packet.Packet.{Packet as PacketOf};
-ghost use Rattle.prt_version.specs.Select.{select};
 ghost use Rattle.prt_partition.specs.Cuts.{to};
-ghost use Rattle.prt_partition.specs.Touching.{IsQuiet, IsTouching, can_match, is_touched, transition_of};
+ghost use Rattle.prt_partition.specs.Touching.{IsTouching, can_match, is_touched};
 
 use crate::differing::Differing;
 use crate::joining::takes_apart;
 use crate::reach::FEW;
-use crate::sameness::{Sameness, are_same};
 use prt_addr::Addr;
 use prt_route::Route;
 use prt_rule::{Packet, Rule, matches};
-use prt_version::{Verdict, Version};
 use std::alloc::{AllocError, Global};
 
 /// What of a difference can touch packets that differ in their destinations alone.
@@ -25,13 +22,6 @@ pub(crate) struct Touching {
     all: bool,
     rules: Vec<Rule>,
     routes: Vec<Route>,
-}
-
-/// The verdicts of a packet before and after, which are not the same.
-#[derive(Clone, Copy)]
-pub(crate) struct Transition {
-    pub was: Verdict,
-    pub is: Verdict,
 }
 
 /// Returns the packet with this destination.
@@ -54,7 +44,11 @@ fn can_match(packet: &Packet, rule: &Rule) -> bool
 }
 
 /// Collects the rules that match the packet if it is given some destination.
-fn candidates(alloc: Global, rules: &[Rule], packet: &Packet) -> Result<Vec<Rule>, AllocError>
+pub(crate) fn candidates(
+    alloc: Global,
+    rules: &[Rule],
+    packet: &Packet,
+) -> Result<Vec<Rule>, AllocError>
     ensures { IfOk result (λ candidates. candidates.items ≡ filter (can_match packet.now) rules.now) }
 {
     rules
@@ -103,7 +97,7 @@ fn any_holds(routes: &[Route], addr: Addr) -> bool
 }
 
 /// Checks whether a rule matches the packet, or a route has its destination.
-fn is_touched(touching: &Touching, packet: &Packet) -> bool
+pub(crate) fn is_touched(touching: &Touching, packet: &Packet) -> bool
     ensures { result ≡ is_touched touching.now packet.now }
 {
     touching.all || any_matches(&touching.rules, packet) || any_holds(&touching.routes, packet.dst)
@@ -114,55 +108,4 @@ pub(crate) fn is_nothing(touching: &Touching) -> bool
     ensures { result ≡ true → (packet : PacketOf) → is_touched touching.now packet ≡ false }
 {
     !touching.all && touching.rules.is_empty() && touching.routes.is_empty()
-}
-
-/// Returns the verdicts before and after, unless they are the same.
-fn transition_of(
-    before: &Version,
-    after: &Version,
-    sameness: Sameness,
-    packet: &Packet,
-) -> Option<Transition>
-    ensures { result ≡ transition_of sameness before.now after.now packet.now }
-{
-    let was = before.select(packet).verdict;
-    let is = after.select(packet).verdict;
-    if are_same(sameness, &was, &is) {
-        None
-    } else {
-        Some(Transition { was, is })
-    }
-}
-
-/// Returns the verdicts before and after, unless they are the same. It computes them only if the packet is touched.
-fn transition_if_touched(
-    before: &Version,
-    after: &Version,
-    touching: &Touching,
-    sameness: Sameness,
-    packet: &Packet,
-) -> Option<Transition>
-    requires { is_touched touching.now packet.now ≡ false → select before.now packet.now ≡ select after.now packet.now }
-    ensures { result ≡ transition_of sameness before.now after.now packet.now }
-{
-    if is_touched(touching, packet) {
-        transition_of(before, after, sameness, packet)
-    } else {
-        None
-    }
-}
-
-/// Returns the verdicts before and after on the packet with this destination, unless they are the same.
-pub(crate) fn transition_at(
-    before: &Version,
-    after: &Version,
-    touching: &Touching,
-    sameness: Sameness,
-    packet: &Packet,
-    addr: u32,
-) -> Option<Transition>
-    requires { IsQuiet before.now after.now touching.now packet.now }
-    ensures { result ≡ transition_of sameness before.now after.now (to packet.now addr) }
-{
-    transition_if_touched(before, after, touching, sameness, &to(packet, addr))
 }

@@ -20,6 +20,8 @@ pub enum Cause {
     Library(LibraryError),
     #[error("{0}: a server has it, which --server queries")]
     Locked(LibraryError),
+    #[error("{0}: another program has it, such as prt serve")]
+    InUse(LibraryError),
 }
 
 /// Finds which columns of a database, or else which rows, were refused so, if that is known.
@@ -50,13 +52,15 @@ pub(crate) fn close_refused<S: Alter + Drop, M: Machine<Connection<S>>>(
     reason
 }
 
-/// Says what failed in the words of the library. If a file is only queried, the server that has it can be queried too.
+/// Says what failed in the words of the library, and of a locked file who may have it. If the file is only queried, a server
+/// that has it can be queried too.
 fn library_cause(wanted: Wanted, error: LibraryError) -> Cause {
-    match (wanted, error) {
-        (Wanted::Ours, LibraryError::SqliteFailure(ErrorCode::DatabaseBusy)) => {
-            Cause::Locked(error)
-        }
-        (_, error) => Cause::Library(error),
+    match error {
+        LibraryError::SqliteFailure(ErrorCode::DatabaseBusy) => match wanted {
+            Wanted::Ours => Cause::Locked(error),
+            Wanted::Any => Cause::InUse(error),
+        },
+        error => Cause::Library(error),
     }
 }
 

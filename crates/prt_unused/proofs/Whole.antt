@@ -10,14 +10,14 @@ use Rattle.prt_rule.specs.Sound.{IsInOrder}
 use Rattle.prt_rule.specs.declared.packet.Packet.{Packet}
 use Rattle.prt_rule.specs.declared.rule.Rule.{Rule}
 use Rattle.prt_version.specs.State.{State}
-use Rattle.prt_unused.specs.Steps.{HasUse, IsUse, marked, unmarked, unused_route, unused_rule}
-use Rattle.prt_unused.specs.Unused.{AreUnusedRoutes, AreUnusedRules, IsRouteReason, IsRuleReason, routes_of, rules_of}
+use Rattle.prt_unused.specs.Steps.{AreExplained, HasUse, IsUse, marked, unmarked, unused_rule}
+use Rattle.prt_unused.specs.Unused.{AreUnusedRoutes, AreUnusedRules, IsRuleReason, rules_of}
 use Rattle.prt_unused.specs.declared.report.UnusedRoute.{UnusedRoute}
 use Rattle.prt_unused.specs.declared.report.UnusedRule.{UnusedRule}
 use Rattle.prt_unused.specs.declared.used.Used.{Used}
 use Rattle.prt_unused.proofs.Both.{all_routes, all_rules, each_of_all}
 use Rattle.prt_unused.proofs.Marks.{each_unmarked, length_marked}
-use Rattle.prt_unused.proofs.WhyUnused.{route_reasons, routes_same, rule_reasons, rules_same}
+use Rattle.prt_unused.proofs.WhyUnused.{rule_reasons, rules_same}
 
 -- there is a flag for each
 pub flags_fit : {X : Type 0} (place : Packet → Option ℕ) (xs : List X) (all : List Packet) → length (marked place (map (λ x. false) xs) all) ≡ length xs
@@ -31,9 +31,7 @@ whole_rules state all used rules left shown flags unused rises are set remain sa
     (ap rules_of made ∙ rules_same state all shown ∙ left_is)
     (subst (Each (λ (one : UnusedRule). IsRuleReason state one.rule one.reason)) (sym made) (rule_reasons state all shown marks.samples held))
 
-pub whole_routes : (state : State) (used : Used) (routes left shown : List Route) (flags : List Bool) (unused : List UnusedRoute) → IsRising is_listed_before state.routes → routes ≡ state.routes → flags ≡ used.routes.items → left ≡ unmarked routes flags → shown ≡ left → unused ≡ map (unused_route state) shown → HasUse state used → AreUnusedRoutes state unused
-whole_routes state used routes left shown flags unused rises are set remain same made marks =
+pub whole_routes : (state : State) (used : Used) (routes left shown : List Route) (flags : List Bool) (unused : List UnusedRoute) → IsRising is_listed_before state.routes → routes ≡ state.routes → flags ≡ used.routes.items → left ≡ unmarked routes flags → shown ≡ left → AreExplained state shown unused → HasUse state used → AreUnusedRoutes state unused
+whole_routes state used routes left shown flags unused rises are set remain same explained marks =
     let left_is : shown ≡ unmarked state.routes used.routes.items = same ∙ remain ∙ ap (λ (rs : List Route). unmarked rs flags) are ∙ ap (unmarked state.routes) set in
-    all_routes state marks.0 used unused rises marks.1
-    (ap routes_of made ∙ routes_same state shown ∙ left_is)
-    (subst (Each (λ (one : UnusedRoute). IsRouteReason state one.route one.reason)) (sym made) (route_reasons state shown))
+    all_routes state marks.0 used unused rises marks.1 (explained.0 ∙ left_is) explained.1

@@ -1,6 +1,8 @@
 -- What the parts of the program compute.
-use Rattle.std.specs.Prelude.{ℕ, ◌≡◌, Bool, true, false, not, ◌&&◌, ◌==◌, List, [], ◌∷◌, find, flat_map, map, Option, Some, None, option_map, unwrap_or, codes, slice_set}
+use Rattle.std.specs.Prelude.{ℕ, ◌≡◌, ◌+◌, ◌-◌, ◌^◌, Bool, true, false, not, ◌&&◌, ◌==◌, List, [], ◌∷◌, find, flat_map, map, Option, Some, None, option_map, unwrap_or, bit_xor, codes, slice_set}
 use Rattle.std.specs.List.{Contains, AllByRecursion as Each, position}
+use Rattle.prt_addr.specs.Block.{Block}
+use Rattle.prt_addr.specs.Prefix.{contains}
 use Rattle.prt_addr.specs.Word.{Word}
 use Rattle.prt_route.specs.declared.route.Route.{Route}
 use Rattle.prt_rule.specs.Rule.{matches}
@@ -15,15 +17,14 @@ use Rattle.prt_version.specs.State.{State}
 use Rattle.prt_version.specs.declared.answer.Verdict.{Verdict}
 use Rattle.prt_version.specs.declared.answer.Verdict.TheVariants as verdict
 use Rattle.prt_partition.specs.Classes.{IsPacket}
-use Rattle.prt_partition.specs.Cuts.{AreAlike, to}
+use Rattle.prt_partition.specs.Cuts.{AreAlike, from, to}
 use Rattle.prt_unused.specs.declared.report.Example.{Example}
-use Rattle.prt_unused.specs.declared.report.RouteReason.{RouteReason}
-use Rattle.prt_unused.specs.declared.report.RouteReason.TheVariants.{NoRule, Reaches}
 use Rattle.prt_unused.specs.declared.report.RuleReason.{RuleReason}
 use Rattle.prt_unused.specs.declared.report.RuleReason.TheVariants.{MatchesNothing, Matches}
 use Rattle.prt_unused.specs.declared.report.UnusedRoute.{UnusedRoute}
 use Rattle.prt_unused.specs.declared.report.UnusedRule.{UnusedRule}
 use Rattle.prt_unused.specs.declared.used.Used.{Used}
+use Rattle.prt_unused.specs.Unused.{IsRouteReason, routes_of}
 
 -- ---- the place of the rule that decides a packet, and of the route that it gets
 
@@ -121,10 +122,40 @@ rule_reason_by state (Some packet) = Matches (example_of state packet)
 abbrev pub unused_rule : State → List Packet → Rule → UnusedRule
 unused_rule state packets rule = record { rule = rule; reason = rule_reason_by state (matched_packet packets rule) }
 
--- the packet that the selector of a rule names, but to the prefix of the route
-abbrev pub route_reason_by : State → Route → Option Rule → RouteReason
-route_reason_by state route None = NoRule
-route_reason_by state route (Some rule) = Reaches (example_of state (named_packet rule route.prefix.bits))
+-- these routes, each with a reason that is so
+abbrev pub AreExplained : State → List Route → List UnusedRoute → Type 0
+AreExplained state routes unused = (routes_of unused ≡ routes) × Each (λ (one : UnusedRoute). IsRouteReason state one.route one.reason) unused
 
-abbrev pub unused_route : State → Route → UnusedRoute
-unused_route state route = record { route = route; reason = route_reason_by state route (find (is_lookup_of route.table) state.rules) }
+-- ---- packets to a prefix
+
+-- a packet to this address from 0.0.0.0 that comes in by lo and has the mark 0
+abbrev pub plain_packet : ℕ → Packet
+plain_packet addr = packet_by addr 0 (codes "lo") 0
+
+-- the last address of the prefix
+abbrev pub last_of : Block → ℕ
+last_of prefix = prefix.bits + (2 ^ (32 - prefix.len) - 1)
+
+-- differs from the mark in each bit that is compared
+abbrev pub other_mark : Option Mark → ℕ
+other_mark None = 0
+other_mark (Some mark) = bit_xor mark.mark mark.mask
+
+-- the named packet, a plain one, and some that differ from the named packet in one part
+abbrev pub variants : Packet → Rule → Block → List Packet
+variants named rule prefix =
+    named
+    ∷ to named rule.to.bits
+    ∷ plain_packet prefix.bits
+    ∷ from named 4294967295
+    ∷ record named { iif = codes "eth0" }
+    ∷ record named { mark = other_mark rule.mark }
+    ∷ to named (last_of prefix)
+    ∷ []
+
+abbrev pub candidates : Rule → Block → List Packet
+candidates rule prefix = variants (named_packet rule prefix.bits) rule prefix
+
+-- the packet is to the prefix, and the rule matches it
+abbrev pub is_hit : Rule → Block → Packet → Bool
+is_hit rule prefix packet = contains prefix packet.dst && matches rule packet

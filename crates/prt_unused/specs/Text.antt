@@ -10,7 +10,7 @@ use Rattle.prt_rule.specs.declared.packet.Packet.{Packet}
 use Rattle.prt_version.specs.declared.answer.Verdict.{Verdict}
 use Rattle.prt_unused.specs.declared.report.Example.{Example}
 use Rattle.prt_unused.specs.declared.report.RouteReason.{RouteReason}
-use Rattle.prt_unused.specs.declared.report.RouteReason.TheVariants.{NoRule, Reaches}
+use Rattle.prt_unused.specs.declared.report.RouteReason.TheVariants.{NoRule, Throws, Unmatched, Reaches}
 use Rattle.prt_unused.specs.declared.report.RuleReason.{RuleReason}
 use Rattle.prt_unused.specs.declared.report.RuleReason.TheVariants.{MatchesNothing, Matches}
 use Rattle.prt_unused.specs.declared.report.Unused.{Unused}
@@ -39,6 +39,8 @@ rule_reason_text (Matches example) = example_text example
 
 abbrev pub route_reason_text : ℕ → RouteReason → List ℕ
 route_reason_text table NoRule = codes "no rule looks up table " ++ table_text table
+route_reason_text table Throws = codes "a throw route: what finds it goes on to the next rule"
+route_reason_text table Unmatched = codes "no rule that looks up table " ++ table_text table ++ codes " matches a packet to it"
 route_reason_text table (Reaches example) = example_text example
 
 -- a line, and after a tab the reason

@@ -1,9 +1,11 @@
 -- Rules that decide no packet, and routes that no packet gets.
 use Rattle.std.specs.Prelude.{ℕ, ◌≡◌, ◌≢◌, false, true, List, map, Some}
 use Rattle.std.specs.List.{Contains, AllByRecursion as Each}
+use Rattle.prt_addr.specs.Block.{Block}
 use Rattle.prt_addr.specs.Prefix.{contains}
 use Rattle.prt_addr.specs.Rising.{IsRising}
 use Rattle.prt_route.specs.Route.{is_listed_before}
+use Rattle.prt_route.specs.declared.kind.Kind.TheVariants.{Throw}
 use Rattle.prt_route.specs.declared.route.Route.{Route}
 use Rattle.prt_rule.specs.Rule.{matches}
 use Rattle.prt_rule.specs.Sound.{IsInOrder}
@@ -16,7 +18,7 @@ use Rattle.prt_version.specs.declared.answer.Verdict.TheVariants as verdict
 use Rattle.prt_partition.specs.Classes.{IsPacket}
 use Rattle.prt_unused.specs.declared.report.Example.{Example}
 use Rattle.prt_unused.specs.declared.report.RouteReason.{RouteReason}
-use Rattle.prt_unused.specs.declared.report.RouteReason.TheVariants.{NoRule, Reaches}
+use Rattle.prt_unused.specs.declared.report.RouteReason.TheVariants.{NoRule, Throws, Unmatched, Reaches}
 use Rattle.prt_unused.specs.declared.report.RuleReason.{RuleReason}
 use Rattle.prt_unused.specs.declared.report.RuleReason.TheVariants.{MatchesNothing, Matches}
 use Rattle.prt_unused.specs.declared.report.Unused.{Unused}
@@ -33,7 +35,7 @@ IsUnusedRule state rule = (packet : Packet) → IsPacket packet → decider stat
 abbrev pub IsUnusedRoute : State → Route → Type 0
 IsUnusedRoute state route = (packet : Packet) (priority : ℕ) → IsPacket packet → select state packet ≢ verdict.Route priority route
 
--- ---- what comes before it
+-- ---- what is told of it
 
 -- the verdict is what becomes of the packet
 abbrev pub IsExample : State → Example → Type 0
@@ -44,10 +46,29 @@ abbrev pub IsRuleReason : State → Rule → RuleReason → Type 0
 IsRuleReason state rule MatchesNothing = (packet : Packet) → IsPacket packet → matches rule packet ≡ false
 IsRuleReason state rule (Matches example) = (matches rule example.packet ≡ true) × IsExample state example
 
--- no rule looks up the table of the route, or its prefix has the destination of this packet, which gets this verdict
+-- the rule is one of these, and looks up the table
+abbrev pub IsLookup : List Rule → ℕ → Rule → Type 0
+IsLookup rules table rule = Contains rules rule × (rule.action ≡ Lookup table)
+
+-- the rule matches no packet whose destination is in the prefix
+abbrev pub MatchesNone : Block → Rule → Type 0
+MatchesNone prefix rule = (packet : Packet) → IsPacket packet → contains prefix packet.dst ≡ true → matches rule packet ≡ false
+
+-- none of these rules that looks up the route's table matches a packet to its prefix
+abbrev pub AllMiss : List Rule → Route → Type 0
+AllMiss rules route = (rule : Rule) → IsLookup rules route.table rule → MatchesNone route.prefix rule
+
+-- one of these rules that looks up the route's table matches the packet, and the route's prefix has its destination
+abbrev pub IsReached : List Rule → Route → Packet → Type 0
+IsReached rules route packet = ((rule : Rule) × IsLookup rules route.table rule × (matches rule packet ≡ true)) × (contains route.prefix packet.dst ≡ true)
+
+-- No rule looks up the table of the route. Or it is a throw route. Or rules look up its table, but none of them matches a packet
+-- to its prefix. Or one of them matches this packet, which is to its prefix and gets this verdict.
 abbrev pub IsRouteReason : State → Route → RouteReason → Type 0
 IsRouteReason state route NoRule = Each (λ (rule : Rule). rule.action ≢ Lookup route.table) state.rules
-IsRouteReason state route (Reaches example) = (contains route.prefix example.packet.dst ≡ true) × IsExample state example
+IsRouteReason state route Throws = route.kind ≡ Throw
+IsRouteReason state route Unmatched = ((rule : Rule) × IsLookup state.rules route.table rule) × AllMiss state.rules route
+IsRouteReason state route (Reaches example) = IsReached state.rules route example.packet × IsExample state example
 
 -- ---- all of them
 

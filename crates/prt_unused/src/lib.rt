@@ -1,6 +1,7 @@
-//! Rules that decide no packet and routes that no packet gets, each with what comes before it.
+//! Rules that decide no packet, routes that no packet gets, and what is told of each.
 #![tactic(auto)]
 
+mod matching;
 mod places;
 mod reasons;
 mod report;

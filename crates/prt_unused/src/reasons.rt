@@ -1,13 +1,16 @@
-//! What comes before a rule that decides no packet, and before a route that no packet gets.
-ghost use Rattle.std.specs.Prelude.{◌≡◌, find, option_map};
+//! What is told of a rule that decides no packet, and of a route that no packet gets.
+ghost use Rattle.std.specs.Prelude.{◌≡◌, MatchOption, find};
+ghost use Rattle.std.specs.List.{list_any};
 ghost use Rattle.prt_rule.specs.Rule.{matches};
-ghost use Rattle.prt_unused.specs.Steps.{all_packets, example_of, is_lookup_of, matched_packet, named_packet, packets_to, unused_route, unused_rule};
+ghost use Rattle.prt_version.specs.Select.{is_throw};
+ghost use Rattle.prt_unused.specs.Steps.{all_packets, example_of, is_lookup_of, matched_packet, packets_to, unused_rule};
+ghost use Rattle.prt_unused.specs.Unused.{AllMiss, IsReached, IsRouteReason};
 
+use crate::matching::{named_packet, packet_to};
 use crate::places::is_lookup_of;
 use crate::report::{Example, RouteReason, RuleReason, UnusedRoute, UnusedRule};
 use crate::used::to;
-use prt_addr::Addr;
-use prt_route::{Dev, Route};
+use prt_route::{Kind, Route};
 use prt_rule::{Packet, Rule, matches};
 use prt_version::Version;
 
@@ -18,27 +21,6 @@ fn example_of(version: &Version, packet: &Packet) -> Example
     Example {
         packet: *packet,
         verdict: version.select(packet).verdict,
-    }
-}
-
-/// Makes a packet to this address that has what the selector of the rule names. It comes in by `lo` if that names no
-/// interface, and has the mark 0 if it names no mark.
-fn named_packet(rule: &Rule, addr: u32) -> Packet
-    ensures { result ≡ named_packet rule.now addr }
-{
-    let iif = match rule.iif {
-        Some(iif) => iif,
-        None => Dev::loopback(),
-    };
-    let mark = match rule.mark {
-        Some(mark) => mark.mark,
-        None => 0,
-    };
-    Packet {
-        dst: Addr(addr),
-        src: Addr(rule.from.bits()),
-        iif,
-        mark,
     }
 }
 
@@ -98,27 +80,59 @@ pub(crate) fn unused_rule(
     }
 }
 
-/// Finds the first rule that looks up the table.
-fn lookup_rule(rules: &[Rule], table: u32) -> Option<&Rule>
-    ensures { option_map (λ rule. rule.now) result ≡ find (is_lookup_of table) rules.now }
+/// Checks whether a rule looks up the table.
+fn is_looked_up(rules: &[Rule], table: u32) -> bool
+    ensures { result ≡ list_any (is_lookup_of table) rules.now }
 {
-    rules.iter().find(|rule| is_lookup_of(table, rule))
+    rules.iter().any(|rule| is_lookup_of(table, rule))
 }
 
-/// Returns the route with a packet to its prefix and what becomes of that, if a rule looks up its table. The packet is the
-/// one that the selector of the first such rule names, but to the first address of the prefix.
-pub(crate) fn unused_route(version: &Version, route: &Route) -> UnusedRoute
-    ensures { result ≡ unused_route version.now route.now }
+/// Checks whether a lookup that finds a route of this kind ends without one.
+fn is_throw(kind: Kind) -> bool
+    ensures { result ≡ is_throw kind }
 {
-    let reason = match lookup_rule(version.rules(), route.table) {
-        Some(rule) => {
-            let packet = named_packet(rule, route.prefix.bits());
-            RouteReason::Reaches(example_of(version, &packet))
+    matches!(kind, Kind::Throw)
+}
+
+/// Finds a packet to the prefix of the route that one of the rules which look up its table matches, if there is one.
+fn packet_under(rules: &[Rule], route: &Route) -> Option<Packet>
+    ensures { MatchOption result (AllMiss rules.now route.now) (IsReached rules.now route.now) }
+{
+    for rule in rules {
+        if is_lookup_of(route.table, rule) {
+            if let Some(packet) = packet_to(rule, &route.prefix) {
+                return Some(packet);
+            }
         }
-        None => RouteReason::NoRule,
-    };
+    }
+    None
+}
+
+/// Says of a route that no rule looks up its table, that it is a throw route, or that no rule which looks up its table matches
+/// a packet to its prefix. Otherwise it gives such a packet and what becomes of that.
+fn route_reason(version: &Version, route: &Route) -> RouteReason
+    ensures { IsRouteReason version.now route.now result }
+{
+    let rules = version.rules();
+    if !is_looked_up(rules, route.table) {
+        return RouteReason::NoRule;
+    }
+    if is_throw(route.kind) {
+        return RouteReason::Throws;
+    }
+    match packet_under(rules, route) {
+        Some(packet) => RouteReason::Reaches(example_of(version, &packet)),
+        None => RouteReason::Unmatched,
+    }
+}
+
+/// Returns the route with what is told of it.
+pub(crate) fn unused_route(version: &Version, route: &Route) -> UnusedRoute
+    ensures route { result.route ≡ route.now }
+    ensures reason { IsRouteReason version.now route.now result.reason }
+{
     UnusedRoute {
         route: *route,
-        reason,
+        reason: route_reason(version, route),
     }
 }

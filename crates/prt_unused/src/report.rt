@@ -1,4 +1,4 @@
-//! Rules that decide no packet, routes that no packet gets, and why.
+//! Rules that decide no packet, routes that no packet gets, and what is told of each.
 
 use prt_route::Route;
 use prt_rule::{Packet, Rule};
@@ -13,21 +13,25 @@ pub struct Example {
     pub verdict: Verdict,
 }
 
-/// Why a rule decides no packet.
+/// What is told of a rule that decides no packet.
 #[derive(Clone, Copy)]
 pub enum RuleReason {
-    /// It matches no packet.
+    /// No packet matches it.
     MatchesNothing,
-    /// It matches this packet, but another rule decides it, or none.
+    /// It matches this packet. The verdict is what becomes of that.
     Matches(Example),
 }
 
-/// Why no packet gets a route.
+/// What is told of a route that no packet gets.
 #[derive(Clone, Copy)]
 pub enum RouteReason {
     /// No rule looks up its table.
     NoRule,
-    /// Its prefix has the destination of this packet, but the packet gets another route, or none.
+    /// It is a throw route: a packet for which a lookup finds it goes on to the next rule.
+    Throws,
+    /// Rules look up its table, but none of them matches a packet to its prefix.
+    Unmatched,
+    /// A rule that looks up its table matches this packet, which is to its prefix. The verdict is what becomes of that.
     Reaches(Example),
 }
 
@@ -36,7 +40,7 @@ pub enum RouteReason {
 pub struct UnusedRule {
     /// The rule.
     pub rule: Rule,
-    /// Why it decides no packet.
+    /// What is told of it.
     pub reason: RuleReason,
 }
 
@@ -45,7 +49,7 @@ pub struct UnusedRule {
 pub struct UnusedRoute {
     /// The route.
     pub route: Route,
-    /// Why no packet gets it.
+    /// What is told of it.
     pub reason: RouteReason,
 }
 

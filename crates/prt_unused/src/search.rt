@@ -1,7 +1,7 @@
 //! What decides no packet, and what no packet gets.
 ghost use Rattle.std.specs.Prelude.{◌≡◌, IfErr, IfOk, length, map};
 ghost use Rattle.prt_partition.specs.Boxes.{IsUndivided};
-ghost use Rattle.prt_unused.specs.Steps.{HasUse, IsUse, all_packets, unmarked, unused_route, unused_rule};
+ghost use Rattle.prt_unused.specs.Steps.{AreExplained, HasUse, IsUse, all_packets, unmarked, unused_rule};
 ghost use Rattle.prt_unused.specs.Unused.{AreUnused, AreUnusedRoutes, AreUnusedRules};
 
 use crate::reasons::{unused_route, unused_rule};
@@ -47,7 +47,7 @@ fn unmarked_routes(
     Ok(left)
 }
 
-/// Lists the rules with what comes before them.
+/// Lists the rules, each with a packet that it matches and what becomes of that, if there is one.
 fn with_rule_reasons(
     alloc: Global,
     version: &Version,
@@ -63,13 +63,13 @@ fn with_rule_reasons(
         .collect(alloc)
 }
 
-/// Lists the routes with what comes before them.
+/// Lists the routes, each with what is told of it.
 fn with_route_reasons(
     alloc: Global,
     version: &Version,
     routes: &[Route],
 ) -> Result<Vec<UnusedRoute>, AllocError>
-    ensures { IfOk result (λ unused. unused.items ≡ map (unused_route version.now) routes.now) }
+    ensures { IfOk result (λ unused. AreExplained version.now routes.now unused.items) }
 {
     routes
         .iter()
@@ -111,7 +111,11 @@ fn unused_routes(
     Ok(unused)
 }
 
-/// Finds the rules that decide no packet, and the routes that no packet gets, each with what comes before it.
+/// Finds the rules that decide no packet, and the routes that no packet gets.
+///
+/// Of a rule it tells that no packet matches it, or a packet that it matches and what becomes of that. Of a route it tells that
+/// no rule looks up its table, that it is a throw route, or that no rule which looks up its table matches a packet to its
+/// prefix, or such a packet and what becomes of that.
 ///
 /// It looks at one packet of each class at each destination at which an answer can change.
 ///

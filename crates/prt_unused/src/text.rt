@@ -88,7 +88,7 @@ fn push_example(out: &mut Vec<u8>, example: &Example) -> Result<(), AllocError>
     push_verdict(out, &example.verdict)
 }
 
-/// Appends why a rule decides no packet.
+/// Appends what is told of a rule that decides no packet.
 fn push_rule_reason(out: &mut Vec<u8>, reason: &RuleReason) -> Result<(), AllocError>
     ensures { OnOk result (out.new.items ≡ out.old.items ++ rule_reason_text reason.now) }
 {
@@ -98,7 +98,7 @@ fn push_rule_reason(out: &mut Vec<u8>, reason: &RuleReason) -> Result<(), AllocE
     }
 }
 
-/// Appends why no packet gets a route of this table.
+/// Appends what is told of a route of this table that no packet gets.
 fn push_route_reason(out: &mut Vec<u8>, table: u32, reason: &RouteReason) -> Result<(), AllocError>
     ensures { OnOk result (out.new.items ≡ out.old.items ++ route_reason_text table reason.now) }
 {
@@ -106,6 +106,14 @@ fn push_route_reason(out: &mut Vec<u8>, table: u32, reason: &RouteReason) -> Res
         RouteReason::NoRule => {
             let table = table_value(table);
             push_part(out, &Part::Named("no rule looks up table", table))
+        }
+        RouteReason::Throws => {
+            push_text(out, "a throw route: what finds it goes on to the next rule")
+        }
+        RouteReason::Unmatched => {
+            let table = table_value(table);
+            push_part(out, &Part::Named("no rule that looks up table", table))?;
+            push_text(out, " matches a packet to it")
         }
         RouteReason::Reaches(example) => push_example(out, example),
     }
@@ -151,8 +159,9 @@ fn push_routes(out: &mut Vec<u8>, routes: &[UnusedRoute]) -> Result<(), AllocErr
     Ok(())
 }
 
-/// Appends two lines for each rule, and then for each route: the line that lists it, and after a tab why it is unused. That is
-/// a packet and what becomes of it, or that no packet matches or no rule looks up the table.
+/// Appends two lines for each rule, and then for each route: the line that lists it, and after a tab what is told of it. That
+/// is a packet that a rule matches and what becomes of it, or one of these: no packet matches the rule, no rule looks up the
+/// table of the route, the route is a throw route, or no rule that looks up its table matches a packet to it.
 ///
 /// # Errors
 ///

@@ -20,7 +20,7 @@ pub(crate) struct Used {
 }
 
 /// Builds the packet of these parts.
-fn packet_by(dst: u32, src: u32, iif: Dev, mark: u32) -> Packet
+pub(crate) fn packet_by(dst: u32, src: u32, iif: Dev, mark: u32) -> Packet
     ensures value { result ≡ packet_by dst src iif mark }
     ensures fits { IsPacket result }
 {

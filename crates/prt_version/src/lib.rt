@@ -24,5 +24,6 @@ pub use change::Change;
 pub use limits::{MOST_COMMANDS, MOST_ROUTES, MOST_RULES};
 pub use prt_command::{Action, Command, NewRule, Packet, Refusal, Route, Rule};
 pub use rules::Rules;
+pub use select::first_verdict;
 pub use tables::Tables;
 pub use version::{Version, opening_rules};

@@ -52,9 +52,9 @@ fn decision(rule: &Rule, routes: &Tables, packet: &Packet) -> Option<Verdict>
     Some(Verdict::Route(rule.priority, *route))
 }
 
-/// Finds what the first of these rules that decides says.
+/// Finds what the first of these rules that decides says, if they are tried as they come (`ip-rule(8)`). It takes no memory.
 #[tactic(auto, using(crate::proofs::Verdicts::decides, crate::proofs::Verdicts::passes_on))]
-pub(crate) fn first_verdict(rules: &[Rule], routes: &Tables, packet: &Packet) -> Verdict
+pub fn first_verdict(rules: &[Rule], routes: &Tables, packet: &Packet) -> Verdict
     ensures { result ≡ first_verdict rules.now routes.now packet.now }
 {
     for rule in rules {

@@ -34,7 +34,8 @@ def main():
     server = Server("--feed", "127.0.0.1:0", "--sessions", "2")
     place = "127.0.0.1:%d" % server.feed_port
     print("%d answers the same" % sum(ask(words, "--server", place) == said for words, said in zip(QUESTIONS, before)))
-    print(ask(["get", "10.0.0.1"], "--db", DATABASE))
+    for words in ["get", "10.0.0.1"], ["batch"]:
+        print(ask(words, "--db", DATABASE))
     print(ask(["get", "10.0.0.1"], "--server", "127.0.0.1:%d" % server.port)[0])
     client = Client(server)
     print(client.ask("route add 10.9.0.0/16 dev eth9"))

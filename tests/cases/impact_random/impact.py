@@ -1,28 +1,32 @@
 """Random tables and random changes: a packet gets another answer exactly if a group of `prt impact` has it.
 
-    impact.py PROGRAM ROUNDS
+    impact.py PROGRAM ROUNDS PACKETS [SEED]
 
 In each round random packets, and those at the ends of each group, get their answers from the tables before the change and
 after it. If they differ, one group has the packet, and shows both answers; otherwise none has it. With --exact the answers
-are compared as a whole, and otherwise by kind, gateway, interface and source.
+are compared as a whole, and otherwise by kind, gateway, interface and source. The rounds are shared among the processors.
 
 Then random claims: if one holds, none of the packets breaks it; otherwise the packet that is shown does. And no packet gets
 a route that is unused, or is decided by an unused rule of a priority of its own.
 """
 
+import multiprocessing
+import os
 import random
 import re
 import subprocess
 import sys
+import tempfile
 
 from groups import GROUP, dotted, is_in, number, span
 
-PROGRAM, ROUNDS = sys.argv[1], int(sys.argv[2])
+PROGRAM, ROUNDS, PACKETS = sys.argv[1], int(sys.argv[2]), int(sys.argv[3])
 DEVICES = ["eth0", "eth1", "wg0"]
 KINDS = ["blackhole", "unreachable", "prohibit", "throw"]
 TABLES = ["main", "default", "7", "100"]
 MARKS = ["0", "7", "0x10/0xf0", "0x1/0x3", "0/1"]
-PACKETS = 400
+# How many packets are tried for the claims and for what is unused.
+FEW = 400
 
 
 def run(*words, input=None):
@@ -116,28 +120,38 @@ def names(script):
     return set(re.findall(r" iif (\S+)", shown))
 
 
-def compare(before, after, exact):
+def groups_of(*exact):
+    """The groups that are shown, and what is wrong with what is shown."""
+    shown = run("impact", *exact, "--force", "before.batch", "change.batch")
+    groups = [GROUP.fullmatch(line) for line in shown.stdout.splitlines()]
+    if not all(groups):
+        return [], [f"can't read {shown.stdout!r} {shown.stderr!r}"]
+    # Without a group only a refused line, which is reported, makes the status 1.
+    if shown.returncode != (1 if groups or shown.stderr else 0):
+        return groups, [f"status {shown.returncode} with {len(groups)} groups: {shown.stderr!r}"]
+    return groups, []
+
+
+def misses(groups, named, exact, asked):
+    """The packets whose answers differ in no group, that are in a group though they don't, or that it shows otherwise."""
+    ends = [(*span(group["to"]), group) for group in groups]
+    for packet, was, now in asked:
+        having = [group for first, last, group in ends if first <= packet[0] <= last and is_in(group, packet, named)]
+        differs = was != now and (exact or outcome(was) != outcome(now))
+        if differs != bool(having) or any((group["was"], group["is"]) != (was, now) for group in having):
+            yield f"{packet}: {was} -> {now}, shown as {[group.string for group in having]}"
+
+
+def compare(before, after):
     """Asks all packets before and after, and compares that with the groups."""
     with open("before.batch", "w") as first, open("change.batch", "w") as second:
         first.writelines(f"{line}\n" for line in before)
         second.writelines(f"{line}\n" for line in after)
-    shown = run("impact", *exact, "--force", "before.batch", "change.batch")
-    groups = [GROUP.fullmatch(line) for line in shown.stdout.splitlines()]
-    wrong = [] if all(groups) else [f"can't read {shown.stdout!r} {shown.stderr!r}"]
-    groups = [group for group in groups if group]
+    (groups, wrong), (exact, wrong_exact) = groups_of(), groups_of("--exact")
     named = names(before) | names(before + after)
-    packets = [a_packet() for _ in range(PACKETS)] + list(at_the_ends(groups))[:2000]
-    for packet, was, now in zip(packets, answers(before, packets), answers(before + after, packets)):
-        having = [group for group in groups if is_in(group, packet, named)]
-        differs = was != now if exact else outcome(was) != outcome(now)
-        if differs != bool(having):
-            wrong.append(f"{packet}: {was} -> {now}, in {[group.string for group in having]}")
-        elif any((group["was"], group["is"]) != (was, now) for group in having):
-            wrong.append(f"{packet}: {was} -> {now}, shown as {[group.string for group in having]}")
-    # Without a group only a refused line, which is reported, makes the status 1.
-    if shown.returncode != (1 if groups or shown.stderr else 0):
-        wrong.append(f"status {shown.returncode} with {len(groups)} groups: {shown.stderr!r}")
-    return wrong, len(packets)
+    packets = [a_packet() for _ in range(PACKETS)] + list(at_the_ends(groups + exact))[:4000]
+    asked = list(zip(packets, answers(before, packets), answers(before + after, packets)))
+    return wrong + wrong_exact + [*misses(groups, named, False, asked), *misses(exact, named, True, asked)]
 
 
 def a_claim():
@@ -194,7 +208,7 @@ def claims(before):
         if not found:
             return [f"can't read {line!r}"]
         broken[int(found[1])] = (number(found[2]), number(found[3]), found[4], int(found[5], 0)), found[6]
-    packets = [a_packet() for _ in range(PACKETS)]
+    packets = [a_packet() for _ in range(FEW)]
     known = list(zip(packets, answers(before, packets)))
     for place, claim in enumerate(stated, 1):
         if place in broken:
@@ -212,7 +226,7 @@ def claims(before):
 def unused(before):
     """No packet gets what isn't used."""
     shown = run("unused", "before.batch").stdout
-    packets = [a_packet() for _ in range(PACKETS)]
+    packets = [a_packet() for _ in range(FEW)]
     found = answers(before, packets)
     got = {answer.split(" ", 2)[2] for answer in found if " table " in f" {answer}"}
     wrong = []
@@ -226,20 +240,23 @@ def unused(before):
     return wrong
 
 
-def main():
-    random.seed(int(sys.argv[3]) if sys.argv[3:] else None)
-    count, wrong = 0, []
-    for _ in range(ROUNDS):
+def one_round(seed):
+    """What is wrong in a round, with its tables and its change."""
+    random.seed(seed)
+    with tempfile.TemporaryDirectory() as folder:
+        os.chdir(folder)
         before, after = tables(), changes()
-        for exact in ([], ["--exact"]):
-            found, asked = compare(before, after, exact)
-            wrong += found
-            count += asked
-        wrong += claims(before) + unused(before)
-        if wrong:
-            print("\n".join(wrong[:10]), *before, "changes:", *after, sep="\n")
-            return
-    print("all packets agree" if count else "no packet was asked")
+        wrong = compare(before, after) + claims(before) + unused(before)
+        os.chdir("/")
+    return [f"seed {seed}", *wrong[:10], *before, "changes:", *after] if wrong else []
+
+
+def main():
+    random.seed(int(sys.argv[4]) if sys.argv[4:] else None)
+    seeds = [random.getrandbits(32) for _ in range(ROUNDS)]
+    with multiprocessing.Pool() as pool:
+        wrong = [found for found in pool.imap_unordered(one_round, seeds) if found]
+    print("\n".join(wrong[0]) if wrong else f"{ROUNDS} pairs agree")
 
 
 main()

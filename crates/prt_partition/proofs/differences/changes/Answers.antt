@@ -4,6 +4,7 @@ use Rattle.std.specs.List.{dedup}
 use Rattle.prt_rule.specs.declared.packet.Packet.{Packet}
 use Rattle.prt_version.specs.Select.{select}
 use Rattle.prt_version.specs.State.{State}
+use Rattle.prt_partition.specs.Comparison.{after_of}
 use Rattle.prt_partition.specs.Cuts.{to}
 use Rattle.prt_partition.specs.Spans.{AreDifferences}
 use Rattle.prt_partition.specs.declared.differences.Difference.{Difference}
@@ -19,7 +20,12 @@ returns-clause-value c =
     let before = c.args.before.now in
     let after = c.args.after.now in
     let packet = c.args.packet.now in
-    let contrasts = c.in_ok-contrasts.ensures ∙ ap (map (contrast_from sameness before after packet)) c.deref.ensures.value in
+    let comparison = c.in_ok-comparison.comparison in
+    let contrasts =
+    c.in_ok-contrasts.ensures
+    ∙ ap (λ was. map (contrast_from sameness was (after_of comparison) packet) c.deref.result.now) c.in_ok-comparison.ensures.before
+    ∙ ap (λ is. map (contrast_from sameness before is packet) c.deref.result.now) c.in_ok-comparison.ensures.after
+    ∙ ap (map (contrast_from sameness before after packet)) c.deref.ensures.value in
     let joined = c.deref-2.ensures.value ∙ c.join.ensures ∙ ap (dedup have_same) contrasts in
     subst (AreDifferences sameness before after packet) (sym (c.in_ok-differences.ensures ∙ ap differences_of joined))
     (differences sameness before after packet c.args.differing.now c.requires)

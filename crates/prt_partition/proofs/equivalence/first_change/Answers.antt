@@ -1,22 +1,17 @@
 use Rattle.std.proofs.Common.{◌≡◌, false, Option, Some, None, refl, ap, below_more, slice_index, sym, ◌∙◌}
 use Rattle.std.specs.Prelude.{is_some}
+use Rattle.prt_partition.specs.Comparison.{after_of, before_of}
 use Rattle.prt_partition.specs.Cuts.{to}
-use Rattle.prt_partition.proofs.Verdicts.{no_transition, some_transition}
+use Rattle.prt_partition.proofs.Verdicts.{some_transition}
 use Rattle.prt_partition.proofs.equivalence.first_change.Goals as goal
 
 is_none : {X : Type 0} (o : Option X) → is_some o ≡ false → o ≡ None
 is_none None e = refl
 is_none (Some x) e = absurd cc
 
-pub returns-then-is_nothing : goal.returns-then-is_nothing
-returns-then-is_nothing c = λ k inside.
-    let start = slice_index c.args.starts.now k in
-    let packet = to c.args.packet.now start in
-    no_transition c.args.sameness c.args.before.now c.args.after.now packet (c.requires start (c.is_nothing.ensures c.if-is_nothing.true packet))
-
 pub returns-then-is_some : goal.returns-then-is_some
 returns-then-is_some c =
-    some_transition c.args.sameness c.args.before.now c.args.after.now (to c.args.packet.now (slice_index c.args.starts.now c.loop-start.start-index))
+    some_transition c.args.sameness (before_of c.args.comparison.now) (after_of c.args.comparison.now) (to c.args.packet.now (slice_index c.args.starts.now c.loop-start.start-index))
     (ap is_some (sym c.transition_at.ensures) ∙ sym c.is_some.ensures ∙ c.if-is_some.true)
 
 pub loop-start-preserved : goal.loop-start-preserved
