@@ -1,7 +1,9 @@
 //! The claims of a text, one a line.
 ghost use Rattle.std.specs.Prelude.{◌≡◌, ◌≢◌, ◌++◌, [], ◌∷◌, IfErr, IfOk, IsOkUnless, OnOk};
 ghost use Rattle.prt_refusals.specs.declared.refusal.Refusal.TheVariants.{NoMemory};
-ghost use Rattle.prt_claims.specs.Checking.{Extends, ExtendsBy, IsChecked, IsUnchecked, breach_line};
+ghost use Rattle.prt_partition.specs.Boxes.{IsUndivided};
+ghost use Rattle.prt_claims.specs.Checking.{Extends, ExtendsBy, IsChecked, IsUnchecked, IsUncheckedLine, breach_line};
+ghost use Rattle.prt_claims.specs.Claims.{rules_of};
 ghost use Rattle.prt_claims.specs.declared.reading.ClaimFault.TheVariants.{Refused};
 
 use crate::breach::find_breach;
@@ -52,7 +54,7 @@ impl Checked {
         claim: &Claim,
     ) -> Result<(), Refusal>
         ensures ok { OnOk result (ExtendsBy version.now number claim.now self.old self.new) }
-        ensures reason { IfErr result (IsUnchecked version.now) }
+        ensures reason { IfErr result (IsUndivided (version.now.rules ++ rules_of claim.now.selector)) }
     {
         let found = match find_breach(alloc, version, claim) {
             Ok(found) => found,
@@ -87,7 +89,7 @@ impl Checked {
         line: &[u8],
     ) -> Result<(), Refusal>
         ensures ok { OnOk result (Extends version.now number line.now self.old self.new) }
-        ensures reason { IfErr result (IsUnchecked version.now) }
+        ensures reason { IfErr result (IsUncheckedLine version.now line.now) }
     {
         match read_claim(alloc, line) {
             Ok(None) => Ok(()),
@@ -101,11 +103,11 @@ impl Checked {
 ///
 /// # Errors
 ///
-/// `Full` if the rules and a claim's selector would divide packets into more than `prt_partition::MOST_BOXES` boxes, and
+/// `Full` if the rules and a claim's selector may divide packets into more than `prt_partition::MOST_BOXES` boxes, and
 /// otherwise `NoMemory`. Nothing is found then.
 pub fn check_claims(alloc: Global, version: &Version, text: &[u8]) -> Result<Checked, Refusal>
     ensures value { IfOk result (IsChecked version.now text.now) }
-    ensures reason { IfErr result (IsUnchecked version.now) }
+    ensures reason { IfErr result (IsUnchecked version.now text.now) }
 {
     let mut checked = Checked {
         bad: Vec::new(alloc),
@@ -115,8 +117,10 @@ pub fn check_claims(alloc: Global, version: &Version, text: &[u8]) -> Result<Che
     let mut rest = text;
     while let Some((line, after)) = next_line(rest) {
         number += 1;
-        checked.take(alloc, version, number, line)?;
-        rest = after;
+        match checked.take(alloc, version, number, line) {
+            Ok(()) => rest = after,
+            Err(reason) => return Err(reason),
+        }
     }
     Ok(checked)
 }
