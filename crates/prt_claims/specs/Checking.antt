@@ -50,16 +50,16 @@ pub record IsChecked (state : State) (text : List ℕ) (checked : Checked) : Typ
   pub bad : checked.bad.items ≡ bad_lines 1 (lines_of text)
   pub breaches : AreFound state 1 (lines_of text) checked.breaches.items
 
--- the rules and the claim of a line may divide packets too often
+-- the rules and the claim of a line would divide packets too often
 abbrev pub IsTooDivided : State → Result (Option Stated) BadClaim → Refusal → Type 0
 IsTooDivided state (Ok (Some said)) reason = (claim : Claim) × (stated claim ≡ said) × IsUndivided (state.rules ++ rules_of claim.selector) reason
 IsTooDivided state other reason = ⊥
 
--- why a line isn't checked: memory is refused, or it may divide packets too often
+-- why a line isn't checked: memory is refused, or it would divide packets too often
 abbrev pub IsUncheckedLine : State → List ℕ → Refusal → Type 0
 IsUncheckedLine state line reason = (reason ≡ NoMemory) ⊎ IsTooDivided state (reading line) reason
 
--- why a text isn't checked: memory is refused, or one of its lines may divide packets too often
+-- why a text isn't checked: memory is refused, or one of its lines would divide packets too often
 abbrev pub IsUnchecked : State → List ℕ → Refusal → Type 0
 IsUnchecked state text reason = (reason ≡ NoMemory) ⊎ ((line : List ℕ) × Contains (lines_of text) line × IsTooDivided state (reading line) reason)
 

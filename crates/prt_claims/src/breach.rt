@@ -107,7 +107,7 @@ fn rules_and(
 ///
 /// # Errors
 ///
-/// `Full` if the rules and the selector may divide packets into more than [`MOST_BOXES`](prt_partition::MOST_BOXES) boxes.
+/// `Full` if the rules and the selector would divide packets into more than [`MOST_BOXES`](prt_partition::MOST_BOXES) boxes.
 /// Otherwise `NoMemory` alone, which may also come before `Full`.
 pub fn find_breach(
     alloc: Global,

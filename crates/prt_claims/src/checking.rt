@@ -103,7 +103,7 @@ impl Checked {
 ///
 /// # Errors
 ///
-/// `Full` if the rules and a claim's selector may divide packets into more than `prt_partition::MOST_BOXES` boxes, and
+/// `Full` if the rules and a claim's selector would divide packets into more than `prt_partition::MOST_BOXES` boxes, and
 /// otherwise `NoMemory`. Nothing is found then.
 pub fn check_claims(alloc: Global, version: &Version, text: &[u8]) -> Result<Checked, Refusal>
     ensures value { IfOk result (IsChecked version.now text.now) }

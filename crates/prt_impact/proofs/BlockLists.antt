@@ -1,7 +1,7 @@
 -- Lists of blocks that have the same marks, and lists of the blocks that others are not among.
-use Rattle.std.proofs.Common.{◌≡◌, ℕ, zero, suc, ◌+◌, ◌-◌, ◌<◌, ◌≤◌, Bool, true, false, not, ◌&&◌, ◌||◌, cond, List, [], ◌∷◌, ◌++◌, Some, length, take, get_or, eqb, refl, sym, ap, ◌∙◌, subst, arith, append_assoc}
+use Rattle.std.proofs.Common.{◌≡◌, ℕ, zero, suc, ◌+◌, ◌-◌, ◌^◌, ◌<◌, ◌≤◌, Bool, true, false, not, ◌&&◌, ◌||◌, cond, List, [], ◌∷◌, ◌++◌, Some, length, take, get_or, eqb, refl, sym, ap, ◌∙◌, subst, arith, append_assoc}
 use Rattle.std.specs.Prelude.{count_by}
-use Rattle.std.specs.List.{IsLastAndRest, list_any}
+use Rattle.std.specs.List.{IsLastAndRest, list_any, AllByRecursion as Each}
 use Rattle.std.specs.List.Sorted.{IsPermutation}
 use Rattle.std.proofs.lemmas.Bool.{eqb-true}
 use Rattle.std.proofs.lemmas.List.{take-append-le, take_all, take_more}
@@ -10,14 +10,15 @@ use Rattle.std.proofs.lemmas.List.Sorted.{list_any-IsPermutation}
 use Rattle.prt_rule.specs.Rule.{takes_mark}
 use Rattle.prt_rule.specs.declared.rule.Mark.{Mark}
 use Rattle.prt_partition.specs.Marks.{bit, flipped, kept}
-use Rattle.prt_addr.proofs.Each.{each_fails}
+use Rattle.prt_addr.proofs.Each.{each_append, each_fails}
 use Rattle.prt_partition.proofs.Counts.{any_counted, count_append, count_cons, count_none}
-use Rattle.prt_partition.proofs.MarkBlocks.{in_halves}
-use Rattle.prt_impact.specs.MarkSets.{AreDivided, AreOpposite, AreSameMarks, AreSets, HasEachOnce, count_of, except, in_block, in_blocks, in_sets, only, takes_marks}
+use Rattle.prt_partition.proofs.MarkBlocks.{in_halves, takes_itself}
+use Rattle.prt_impact.specs.MarkSets.{AreDivided, AreOpposite, AreSameMarks, AreSets, HasEachOnce, HasMark, count_of, except, in_block, in_blocks, in_sets, only, takes_marks}
+use Rattle.prt_impact.specs.Padded.{no_mark}
 use Rattle.prt_impact.specs.Steps.{are_halves, is_same_mark}
 use Rattle.prt_impact.specs.declared.mark_set.MarkSet.{MarkSet}
 use Rattle.prt_impact.proofs.Equals.{same_marks}
-use Rattle.prt_impact.proofs.Replaced.{either_by}
+use Rattle.prt_impact.proofs.Replaced.{either_by, left_of}
 
 -- ---- tests
 
@@ -180,30 +181,42 @@ opposite_joined blocks others joined are same mark less = are mark less ∙ ap n
 -- ---- sets
 
 pub inverted_sets : (blocks others : List Mark) → AreOpposite blocks others → AreSets blocks (except others ∷ [])
-inverted_sets blocks others are mark less = or_nothing (not (in_blocks others mark)) ∙ sym (are mark less)
+inverted_sets blocks others are = record {
+  same = λ mark less. or_nothing (not (in_blocks others mark)) ∙ sym (are mark less);
+  some = λ has. ((has.0, has.1, sym (are has.0 has.1) ∙ has.2), tt);
+}
 
 pub sets_of_same : (blocks joined : List Mark) (sets : List MarkSet) → AreSameMarks blocks joined → AreSets joined sets → AreSets blocks sets
-sets_of_same blocks joined sets same are mark less = are mark less ∙ sym (same mark)
+sets_of_same blocks joined sets same are = record {
+  same = λ mark less. are.same mark less ∙ sym (same mark);
+  some = λ has. are.some (has.0, has.1, sym (same has.0) ∙ has.2);
+}
 
 -- the sets so far, and the blocks that are left
-pub ArePieces : List Mark → List MarkSet → List Mark → Type 0
-ArePieces blocks sets rest = (mark : ℕ) → (in_sets sets mark || in_blocks rest mark) ≡ in_blocks blocks mark
+pub record ArePieces (blocks : List Mark) (sets : List MarkSet) (rest : List Mark) : Type 0 where
+  pub same : (mark : ℕ) → (in_sets sets mark || in_blocks rest mark) ≡ in_blocks blocks mark
+  pub some : Each HasMark sets
 
 pub no_pieces : (blocks : List Mark) → ArePieces blocks [] blocks
-unfolding ArePieces
-no_pieces blocks mark = refl
+no_pieces blocks = record { same = λ mark. refl; some = tt }
 
-pub piece_more : (blocks : List Mark) (sets new : List MarkSet) (rest piece more : List Mark) → rest ≡ piece ++ more → new ≡ sets ++ only piece ∷ [] → ArePieces blocks sets rest → ArePieces blocks new more
-unfolding ArePieces
-piece_more blocks sets new rest piece more parts pushed held mark =
-    ap (λ ss. in_sets ss mark || in_blocks more mark) pushed
-    ∙ ap (λ b. b || in_blocks more mark) (list_any-append (λ set. takes_marks set mark) sets (only piece ∷ []))
-    ∙ regrouped (in_sets sets mark) (in_blocks piece mark) (in_blocks more mark)
-    ∙ ap (λ b. in_sets sets mark || b) (sym (list_any-append (in_block mark) piece more))
-    ∙ ap (λ bs. in_sets sets mark || in_blocks bs mark) (sym parts)
-    ∙ held mark
+pub piece_more : (blocks : List Mark) (sets new : List MarkSet) (rest piece more : List Mark) → rest ≡ piece ++ more → new ≡ sets ++ only piece ∷ [] → HasMark (only piece) → ArePieces blocks sets rest → ArePieces blocks new more
+piece_more blocks sets new rest piece more parts pushed has held = record {
+  same = λ mark.
+      ap (λ ss. in_sets ss mark || in_blocks more mark) pushed
+      ∙ ap (λ b. b || in_blocks more mark) (list_any-append (λ set. takes_marks set mark) sets (only piece ∷ []))
+      ∙ regrouped (in_sets sets mark) (in_blocks piece mark) (in_blocks more mark)
+      ∙ ap (λ b. in_sets sets mark || b) (sym (list_any-append (in_block mark) piece more))
+      ∙ ap (λ bs. in_sets sets mark || in_blocks bs mark) (sym parts)
+      ∙ held.same mark;
+  some = subst (λ ss. Each HasMark ss) (sym pushed) (each_append HasMark sets (only piece ∷ []) held.some (has, tt));
+}
 
 pub all_pieces : (blocks : List Mark) (sets : List MarkSet) (rest : List Mark) → length rest ≡ 0 → ArePieces blocks sets rest → AreSets blocks sets
-unfolding ArePieces
-all_pieces blocks sets (block ∷ rest) empty held mark less = absurd (omega arith)
-all_pieces blocks sets [] empty held mark less = sym (or_nothing (in_sets sets mark)) ∙ held mark
+all_pieces blocks sets (block ∷ rest) empty held = absurd (omega arith)
+all_pieces blocks sets [] empty held = record { same = λ mark less. sym (or_nothing (in_sets sets mark)) ∙ held.same mark; some = λ has. held.some }
+
+-- the mark of the first block is in the set of them
+pub first_mark : (blocks : List Mark) → 0 < length blocks → (get_or blocks 0 no_mark).mark < 2 ^ 32 → HasMark (only blocks)
+first_mark [] some fits = absurd (omega arith)
+first_mark (block ∷ blocks) some fits = (block.mark, fits, left_of (in_block block.mark block) (in_blocks blocks block.mark) (takes_itself block))

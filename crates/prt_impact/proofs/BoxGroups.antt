@@ -28,6 +28,7 @@ use Rattle.prt_partition.proofs.Alike.{same_select}
 use Rattle.prt_partition.proofs.Between.{each_left, each_refl, each_right}
 use Rattle.prt_partition.proofs.BoxList.{packet_inside}
 use Rattle.prt_partition.proofs.Counts.{any_counted}
+use Rattle.prt_partition.proofs.MarkBlocks.{takes_itself}
 use Rattle.prt_partition.proofs.Starts.{IsIn, contains_in, each_in}
 use Rattle.prt_impact.specs.Groups.{AreGroups, IsGroup, in_group, rules_of, takes_interface}
 use Rattle.prt_impact.specs.Steps.{AddsBox, group_of, interfaces_of}
@@ -141,6 +142,7 @@ module _ (sameness : Sameness) (before after : State) (boxes : List PacketBox) (
       record {
         some_to = is.some;
         some_from = is_box.some;
+        some_mark = (box.mark.mark, is_box.mark, or_nothing (takes_mark (Some box.mark) box.mark.mark) ∙ takes_itself box.mark);
         differs = is.differs;
         was = λ packet is_packet within. goes_before box inside packet is_packet (parts packet within).1 ∙ is.was packet.dst.0 (parts packet within).0;
         is = λ packet is_packet within. goes_after box inside packet is_packet (parts packet within).1 ∙ is.is packet.dst.0 (parts packet within).0;

@@ -12,7 +12,7 @@ use Rattle.prt_partition.specs.Classes.{IsPacket}
 use Rattle.prt_partition.specs.declared.sameness.Sameness.{Sameness}
 use Rattle.prt_partition.proofs.Starts.{IsIn, any_found, each_in, in_map}
 use Rattle.prt_impact.specs.Groups.{IsGroup, in_group, is_in, rules_of, takes_interface}
-use Rattle.prt_impact.specs.MarkSets.{AreSets, in_block, in_blocks, in_sets, only, takes_marks}
+use Rattle.prt_impact.specs.MarkSets.{AreSets, HasMark, in_block, in_blocks, in_sets, only, takes_marks}
 use Rattle.prt_impact.specs.Replacing.{AlwaysReplaces, Replaces}
 use Rattle.prt_impact.specs.Steps.{with_block, with_marks}
 use Rattle.prt_impact.specs.declared.group.Group.{Group}
@@ -67,7 +67,7 @@ module _ (sameness : Sameness) (before after : State) (like : Group) (first : Ma
       ∙ ap (λ b. fits packet && b) (any_same_tests (λ block. takes_marks (only (block ∷ [])) packet.mark) (in_block packet.mark) blocks (each_of (λ block. takes_marks (only (block ∷ [])) packet.mark ≡ in_block packet.mark block) blocks (λ block. or_nothing (in_block packet.mark block))))
 
   same_packets : (packet : Packet) → IsPacket packet → list_any (λ block. Has packet (with_block like block)) blocks ≡ list_any (Has packet) (map (with_marks like) sets)
-  same_packets packet is = of_blocks packet ∙ ap (λ b. fits packet && b) (sym (are packet.mark is.mark)) ∙ sym (of_sets packet)
+  same_packets packet is = of_blocks packet ∙ ap (λ b. fits packet && b) (sym (are.same packet.mark is.mark)) ∙ sym (of_sets packet)
 
   good_block : Each Good (map (with_block like) blocks) → (block : Mark) → IsIn block blocks → Good (with_block like block)
   good_block good block within = each_in Good (with_block like block) (map (with_block like) blocks) good (in_map (with_block like) block blocks within)
@@ -77,12 +77,19 @@ module _ (sameness : Sameness) (before after : State) (like : Group) (first : Ma
       any_found (λ block. Has packet (with_block like block)) blocks
       (same_packets packet is ∙ any_in (Has packet) (with_marks like set) (map (with_marks like) sets) (in_map (with_marks like) set sets within) inside)
 
+  -- the blocks have the mark that the first of them has
+  has_mark : Good (with_block like first) → HasMark (only blocks)
+  has_mark good =
+      let mark : HasMark (only (first ∷ [])) = good.some_mark in
+      (mark.0, mark.1, left_of (in_block mark.0 first) (in_blocks more mark.0) (sym (or_nothing (in_block mark.0 first)) ∙ mark.2))
+
   good_set : Each Good (map (with_block like) blocks) → (set : MarkSet) → IsIn set sets → Good (with_marks like set)
   good_set good set within =
       let one : Good (with_block like first) = good.0 in
       record {
         some_to = one.some_to;
         some_from = one.some_from;
+        some_mark = each_in HasMark set sets (are.some (has_mark one)) within;
         differs = one.differs;
         was = λ packet is inside. let block = found set within packet is inside in let held : Good (with_block like block.0) = good_block good block.0 block.1 in held.was packet is block.2;
         is = λ packet is inside. let block = found set within packet is inside in let held : Good (with_block like block.0) = good_block good block.0 block.1 in held.is packet is block.2;

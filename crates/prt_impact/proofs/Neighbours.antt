@@ -134,6 +134,7 @@ module _ (sameness : Sameness) (before after : State) where
             let whole : Good (from_range a (up_to a.from n)) = record {
               some_to = ga.some_to;
               some_from = omega arith;
+              some_mark = ga.some_mark;
               differs = ga.differs;
               was = λ packet is inside. either_by (Has packet a) (Has packet (from_range a n)) (select before packet ≡ a.was) (sym (covers ga gb packet) ∙ inside) (λ h. ga.was packet is h) (λ h. gb.was packet is h);
               is = λ packet is inside. either_by (Has packet a) (Has packet (from_range a n)) (select after packet ≡ a.is) (sym (covers ga gb packet) ∙ inside) (λ h. ga.is packet is h) (λ h. gb.is packet is h);

@@ -97,6 +97,7 @@ module _ (sameness : Sameness) (before after : State) (group : Group) (interface
         let whole : Good (with_interfaces group All) = record {
           some_to = first.some_to;
           some_from = first.some_from;
+          some_mark = first.some_mark;
           differs = first.differs;
           was = λ packet is inside. let one = one_has packet inside in let held : Good (with_interfaces group one.0) = each_good good one.0 one.1 in held.was packet is one.2;
           is = λ packet is inside. let one = one_has packet inside in let held : Good (with_interfaces group one.0) = each_good good one.0 one.1 in held.is packet is one.2;

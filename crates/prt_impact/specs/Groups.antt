@@ -10,7 +10,7 @@ use Rattle.prt_partition.specs.Boxes.{is_between}
 use Rattle.prt_partition.specs.Classes.{IsPacket, is_named}
 use Rattle.prt_partition.specs.Sameness.{AreSame}
 use Rattle.prt_partition.specs.declared.sameness.Sameness.{Sameness}
-use Rattle.prt_impact.specs.MarkSets.{takes_marks}
+use Rattle.prt_impact.specs.MarkSets.{HasMark, takes_marks}
 use Rattle.prt_impact.specs.declared.group.AddrRange.{AddrRange}
 use Rattle.prt_impact.specs.declared.group.Group.{Group}
 use Rattle.prt_impact.specs.declared.group.InterfaceSet.{InterfaceSet}
@@ -41,10 +41,11 @@ rules_of before after = before.rules ++ after.rules
 
 -- ---- what groups say
 
--- each packet of the group has its first verdict before, and its second one after, and the two are not the same
+-- there are packets in the group; each of them has its first verdict before, and its second one after, and the two are not the same
 pub record IsGroup (sameness : Sameness) (before after : State) (group : Group) : Type 0 where
   pub some_to : group.to.first.0 ≤ group.to.last.0
   pub some_from : group.from.first.0 ≤ group.from.last.0
+  pub some_mark : HasMark group.marks
   pub differs : ¬ AreSame sameness group.was group.is
   pub was : (packet : Packet) → IsPacket packet → in_group (rules_of before after) packet group ≡ true → select before packet ≡ group.was
   pub is : (packet : Packet) → IsPacket packet → in_group (rules_of before after) packet group ≡ true → select after packet ≡ group.is

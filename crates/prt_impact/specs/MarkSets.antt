@@ -1,6 +1,6 @@
 -- Sets of marks, as blocks of them.
 use Rattle.std.specs.Prelude.{ℕ, ◌≡◌, ◌+◌, ◌^◌, ◌<◌, Bool, true, false, not, ◌&&◌, ◌==◌, if◌then◌else◌, List, length, slice_index_or, Some, count_by}
-use Rattle.std.specs.List.{list_any}
+use Rattle.std.specs.List.{list_any, AllByRecursion as Each}
 use Rattle.prt_rule.specs.Rule.{takes_mark}
 use Rattle.prt_rule.specs.declared.rule.Mark.{Mark}
 use Rattle.prt_impact.specs.Padded.{no_mark}
@@ -24,6 +24,10 @@ only blocks = record { inverted = false; blocks = blocks }
 -- all other marks
 abbrev pub except : List Mark → MarkSet
 except blocks = record { inverted = true; blocks = blocks }
+
+-- a mark of 32 bits is in the set
+abbrev pub HasMark : MarkSet → Type 0
+HasMark marks = (mark : ℕ) × (mark < 2 ^ 32) × (takes_marks marks mark ≡ true)
 
 -- ---- how they are made
 
@@ -55,6 +59,9 @@ is_single blocks = length blocks == 1 && not ((slice_index_or blocks 0 no_mark).
 abbrev pub in_sets : List MarkSet → ℕ → Bool
 in_sets sets mark = list_any (λ set. takes_marks set mark) sets
 
--- the marks of the blocks are those of the sets
-abbrev pub AreSets : List Mark → List MarkSet → Type 0
-AreSets blocks sets = (mark : ℕ) → mark < 2 ^ 32 → in_sets sets mark ≡ in_blocks blocks mark
+-- the sets of the marks of the blocks
+pub record AreSets (blocks : List Mark) (sets : List MarkSet) : Type 0 where
+  -- they have the same marks
+  pub same : (mark : ℕ) → mark < 2 ^ 32 → in_sets sets mark ≡ in_blocks blocks mark
+  -- none of them is empty, if the blocks have a mark
+  pub some : HasMark (only blocks) → Each HasMark sets

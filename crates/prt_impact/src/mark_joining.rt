@@ -1,6 +1,6 @@
 //! Groups that differ in their marks alone, joined into one.
 ghost use Rattle.std.specs.Prelude.{◌≡◌, ◌++◌, ◌∷◌, ◌<◌, ◌≤◌, [], IfOk, IfSome, OnOk, length, map, take};
-ghost use Rattle.prt_impact.specs.MarkSets.{AreOpposite, AreSets, HasEachOnce, is_single};
+ghost use Rattle.prt_impact.specs.MarkSets.{AreOpposite, AreSets, HasEachOnce, HasMark, is_single, only};
 ghost use Rattle.prt_impact.specs.Replacing.{AlwaysReplaces};
 ghost use Rattle.prt_impact.specs.Steps.{with_block, with_marks};
 
@@ -101,6 +101,18 @@ fn inverted_set(
     Ok(Some(except(&others)))
 }
 
+/// Makes the set of the marks of these blocks, of which there is at least one.
+fn piece_of(blocks: &[Mark]) -> MarkSet
+    requires some { 0 < length blocks.now }
+    requires few { length blocks.now ≤ MOST_BLOCKS }
+    ensures value { result ≡ only blocks.now }
+    ensures some { HasMark result }
+{
+    // A block has its own mark, which is known to have 32 bits once it is read.
+    let _mark = blocks[0].mark;
+    only(blocks)
+}
+
 /// Divides blocks into sets of as many as one set may have.
 fn pieces_of(alloc: Global, blocks: &[Mark]) -> Result<Vec<MarkSet>, AllocError>
     ensures { IfOk result (λ sets. AreSets blocks.now sets.items) }
@@ -109,7 +121,7 @@ fn pieces_of(alloc: Global, blocks: &[Mark]) -> Result<Vec<MarkSet>, AllocError>
     let mut rest = blocks;
     while !rest.is_empty() {
         let (piece, more) = rest.split_at(rest.len().min(MOST_BLOCKS));
-        sets.extend_from_slice(&[only(piece)])?;
+        sets.extend_from_slice(&[piece_of(piece)])?;
         rest = more;
     }
     Ok(sets)

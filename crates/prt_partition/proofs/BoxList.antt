@@ -2,15 +2,15 @@
 use Rattle.std.proofs.Common.{◌≡◌, ◌⊎◌, inl, inr, ℕ, ◌+◌, ◌-◌, ◌*◌, ◌^◌, ◌<◌, ◌≤◌, Bool, true, false, not, ◌&&◌, ◌||◌, cond, List, [], ◌∷◌, ◌++◌, length, length-append, get_or, take, Option, Some, None, refl, sym, ap, ◌∙◌, subst, arith, ⊎_elim, leb, lit<, zero-add, add-zero}
 use Rattle.std.specs.Prelude.{bytes_eq, count_by, flat_map, map, nat_lt}
 use Rattle.std.specs.Cmp.{IsEquivalence}
-use Rattle.std.specs.List.{list_any, AllByRecursion as Each, IsDistinct}
+use Rattle.std.specs.List.{list_any, All, AllByRecursion as Each, Contains, IsDistinct}
+use Rattle.std.specs.List.Sorted.{IsStrictlyIncreasing}
 use Rattle.std.specs.Option.{option_eq, option_to_list}
 use Rattle.std.proofs.lemmas.Bool.{cases_lt, le-leb, lt-leb, leb-true}
 use Rattle.std.proofs.lemmas.Bool.Decides.{Decides-like, same_from_decides}
 use Rattle.std.proofs.lemmas.List.{length-map, take_more}
-use Rattle.std.proofs.lemmas.List.Elements.{recursion_from_All}
+use Rattle.std.proofs.lemmas.List.Elements.{Contains-append_left, Contains-push, Contains-push_cases, recursion_from_All}
 use Rattle.std.proofs.lemmas.List.Folds.{list_any-append}
 use Rattle.std.proofs.lemmas.Map.Keys.{IsDistinct-push}
-use Rattle.std.proofs.lemmas.Nat.{mul-le}
 use Rattle.std.proofs.lemmas.Slice.Eq.{bytes_eq-Decides}
 use Rattle.prt_addr.specs.Block.{Block}
 use Rattle.prt_addr.specs.Prefix.{contains, masked}
@@ -23,7 +23,7 @@ use Rattle.prt_rule.specs.declared.rule.Rule.{Rule}
 use Rattle.prt_trie.proofs.Filters.{each_of}
 use Rattle.prt_version.specs.Select.{select}
 use Rattle.prt_version.specs.State.{State}
-use Rattle.prt_partition.specs.Boxes.{AreBoxes, AreNames, AreTakenAlike, IsBox, all_interfaces, box_of, boxes_between, boxes_from, has_interface, has_packet, is_between, last_before, most_boxes, one_of, packet_of, with_name}
+use Rattle.prt_partition.specs.Boxes.{AreBoxes, AreNames, AreSourceStarts, AreTakenAlike, IsBox, all_interfaces, box_of, boxes_between, boxes_from, has_interface, has_packet, is_between, last_before, one_of, packet_of, with_name}
 use Rattle.prt_partition.specs.Classes.{AreClasses, IsPacket, is_named, names}
 use Rattle.prt_partition.specs.Cuts.{AreStarts, HasNoCut, cuts_of, destination_cuts, end, from_cuts, to}
 use Rattle.prt_partition.specs.Marks.{AreMarkBlocks, IsMarkBlock, mark_blocks}
@@ -398,11 +398,13 @@ few_cuts (rule ∷ rules) =
     let both : length (cuts_of rule.from ++ from_cuts rules) ≡ length (cuts_of rule.from) + length (from_cuts rules) = length-append (cuts_of rule.from) (from_cuts rules) in
     omega arith
 
--- so many ranges, interfaces and blocks are no more than the most
-pub within_most : (rules : List Rule) (sources interfaces : ℕ) (blocks : List Mark) → sources ≤ 2 * length rules + 1 → interfaces ≤ length rules + 1 → blocks ≡ mark_blocks rules → sources * interfaces * length blocks ≤ most_boxes rules
-within_most rules sources interfaces blocks low lower are =
-    subst (λ bs. sources * interfaces * length bs ≤ most_boxes rules) (sym are)
-    (mul-le (sources * interfaces) (length (mark_blocks rules)) ((2 * length rules + 1) * (length rules + 1)) (length (mark_blocks rules)) (mul-le sources interfaces (2 * length rules + 1) (length rules + 1) low lower) (omega arith))
+-- numbers in order, which are the cuts of the sources and 0
+pub source_starts : (rules : List Rule) (starts : List ℕ) → IsStrictlyIncreasing starts → All (λ n. n < 2 ^ 32) starts →
+    ((n : ℕ) → Contains (from_cuts rules ++ 0 ∷ []) n → Contains starts n) → ((n : ℕ) → Contains starts n → Contains (from_cuts rules ++ 0 ∷ []) n) → AreSourceStarts rules starts
+source_starts rules starts rise fit keeps only = record {
+  are = record { rise = rise; fit = fit; zero = keeps 0 (Contains-push (from_cuts rules) 0); all = λ cut h. keeps cut (Contains-append_left (from_cuts rules) (0 ∷ []) cut h) };
+  only = λ start h. ⊎_elim inr (λ e. inl (sym e)) (Contains-push_cases (from_cuts rules) 0 start (only start h));
+}
 
 pub count_interfaces : (interfaces : List Interfaces) (known : List Word) → interfaces ≡ all_interfaces known → length interfaces ≡ length known + 1
 count_interfaces interfaces known are = let e : length interfaces ≡ length (all_interfaces known) = ap length are in let m : length (map Named known) ≡ length known = length-map known Named in omega arith

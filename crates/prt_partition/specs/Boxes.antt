@@ -1,6 +1,6 @@
 -- Boxes of packets: ranges of sources, interfaces, and blocks of marks.
 use Rattle.std.specs.Prelude.{◌≡◌, ◌⊎◌, ℕ, ◌+◌, ◌-◌, ◌*◌, ◌^◌, length, ◌<◌, ◌≤◌, Bool, true, not, ◌&&◌, if◌then◌else◌, nat_le, List, [], ◌∷◌, ◌++◌, flat_map, map, Option, Some, None, bytes_eq, count_by}
-use Rattle.std.specs.List.{list_any, AllByRecursion as Each, IsDistinct}
+use Rattle.std.specs.List.{list_any, AllByRecursion as Each, Contains, IsDistinct}
 use Rattle.prt_addr.specs.Word.{Word}
 use Rattle.prt_refusals.specs.declared.refusal.Refusal.{Refusal}
 use Rattle.prt_refusals.specs.declared.refusal.Refusal.TheVariants.{Full, NoMemory}
@@ -9,7 +9,7 @@ use Rattle.prt_rule.specs.declared.packet.Packet.{Packet}
 use Rattle.prt_rule.specs.declared.rule.Mark.{Mark}
 use Rattle.prt_rule.specs.declared.rule.Rule.{Rule}
 use Rattle.prt_partition.specs.Classes.{IsPacket, is_named}
-use Rattle.prt_partition.specs.Cuts.{to}
+use Rattle.prt_partition.specs.Cuts.{AreStarts, from_cuts, to}
 use Rattle.prt_partition.specs.Marks.{mark_blocks}
 use Rattle.prt_partition.specs.declared.limits.TheConstants.{MOST_BOXES}
 use Rattle.prt_partition.specs.declared.packet_box.Interfaces.{Interfaces}
@@ -49,13 +49,25 @@ pub record AreBoxes (rules : List Rule) (boxes : List PacketBox) : Type 0 where
   pub alike : Each (λ box. (packet other : Packet) → IsPacket packet → IsPacket other → has_packet rules packet box ≡ true → has_packet rules other box ≡ true → AreTakenAlike rules packet other) boxes
   pub each : Each IsBox boxes
 
--- No more boxes are made: a prefix cuts the sources at two places at most, and a rule names one interface at most.
-abbrev pub most_boxes : List Rule → ℕ
-most_boxes rules = (2 * length rules + 1) * (length rules + 1) * length (mark_blocks rules)
+-- the sources at which a rule begins or ceases to match, and 0.0.0.0, each of them once
+pub record AreSourceStarts (rules : List Rule) (starts : List ℕ) : Type 0 where
+  pub are : AreStarts (from_cuts rules) starts
+  pub only : (start : ℕ) → Contains starts start → (start ≡ 0) ⊎ Contains (from_cuts rules) start
 
--- why no boxes are made: memory is refused, or there may be too many
+-- the interfaces that rules name, each of them once
+pub record AreNames (rules : List Rule) (names : List Word) : Type 0 where
+  pub once : IsDistinct bytes_eq names
+  pub all : (iif : Word) → list_any (bytes_eq iif) names ≡ is_named rules iif
+
+-- There would be too many boxes: one for each block of marks, for each range of sources and each name of an interface, or none of the names.
+abbrev pub AreTooMany : List Rule → Type 0
+AreTooMany rules =
+    (MOST_BOXES < length (mark_blocks rules))
+    ⊎ ((starts : List ℕ) × (names : List Word) × AreSourceStarts rules starts × AreNames rules names × (MOST_BOXES < length starts * (length names + 1) * length (mark_blocks rules)))
+
+-- why no boxes are made: memory is refused, or there would be too many
 abbrev pub IsUndivided : List Rule → Refusal → Type 0
-IsUndivided rules reason = (reason ≡ NoMemory) ⊎ ((reason ≡ Full) × (MOST_BOXES < most_boxes rules))
+IsUndivided rules reason = (reason ≡ NoMemory) ⊎ ((reason ≡ Full) × AreTooMany rules)
 
 -- ---- how they are made
 
@@ -63,11 +75,6 @@ IsUndivided rules reason = (reason ≡ NoMemory) ⊎ ((reason ≡ Full) × (MOST
 abbrev pub with_name : List Word → Option Word → List Word
 with_name names None = names
 with_name names (Some name) = if list_any (bytes_eq name) names then names else names ++ name ∷ []
-
--- the interfaces that rules name, each of them once
-pub record AreNames (rules : List Rule) (names : List Word) : Type 0 where
-  pub once : IsDistinct bytes_eq names
-  pub all : (iif : Word) → list_any (bytes_eq iif) names ≡ is_named rules iif
 
 abbrev pub all_interfaces : List Word → List Interfaces
 all_interfaces names = AllOthers ∷ map Named names

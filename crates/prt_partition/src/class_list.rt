@@ -25,7 +25,7 @@ fn packets_of(alloc: Global, boxes: &[PacketBox], fresh: &Dev) -> Result<Vec<Pac
 ///
 /// # Errors
 ///
-/// `Full` if the rules may divide packets into more than [`MOST_BOXES`](crate::MOST_BOXES) boxes, and otherwise `NoMemory`
+/// `Full` if the rules would divide packets into more than [`MOST_BOXES`](crate::MOST_BOXES) boxes, and otherwise `NoMemory`
 /// alone. `NoMemory` may come before that.
 pub fn classes(alloc: Global, rules: &[Rule]) -> Result<Vec<Packet>, Refusal>
     requires { length rules.now ≤ 2000 }
@@ -43,7 +43,7 @@ pub fn classes(alloc: Global, rules: &[Rule]) -> Result<Vec<Packet>, Refusal>
 ///
 /// # Errors
 ///
-/// `Full` if the rules may divide packets into more than [`MOST_BOXES`](crate::MOST_BOXES) boxes, and otherwise `NoMemory`
+/// `Full` if the rules would divide packets into more than [`MOST_BOXES`](crate::MOST_BOXES) boxes, and otherwise `NoMemory`
 /// alone. `NoMemory` may come before that.
 pub fn joined_classes(alloc: Global, rules: &[Rule]) -> Result<Vec<Packet>, Refusal>
     requires { length rules.now ≤ 2000 }

@@ -2,6 +2,7 @@
 ghost use Rattle.std.specs.Prelude.{◌≡◌, ◌++◌, ◌<◌, ◌≤◌, ◌^◌, ℕ, length, IfOk, OnOk, ◌+◌, ◌*◌};
 ghost use Rattle.std.specs.List.{All, Contains};
 ghost use Rattle.std.specs.List.Sorted.{IsStrictlyIncreasing};
+ghost use Rattle.prt_partition.specs.Boxes.{AreSourceStarts};
 ghost use Rattle.prt_partition.specs.Cuts.{AreStarts, cuts_of, destination_cuts, end_of, from_cuts, route_cuts, rule_cuts};
 
 use prt_addr::Prefix;
@@ -83,6 +84,7 @@ pub(crate) fn sort_distinct(numbers: &mut Vec<u32>)
     ensures fit { All (λ n. n < 2 ^ 32) numbers.new.items }
     ensures fewer { length numbers.new.items ≤ length numbers.old.items }
     ensures keeps { (n : ℕ) → Contains numbers.old.items n → Contains numbers.new.items n }
+    ensures only { (n : ℕ) → Contains numbers.new.items n → Contains numbers.old.items n }
 {
     numbers.sort_unstable();
     numbers.dedup();
@@ -111,7 +113,7 @@ fn push_from_cuts(cuts: &mut Vec<u32>, rules: &[Rule]) -> Result<(), AllocError>
 
 /// Lists the sources at which a rule can begin or cease to match, and 0.0.0.0, in order.
 pub(crate) fn source_starts(alloc: Global, rules: &[Rule]) -> Result<Vec<u32>, AllocError>
-    ensures value { IfOk result (λ starts. AreStarts (from_cuts rules.now) starts.items) }
+    ensures value { IfOk result (λ starts. AreSourceStarts rules.now starts.items) }
     ensures few { IfOk result (λ starts. length starts.items ≤ 2 * length rules.now + 1) }
 {
     let mut starts = Vec::new(alloc);

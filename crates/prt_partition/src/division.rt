@@ -113,7 +113,7 @@ fn count(sources: usize, interfaces: usize, marks: usize) -> usize
 ///
 /// # Errors
 ///
-/// `Full` if there may be more than [`MOST_BOXES`], and otherwise `NoMemory` alone. `NoMemory` may come before that.
+/// `Full` if there would be more than [`MOST_BOXES`], and otherwise `NoMemory` alone. `NoMemory` may come before that.
 pub fn boxes(alloc: Global, rules: &[Rule]) -> Result<Vec<PacketBox>, Refusal>
     requires { length rules.now ≤ 2000 }
     ensures value { IfOk result (λ boxes. AreBoxes rules.now boxes.items) }

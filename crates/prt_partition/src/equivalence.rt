@@ -82,7 +82,7 @@ pub fn rules_of_both(
 ///
 /// # Errors
 ///
-/// `Full` if the rules of both versions may divide packets into more than [`MOST_BOXES`](crate::MOST_BOXES) boxes, and
+/// `Full` if the rules of both versions would divide packets into more than [`MOST_BOXES`](crate::MOST_BOXES) boxes, and
 /// otherwise `NoMemory` alone. `NoMemory` may come before that.
 pub fn find_change(
     alloc: Global,

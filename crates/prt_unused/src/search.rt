@@ -121,7 +121,7 @@ fn unused_routes(
 ///
 /// # Errors
 ///
-/// `Full` if the rules may divide packets into more than [`MOST_BOXES`](prt_partition::MOST_BOXES) boxes, and otherwise
+/// `Full` if the rules would divide packets into more than [`MOST_BOXES`](prt_partition::MOST_BOXES) boxes, and otherwise
 /// `NoMemory` alone. `NoMemory` may come before that.
 pub fn unused(alloc: Global, version: &Version) -> Result<Unused, Refusal>
     ensures value { IfOk result (AreUnused version.now) }
