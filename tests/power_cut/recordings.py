@@ -10,7 +10,7 @@ import threading
 from typing import NamedTuple
 
 from disk import Disk, read_record
-from scripts import DATABASE, LISTINGS, PATIENCE, PROGRAM, TOP, Wrong, a_command, run, states_of
+from scripts import DATABASE, LISTINGS, PATIENCE, PROGRAM, TOP, Wrong, a_command, a_replacement, run, states_of
 
 HERE = os.path.dirname(os.path.realpath(__file__))
 # Files in memory, where the machine has them: a test opens hundreds of databases.
@@ -18,9 +18,11 @@ ROOM = "/dev/shm" if os.access("/dev/shm", os.W_OK) else None
 CLIENTS = 8
 # How many commands are tried: a batch of so many fills its log, and moves it into the file on the way.
 BATCH, ATOMIC, LATER, EACH_CLIENT, FORMER = 900, 300, 150, 60, 300
+# How many atomic scripts each client of a server sends, and how many commands each has at most.
+SCRIPTS, TOGETHER = 6, 60
 FORMER_SQL = "tests/cases/database_of_format_1/former.sql"
 TOLD = re.compile(rb"^ok (\d+)$", re.MULTILINE)
-LISTENING = re.compile(r"listening 127\.0\.0\.1:(\d+)\n")
+PLACE = re.compile(r"(?:listening|atomic) 127\.0\.0\.1:(\d+)\n")
 
 
 class Recording(NamedTuple):
@@ -117,18 +119,29 @@ def converse(port, lines):
     return answered
 
 
-def serve(path, variables, scripts):
-    """A server and its clients, of which each sends its script. Gives all lines with their replies."""
-    words = ["serve", "--db", path, "--listen", "127.0.0.1:0", "--workers", str(CLIENTS), "--sessions", str(CLIENTS)]
+def make_together(port, scripts):
+    """A client of atomic scripts: each script with its replies. None is sent before the replies to the last one."""
+    answered = []
+    for lines in scripts:
+        with socket.create_connection(("127.0.0.1", port), PATIENCE) as end, end.makefile("r") as replies:
+            end.sendall("".join(f"{line}\n" for line in lines).encode())
+            end.shutdown(socket.SHUT_WR)
+            answered.append((lines, replies.readlines()))
+    return answered
+
+
+def serve(path, variables, places, sessions, works):
+    """A server that listens at so many places, and its clients, which work at the last of them. Gives what they give."""
+    words = ["serve", "--db", path, "--workers", str(CLIENTS), "--sessions", str(sessions)]
+    words += [word for place in places for word in (place, "127.0.0.1:0")]
     answered = []
     with subprocess.Popen([PROGRAM, *words], stdin=subprocess.DEVNULL, stdout=subprocess.PIPE, text=True,
                           env=variables) as server:
-        listening = LISTENING.fullmatch(server.stdout.readline())
-        if not listening:
+        told = [PLACE.fullmatch(server.stdout.readline()) for _ in places]
+        if not all(told):
             raise Wrong("a server doesn't listen")
-        port = int(listening[1])
-        clients = [threading.Thread(target=lambda lines=lines: answered.extend(converse(port, lines)))
-                   for lines in scripts]
+        port = int(told[-1][1])
+        clients = [threading.Thread(target=lambda work=work: answered.extend(work(port))) for work in works]
         for client in clients:
             client.start()
         for client in clients:
@@ -140,19 +153,42 @@ def serve(path, variables, scripts):
     return answered
 
 
-def served(preloaded, dice):
-    """A recorded server: a cut leaves what the commands up to some number make, as far as any client was told."""
-    scripts = [[a_command(dice) for _ in range(EACH_CLIENT)] for _ in range(CLIENTS)]
-    answered, entries = recorded(preloaded, {}, lambda path, variables: serve(path, variables, scripts))
-    by_number = {int(reply[3:]): line for line, reply in answered if reply.startswith("ok ")}
+def recording_of(entries, by_number, allowed):
+    """The record of a server, whose clients were told these lines' numbers."""
     lines = [by_number[number] for number in sorted(by_number)]
     accepted, states = states_of(lines)
-    if len(answered) != CLIENTS * EACH_CLIENT or len(accepted) != max(by_number):
+    if len(accepted) != max(by_number):
         raise Wrong("the numbers that the clients were told are not those of a run over their commands")
     if sorted(numbers_told(entries)) != sorted(by_number):
         raise Wrong("the record doesn't show what the clients were told")
-    return Recording({}, 0, lines, states, entries,
-                     lambda told: range(max(told, default=0), len(states))[:CLIENTS + 1])
+    return Recording({}, 0, lines, states, entries, allowed)
+
+
+def served(preloaded, dice):
+    """A recorded server: a cut leaves what the commands up to some number make, as far as any client was told."""
+    scripts = [[a_command(dice) for _ in range(EACH_CLIENT)] for _ in range(CLIENTS)]
+    works = [lambda port, lines=lines: converse(port, lines) for lines in scripts]
+    answered, entries = recorded(preloaded, {}, lambda path, variables: serve(path, variables, ["--listen"], CLIENTS, works))
+    if len(answered) != CLIENTS * EACH_CLIENT:
+        raise Wrong("a client was told too little")
+    by_number = {int(reply[3:]): line for line, reply in answered if reply.startswith("ok ")}
+    return recording_of(entries, by_number, lambda told: range(max(told, default=0), len(by_number) + 1)[:CLIENTS + 1])
+
+
+def served_together(preloaded, dice):
+    """A recorded server of atomic scripts: a cut leaves whole ones, each that any client was told of."""
+    scripts = [[[a_replacement(dice) for _ in range(dice.randrange(1, TOGETHER))] for _ in range(SCRIPTS)] for _ in range(CLIENTS)]
+    works = [lambda port, own=own: make_together(port, own) for own in scripts]
+    answered, entries = recorded(preloaded, {}, lambda path, variables: serve(
+        path, variables, ["--listen", "--atomic"], CLIENTS * SCRIPTS, works))
+    by_number, ends = {}, [0]
+    for lines, replies in sorted(answered, key=lambda told: int(told[1][0][3:])):
+        numbers = range(ends[-1] + 1, ends[-1] + len(lines) + 1)
+        if replies != [f"ok {number}\n" for number in numbers]:
+            raise Wrong(f"a script of {len(lines)} was told {replies[:2]} after {ends[-1]}")
+        by_number |= dict(zip(numbers, lines))
+        ends.append(numbers[-1])
+    return recording_of(entries, by_number, lambda told: [end for end in ends if end >= max(told, default=0)][:CLIENTS + 1])
 
 
 def later(preloaded, dice):

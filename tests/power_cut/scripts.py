@@ -25,11 +25,16 @@ def run(words, script, variables=None):
                           timeout=PATIENCE)
 
 
+def a_replacement(dice):
+    """A command that is always accepted."""
+    net = f"10.{dice.randrange(4)}.{dice.randrange(40)}.0/24"
+    return f"route replace {net} via 192.0.2.{dice.randrange(1, 255)} table {dice.choice((100, 254, 254))}"
+
+
 def a_command(dice):
     """A command that is accepted as a rule, and refused where nothing is there for it."""
     net = f"10.{dice.randrange(4)}.{dice.randrange(40)}.0/24"
-    table, number = dice.choice((100, 254, 254)), dice.randrange(30)
-    replace = f"route replace {net} via 192.0.2.{dice.randrange(1, 255)} table {table}"
+    table, number, replace = dice.choice((100, 254, 254)), dice.randrange(30), a_replacement(dice)
     return dice.choice((
         replace, replace, replace, replace,
         f"route add {net} dev eth{number} metric {number} table {table}",

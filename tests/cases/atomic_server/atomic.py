@@ -11,7 +11,7 @@ from threading import Thread
 
 from serving import Client, Follower, Server, batch, connected, converse, together
 
-ROUNDS = 200
+ROUNDS = 500
 ROUTES = 20
 
 
