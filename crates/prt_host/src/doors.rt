@@ -40,6 +40,7 @@ impl<'a> fmt::Display for Place<'a> {
 }
 
 /// Why nothing listens at a place.
+#[derive(Drop)]
 pub(crate) enum ListenError {
     /// Another server listens at the socket.
     Served,
