@@ -27,11 +27,12 @@ def serve_in_passing(variables):
     server = Server("--feed", "127.0.0.1:0", "--sessions", "3", variables=variables)
     first = Client(server)
     print(first.ask("route add 10/8 dev eth0"))
-    for port in (server.port, server.feed_port):
-        fail(port, errno.ECONNABORTED)
-    # An accept that waited already gives the second, and the next one fails.
     second = Client(server)
     print(second.ask("route get 10.0.0.1"))
+    for port in (server.port, server.feed_port):
+        fail(port, errno.ECONNABORTED)
+    # An accept that waited already would still give the third.
+    time.sleep(0.5)
     third = Client(server)
     third.end.sendall(b"route get 10.0.0.1\n")
     time.sleep(1.5)
@@ -52,10 +53,11 @@ def serve_until_it_fails(variables, *names):
     server = Server("--feed", "127.0.0.1:0", "--sessions", "2", variables=variables)
     ports = {"listen": server.port, "feed": server.feed_port}
     follower = Follower(server)
-    for name in names:
-        fail(ports[name], errno.EINVAL)
+    # A connection that comes later might meet a listener that has failed.
     first = Client(server)
     print(first.ask("route replace 10/8 dev eth2"), follower.changes(1))
+    for name in names:
+        fail(ports[name], errno.EINVAL)
     time.sleep(0.5)
     print(first.ask("rule flush"), follower.changes(1))
     if "listen" not in names:
