@@ -1,4 +1,5 @@
-"""A kernel before a change and after it: it sends a packet another way exactly if a group of `prt impact` has the packet.
+"""A kernel before a change and after it: it sends a packet another way exactly if a group of `prt impact --exact` has the packet,
+and its two answers are different ways.
 
     impact.py PROGRAM PAIRS PACKETS
 
@@ -93,8 +94,11 @@ def ways(space, packets):
 
 
 def way_of(answer):
-    """An answer as the kernel shows it: a rule that is unreachable looks like no route."""
-    return "none" if re.fullmatch(r"rule \d+ unreachable", answer) else answer
+    """What the kernel shows of an answer. A rule that is unreachable looks like no route, and unlike a route that is."""
+    if re.fullmatch(r"none|rule \d+ unreachable", answer):
+        return "none"
+    kind = re.search(r"\b(blackhole|unreachable|prohibit)\b", answer)
+    return kind[1] if kind else re.findall(r" (?:dev|via) (\S+)", answer)
 
 
 def new_host():
@@ -116,7 +120,7 @@ def one_pair():
     with open("before", "w") as first, open("change", "w") as second:
         first.write(prt("import", input=before).stdout)
         second.write(prt("diff", "--all", "--db", "routes.db", input=before).stdout)
-    shown = prt("impact", "before", "change")
+    shown = prt("impact", "--exact", "before", "change")
     groups = [GROUP.fullmatch(line) for line in shown.stdout.splitlines()]
     groups = [group for group in groups if not group or way_of(group["was"]) != way_of(group["is"])]
     named = set(re.findall(r" iif (\S+)", before + after))
